@@ -17,7 +17,7 @@ DOCS = docs $(patsubst %/,%,$(sort $(dir $(wildcard docs/*/*))))
 SHARE = $(DESTDIR)$(PREFIX)/share
 LIB = $(DESTDIR)$(PREFIX)/lib
 
-.PHONY: allocations bench build c-library c-test docs-html fuzz help install install-c-library memcheck planted test try try-trace wrong-bodies
+.PHONY: allocations bench build c-library c-test docs-html fuzz help install install-c-library memcheck planted test try try-trace mutants
 
 help: ## lists the targets
 	@grep -E '^[a-z-]+:.*## ' $(MAKEFILE_LIST) | sed 's/:.*## /\t/' | expand -t 20
@@ -76,11 +76,11 @@ test: ## the whole gate from nothing: proofs, tests, what the built programs pri
 	@! command -v $(CC) > /dev/null || tools/c-library
 	@tools/at_once tests/commands tests/program tests/traces tests/rules tests/rmm_traces tests/rmm_rules tests/rmm_program tests/view tests/terminal tests/orders tests/json tests/page tests/allocations tests/c-library tests/documents tests/prose tests/believed tests/names tests/pages tests/schema "tools/pictures --check" "tools/calls --check" "tools/commands_index --check" "tools/page_template --check"
 
-wrong-bodies: ## tries the mutants of CRATE or all: the prover has to refuse each
-	@tests/wrong-bodies $(if $(JOBS),--jobs $(JOBS)) $(if $(SINCE),--since $(SINCE)) $(CRATE)
+mutants: ## tries the mutants of CRATE or all: the prover has to refuse each
+	@tests/mutants $(if $(JOBS),--jobs $(JOBS)) $(if $(SINCE),--since $(SINCE)) $(CRATE)
 
-planted: ## tries edits that are no wrong bodies, after a change of tests/wrong-bodies or of the toolchain
-	@tests/wrong-bodies $(if $(JOBS),--jobs $(JOBS)) --planted $(CRATE)
+planted: ## tries edits that are no mutants, after a change of tests/mutants or of the toolchain
+	@tests/mutants $(if $(JOBS),--jobs $(JOBS)) --planted $(CRATE)
 
 allocations: ## refuses each allocation of the programs in turn, over all plans and traces; `make test` has the first of them
 	@tools/build $(PROGRAMS) test_memory
@@ -94,6 +94,8 @@ fuzz: build ## runs COUNT plans and traces of each kind of random change, long i
 	@tools/build test_rmm_lines
 	@tests/fuzz_rmm $(COUNT)
 
-bench: build ## CPU time and peak memory of the program over plans of several shapes, and how they grow, beside plain Rust (needs cargo)
+bench: build ## CPU time and peak memory of the program over plans of several shapes, and how they grow, and CPU time of each command of the RMM by registers, beside plain Rust (needs cargo)
+	@tools/build test_rmm_speed
 	@bench/run --series
 	@bench/plot
+	@bench/rmm

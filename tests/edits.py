@@ -10,7 +10,7 @@ import re
 import subprocess
 import tempfile
 
-FOLDERS = ("must-fail", "wrong-bodies")
+FOLDERS = ("must-fail", "mutants")
 NOT_ONE_BODY = "it changes more than the body of one function of src/"
 
 

@@ -5,7 +5,7 @@ import subprocess
 import tempfile
 
 # What a check of a crate reads.
-PARTS = ("src", "specs", "proofs", "must-fail", "wrong-bodies")
+PARTS = ("src", "specs", "proofs", "must-fail", "mutants")
 # The head of an item that is no function.
 ITEM = re.compile(r"^\s*(?:pub(?:\(\w+\))? )?(?:struct|enum|trait|type|const|macro_rules!) (\w+)", re.M)
 

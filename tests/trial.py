@@ -64,7 +64,7 @@ class Check:
     def own_fault(self, edit):
         """Returns the first thing that the prover has against the edited function's own body, or ''.
 
-        Goals are made of a body and of the contracts of what it calls, so that a wrong body of a callee leaves them as
+        Goals are made of a body and of the contracts of what it calls, so that a mutant of a callee leaves them as
         they are: then the function's line blames the callee, and no goal of its own is refused."""
         lines = [it for it in self.unproved if it[1] == edit.name]
         misfits, lost = self.misfits_of(edit), {it.string for it in self.misfits}

@@ -4,7 +4,7 @@ pub mod Flags
 pub mod Maximal
 pub mod Heads
 pub mod InHand
-pub mod Looking
+pub mod Checking
 pub mod Giving
 pub mod Counts
 pub mod Tally

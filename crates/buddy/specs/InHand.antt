@@ -19,6 +19,6 @@ AllBelow flags granule order = (larger start : ℕ) → IsMaximalBlock flags lar
 
 -- `found` tells whether the maximal block that holds the granule is of order `order` or above. If it is, the part of it
 -- of order `order` that holds the granule is in hand.
-pub record HasLooked (heads : List ℕ) (flags : List Bool) (granule order : ℕ) (found : Bool) : Type 0 where
+pub record HasChecked (heads : List ℕ) (flags : List Bool) (granule order : ℕ) (found : Bool) : Type 0 where
   pub in_hand : found ≡ true → (order ≤ 9) × InHand heads flags order (start_at granule order)
   pub not_yet : found ≡ false → AreMaximal heads flags × AllBelow flags granule order

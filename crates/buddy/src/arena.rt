@@ -10,8 +10,7 @@ ghost use Rattle.buddy.specs.MaximalBlock.{IsMaximalBlock, TurnsUp};
 
 use crate::index::FreeIndex;
 use granule_addr::{Gran, MOST_PAGES, Order, PageOff};
-use page_arena::{BuildError, PageStore, set_word_in, word_in};
-use raw_pages::RawPages;
+use page_arena::{BuildError, PageStore, RawPages, set_word_in, word_in};
 use std::alloc::Global;
 
 /// A store of pages in one allocation, with a list of free blocks for each order. The lists have the maximal free

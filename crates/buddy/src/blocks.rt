@@ -4,7 +4,7 @@ ghost use Rattle.std.specs.Bool.{OnTrue, OnFalse};
 ghost use Rattle.page_arena.specs.Block.{IsFreeBlock, IsTakenBlock, with_taken, with_given};
 ghost use Rattle.buddy.specs.MaximalBlock.{TurnsUp};
 ghost use Rattle.buddy.specs.Heads.{head_at, start_at, buddy_at, AreMaximal};
-ghost use Rattle.buddy.specs.InHand.{AllBelow, HasLooked};
+ghost use Rattle.buddy.specs.InHand.{AllBelow, HasChecked};
 
 use crate::lists::FreeLists;
 use granule_addr::{Gran, MOST_PAGES, Order, align_down, buddy_of};
@@ -46,12 +46,12 @@ fn other_half(first: usize, order: usize) -> usize
 }
 
 // Looks at one order. A block that is in hand is split, and the half without the granule is put back.
-fn look(lists: &mut FreeLists, granule: usize, order: usize, found: bool) -> bool
+fn check_order(lists: &mut FreeLists, granule: usize, order: usize, found: bool) -> bool
     ghost flags: { List Bool }
     requires granule { granule < 4096 }
     requires order { order < 10 }
-    requires looked { HasLooked lists.old.heads flags granule (order + 1) found }
-    ensures looked { HasLooked lists.new.heads flags granule order result }
+    requires checked { HasChecked lists.old.heads flags granule (order + 1) found }
+    ensures checked { HasChecked lists.new.heads flags granule order result }
     ensures unchanged { OnFalse result (lists.new ≡ lists.old) }
     ensures stays { OnTrue found (result ≡ true) }
 {
@@ -86,7 +86,7 @@ pub(crate) fn cut_out(lists: &mut FreeLists, first: usize, order: usize, top: us
     let mut rest = top + 1;
     while rest > order {
         rest -= 1;
-        found = look(lists, first, rest, found);
+        found = check_order(lists, first, rest, found);
         turns += 1;
     }
     (found, turns)

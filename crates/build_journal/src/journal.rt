@@ -49,7 +49,7 @@ impl Journal {
         ensures { self.new ≡ pushed self.old act.now }
     {
         if act.is_paired() {
-            self.entries.push_reserved(act.again());
+            self.entries.push_reserved(act.clone());
         } else if act.is_reverse() {
             self.entries.pop();
         }

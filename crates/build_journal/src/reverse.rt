@@ -2,7 +2,7 @@
 ghost use Rattle.std.specs.Prelude.{◌≡◌, ◌↔◌, Some, true};
 ghost use Rattle.realm_model.specs.Act as acts;
 
-use realm_model::{Act, granules_again};
+use realm_model::{Act, clone_granules};
 
 /// The reverse of an act, or None where the act has none. The two kinds of data acts have the same reverse.
 #[tactic(auto, unfolding(realm_model::specs::Act::reverse_of))]
@@ -41,7 +41,7 @@ pub fn reverse_of(act: &Act) -> Option<Act>
             number,
         } => Some(Act::UnRec {
             granule: *granule,
-            auxiliaries: granules_again(auxiliaries),
+            auxiliaries: clone_granules(auxiliaries),
             number: *number,
         }),
         _ => None,

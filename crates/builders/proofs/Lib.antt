@@ -7,3 +7,10 @@ pub mod Working
 pub mod Running
 pub mod Waiting
 pub mod Orders
+pub mod Stretches
+pub mod Questions
+pub mod Growth
+pub mod Loops
+pub mod Told
+pub mod Plans
+pub mod Events

@@ -11,7 +11,7 @@ use Rattle.realm_model.specs.Undoing.{by}
 use Rattle.realm_model.specs.StepLaw.{set_each}
 use Rattle.realm_model.specs.Command.Check.{is_in}
 use Rattle.realm_model.proofs.SetEach.{get_or-set_each}
-use Rattle.build_books.specs.View.{HostView, is_aborting, with_event}
+use Rattle.host_ledger.specs.View.{HostView, is_aborting, with_event}
 use Rattle.builders.specs.Kept.{KeptView, IsSound, IsShared, IsCounted, IsKeptBehindLock}
 use Rattle.builders.specs.Passes.{PassView}
 use Rattle.builders.specs.Seats.{SeatView, with_noted}

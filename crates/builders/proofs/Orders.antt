@@ -9,9 +9,9 @@ use Rattle.realm_model.specs.History.{events_of, replay, IsLegal}
 use Rattle.realm_model.specs.Interleaving.{HasSameEvents}
 use Rattle.realm_model.specs.Machine.{Limits}
 use Rattle.realm_model.proofs.Booleans.{some_is}
-use Rattle.realm_model.proofs.TakenAlone.{none_there, order_does_not_matter}
-use Rattle.build_books.specs.View.{HostView}
-use Rattle.build_books.proofs.Worlds.{world_is}
+use Rattle.realm_model.proofs.TakenAlone.{none_there, schedule_does_not_matter}
+use Rattle.host_ledger.specs.View.{HostView}
+use Rattle.host_ledger.proofs.Worlds.{world_is}
 use Rattle.realm_host.specs.Interleaving.{DidTheSame}
 use Rattle.builders.specs.declared.close.CloseFault.{CloseFault}
 use Rattle.builders.specs.Close.{seats_of, AreSeatsWhole, IsHostGivenBack, IsClosed}
@@ -52,7 +52,7 @@ module _ (limits : Limits) (history other : List Event) (legal : IsLegal limits 
 
 pub world_of_seats : (host : HostView) (seats : List SeatView) → IsLegal host.limits host.history → IsClosed host seats → IsWorldOfSeats host seats
 world_of_seats host seats legal closed history too trails =
-    sym (order_does_not_matter host.limits host.history history legal too (same_by_seats host.limits host.history history legal too seats closed.whole closed.trails trails)) ∙ world_is host legal
+    sym (schedule_does_not_matter host.limits host.history history legal too (same_by_seats host.limits host.history history legal too seats closed.whole closed.trails trails)) ∙ world_is host legal
 
 -- two hosts that the same seats close
 pub did_the_same : (opened host twin : HostView) (seats : List SeatView) → IsHostGivenBack opened host seats → IsClosed host seats → IsHostGivenBack opened twin seats

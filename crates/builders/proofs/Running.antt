@@ -1,7 +1,7 @@
 -- What a run of all workers leaves, from what the run of each leaves.
 use Rattle.std.proofs.Common.{◌≡◌, ℕ, suc, ◌<◌, List, [], ◌∷◌, length, get_or, subst, arith}
 use Rattle.std.specs.List.{AllZip}
-use Rattle.build_books.specs.View.{HostView}
+use Rattle.host_ledger.specs.View.{HostView}
 use Rattle.builders.specs.Runs.{AreRun}
 use Rattle.builders.specs.Workers.{WorkerView, IsWorkerRun}
 

@@ -3,8 +3,8 @@ use Rattle.std.proofs.Common.{◌≡◌, ℕ, Bool, true, false, List, [], ◌�
 use Rattle.std.proofs.lemmas.List.{get_or-replicate}
 use Rattle.realm_model.specs.declared.act.Event.{Event}
 use Rattle.realm_model.specs.History.{open_entries, events_of}
-use Rattle.build_books.specs.View.{HostView, is_aborting}
-use Rattle.build_books.proofs.Empty.{none_open}
+use Rattle.host_ledger.specs.View.{HostView, is_aborting}
+use Rattle.host_ledger.proofs.Empty.{none_open}
 use Rattle.builders.specs.Kept.{IsSound, IsKeptBehindLock}
 
 -- nothing is open, so no build is in abort

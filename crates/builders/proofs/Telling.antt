@@ -11,16 +11,16 @@ use Rattle.realm_model.specs.declared.act.Act.{Act}
 use Rattle.realm_model.specs.declared.act.Event.{Event}
 use Rattle.realm_model.specs.Kind.{act_kind}
 use Rattle.realm_model.specs.declared.kind.Kind.{Kind}
-use Rattle.build_commands.specs.declared.cmd.Cmd.{Cmd}
-use Rattle.build_commands.specs.declared.cmd.Cmd.TheVariants.{Take, Fill, Peek, Delegate, Realm, Rtt, Ripas, Data, Unknown, Rec, Activate, Enter, Exit, Poke}
-use Rattle.build_commands.specs.declared.refusal.Refusal.{Refusal}
-use Rattle.build_commands.specs.declared.reply.Reply.{Reply}
-use Rattle.build_books.specs.View.{HostView, open_of}
+use Rattle.host_commands.specs.declared.cmd.Cmd.{Cmd}
+use Rattle.host_commands.specs.declared.cmd.Cmd.TheVariants.{Take, Fill, Peek, Delegate, Realm, Rtt, Ripas, Data, Unknown, Rec, Activate, Enter, Exit, Poke}
+use Rattle.host_commands.specs.declared.refusal.Refusal.{Refusal}
+use Rattle.host_commands.specs.declared.reply.Reply.{Reply}
+use Rattle.host_ledger.specs.View.{HostView, open_of}
 use Rattle.realm_host.specs.Answer.{IsActOf}
 use Rattle.realm_host.specs.Call.{Ask, Undo}
-use Rattle.realm_host.specs.declared.reply.Answer.TheVariants.{Replied, Undone as WasUndone}
-use Rattle.build_commands.specs.declared.undone.Undone.{Undone}
-use Rattle.workers.specs.Exchange.{Exchange, Did, Undid, KeptMark, LookedBack, is_event}
+use Rattle.realm_host.specs.declared.reply.HostAnswer.TheVariants.{Replied, Undone as WasUndone}
+use Rattle.host_commands.specs.declared.undo_reply.Undone.{Undone}
+use Rattle.builders.specs.Exchange.{Exchange, Did, Undid, KeptMark, CheckedBack, is_event}
 use Rattle.builders.specs.Answered.{IsAnswered, AreAnswered}
 use Rattle.builders.specs.Seats.{SeatView, new_seat, with_noted}
 use Rattle.builders.specs.Told.{IsCallTold, IsCallRefused}
@@ -115,7 +115,7 @@ answered_tells opened old new (Did cmd (Err refusal)) is = same_tells old new (D
 answered_tells opened old new (Undid (Ok undone)) is = noted_tells old new (Undid (Ok undone)) is.event refl (undone_event opened undone old new is) is.noted
 answered_tells opened old new (Undid (Err refusal)) is = same_tells old new (Undid (Err refusal)) refl is.1
 answered_tells opened old new (KeptMark result) is = same_tells old new (KeptMark result) refl is.1
-answered_tells opened old new (LookedBack mark result) is = same_tells old new (LookedBack mark result) refl is.1
+answered_tells opened old new (CheckedBack mark result) is = same_tells old new (CheckedBack mark result) refl is.1
 
 answers_tell : (opened : HostView) (exchanges earlier : List Exchange) (old new : SeatView) → AreAnswered opened old exchanges new → IsTrailOf old.build earlier old.trail
     → IsTrailOf new.build (earlier ++ exchanges) new.trail

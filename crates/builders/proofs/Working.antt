@@ -2,14 +2,14 @@
 use Rattle.std.proofs.Common.{◌≡◌, ℕ, Bool, false, List, [], ◌∷◌, length, inl, inr, refl, sym, ◌∙◌, ap, subst}
 use Rattle.std.specs.Prelude.{filter}
 use Rattle.std.specs.List.{AllZip}
-use Rattle.build_books.specs.View.{HostView}
-use Rattle.build_commands.specs.declared.cmd.Step.{Step}
-use Rattle.workers.proofs.Events.{accepted_tell_events}
-use Rattle.workers.specs.Events.{IsLineOf, is_accepted}
-use Rattle.workers.specs.Exchange.{is_event}
-use Rattle.workers.specs.Report.{IsWorkerReport, IsWork}
-use Rattle.workers.specs.Standing.{first_standing}
-use Rattle.workers.specs.declared.report.Line.{Line}
+use Rattle.host_ledger.specs.View.{HostView}
+use Rattle.host_commands.specs.declared.cmd.Step.{Step}
+use Rattle.builders.proofs.Events.{accepted_match_events}
+use Rattle.builders.specs.Events.{IsLineOf, is_accepted}
+use Rattle.builders.specs.Exchange.{is_event}
+use Rattle.builders.specs.Report.{IsWorkerReport, IsWork}
+use Rattle.builders.specs.Standing.{first_standing}
+use Rattle.builders.specs.declared.report.ReportLine.{ReportLine}
 use Rattle.realm_model.specs.declared.act.Event.{Event}
 use Rattle.builders.proofs.Telling.{trail_of_answers}
 use Rattle.builders.specs.Answered.{AreAnswered}
@@ -23,7 +23,7 @@ is_fresh seat counted empty =
     ap (λ (n : ℕ). record { build = seat.build; count = n; trail = seat.trail }) (counted ∙ ap length empty)
     ∙ ap (λ (trail : List Event). record { build = seat.build; count = 0; trail = trail }) empty
 
-pub is_run : (opened : HostView) (old new : SeatView) (passes stops : ℕ → Type 0) (steps : List Step) (lines : List Line) (answered ended : Bool) → ended ≡ answered
+pub is_run : (opened : HostView) (old new : SeatView) (passes stops : ℕ → Type 0) (steps : List Step) (lines : List ReportLine) (answered ended : Bool) → ended ≡ answered
     → old.count ≡ length old.trail → old.trail ≡ [] → new.count ≡ length new.trail → new.build ≡ old.build
     → IsWork (λ exchanges. AreAnswered opened (new_seat old.build) exchanges old) (λ exchanges. AreAnswered opened (new_seat new.build) exchanges new) passes stops steps lines answered
     → IsWorkerRun opened passes stops (record { seat = old; steps = steps; lines = []; ended = false }) (record { seat = new; steps = steps; lines = lines; ended = ended })
@@ -60,5 +60,5 @@ no_event opened worker (inl fresh) none = fresh.no_event
 no_event opened worker (inr worked) none =
     none_left (IsEventOf worker.seat.build) (filter is_event worked.exchanges) worker.seat.trail
     (none_left (IsLineOf worker.steps) (filter is_accepted worker.lines) (filter is_event worked.exchanges) (ap (filter is_accepted) none)
-    (accepted_tell_events first_standing worker.steps worked.exchanges worker.lines worker.ended worked.is_report))
+    (accepted_match_events first_standing worker.steps worked.exchanges worker.lines worker.ended worked.is_report))
     worked.is_trail

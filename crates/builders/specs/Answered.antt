@@ -1,9 +1,9 @@
 -- What a seat is answered, one question after the other.
 use Rattle.std.specs.Prelude.{◌≡◌, List, [], ◌∷◌, Ok, Err}
-use Rattle.build_books.specs.View.{HostView}
+use Rattle.host_ledger.specs.View.{HostView}
 use Rattle.realm_host.specs.Call.{Ask, Undo}
-use Rattle.realm_host.specs.declared.reply.Answer.TheVariants.{Replied, Undone}
-use Rattle.workers.specs.Exchange.{Exchange, Did, Undid, KeptMark, LookedBack}
+use Rattle.realm_host.specs.declared.reply.HostAnswer.TheVariants.{Replied, Undone}
+use Rattle.builders.specs.Exchange.{Exchange, Did, Undid, KeptMark, CheckedBack}
 use Rattle.builders.specs.Seats.{SeatView}
 use Rattle.builders.specs.Told.{IsCallTold, IsCallRefused, IsMarkTold, IsBackTold}
 
@@ -15,7 +15,7 @@ IsAnswered opened seat (Did cmd (Err refusal)) new = IsCallRefused opened (Ask c
 IsAnswered opened seat (Undid (Ok undone)) new = IsCallTold opened Undo (Undone undone) seat new
 IsAnswered opened seat (Undid (Err refusal)) new = IsCallRefused opened Undo refusal seat × (new ≡ seat)
 IsAnswered opened seat (KeptMark result) new = IsMarkTold opened seat result × (new ≡ seat)
-IsAnswered opened seat (LookedBack mark result) new = IsBackTold opened seat mark result × (new ≡ seat)
+IsAnswered opened seat (CheckedBack mark result) new = IsBackTold opened seat mark result × (new ≡ seat)
 
 -- each with the seat that the one before it left
 abbrev pub AreAnswered : HostView → SeatView → List Exchange → SeatView → Type 0

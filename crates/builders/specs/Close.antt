@@ -2,7 +2,7 @@
 use Rattle.std.specs.Prelude.{◌≡◌, ◌≢◌, ℕ, ◌<◌, ◌==◌, List, length, filter}
 use Rattle.std.specs.List.{All}
 use Rattle.realm_model.specs.declared.act.Event.{Event}
-use Rattle.build_books.specs.View.{HostView}
+use Rattle.host_ledger.specs.View.{HostView}
 use Rattle.builders.specs.Kept.{IsShared}
 use Rattle.realm_model.specs.History.{events_of}
 use Rattle.builders.specs.Seats.{SeatView}

@@ -1,8 +1,8 @@
 -- The code of what lies behind the lock.
 use Rattle.std.specs.Prelude.{ℕ, List, refl}
 use Rattle.std.specs.Coded.{Coded, code_by, coded×, coded_ℕ, coded_list}
-use Rattle.build_books.specs.Codes.{host_code}
-use Rattle.build_books.specs.View.{HostView}
+use Rattle.host_ledger.specs.Codes.{host_code}
+use Rattle.host_ledger.specs.View.{HostView}
 use Rattle.builders.specs.Kept.{KeptView}
 
 abbrev pub kept_code : Coded KeptView

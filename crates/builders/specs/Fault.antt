@@ -1,6 +1,6 @@
 -- When a close is refused.
 use Rattle.std.specs.Prelude.{List}
-use Rattle.build_books.specs.View.{HostView}
+use Rattle.host_ledger.specs.View.{HostView}
 use Rattle.builders.specs.declared.close.CloseFault.{CloseFault}
 use Rattle.builders.specs.declared.close.CloseFault.TheVariants.{SeatMissing, RecordMismatch}
 use Rattle.builders.specs.Close.{IsMissing, AreSeatsWhole, Differs}

@@ -4,8 +4,8 @@ use Rattle.realm_model.specs.declared.act.Act.{Act}
 use Rattle.realm_model.specs.declared.act.Event.{Event}
 use Rattle.realm_model.specs.History.{IsLegal, events_of}
 use Rattle.realm_model.specs.Undoing.{by}
-use Rattle.build_books.specs.Kept.{HasRoom, AreOfEach, PointsHold}
-use Rattle.build_books.specs.View.{HostView, is_aborting, with_event}
+use Rattle.host_ledger.specs.Kept.{HasRoom, AreOfEach, PointsHold}
+use Rattle.host_ledger.specs.View.{HostView, is_aborting, with_event}
 use Rattle.realm_host.specs.Host.{IsInRange}
 use Rattle.builders.specs.Seats.{SeatView, with_noted}
 use Rattle.builders.specs.Start.{IsOfStart}

@@ -13,3 +13,9 @@ pub mod Trails
 pub mod Workers
 pub mod Runs
 pub mod Order
+pub mod Exchange
+pub mod Standing
+pub mod Asked
+pub mod Report
+pub mod Stretch
+pub mod Events

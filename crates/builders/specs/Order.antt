@@ -1,7 +1,7 @@
 -- That the order in which builds came through the lock leaves no trace.
 use Rattle.std.specs.Prelude.{◌≡◌, List, Some}
 use Rattle.std.specs.List.{All}
-use Rattle.build_books.specs.View.{HostView, world_of}
+use Rattle.host_ledger.specs.View.{HostView, world_of}
 use Rattle.realm_model.specs.declared.act.Event.{Event}
 use Rattle.realm_model.specs.History.{events_of, replay, IsLegal}
 use Rattle.builders.specs.Seats.{SeatView}

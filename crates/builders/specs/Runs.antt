@@ -1,7 +1,7 @@
 -- What a run of all workers leaves.
 use Rattle.std.specs.Prelude.{◌≡◌, ℕ, ◌≤◌, false, List, All, Any}
 use Rattle.std.specs.List.{AllZip}
-use Rattle.build_books.specs.View.{HostView}
+use Rattle.host_ledger.specs.View.{HostView}
 use Rattle.builders.specs.Workers.{WorkerView, IsWorkerRun}
 
 -- Each worker, by its place, has worked on its steps; the builds were started with `opened`. For each build, the gate

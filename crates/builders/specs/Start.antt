@@ -1,7 +1,7 @@
 -- The host that builds are started with.
 use Rattle.std.specs.Prelude.{◌≡◌}
-use Rattle.build_books.specs.Booted.{booted}
-use Rattle.build_books.specs.View.{HostView}
+use Rattle.host_ledger.specs.Booted.{booted}
+use Rattle.host_ledger.specs.View.{HostView}
 
 -- The machine of a host is that of the start: its limits, and the room that each build has in the history.
 pub record IsOfStart (opened host : HostView) : Type 0 where

@@ -3,15 +3,15 @@
 use Rattle.std.specs.Prelude.{◌≡◌, ℕ, ◌-◌, [], ◌∷◌, ◌++◌, length, Result}
 use Rattle.std.specs.Result.{IfOk, OnOk}
 use Rattle.realm_model.specs.declared.act.Event.{Event}
-use Rattle.build_commands.specs.declared.refusal.Refusal.{Refusal}
-use Rattle.build_books.specs.declared.mark.Mark.{Mark}
-use Rattle.build_books.specs.Kept.{IsMarkOf}
-use Rattle.build_books.specs.View.{HostView, open_of}
+use Rattle.host_commands.specs.declared.refusal.Refusal.{Refusal}
+use Rattle.host_ledger.specs.declared.mark.Mark.{Mark}
+use Rattle.host_ledger.specs.Kept.{IsMarkOf}
+use Rattle.host_ledger.specs.View.{HostView, open_of}
 use Rattle.realm_host.specs.Answer.{IsAnswer}
 use Rattle.realm_host.specs.Call.{Call}
 use Rattle.realm_host.specs.Marked.{IsMarked, way_back}
-use Rattle.realm_host.specs.declared.reply.Answer.{Answer}
-use Rattle.realm_host.specs.declared.reply.Answer.TheVariants.{Refused}
+use Rattle.realm_host.specs.declared.reply.HostAnswer.{HostAnswer}
+use Rattle.realm_host.specs.declared.reply.HostAnswer.TheVariants.{Refused}
 use Rattle.builders.specs.Kept.{IsShared}
 use Rattle.realm_model.specs.History.{events_of}
 use Rattle.builders.specs.Seats.{SeatView, with_noted}
@@ -25,7 +25,7 @@ pub record IsBehind (opened host : HostView) (seat : SeatView) : Type 0 where
   pub counted : length (events_of seat.build host.history) ≡ seat.count
 
 -- An accepted call: there was a host that answers so, and the event that ends its history then ends the trail.
-pub record IsCallTold (opened : HostView) (call : Call) (answer : Answer) (seat new_seat : SeatView) : Type 0 where
+pub record IsCallTold (opened : HostView) (call : Call) (answer : HostAnswer) (seat new_seat : SeatView) : Type 0 where
   pub host : HostView
   pub new : HostView
   pub event : Event

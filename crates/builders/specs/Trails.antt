@@ -1,23 +1,23 @@
 -- What a seat's trail is beside the questions of a worker: one event for each that was accepted, in their order.
 use Rattle.std.specs.Prelude.{◌≡◌, ℕ, List, filter, Some, Ok}
 use Rattle.std.specs.List.{AllZip}
-use Rattle.build_commands.specs.Acts.{act_of}
-use Rattle.build_commands.specs.Replies.{reply_of}
-use Rattle.build_commands.specs.declared.cmd.Cmd.{Cmd}
-use Rattle.build_commands.specs.declared.cmd.Cmd.TheVariants.{Take}
-use Rattle.build_commands.specs.declared.picked.Picked.{Picked}
+use Rattle.host_commands.specs.Acts.{act_of}
+use Rattle.host_commands.specs.Replies.{reply_of}
+use Rattle.host_commands.specs.declared.cmd.Cmd.{Cmd}
+use Rattle.host_commands.specs.declared.cmd.Cmd.TheVariants.{Take}
+use Rattle.host_commands.specs.declared.allocated.Allocated.{Allocated}
 use Rattle.realm_model.specs.Kind.{act_kind}
 use Rattle.realm_model.specs.declared.kind.Kind.{Kind}
 use Rattle.realm_model.specs.Act.{reverse_of}
 use Rattle.realm_model.specs.declared.act.Act.{Act}
 use Rattle.realm_model.specs.declared.act.Act.TheVariants as acts
 use Rattle.realm_model.specs.declared.act.Event.{Event}
-use Rattle.workers.specs.Exchange.{Exchange, Did, Undid, is_event}
+use Rattle.builders.specs.Exchange.{Exchange, Did, Undid, is_event}
 
 -- The act is that of the command, with the command's own numbers, any granules of its pages, and anything picked.
 abbrev pub IsActFor : Cmd → Act → Type 0
 IsActFor (Take order) act = (first : ℕ) × (act ≡ acts.Take order first)
-IsActFor cmd act = (granules : List ℕ) × (picked : Picked) × (act_of cmd granules picked ≡ Some act)
+IsActFor cmd act = (granules : List ℕ) × (allocated : Allocated) × (act_of cmd granules allocated ≡ Some act)
 
 -- the act is the reverse of one of that kind
 abbrev pub IsReverseOf : Kind → Act → Type 0

@@ -1,11 +1,11 @@
 -- What a worker shows: its seat, its steps and its report.
 use Rattle.std.specs.Prelude.{◌≡◌, ℕ, ◌<◌, ◌⊎◌, Bool, false, List, [], length}
-use Rattle.build_books.specs.View.{HostView}
-use Rattle.build_commands.specs.declared.cmd.Step.{Step}
-use Rattle.workers.specs.Exchange.{Exchange}
-use Rattle.workers.specs.Report.{IsWorkerReport}
-use Rattle.workers.specs.Standing.{first_standing}
-use Rattle.workers.specs.declared.report.Line.{Line}
+use Rattle.host_ledger.specs.View.{HostView}
+use Rattle.host_commands.specs.declared.cmd.Step.{Step}
+use Rattle.builders.specs.Exchange.{Exchange}
+use Rattle.builders.specs.Report.{IsWorkerReport}
+use Rattle.builders.specs.Standing.{first_standing}
+use Rattle.builders.specs.declared.report.ReportLine.{ReportLine}
 use Rattle.builders.specs.Answered.{AreAnswered}
 use Rattle.builders.specs.Seats.{SeatView, new_seat}
 use Rattle.builders.specs.Trails.{IsTrailOf}
@@ -13,7 +13,7 @@ use Rattle.builders.specs.Trails.{IsTrailOf}
 pub record WorkerView : Type 0 where
   pub seat : SeatView
   pub steps : List Step
-  pub lines : List Line
+  pub lines : List ReportLine
   pub ended : Bool
 
 -- nothing was asked yet

@@ -2,7 +2,7 @@
 ghost use Rattle.std.specs.Prelude.{◌≡◌, ◌+◌, ◌<◌, List, [], ◌∷◌, ◌++◌, length, slice_set, IfOk, IfErr, MatchResult};
 ghost use Rattle.std.specs.Result.{OnOk};
 ghost use Rattle.realm_model.specs.declared.act.Event.{Event};
-ghost use Rattle.build_books.specs.Kept.{IsMarkOf};
+ghost use Rattle.host_ledger.specs.Kept.{IsMarkOf};
 ghost use Rattle.realm_host.specs.Answer.{IsAnswer, replied, undone};
 ghost use Rattle.realm_host.specs.Call.{Ask, Undo};
 ghost use Rattle.realm_host.specs.Marked.{IsMarked, way_back};
@@ -138,6 +138,6 @@ fn note<S: PageStore, L: Ledgers>(host: &Host<S>, books: &mut Books<L>, seat: &m
     books.raise(&mut seat.pass);
     seat.trail.add(Event {
         build: last.build,
-        act: last.act.again(),
+        act: last.act.clone(),
     });
 }

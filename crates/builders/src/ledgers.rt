@@ -1,7 +1,7 @@
 //! A ledger for each build: the books that lie behind the lock, and the passes that the seats carry.
 ghost use Rattle.std.specs.Prelude.{◌≡◌, ℕ, ◌+◌, ◌<◌, [], ◌∷◌, length, map, slice_index, slice_set};
 ghost use Rattle.std.specs.List.{range_with_len};
-ghost use Rattle.build_books.specs.View.{HostView};
+ghost use Rattle.host_ledger.specs.View.{HostView};
 ghost use Rattle.builders.specs.Passes.{unused};
 ghost use Rattle.builders.specs.Start.{no_host};
 ghost use Rattle.builders.specs.Names.{AreNamed};

@@ -3,6 +3,7 @@ ghost use Rattle.std.specs.Prelude.{◌≡◌, [], true, All, MatchOption, Match
 ghost use Rattle.builders.specs.Runs.{AreRun, IsLowestWaiting};
 ghost use Rattle.builders.specs.Workers.{IsWorkerRun};
 
+use crate::Gate;
 use crate::ledgers::Ledgers;
 use crate::shared::Shared;
 use crate::worker::Worker;
@@ -12,7 +13,6 @@ use std::marker::{Send, Sync};
 use std::sync::Wait;
 use std::thread;
 use std::thread::Threads;
-use workers::Gate;
 
 /// Runs each worker in a thread of its own, and waits for all of them; where no thread can be made, they run one after
 /// another. At `Err` is the lowest build whose worker has not ended: the gate stopped one of its turns.

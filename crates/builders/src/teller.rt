@@ -1,60 +1,51 @@
-//! A seat of a shared host, as a worker sees it.
-ghost use Rattle.std.specs.Prelude.{◌+◌, ◌*◌};
-ghost use Rattle.builders.specs.Answered.{AreAnswered};
-ghost use Rattle.builders.specs.Seats.{new_seat};
+//! Who answers a worker, and who gives it its turns.
+ghost use Rattle.std.specs.Prelude.{◌≡◌, ℕ, List, [], ◌∷◌, ◌++◌, OnOk, OnErr};
+ghost use Rattle.builders.specs.Exchange.{Exchange, Did, Undid, KeptMark, CheckedBack};
 
-use crate::ledgers::Ledgers;
-use crate::seat::Seat;
-use crate::shared::Shared;
+use crate::report::Stuck;
 use granule_addr::BuildId;
-use page_arena::PageStore;
-use realm_host::{Cmd, Mark, Refusal, Reply, Undone};
-use std::sync::Wait;
-use workers::{Gate, Stuck, Teller};
+use host_commands::{Cmd, Refusal, Reply, Undone};
+use host_ledger::Mark;
 
-/// A seat, and the host that its build's worker asks. Each question takes the lock once and is answered by the host; the
-/// accepted ones are the events of the seat's trail.
-#[derive(Drop)]
-pub struct SeatTeller<'a, R: Wait, S: PageStore, L: Ledgers> {
-    pub rt: &'a R,
-    pub shared: &'a Shared<S, L>,
-    pub seat: &'a mut Seat<L>,
+/// Who answers the worker of a build: a build's pass to a host, or what stands for one.
+pub trait Teller {
+    /// Whether these are the questions that it was asked, in their order, each with its answer.
+    ghost tells: { Self → List Exchange → Type 0 };
+
+    /// The loan that it writes through, if there is one.
+    ghost loan: { Self → ℕ };
+
+    /// Asks for a command, which stays with the worker.
+    fn ask(&mut self, cmd: &Cmd) -> Result<Reply, Refusal>
+        ensures told { (earlier : List Exchange) → tells self.old earlier → tells self.new (earlier ++ Did cmd.now result ∷ []) }
+        ensures loan { loan self.new ≡ loan self.old };
+
+    /// Asks for the reverse of the newest act that the build has open.
+    fn undo(&mut self) -> Result<Undone, Refusal>
+        ensures told { (earlier : List Exchange) → tells self.old earlier → tells self.new (earlier ++ Undid result ∷ []) }
+        ensures loan { loan self.new ≡ loan self.old };
+
+    /// Asks that the build's point be kept.
+    fn mark(&mut self) -> Result<Mark, Refusal>
+        ensures told { (earlier : List Exchange) → tells self.old earlier → tells self.new (earlier ++ KeptMark result ∷ []) }
+        ensures loan { loan self.new ≡ loan self.old };
+
+    /// Asks how many acts the build has open above a mark.
+    fn check_back(&mut self, mark: Mark) -> Result<u16, Refusal>
+        ensures told { (earlier : List Exchange) → tells self.old earlier → tells self.new (earlier ++ CheckedBack mark result ∷ []) }
+        ensures loan { loan self.new ≡ loan self.old };
 }
 
-impl<'a, R: Wait, S: PageStore, L: Ledgers> Teller for SeatTeller<'a, R, S, L> {
-    // the exchanges of the seat since it was new
-    ghost tells = { λ teller exchanges. AreAnswered L.opened (new_seat teller.seat.now.build) exchanges teller.seat.now };
+/// Who gives workers their turns.
+pub trait Gate {
+    /// Whether it lets that turn of a build pass.
+    ghost passes: { Self → ℕ → ℕ → Type 0 };
 
-    // the name of the seat, and its build, so that both stay
-    ghost loan = { λ teller. 8 * teller.seat.ghost_name + teller.seat.now.build };
+    /// Whether that turn of a build does not come.
+    ghost stops: { Self → ℕ → ℕ → Type 0 };
 
-    fn ask(&mut self, cmd: &Cmd) -> Result<Reply, Refusal> {
-        self.shared.call(self.rt, self.seat, cmd.again())
-    }
-
-    fn undo(&mut self) -> Result<Undone, Refusal> {
-        self.shared.undo(self.rt, self.seat)
-    }
-
-    fn mark(&mut self) -> Result<Mark, Refusal> {
-        self.shared.mark(self.rt, self.seat)
-    }
-
-    fn check_back(&mut self, mark: Mark) -> Result<u16, Refusal> {
-        self.shared.check_back(self.rt, self.seat, mark)
-    }
-}
-
-/// A gate that lets every turn pass.
-#[derive(Clone, Copy, Debug, PartialEq, Eq)]
-pub struct OpenGate;
-
-impl Gate for OpenGate {
-    ghost passes = { λ gate build turn. Unit {0} };
-
-    ghost stops = { λ gate build turn. ⊥ };
-
-    fn pass(&self, _build: BuildId, _turn: usize) -> Result<(), Stuck> {
-        Ok(())
-    }
+    /// Asked by the worker of a build before each question. Turns are counted from 0.
+    fn pass(&self, build: BuildId, turn: usize) -> Result<(), Stuck>
+        ensures ok { OnOk result (passes self.now build turn) }
+        ensures stuck { OnErr result (stops self.now build turn) };
 }

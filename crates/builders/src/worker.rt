@@ -4,15 +4,15 @@ ghost use Rattle.builders.specs.Workers.{IsFaithful, IsWorkerRun};
 
 use crate::ledgers::Ledgers;
 use crate::seat::Seat;
+use crate::seat_teller::SeatTeller;
 use crate::shared::Shared;
-use crate::teller::SeatTeller;
-use build_commands::Step;
+use crate::{Gate, Report, work};
 use granule_addr::BuildId;
+use host_commands::Step;
 use page_arena::PageStore;
 use std::alloc::{AllocError, Global};
 use std::marker::Model;
 use std::sync::Wait;
-use workers::{Gate, Report, work};
 
 /// The worker of a build: its seat, its steps, and what it was answered.
 #[derive(Drop)]

@@ -4,7 +4,7 @@ use Rattle.std.specs.Prelude.{Option, Some}
 use Rattle.clap.specs.Words.{Row, Text, fault_of, subcommand_of}
 use Rattle.command_line.proofs.Subcommands.{IsKnown, by_name, last_is_asked, name_in, named_beside_help}
 use Rattle.command_line.specs.Rmitrace.{rmitrace, IsTraceSubcommand}
-use Rattle.command_line.specs.declared.rmitrace.Asked.TheVariants.{Answer, Check}
+use Rattle.command_line.specs.declared.rmitrace.TraceSubcommand.TheVariants.{Answer, Check}
 
 pub rmitrace_is : IsKnown rmitrace (codes "answer" ∷ codes "check" ∷ [])
 unfolding rmitrace

@@ -8,7 +8,7 @@ use Rattle.clap.specs.Words.{Row, Rule, Text, fault_of, subcommand_of}
 use Rattle.clap.specs.declared.builder.action.ArgAction.TheVariants as action
 use Rattle.command_line.specs.Options.{Each, IsPassed, built_erase, built_flag, built_number, file_argument}
 use Rattle.command_line.specs.Realmview.{IsViewSubcommand, realmview}
-use Rattle.command_line.specs.declared.realmview.Asked.TheVariants.{Check}
+use Rattle.command_line.specs.declared.realmview.ViewSubcommand.TheVariants.{Check}
 use Rattle.command_line.proofs.Passed.{AllAreOrAsk, AreOrAsk, IsOrAsks, is_apart, other, others}
 use Rattle.command_line.proofs.Subcommands.{IsKnown, by_name, last_is_asked, name_in, named_beside_help, values_passed}
 

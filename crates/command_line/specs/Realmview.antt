@@ -6,13 +6,13 @@ use Rattle.clap.specs.declared.error.Error.{Error}
 use Rattle.clap.specs.declared.error.kind.ErrorKind.TheVariants.{ValueValidation}
 use Rattle.clap.specs.declared.parser.matches.ArgMatches.{ArgMatches}
 use Rattle.command_line.specs.Options.{IsErase, IsFlag, IsNumber, erase_option, flag_option, number_option, program_named, reading_subcommand}
-use Rattle.command_line.specs.declared.realmview.Orders.{Orders}
-use Rattle.command_line.specs.declared.realmview.Orders.TheVariants.{First, Drawn}
+use Rattle.command_line.specs.declared.realmview.Schedules.{Schedules}
+use Rattle.command_line.specs.declared.realmview.Schedules.TheVariants.{First, Drawn}
 use Rattle.command_line.specs.declared.realmview.SampleAboveMost.{SampleAboveMost}
-use Rattle.command_line.specs.declared.realmview.Turns.{Turns}
-use Rattle.command_line.specs.declared.realmview.Turns.TheVariants.{InRotation, OneByOne}
-use Rattle.command_line.specs.declared.realmview.Asked.{Asked}
-use Rattle.command_line.specs.declared.realmview.Asked.TheVariants.{History, Apply, Json, Page, Why, Explore, Order, Check}
+use Rattle.command_line.specs.declared.realmview.SchedulingPolicy.{SchedulingPolicy}
+use Rattle.command_line.specs.declared.realmview.SchedulingPolicy.TheVariants.{InRotation, OneByOne}
+use Rattle.command_line.specs.declared.realmview.ViewSubcommand.{ViewSubcommand}
+use Rattle.command_line.specs.declared.realmview.ViewSubcommand.TheVariants.{History, Apply, Json, Page, Why, Explore, Order, Check}
 
 -- ---- the program
 
@@ -54,38 +54,38 @@ realmview =
 -- ---- what the words ask for, by what `clap` says of their subcommand
 
 -- `sample` orders, drawn by the seed, where they are not more than `most`
-abbrev pub orders_drawn : ℕ → ℕ → ℕ → Result Orders SampleAboveMost
-orders_drawn sample most seed = if nat_lt most sample then Err (record { sample = sample; most = most }) else Ok (Drawn sample seed)
+abbrev pub schedules_drawn : ℕ → ℕ → ℕ → Result Schedules SampleAboveMost
+schedules_drawn sample most seed = if nat_lt most sample then Err (record { sample = sample; most = most }) else Ok (Drawn sample seed)
 
 -- The first `most` orders, a million where that is not given. Where `sample` or `seed` is given, orders are drawn
 -- instead: a thousand where only the seed is given, or `most` where that is less, and by the seed 0 where none is given.
-abbrev pub orders_asked : Option ℕ → Option ℕ → Option ℕ → Result Orders SampleAboveMost
-orders_asked most None None = Ok (First (unwrap_or most 1000000))
-orders_asked most None (Some seed) = Ok (Drawn (min 1000 (unwrap_or most 1000000)) seed)
-orders_asked most (Some sample) seed = orders_drawn sample (unwrap_or most 1000000) (unwrap_or seed 0)
+abbrev pub schedules_asked : Option ℕ → Option ℕ → Option ℕ → Result Schedules SampleAboveMost
+schedules_asked most None None = Ok (First (unwrap_or most 1000000))
+schedules_asked most None (Some seed) = Ok (Drawn (min 1000 (unwrap_or most 1000000)) seed)
+schedules_asked most (Some sample) seed = schedules_drawn sample (unwrap_or most 1000000) (unwrap_or seed 0)
 
 -- the orders that the options of such rows ask for, or that more are to be drawn than may be run
-pub record AreAsked (rows : List Row) (orders : Result Orders SampleAboveMost) : Type 0 where
+pub record AreAsked (rows : List Row) (orders : Result Schedules SampleAboveMost) : Type 0 where
   pub most : Option ℕ
   pub sample : Option ℕ
   pub seed : Option ℕ
   pub is_most : IsNumber (one_of (codes "most") rows) most
   pub is_sample : IsNumber (one_of (codes "sample") rows) sample
   pub is_seed : IsNumber (one_of (codes "seed") rows) seed
-  pub asked : orders ≡ orders_asked most sample seed
+  pub asked : orders ≡ schedules_asked most sample seed
 
 -- builds take turns in rotation, unless one after the other is asked for
-abbrev pub turns_asked : Bool → Turns
+abbrev pub turns_asked : Bool → SchedulingPolicy
 turns_asked true = OneByOne
 turns_asked false = InRotation
 
 -- how builds take turns, by the option of such rows
-pub record AreTurnsAsked (rows : List Row) (turns : Turns) : Type 0 where
+pub record AreTurnsAsked (rows : List Row) (turns : SchedulingPolicy) : Type 0 where
   pub one_by_one : Bool
   pub is_given : IsFlag (one_of (codes "one-by-one") rows) one_by_one
   pub asked : turns ≡ turns_asked one_by_one
 
-abbrev pub IsViewSubcommand : Option (Text × List Row) → Asked → Type 0
+abbrev pub IsViewSubcommand : Option (Text × List Row) → ViewSubcommand → Type 0
 IsViewSubcommand None asked = ⊥
 IsViewSubcommand (Some found) (History erase) = (found.0 ≡ codes "history") × IsErase (one_of (codes "erase") found.1) erase
 IsViewSubcommand (Some found) (Apply erase) = (found.0 ≡ codes "apply") × IsErase (one_of (codes "erase") found.1) erase

@@ -2,8 +2,8 @@
 use Rattle.std.specs.Prelude.{◌≡◌, List, codes, Option, Some, None}
 use Rattle.clap.specs.Words.{App, Row, Text, with_subcommand}
 use Rattle.command_line.specs.Options.{program_named, reading_subcommand}
-use Rattle.command_line.specs.declared.rmitrace.Asked.{Asked}
-use Rattle.command_line.specs.declared.rmitrace.Asked.TheVariants.{Answer, Check}
+use Rattle.command_line.specs.declared.rmitrace.TraceSubcommand.{TraceSubcommand}
+use Rattle.command_line.specs.declared.rmitrace.TraceSubcommand.TheVariants.{Answer, Check}
 
 abbrev pub rmitrace_alone : App
 rmitrace_alone = program_named (codes "rmitrace")
@@ -12,7 +12,7 @@ unfoldable pub rmitrace : App
 rmitrace = with_subcommand (with_subcommand rmitrace_alone (reading_subcommand (codes "answer")).top) (reading_subcommand (codes "check")).top
 
 -- what the words ask for, by what `clap` says of their subcommand
-abbrev pub IsTraceSubcommand : Option (Text × List Row) → Asked → Type 0
+abbrev pub IsTraceSubcommand : Option (Text × List Row) → TraceSubcommand → Type 0
 IsTraceSubcommand None asked = ⊥
 IsTraceSubcommand (Some found) Answer = found.0 ≡ codes "answer"
 IsTraceSubcommand (Some found) Check = found.0 ≡ codes "check"

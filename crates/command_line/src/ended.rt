@@ -5,10 +5,10 @@ ghost use Rattle.command_line.specs.Ended.{end_of_run, is_request, IsShown, IsUn
 ghost use Rattle.command_line.specs.Stop.{stop_of_error};
 
 use crate::stop::{Reason, Stop};
+use checked_io::{DeviceFailed, Told};
 use clap::Error;
 use std::alloc::Global;
 use std::io::Write;
-use told_device::{DeviceFailed, Told};
 
 /// The end of a program that has not stopped.
 #[derive(Clone, Copy)]

@@ -5,7 +5,7 @@ ghost use Rattle.clap.specs.Values.{kind_of};
 ghost use Rattle.clap.specs.declared.builder.command.Command.TheViews.{out-Command as fields_of};
 ghost use Rattle.clap.specs.declared.error.kind.ErrorKind.TheVariants.{ValueValidation};
 ghost use Rattle.command_line.specs.Options.{IsOfWords, file_in, reading_subcommand};
-ghost use Rattle.command_line.specs.Realmview.{erasing_subcommand, explore_subcommand, order_subcommand, realmview, orders_asked, orders_drawn, why_subcommand, AreAsked, AreExplored, AreTurnsAsked, DrawsTooMany, IsViewSubcommand, SaysTooMany};
+ghost use Rattle.command_line.specs.Realmview.{erasing_subcommand, explore_subcommand, order_subcommand, realmview, schedules_asked, schedules_drawn, why_subcommand, AreAsked, AreExplored, AreTurnsAsked, DrawsTooMany, IsViewSubcommand, SaysTooMany};
 
 use crate::Invocation;
 use crate::options::{
@@ -18,7 +18,7 @@ use std::alloc::{AllocError, Global};
 
 /// What the program is asked to do.
 #[derive(Clone, Copy)]
-pub enum Asked {
+pub enum ViewSubcommand {
     /// Write the history of a plan; a build may be left out.
     History(Option<BuildId>),
     /// Apply a history, and write the map; a build may be left out.
@@ -32,14 +32,14 @@ pub enum Asked {
     /// Write the run of a plan, with the check that fails below each turn that is refused; or with all its checks.
     Why { all: bool },
     /// Write what orders of a plan's turns come to.
-    Explore(Orders),
+    Explore(Schedules),
     /// Write a plan with an order that gives each build all the turns that it needs.
-    Order(Turns),
+    Order(SchedulingPolicy),
 }
 
 /// Which orders of a plan's turns are run.
 #[derive(Clone, Copy, Drop)]
-pub enum Orders {
+pub enum Schedules {
     /// That many orders at most, from the lowest on.
     First(u32),
     /// That many orders, drawn by the random numbers of the seed.
@@ -55,7 +55,7 @@ pub struct SampleAboveMost {
 
 /// How the builds of a plan take turns.
 #[derive(Clone, Copy, Drop)]
-pub enum Turns {
+pub enum SchedulingPolicy {
     /// In rotation, each build that has a step left.
     InRotation,
     /// One build after the other: the next begins where one has no step left.
@@ -69,29 +69,29 @@ const MOST: u32 = 1000000;
 const SAMPLE: u32 = 1000;
 
 // The `sample` orders that are drawn by the seed, where they are not more than `most`.
-fn orders_drawn(sample: u32, most: u32, seed: u32) -> Result<Orders, SampleAboveMost>
-    ensures { result ≡ orders_drawn sample most seed }
+fn schedules_drawn(sample: u32, most: u32, seed: u32) -> Result<Schedules, SampleAboveMost>
+    ensures { result ≡ schedules_drawn sample most seed }
 {
     if sample > most {
         Err(SampleAboveMost { sample, most })
     } else {
-        Ok(Orders::Drawn(sample, seed))
+        Ok(Schedules::Drawn(sample, seed))
     }
 }
 
 // The orders that options ask for. They are drawn where a sample or a seed is given.
-fn orders_asked(
+fn schedules_asked(
     most: Option<u32>,
     sample: Option<u32>,
     seed: Option<u32>,
-) -> Result<Orders, SampleAboveMost>
-    ensures { result ≡ orders_asked most sample seed }
+) -> Result<Schedules, SampleAboveMost>
+    ensures { result ≡ schedules_asked most sample seed }
 {
     let most = most.unwrap_or(MOST);
     match (sample, seed) {
-        (None, None) => Ok(Orders::First(most)),
-        (None, Some(seed)) => Ok(Orders::Drawn(SAMPLE.min(most), seed)),
-        (Some(sample), seed) => orders_drawn(sample, most, seed.unwrap_or(0)),
+        (None, None) => Ok(Schedules::First(most)),
+        (None, Some(seed)) => Ok(Schedules::Drawn(SAMPLE.min(most), seed)),
+        (Some(sample), seed) => schedules_drawn(sample, most, seed.unwrap_or(0)),
     }
 }
 
@@ -234,11 +234,11 @@ fn command<'a>(alloc: Global) -> Result<Command<'a>, AllocError>
 }
 
 // The orders that are asked for by the words that were matched.
-fn orders_by(explore: &ArgMatches) -> Result<Orders, SampleAboveMost>
+fn orders_by(explore: &ArgMatches) -> Result<Schedules, SampleAboveMost>
     requires { AreExplored explore.now }
     ensures { AreAsked (rows_of (found_of explore.now)) result }
 {
-    orders_asked(
+    schedules_asked(
         number_of(explore, "most"),
         number_of(explore, "sample"),
         number_of(explore, "seed"),
@@ -246,46 +246,46 @@ fn orders_by(explore: &ArgMatches) -> Result<Orders, SampleAboveMost>
 }
 
 // How builds take turns, by the words that were matched.
-fn turns_by(order: &ArgMatches) -> Turns
+fn turns_by(order: &ArgMatches) -> SchedulingPolicy
     ensures { AreTurnsAsked (rows_of (found_of order.now)) result }
 {
     if is_given(order, "one-by-one") {
-        Turns::OneByOne
+        SchedulingPolicy::OneByOne
     } else {
-        Turns::InRotation
+        SchedulingPolicy::InRotation
     }
 }
 
 // What is asked for by the words that were matched.
-fn asked_by(matches: &ArgMatches) -> Result<Asked, SampleAboveMost>
+fn asked_by(matches: &ArgMatches) -> Result<ViewSubcommand, SampleAboveMost>
     requires { IsOfWords realmview matches.now }
     ensures ok { IfOk result (IsViewSubcommand (subcommand_rows_of matches.now)) }
     ensures err { IfErr result (DrawsTooMany (subcommand_rows_of matches.now)) }
 {
     if let Some(history) = matches.subcommand_matches("history") {
-        return Ok(Asked::History(erased(history)));
+        return Ok(ViewSubcommand::History(erased(history)));
     }
     if let Some(apply) = matches.subcommand_matches("apply") {
-        return Ok(Asked::Apply(erased(apply)));
+        return Ok(ViewSubcommand::Apply(erased(apply)));
     }
     if matches.subcommand_matches("json").is_some() {
-        return Ok(Asked::Json);
+        return Ok(ViewSubcommand::Json);
     }
     if matches.subcommand_matches("page").is_some() {
-        return Ok(Asked::Page);
+        return Ok(ViewSubcommand::Page);
     }
     if let Some(why) = matches.subcommand_matches("why") {
         let all = is_given(why, "all");
-        return Ok(Asked::Why { all });
+        return Ok(ViewSubcommand::Why { all });
     }
     if let Some(explore) = matches.subcommand_matches("explore") {
         let orders = orders_by(explore)?;
-        return Ok(Asked::Explore(orders));
+        return Ok(ViewSubcommand::Explore(orders));
     }
     if let Some(order) = matches.subcommand_matches("order") {
-        return Ok(Asked::Order(turns_by(order)));
+        return Ok(ViewSubcommand::Order(turns_by(order)));
     }
-    Ok(Asked::Check)
+    Ok(ViewSubcommand::Check)
 }
 
 // The error that says that more orders are to be drawn than may be run.
@@ -297,9 +297,12 @@ fn too_many(alloc: Global, above: SampleAboveMost) -> Result<Error, AllocError>
     command(alloc)?.error(ErrorKind::ValueValidation, &message)
 }
 
-impl Asked {
+impl ViewSubcommand {
     /// The request and the file of the words. The first word is the program's name.
-    pub fn of<'a>(alloc: Global, words: &'a [String]) -> Result<Invocation<'a, Asked>, Error>
+    pub fn of<'a>(
+        alloc: Global,
+        words: &'a [String],
+    ) -> Result<Invocation<'a, ViewSubcommand>, Error>
         // The request that clap's definition of a simple command gives for the words.
         ensures ok { IfOk result (λ it. IsViewSubcommand (subcommand_of realmview (map string_bytes words.now)) it.asked) }
         // The file that it gives for them.

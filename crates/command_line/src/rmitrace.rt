@@ -11,7 +11,7 @@ use std::alloc::{AllocError, Global};
 
 /// The request to the program.
 #[derive(Clone, Copy)]
-pub enum Asked {
+pub enum TraceSubcommand {
     /// Answer each line of a trace.
     Answer,
     /// Check the answers of a trace.
@@ -52,19 +52,22 @@ fn command<'a>(alloc: Global) -> Result<Command<'a>, AllocError>
 }
 
 // The request of the words that were matched.
-fn asked_by(matches: &ArgMatches) -> Asked
+fn asked_by(matches: &ArgMatches) -> TraceSubcommand
     requires { IsOfWords rmitrace matches.now }
     ensures { IsTraceSubcommand (subcommand_rows_of matches.now) result }
 {
     if matches.subcommand_matches("answer").is_some() {
-        return Asked::Answer;
+        return TraceSubcommand::Answer;
     }
-    Asked::Check
+    TraceSubcommand::Check
 }
 
-impl Asked {
+impl TraceSubcommand {
     /// The request and the file of the words. The first word is the program's name.
-    pub fn of<'a>(alloc: Global, words: &'a [String]) -> Result<Invocation<'a, Asked>, Error>
+    pub fn of<'a>(
+        alloc: Global,
+        words: &'a [String],
+    ) -> Result<Invocation<'a, TraceSubcommand>, Error>
         // The request that clap's definition of a simple command gives for the words.
         ensures ok { IfOk result (λ it. IsTraceSubcommand (subcommand_of rmitrace (map string_bytes words.now)) it.asked) }
         // The file that it gives for them.

@@ -4,7 +4,7 @@
 
 use anyhow::{Context, Result};
 use history_text::{Opening, parse_event, parse_opening};
-use plan_runs::map_text;
+use plan_replay::map_text;
 use realm_host::{Host, PlainStore, Settings};
 use std::alloc::Global;
 use std::io;

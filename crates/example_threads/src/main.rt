@@ -6,7 +6,7 @@ ghost use Rattle.builders.specs.Names.{AreNamed};
 
 use anyhow::{Result, bail};
 use builders::{Blanks, Ledgers, Seat, Shared};
-use plan_runs::map_text;
+use plan_replay::map_text;
 use realm_host::{Cmd, Host, PlainStore, Refusal, Settings};
 use std::alloc::Global;
 use std::marker::{Brand, Send, Sync};

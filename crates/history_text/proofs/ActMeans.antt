@@ -4,12 +4,12 @@ use Rattle.std.specs.List.{list_all}
 use Rattle.std.proofs.lemmas.Bool.{le-leb}
 use Rattle.arrayvec.specs.ArrayVec.{ArrayVec, array_vec_len}
 use Rattle.granule_addr.specs.declared.root.Root.{Root}
-use Rattle.number_text.specs.Numbers.{AreNumbers}
-use Rattle.number_text.specs.Ranges.{AreAtMost}
-use Rattle.number_text.specs.Written.{u8, u16}
-use Rattle.number_text.proofs.Cuts.{HasNoSpace}
-use Rattle.number_text.proofs.Spelled.{no_space_from_test}
-use Rattle.number_text.proofs.UpTo.{up_to-items, few_from_test}
+use Rattle.decimal_text.specs.Numbers.{AreNumbers}
+use Rattle.decimal_text.specs.Ranges.{AreAtMost}
+use Rattle.decimal_text.specs.Written.{u8, u16}
+use Rattle.decimal_text.proofs.Cuts.{HasNoSpace}
+use Rattle.decimal_text.proofs.Spelled.{no_space_from_test}
+use Rattle.decimal_text.proofs.UpTo.{up_to-items, few_from_test}
 use Rattle.realm_model.specs.declared.act.Act.{Act}
 use Rattle.realm_model.specs.declared.act.Act.TheVariants.{Take, UnTake, Fill, Peek, Delegate, Undelegate, Realm, UnRealm, Activate, Rtt}
 use Rattle.realm_model.specs.declared.act.Act.TheVariants.{UnRtt, Ripas, Data, Unknown, UnData, Rec, UnRec, Enter, Exit, Poke}

@@ -1,10 +1,10 @@
 -- A word and its numbers mean no act but the one that they spell.
 use Rattle.std.proofs.Common.{◌≡◌, ℕ, List, Some, codes, refl}
-use Rattle.number_text.specs.Ranges.{AreAtMost}
-use Rattle.number_text.specs.Rows.{none, one, two, three, four}
-use Rattle.number_text.specs.Written.{u8, u16}
-use Rattle.number_text.proofs.Grammars.{Spells}
-use Rattle.number_text.proofs.Rows.{none_makes, one_makes, two_makes, three_makes, four_makes, choose, among_five}
+use Rattle.decimal_text.specs.Ranges.{AreAtMost}
+use Rattle.decimal_text.specs.Rows.{none, one, two, three, four}
+use Rattle.decimal_text.specs.Written.{u8, u16}
+use Rattle.decimal_text.proofs.Grammars.{Spells}
+use Rattle.decimal_text.proofs.Rows.{none_makes, one_makes, two_makes, three_makes, four_makes, choose, among_five}
 use Rattle.realm_model.specs.declared.act.Act.{Act}
 use Rattle.realm_model.specs.declared.act.Act.TheVariants.{Take, UnTake, Fill, Peek, Delegate, Undelegate, Realm, UnRealm, Activate, Rtt}
 use Rattle.realm_model.specs.declared.act.Act.TheVariants.{UnRtt, Ripas, Data, Unknown, UnData, Rec, UnRec, Enter, Exit, Poke}

@@ -1,14 +1,14 @@
 -- Acts are a grammar: each is what its text means, and a text means no other.
 use Rattle.std.proofs.Common.{◌≡◌, ℕ, List, Some, IsUtf8}
 use Rattle.std.proofs.lemmas.Str.{IsUtf8-from_ascii, IsAscii-append}
-use Rattle.number_text.proofs.Grammars.{IsGrammar, meaning_of_spelled, spelled_from_meaning}
-use Rattle.number_text.proofs.Spelled.{IsAscii-from_test, IsAscii-spelled}
+use Rattle.decimal_text.proofs.Grammars.{IsGrammar, meaning_of_spelled, spelled_from_meaning}
+use Rattle.decimal_text.proofs.Spelled.{IsAscii-from_test, IsAscii-spelled}
 use Rattle.realm_model.specs.declared.act.Act.{Act}
 use Rattle.history_text.specs.Acts.{act_at, act_of_text}
 use Rattle.history_text.specs.Written.{written_act, act_text, IsActInRange}
 use Rattle.history_text.proofs.ActMeans.{means, one_word, ascii_test, few_numbers}
 use Rattle.history_text.proofs.ActSpells.{spells}
-use Rattle.number_text.specs.Numbers.{spelled_numbers}
+use Rattle.decimal_text.specs.Numbers.{spelled_numbers}
 
 pub acts : IsGrammar (λ a. (written_act a).word) (λ a. (written_act a).numbers) IsActInRange act_at 18
 acts = record { means = means; spells = spells; one_word = one_word; few_numbers = few_numbers }

@@ -1,9 +1,9 @@
 -- The granule of a REC, its number and its auxiliary granules are not more numbers than are read.
 use Rattle.std.proofs.Common.{ℕ, zero, suc, ◌≤◌, List, [], ◌∷◌, ◌++◌, length, replicate, arith}
-use Rattle.number_text.specs.Numbers.{AreNumbers}
-use Rattle.number_text.specs.Ranges.{AreAtMost}
-use Rattle.number_text.proofs.Spelled.{small_from_maxima}
-use Rattle.number_text.proofs.UpTo.{replicated_below}
+use Rattle.decimal_text.specs.Numbers.{AreNumbers}
+use Rattle.decimal_text.specs.Ranges.{AreAtMost}
+use Rattle.decimal_text.proofs.Spelled.{small_from_maxima}
+use Rattle.decimal_text.proofs.UpTo.{replicated_below}
 
 pub few_with_auxiliaries : (granule number : ℕ) (ns : List ℕ) → length ns ≤ 16 → AreAtMost (granule ∷ number ∷ ns) (4095 ∷ 65535 ∷ replicate (length ns) 4095) → AreNumbers 18 (granule ∷ number ∷ ns)
 few_with_auxiliaries granule number ns few h =

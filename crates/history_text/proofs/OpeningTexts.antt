@@ -2,10 +2,10 @@
 use Rattle.std.proofs.Common.{◌≡◌, List, ◌++◌, codes, refl, sym, ap, ◌∙◌, IsUtf8, ℕ, subst}
 use Rattle.std.proofs.lemmas.List.{append_cancel_left}
 use Rattle.std.proofs.lemmas.Str.{IsUtf8-from_ascii}
-use Rattle.number_text.specs.Numbers.{spelled_numbers, AreNumbers}
-use Rattle.number_text.specs.Ranges.{AreAtMost}
-use Rattle.number_text.proofs.Spelled.{IsAscii-spelled, spelled_injective}
-use Rattle.number_text.proofs.UpTo.{few_from_test}
+use Rattle.decimal_text.specs.Numbers.{spelled_numbers, AreNumbers}
+use Rattle.decimal_text.specs.Ranges.{AreAtMost}
+use Rattle.decimal_text.proofs.Spelled.{IsAscii-spelled, spelled_injective}
+use Rattle.decimal_text.proofs.UpTo.{few_from_test}
 use Rattle.history_text.specs.declared.opening.Opening.{Opening}
 use Rattle.history_text.specs.Histories.{opening_numbers, opening_maxima, HasEnough, IsSize, IsOpeningText}
 

@@ -4,12 +4,12 @@ use Rattle.std.specs.Option.{option_zip}
 use Rattle.std.proofs.lemmas.Bool.{le-leb, leb-true, and_parts}
 use Rattle.arrayvec.specs.ArrayVec.{ArrayVec}
 use Rattle.granule_addr.specs.declared.root.Root.{Root}
-use Rattle.number_text.specs.Ranges.{AreAtMost}
-use Rattle.number_text.specs.Rows.{one, two, three, four, up_to}
-use Rattle.number_text.specs.Written.{u8, u16}
-use Rattle.number_text.proofs.Grammars.{test_from_some, map_some}
-use Rattle.number_text.proofs.Rows.{one_makes, two_makes, three_makes, four_makes}
-use Rattle.number_text.proofs.UpTo.{up_to-some}
+use Rattle.decimal_text.specs.Ranges.{AreAtMost}
+use Rattle.decimal_text.specs.Rows.{one, two, three, four, up_to}
+use Rattle.decimal_text.specs.Written.{u8, u16}
+use Rattle.decimal_text.proofs.Grammars.{test_from_some, map_some}
+use Rattle.decimal_text.proofs.Rows.{one_makes, two_makes, three_makes, four_makes}
+use Rattle.decimal_text.proofs.UpTo.{up_to-some}
 use Rattle.history_text.specs.Acts.{realm_row, table_row, rec_row}
 use Rattle.history_text.specs.Written.{granule, ipa, width, level}
 

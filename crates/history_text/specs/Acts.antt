@@ -4,9 +4,9 @@ use Rattle.std.specs.Option.{option_or}
 use Rattle.std.specs.Str.{bytes_eq}
 use Rattle.arrayvec.specs.ArrayVec.{ArrayVec}
 use Rattle.granule_addr.specs.declared.root.Root.{Root}
-use Rattle.number_text.specs.Grammar.{meaning_of_text}
-use Rattle.number_text.specs.Rows.{none, one, two, three, four, up_to}
-use Rattle.number_text.specs.Written.{u8, u16}
+use Rattle.decimal_text.specs.Grammar.{meaning_of_text}
+use Rattle.decimal_text.specs.Rows.{none, one, two, three, four, up_to}
+use Rattle.decimal_text.specs.Written.{u8, u16}
 use Rattle.realm_model.specs.declared.act.Act.{Act}
 use Rattle.realm_model.specs.declared.act.Act.TheVariants.{Take, UnTake, Fill, Peek, Delegate, Undelegate, Realm, UnRealm, Activate, Rtt}
 use Rattle.realm_model.specs.declared.act.Act.TheVariants.{UnRtt, Ripas, Data, Unknown, UnData, Rec, UnRec, Enter, Exit, Poke}

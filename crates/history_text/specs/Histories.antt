@@ -1,8 +1,8 @@
 -- Histories as they are written: the size of the machine, and an event a line.
 use Rattle.std.specs.Prelude.{◌≡◌, ℕ, ◌≤◌, List, [], ◌∷◌, ◌++◌, codes, Option, Some, None}
 use Rattle.std.specs.List.{flat_map}
-use Rattle.number_text.specs.Grammar.{spelled}
-use Rattle.number_text.specs.Ranges.{AreAtMost}
+use Rattle.decimal_text.specs.Grammar.{spelled}
+use Rattle.decimal_text.specs.Ranges.{AreAtMost}
 use Rattle.realm_model.specs.declared.act.Event.{Event}
 use Rattle.realm_model.specs.History.{erase}
 use Rattle.history_text.specs.declared.opening.Opening.{Opening}

@@ -3,9 +3,9 @@
 -- stands last; only the auxiliary granules of a REC stand behind its number.
 use Rattle.std.specs.Prelude.{ℕ, ◌≤◌, List, [], ◌∷◌, codes, replicate}
 use Rattle.arrayvec.specs.ArrayVec.{array_vec_len}
-use Rattle.number_text.specs.Grammar.{spelled}
-use Rattle.number_text.specs.Ranges.{AreAtMost}
-use Rattle.number_text.specs.Written.{Written, written, u8, u16}
+use Rattle.decimal_text.specs.Grammar.{spelled}
+use Rattle.decimal_text.specs.Ranges.{AreAtMost}
+use Rattle.decimal_text.specs.Written.{Written, written, u8, u16}
 use Rattle.realm_model.specs.declared.act.Act.{Act}
 use Rattle.realm_model.specs.declared.act.Act.TheVariants.{Take, UnTake, Fill, Peek, Delegate, Undelegate, Realm, UnRealm, Activate, Rtt}
 use Rattle.realm_model.specs.declared.act.Act.TheVariants.{UnRtt, Ripas, Data, Unknown, UnData, Rec, UnRec, Enter, Exit, Poke}

@@ -1,15 +1,15 @@
 //! The act that a word and its numbers are.
 ghost use Rattle.std.specs.Prelude.{◌≡◌, ◌≤◌};
-ghost use Rattle.number_text.specs.Rows.{none, one, two, three, four};
-ghost use Rattle.number_text.specs.Written.{u8, u16};
+ghost use Rattle.decimal_text.specs.Rows.{none, one, two, three, four};
+ghost use Rattle.decimal_text.specs.Written.{u8, u16};
 ghost use Rattle.realm_model.specs.declared.act.Act.TheVariants.{Activate};
 ghost use Rattle.history_text.specs.Written.{order, granule, offset, ipa};
 ghost use Rattle.history_text.specs.Acts.{realm_row, table_row, rec_row, page_act_at, realm_act_at, table_act_at, data_act_at, rec_act_at, act_at, act_of_text};
 
 use crate::granules::{GRANULE, IPA, granule_of, granules_of, ipa_of};
 use arrayvec::ArrayVec;
+use decimal_text::{at_most, cut_at_space, made_of, numbers_of};
 use granule_addr::{Gran, IpaGran, IpaWidth, Level, Order, PageOff, RecNo, Root, Vmid};
-use number_text::{at_most, cut_at_space, made_of, numbers_of};
 use realm_model::Act;
 
 // The greatest number of each operand.

@@ -6,8 +6,8 @@ ghost use Rattle.history_text.specs.Events.{IsEventText};
 
 use crate::act::act_from_text;
 use crate::spelling::{numbers_of, word_of};
+use decimal_text::SpelledText;
 use granule_addr::BuildId;
-use number_text::SpelledText;
 use realm_model::Event;
 use std::fmt;
 

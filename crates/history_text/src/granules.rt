@@ -1,6 +1,6 @@
 //! Numbers of granules and of IPA granules.
 ghost use Rattle.std.specs.Prelude.{◌≡◌, ◌≤◌};
-ghost use Rattle.number_text.specs.Rows.{up_to};
+ghost use Rattle.decimal_text.specs.Rows.{up_to};
 ghost use Rattle.history_text.specs.Written.{granule, ipa};
 
 use arrayvec::ArrayVec;

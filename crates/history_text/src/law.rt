@@ -1,6 +1,6 @@
 //! Laws of events as text.
 ghost use Rattle.std.specs.Prelude.{◌≡◌, ℕ, ◌≤◌, List, length, replicate};
-ghost use Rattle.number_text.specs.Ranges.{AreAtMost};
+ghost use Rattle.decimal_text.specs.Ranges.{AreAtMost};
 ghost use Rattle.realm_model.specs.declared.act.Event.{Event};
 ghost use Rattle.history_text.specs.declared.opening.Opening.{Opening};
 ghost use Rattle.history_text.specs.Written.{granule, IsActInRange};
@@ -14,7 +14,7 @@ use realm_model::{Act, Event};
 pub const MOST_LINE: u16 = 256;
 
 /// No two events have one text.
-pub fn events_are_told_apart()
+pub fn event_texts_are_injective()
     ensures { (text : List ℕ) (a b : Event) → IsEventText text a → IsEventText text b → a ≡ b }
 {}
 

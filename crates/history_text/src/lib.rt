@@ -14,6 +14,6 @@ mod spelling;
 mod text;
 
 pub use event::{EventText, parse_event};
-pub use law::{MOST_LINE, events_are_told_apart, events_have_texts, lines_are_short};
+pub use law::{MOST_LINE, event_texts_are_injective, events_have_texts, lines_are_short};
 pub use opening::{Opening, parse_opening};
 pub use text::push_history;

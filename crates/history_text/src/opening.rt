@@ -1,10 +1,10 @@
 //! The first line of a history.
 ghost use Rattle.std.specs.Prelude.{◌≡◌, ◌↔◌, true, IfSome, IfNone};
-ghost use Rattle.number_text.specs.Ranges.{AreAtMost};
+ghost use Rattle.decimal_text.specs.Ranges.{AreAtMost};
 ghost use Rattle.history_text.specs.declared.opening.Opening.{Opening};
 ghost use Rattle.history_text.specs.Histories.{opening_numbers, opening_maxima, HasEnough, IsOpeningText};
 
-use number_text::{SpelledText, at_most, numbers_of};
+use decimal_text::{SpelledText, at_most, numbers_of};
 use std::fmt;
 
 /// The greatest number of each: pages, VMIDs, auxiliary granules of a REC, events of a build, builds.

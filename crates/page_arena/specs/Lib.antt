@@ -6,3 +6,8 @@ pub mod Runs
 pub mod Blocks
 pub mod Words
 pub mod LowestBlock
+pub mod Owned
+pub mod Lends
+pub mod LendsPage
+pub mod Slots
+pub mod Whole

@@ -16,7 +16,7 @@ use Rattle.realm_model.specs.World.{World, realm_of}
 use Rattle.realm_model.proofs.Aborting.{abort_goes_on}
 use Rattle.realm_model.proofs.AtRest.{not_running, none_run, none_run_still}
 use Rattle.realm_model.proofs.Emptied.{emptied}
-use Rattle.realm_model.proofs.LeftOut.{leaves_no_trace}
+use Rattle.realm_model.proofs.LeftOut.{noninterference}
 use Rattle.realm_model.proofs.Lists.{front, front_last}
 use Rattle.realm_model.proofs.Progress.{undoable}
 use Rattle.realm_model.proofs.Rests.{rest_is_of_all}
@@ -24,12 +24,12 @@ use Rattle.realm_model.proofs.Growth.{open_entries-own}
 use Rattle.realm_model.proofs.Stack.{pushed_back}
 use Rattle.realm_model.proofs.UndoAll.{erase_events}
 use Rattle.realm_model.proofs.ZeroPages.{kept_reached}
-use Rattle.build_books.specs.declared.mark.Mark.{Mark}
-use Rattle.build_books.specs.Marks.{mark_while}
-use Rattle.build_books.specs.View.{HostView, world_of, open_of, is_aborting, mark_of, with_event}
-use Rattle.build_books.proofs.Worlds.{world_is, world_of-replay}
-use Rattle.build_commands.specs.declared.refusal.Refusal.{Refusal}
-use Rattle.build_commands.specs.declared.undone.Undone.{Undone}
+use Rattle.host_ledger.specs.declared.mark.Mark.{Mark}
+use Rattle.host_ledger.specs.Marks.{mark_while}
+use Rattle.host_ledger.specs.View.{HostView, world_of, open_of, is_aborting, mark_of, with_event}
+use Rattle.host_ledger.proofs.Worlds.{world_is, world_of-replay}
+use Rattle.host_commands.specs.declared.refusal.Refusal.{Refusal}
+use Rattle.host_commands.specs.declared.undo_reply.Undone.{Undone}
 use Rattle.realm_host.specs.Abort.{GoesOn, LeavesNothing, undone_to, IsDown}
 use Rattle.realm_host.specs.Acting.{IsRecorded}
 use Rattle.realm_host.specs.Answer.{IsUndone}
@@ -98,7 +98,7 @@ module _ (host new : HostView) (build : ℕ) (legal : IsLegal new.limits new.his
   leaves_nothing = record {
     history = history;
     same_others = ap (erase build) history ∙ erase_events build host.history (reverse (open_of host build));
-    legal = (leaves_no_trace new.limits new.history build legal).0;
+    legal = (noninterference new.limits new.history build legal).0;
     no_trace = emptied new.limits build new.history (world_of new) legal (world_is new legal) none;
   }
 

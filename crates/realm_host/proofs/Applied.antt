@@ -24,10 +24,10 @@ use Rattle.realm_model.specs.World.{World, is_leased_to, realm_of}
 use Rattle.realm_model.proofs.HistoryParts.{split}
 use Rattle.realm_model.proofs.Leases.{leased_all, all_leased}
 use Rattle.realm_model.proofs.StepSays.{step_is}
-use Rattle.realm_acts.proofs.Forward.{holder_is}
+use Rattle.execution.proofs.Forward.{holder_is}
 use Rattle.rmi_monitor.specs.View.{MonitorView}
-use Rattle.build_books.specs.View.{HostView, world_of}
-use Rattle.build_books.proofs.Worlds.{world_is}
+use Rattle.host_ledger.specs.View.{HostView, world_of}
+use Rattle.host_ledger.proofs.Worlds.{world_is}
 use Rattle.realm_host.specs.Host.{IsWhole}
 use Rattle.realm_host.proofs.FreeBlocks.{block_free}
 use Rattle.realm_host.specs.Acting.{HasRoomFor, CanAct, IsActed, IsApplied}
@@ -58,16 +58,16 @@ legal_next host legal build act more = at (replay host.limits (host.history ++ b
 
 -- ---- a block
 
-module _ (books : HostView) (monitor : MonitorView) (whole : IsWhole books monitor) (build order first : ℕ) where
+module _ (ledger : HostView) (monitor : MonitorView) (whole : IsWhole ledger monitor) (build order first : ℕ) where
   -- a block that can be leased is free
-  pub legal_block : IsLegal books.limits (books.history ++ by build (Take order first) ∷ []) → IsFreeBlock monitor.free order first
+  pub legal_block : IsLegal ledger.limits (ledger.history ++ by build (Take order first) ∷ []) → IsFreeBlock monitor.free order first
   unfolding named
   legal_block more =
-      let is = legal_next books whole.mirror.legal build (Take order first) more in
-      let says = step_is books.limits (world_of books) is.next (by build (Take order first)) is.stepped in
+      let is = legal_next ledger whole.mirror.legal build (Take order first) more in
+      let says = step_is ledger.limits (world_of ledger) is.next (by build (Take order first)) is.stepped in
       subst (λ flags. IsFreeBlock flags order first) (sym whole.mirror.free)
-      (block_free (world_of books) order first
-      (and_from _ _ says.in_range (leased_all None (world_of books).leases (block order first) says.granules)))
+      (block_free (world_of ledger) order first
+      (and_from _ _ says.in_range (leased_all None (world_of ledger).leases (block order first) says.granules)))
 
 -- ---- a reverse
 

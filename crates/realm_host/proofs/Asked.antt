@@ -23,25 +23,25 @@ use Rattle.realm_model.proofs.Leases.{leased as leased_to}
 use Rattle.realm_model.proofs.Lists.{is_in_at}
 use Rattle.realm_model.proofs.Pages.{is_in-pages_of}
 use Rattle.realm_model.proofs.PartRealm.{realm_from_some}
-use Rattle.realm_acts.specs.Mirror.{rd_of}
-use Rattle.build_commands.specs.declared.cmd.Cmd.{Cmd}
-use Rattle.build_commands.specs.declared.cmd.Cmd.TheVariants.{Take, Peek, Realm, Rec}
-use Rattle.build_commands.specs.declared.refusal.Refusal.{Refusal}
-use Rattle.build_commands.specs.declared.refusal.Refusal.TheVariants.{Rmi as RmiRefusal}
-use Rattle.build_commands.specs.Needs.{operands, needs_of}
-use Rattle.build_commands.specs.Acts.{act_of}
-use Rattle.build_commands.specs.Checks.{AreFound, checks_of, first_that_holds}
-use Rattle.build_commands.specs.Laws.{IsThere, outcome_of_act}
-use Rattle.build_commands.proofs.ActOf.{of_command}
-use Rattle.build_commands.proofs.Picks.{act_fits}
-use Rattle.build_books.specs.View.{HostView, world_of, granule_of_page}
-use Rattle.build_books.specs.Desk.{desk_of}
-use Rattle.build_books.proofs.Worlds.{world_is}
+use Rattle.realm_model.specs.Places.{rd_of}
+use Rattle.host_commands.specs.declared.cmd.Cmd.{Cmd}
+use Rattle.host_commands.specs.declared.cmd.Cmd.TheVariants.{Take, Peek, Realm, Rec}
+use Rattle.host_commands.specs.declared.refusal.Refusal.{Refusal}
+use Rattle.host_commands.specs.declared.refusal.Refusal.TheVariants.{Rmi as RmiRefusal}
+use Rattle.host_commands.specs.Needs.{operands, needs_of}
+use Rattle.host_commands.specs.Acts.{act_of}
+use Rattle.host_commands.specs.Checks.{AreFound, checks_of, first_that_holds}
+use Rattle.host_commands.specs.Laws.{IsThere, outcome_of_act}
+use Rattle.host_commands.proofs.ActOf.{of_command}
+use Rattle.host_commands.proofs.Allocation.{act_fits}
+use Rattle.host_ledger.specs.View.{HostView, world_of, granule_of_page}
+use Rattle.host_ledger.specs.Summary.{summary_of}
+use Rattle.host_ledger.proofs.Worlds.{world_is}
 use Rattle.realm_host.specs.Call.{Ask}
-use Rattle.build_commands.specs.Replies.{reply_of}
-use Rattle.build_commands.proofs.Refused.{first_passes, first_stops}
-use Rattle.build_books.specs.View.{pages_of_build}
-use Rattle.realm_host.specs.Picks.{granules_named, picked_for, act_asked, outcome_asked, IsPeekRefused}
+use Rattle.host_commands.specs.Replies.{reply_of}
+use Rattle.host_commands.proofs.Refused.{first_passes, first_stops}
+use Rattle.host_ledger.specs.View.{pages_of_build}
+use Rattle.realm_host.specs.Allocation.{granules_named, allocated_for, act_asked, outcome_asked, IsPeekRefused}
 use Rattle.realm_host.specs.Refusals.{last_checks, refused_by, refusal_of}
 use Rattle.realm_host.specs.Answer.{IsActOf, IsReplied}
 use Rattle.realm_host.specs.Acting.{CanAct, IsRecorded}
@@ -74,7 +74,7 @@ is_act_of host build (Take order) act plain is = cc
 is_act_of host build _ act plain is = is
 
 peek_outcome : (host : HostView) (build : ℕ) (cmd : Cmd) (granules : List ℕ) (rmi : Rmi) → IsPeekRefused host cmd granules rmi
-    → outcome_of_act host.limits (used_vmids (world_of host).machine) (act_of cmd granules (picked_for host build cmd granules)) (realm_of build (world_of host))
+    → outcome_of_act host.limits (used_vmids (world_of host).machine) (act_of cmd granules (allocated_for host build cmd granules)) (realm_of build (world_of host))
     (map (seen (world_of host).machine) granules) ≡ Err rmi
 unfolding act_of outcome_of
 peek_outcome host build (Peek page offset) (granule ∷ others) rmi e = e
@@ -97,7 +97,7 @@ none_of None e = refl
 none_of (Some rd) e = cc
 
 there_is : (host : HostView) (build : ℕ) (cmd : Cmd) (gs : List ℕ) → length gs ≡ length (operands cmd) → IsWanted (needs_of cmd).realm (is_some (rd_of build (world_of host)))
-    → IsThere cmd (picked_for host build cmd gs) (realm_of build (world_of host)) (map (seen (world_of host).machine) gs)
+    → IsThere cmd (allocated_for host build cmd gs) (realm_of build (world_of host)) (map (seen (world_of host).machine) gs)
 unfolding operands needs_of
 there_is host build (Peek page offset) [] long wanted = absurd (omega (arith, long))
 there_is host build (Peek page offset) (g ∷ []) long wanted =
@@ -125,7 +125,7 @@ done_of host legal build act more = at (replay host.limits (host.history ++ by b
         (step.updates, ap (λ (w : World). outcome_in host.limits w (by build act)) (sym base) ∙ step.outcome)
 
 module _ (host : HostView) (legal : IsLegal host.limits host.history) (build : ℕ) (cmd : Cmd) (granules : List ℕ) (there : build < host.limits.builds)
-    (none : first_that_holds (checks_of (desk_of host) build cmd) ≡ None) (found : AreFound (desk_of host) build cmd granules) where
+    (none : first_that_holds (checks_of (summary_of host) build cmd) ≡ None) (found : AreFound (summary_of host) build cmd granules) where
   abbrev world : World
   world = world_of host
 
@@ -146,17 +146,17 @@ module _ (host : HostView) (legal : IsLegal host.limits host.history) (build : �
   -- ---- what was picked is what is there
 
   wanted : IsWanted (needs_of cmd).realm (is_some (rd_of build world))
-  wanted = realm_wanted (desk_of host) build cmd none
+  wanted = realm_wanted (summary_of host) build cmd none
 
-  fitting : (act : Act) → act_of cmd granules (picked_for host build cmd granules) ≡ Some act → fits act (realm_of build world) (map (seen world.machine) (named act)) ≡ true
+  fitting : (act : Act) → act_of cmd granules (allocated_for host build cmd granules) ≡ Some act → fits act (realm_of build world) (map (seen world.machine) (named act)) ≡ true
   fitting act is =
-      ap (λ (gs : List ℕ). fits act (realm_of build world) (map (seen world.machine) gs)) (of_command (picked_for host build cmd granules) cmd granules act long is).names
-      ∙ act_fits (picked_for host build cmd granules) (realm_of build world) (map (seen world.machine) granules) cmd granules act is
+      ap (λ (gs : List ℕ). fits act (realm_of build world) (map (seen world.machine) gs)) (of_command (allocated_for host build cmd granules) cmd granules act long is).names
+      ∙ act_fits (allocated_for host build cmd granules) (realm_of build world) (map (seen world.machine) granules) cmd granules act is
       (there_is host build cmd granules long wanted)
 
-  pub can_act : (act : Act) → act_of cmd granules (picked_for host build cmd granules) ≡ Some act → is_in_range act ≡ true → CanAct host build act
+  pub can_act : (act : Act) → act_of cmd granules (allocated_for host build cmd granules) ≡ Some act → is_in_range act ≡ true → CanAct host build act
   can_act act is in_range =
-      let of = of_command (picked_for host build cmd granules) cmd granules act long is in
+      let of = of_command (allocated_for host build cmd granules) cmd granules act long is in
       record {
         asked = record {
           command = of.command;
@@ -167,25 +167,25 @@ module _ (host : HostView) (legal : IsLegal host.limits host.history) (build : �
         };
         turn = forward_turn host.history build act of.forward;
         room = record {
-          room = λ some. let fits = room_fits (desk_of host) build cmd none in let taken = of.room in omega (arith, some, fits, taken);
-          few_open = λ paired. journal_fits (desk_of host) build cmd none (sym of.paired ∙ paired);
+          room = λ some. let fits = room_fits (summary_of host) build cmd none in let taken = of.room in omega (arith, some, fits, taken);
+          few_open = λ paired. journal_fits (summary_of host) build cmd none (sym of.paired ∙ paired);
         };
       }
 
   -- ---- what comes of it
 
   outcome_is : outcome_asked host build cmd
-      ≡ outcome_of_act host.limits (used_vmids world.machine) (act_of cmd granules (picked_for host build cmd granules)) (realm_of build world) (map (seen world.machine) granules)
-  outcome_is = ap (λ (gs : List ℕ). outcome_of_act host.limits (used_vmids world.machine) (act_of cmd gs (picked_for host build cmd gs)) (realm_of build world) (map (seen world.machine) gs)) named_is
+      ≡ outcome_of_act host.limits (used_vmids world.machine) (act_of cmd granules (allocated_for host build cmd granules)) (realm_of build world) (map (seen world.machine) granules)
+  outcome_is = ap (λ (gs : List ℕ). outcome_of_act host.limits (used_vmids world.machine) (act_of cmd gs (allocated_for host build cmd gs)) (realm_of build world) (map (seen world.machine) gs)) named_is
 
   module _ (plain : is_take cmd ≡ false) where
     refused_as : (rmi : Rmi) → outcome_asked host build cmd ≡ Err rmi → refusal_of host build (Ask cmd) ≡ Some (RmiRefusal rmi)
     unfolding refusal_of
     refused_as rmi e =
-        first_passes (checks_of (desk_of host) build cmd) (last_checks host build cmd) none
+        first_passes (checks_of (summary_of host) build cmd) (last_checks host build cmd) none
         ∙ ap first_that_holds (last_is host build cmd plain ∙ ap refused_by e)
 
-    pub no_act : act_of cmd granules (picked_for host build cmd granules) ≡ None → refusal_of host build (Ask cmd) ≡ Some (RmiRefusal error_input)
+    pub no_act : act_of cmd granules (allocated_for host build cmd granules) ≡ None → refusal_of host build (Ask cmd) ≡ Some (RmiRefusal error_input)
     no_act e =
         refused_as error_input (outcome_is
         ∙ ap (λ (o : Option Act). outcome_of_act host.limits (used_vmids world.machine) o (realm_of build world) (map (seen world.machine) granules)) e)
@@ -193,13 +193,13 @@ module _ (host : HostView) (legal : IsLegal host.limits host.history) (build : �
     pub not_read : (rmi : Rmi) → IsPeekRefused host cmd granules rmi → refusal_of host build (Ask cmd) ≡ Some (RmiRefusal rmi)
     not_read rmi e = refused_as rmi (outcome_is ∙ peek_outcome host build cmd granules rmi e)
 
-    module _ (act : Act) (is : act_of cmd granules (picked_for host build cmd granules) ≡ Some act) where
+    module _ (act : Act) (is : act_of cmd granules (allocated_for host build cmd granules) ≡ Some act) where
       outcome_in_is : outcome_asked host build cmd ≡ outcome_in host.limits world (by build act)
       outcome_in_is =
           outcome_is
           ∙ ap (λ (o : Option Act). outcome_of_act host.limits (used_vmids world.machine) o (realm_of build world) (map (seen world.machine) granules)) is
           ∙ ap (λ (gs : List ℕ). outcome_of host.limits.vmids host.limits.aux (used_vmids world.machine) act (realm_of build world) (map (seen world.machine) gs))
-          (sym (of_command (picked_for host build cmd granules) cmd granules act long is).names)
+          (sym (of_command (allocated_for host build cmd granules) cmd granules act long is).names)
 
       pub act_refused : (rmi : Rmi) → outcome_in host.limits world (by build act) ≡ Err rmi → refusal_of host build (Ask cmd) ≡ Some (RmiRefusal rmi)
       act_refused rmi e = refused_as rmi (outcome_in_is ∙ e)
@@ -207,7 +207,7 @@ module _ (host : HostView) (legal : IsLegal host.limits host.history) (build : �
       not_refused : (updates : List Update) → outcome_asked host build cmd ≡ Ok updates → refusal_of host build (Ask cmd) ≡ None
       unfolding refusal_of
       not_refused updates e =
-          first_passes (checks_of (desk_of host) build cmd) (last_checks host build cmd) none
+          first_passes (checks_of (summary_of host) build cmd) (last_checks host build cmd) none
           ∙ ap first_that_holds (last_is host build cmd plain ∙ ap refused_by e)
 
       pub replied_to : (new : HostView) → IsRecorded host build act new → IsReplied host build cmd (reply_of (length (pages_of_build host build)) act) new
@@ -218,7 +218,7 @@ module _ (host : HostView) (legal : IsLegal host.limits host.history) (build : �
             accepted = record {
               not_refused = not_refused done.0 (outcome_in_is ∙ done.1);
               act_of = is_act_of host build cmd act plain
-                  (ap (λ (gs : List ℕ). act_of cmd gs (picked_for host build cmd gs)) named_is ∙ is);
+                  (ap (λ (gs : List ℕ). act_of cmd gs (allocated_for host build cmd gs)) named_is ∙ is);
               legal = recorded.legal;
               grows = recorded.grows;
             };
@@ -226,7 +226,7 @@ module _ (host : HostView) (legal : IsLegal host.limits host.history) (build : �
           }
 
 -- a check by its needs that holds refuses
-pub refused_by_needs : (host : HostView) (build : ℕ) (cmd : Cmd) (refusal : Refusal) → first_that_holds (checks_of (desk_of host) build cmd) ≡ Some refusal
+pub refused_by_needs : (host : HostView) (build : ℕ) (cmd : Cmd) (refusal : Refusal) → first_that_holds (checks_of (summary_of host) build cmd) ≡ Some refusal
     → refusal_of host build (Ask cmd) ≡ Some refusal
 unfolding refusal_of
-refused_by_needs host build cmd refusal some = first_stops (checks_of (desk_of host) build cmd) (last_checks host build cmd) refusal some
+refused_by_needs host build cmd refusal some = first_stops (checks_of (summary_of host) build cmd) (last_checks host build cmd) refusal some

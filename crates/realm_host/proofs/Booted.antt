@@ -7,20 +7,20 @@ use Rattle.realm_model.specs.declared.act.Event.{Event}
 use Rattle.realm_model.specs.World.{World, opening, same_lease, is_leased_to, free_set}
 use Rattle.realm_model.specs.History.{open_entries, unmatched, pages_of, pages_held, acts_of}
 use Rattle.rmi_monitor.specs.View.{MonitorView, fresh}
-use Rattle.realm_acts.specs.Mirror.{IsMirror}
-use Rattle.realm_acts.proofs.Fresh.{fresh_is_mirror}
-use Rattle.build_books.specs.View.{HostView}
-use Rattle.build_books.specs.Booted.{booted}
-use Rattle.build_books.proofs.Worlds.{world_of-replay}
-use Rattle.build_books.proofs.Empty.{replay-nil}
+use Rattle.execution.specs.Mirror.{IsMirror}
+use Rattle.execution.proofs.Fresh.{fresh_is_mirror}
+use Rattle.host_ledger.specs.View.{HostView}
+use Rattle.host_ledger.specs.Booted.{booted}
+use Rattle.host_ledger.proofs.Worlds.{world_of-replay}
+use Rattle.host_ledger.proofs.Empty.{replay-nil}
 use Rattle.realm_host.specs.Host.{IsInRange, IsWhole}
 
-pub whole_booted : (books : HostView) (monitor : MonitorView) (pages count vmids aux builds capacity : ℕ) → pages ≡ count → books ≡ booted pages vmids aux builds capacity
-    → monitor ≡ fresh vmids aux count → IsInRange (record { pages = pages; vmids = vmids; aux = aux; builds = builds }) capacity → IsWhole books monitor
-whole_booted books monitor pages count vmids aux builds capacity same books_are monitor_is in_range =
+pub whole_booted : (ledger : HostView) (monitor : MonitorView) (pages count vmids aux builds capacity : ℕ) → pages ≡ count → ledger ≡ booted pages vmids aux builds capacity
+    → monitor ≡ fresh vmids aux count → IsInRange (record { pages = pages; vmids = vmids; aux = aux; builds = builds }) capacity → IsWhole ledger monitor
+whole_booted ledger monitor pages count vmids aux builds capacity same ledger_is monitor_is in_range =
     let start : HostView = booted pages vmids aux builds capacity in
     let made : monitor ≡ fresh vmids aux pages = monitor_is ∙ ap (fresh vmids aux) (sym same) in
-    subst (λ (h : HostView). IsWhole h monitor) (sym books_are) (subst (IsWhole start) (sym made) (record {
+    subst (λ (h : HostView). IsWhole h monitor) (sym ledger_is) (subst (IsWhole start) (sym made) (record {
       mirror = subst (λ (w : World). IsMirror start.limits [] w (fresh vmids aux pages)) (sym (world_of-replay start (opening start.limits) (replay-nil start.limits)))
           (fresh_is_mirror start.limits);
       in_range = in_range;

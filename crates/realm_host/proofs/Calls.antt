@@ -5,9 +5,9 @@ use Rattle.std.specs.Prelude.{nat_lt, nat_le}
 use Rattle.std.specs.List.{list_any}
 use Rattle.std.proofs.lemmas.Bool.{leb-false, le-leb, ltb-true, ltb-false, and_parts, eqb-true}
 use Rattle.std.proofs.lemmas.List.{take_all, length-drop, get_or-set_same, get_or_past, set_past}
-use Rattle.build_commands.specs.declared.refusal.Refusal.{Refusal}
-use Rattle.build_commands.specs.declared.refusal.Refusal.TheVariants.{NoBuild, Aborting, NothingToUndo, RecRunning}
-use Rattle.build_commands.specs.Checks.{build_checks, first_that_holds}
+use Rattle.host_commands.specs.declared.refusal.Refusal.{Refusal}
+use Rattle.host_commands.specs.declared.refusal.Refusal.TheVariants.{NoBuild, Aborting, NothingToUndo, RecRunning}
+use Rattle.host_commands.specs.Checks.{build_checks, first_that_holds}
 use Rattle.realm_model.specs.declared.act.Act.{Act}
 use Rattle.realm_model.specs.declared.act.Event.{Event}
 use Rattle.realm_model.specs.History.{open_entries, IsLegal}
@@ -17,12 +17,12 @@ use Rattle.realm_model.specs.Undoing.{by, reverses}
 use Rattle.realm_model.specs.World.{realm_of}
 use Rattle.realm_model.proofs.RollBack.{rolled_back}
 use Rattle.rmi_monitor.specs.View.{MonitorView}
-use Rattle.build_books.specs.declared.mark.Mark.{Mark}
-use Rattle.build_books.specs.Desk.{desk_of}
-use Rattle.build_books.specs.Marks.{point_of, is_same_mark, mark_while}
-use Rattle.build_books.specs.View.{HostView, world_of, open_of, is_aborting, mark_of, begun, with_mark}
-use Rattle.build_books.specs.Kept.{IsMarkOf}
-use Rattle.build_books.proofs.Worlds.{world_is}
+use Rattle.host_ledger.specs.declared.mark.Mark.{Mark}
+use Rattle.host_ledger.specs.Summary.{summary_of}
+use Rattle.host_ledger.specs.Marks.{point_of, is_same_mark, mark_while}
+use Rattle.host_ledger.specs.View.{HostView, world_of, open_of, is_aborting, mark_of, begun, with_mark}
+use Rattle.host_ledger.specs.Kept.{IsMarkOf}
+use Rattle.host_ledger.proofs.Worlds.{world_is}
 use Rattle.realm_host.specs.Abort.{IsDown, LeavesNothing, IsAborted}
 use Rattle.realm_host.specs.Host.{IsWhole}
 use Rattle.realm_host.specs.Marked.{is_kept, checks_of_back, way_back, IsBackAt}
@@ -30,13 +30,13 @@ use Rattle.realm_host.proofs.Aborts.{leaves_nothing}
 
 -- ---- the host after them
 
-pub whole_begun : (books : HostView) (monitor : MonitorView) → IsWhole books monitor → (build : ℕ) → IsWhole (begun books build) monitor
+pub whole_begun : (ledger : HostView) (monitor : MonitorView) → IsWhole ledger monitor → (build : ℕ) → IsWhole (begun ledger build) monitor
 unfolding world_of
-whole_begun books monitor whole build = record { mirror = whole.mirror; in_range = whole.in_range }
+whole_begun ledger monitor whole build = record { mirror = whole.mirror; in_range = whole.in_range }
 
-pub whole_marked : (books : HostView) (monitor : MonitorView) → IsWhole books monitor → (build : ℕ) (mark : Mark) → IsWhole (with_mark books build mark) monitor
+pub whole_marked : (ledger : HostView) (monitor : MonitorView) → IsWhole ledger monitor → (build : ℕ) (mark : Mark) → IsWhole (with_mark ledger build mark) monitor
 unfolding world_of
-whole_marked books monitor whole build mark = record { mirror = whole.mirror; in_range = whole.in_range }
+whole_marked ledger monitor whole build mark = record { mirror = whole.mirror; in_range = whole.in_range }
 
 -- ---- checks
 
@@ -46,7 +46,7 @@ passed_parts true refusal rest e = cc
 passed_parts false refusal rest e = (refl, e)
 
 -- where neither 1 nor 2 holds, the build is there
-pub there_of : (host : HostView) (build : ℕ) → first_that_holds (build_checks (desk_of host) build) ≡ None → build < host.limits.builds
+pub there_of : (host : HostView) (build : ℕ) → first_that_holds (build_checks (summary_of host) build) ≡ None → build < host.limits.builds
 there_of host build none =
     let parts = passed_parts (nat_le host.limits.builds build) NoBuild _ none in
     leb-false host.limits.builds build parts.0

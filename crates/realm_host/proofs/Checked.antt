@@ -4,14 +4,14 @@ use Rattle.std.specs.Prelude.{nat_lt, nat_le}
 use Rattle.std.specs.List.{All, filter_map, cons_option}
 use Rattle.std.proofs.lemmas.Bool.{leb-false, ltb-false}
 use Rattle.std.proofs.lemmas.List.Elements.{All-nil, All-cons}
-use Rattle.build_commands.specs.declared.cmd.Cmd.{Cmd}
-use Rattle.build_commands.specs.declared.needs.Wants.{Wants}
-use Rattle.build_commands.specs.declared.needs.Wants.TheVariants.{Either, Realm as ARealm, NoRealm as NoneOf}
-use Rattle.build_commands.specs.declared.refusal.Refusal.TheVariants.{RealmThere, NoRealm, JournalFull, HistoryFull}
-use Rattle.build_commands.specs.Desk.{DeskView}
-use Rattle.build_commands.specs.Needs.{operands, needs_of}
-use Rattle.build_commands.specs.Checks.{Check, build_checks, order_checks, page_checks, realm_checks, journal_checks, room_checks, vmid_checks, state_checks, checks_of, first_that_holds}
-use Rattle.build_commands.proofs.Refused.{first_passes}
+use Rattle.host_commands.specs.declared.cmd.Cmd.{Cmd}
+use Rattle.host_commands.specs.declared.needs.RealmRequirement.{RealmRequirement}
+use Rattle.host_commands.specs.declared.needs.RealmRequirement.TheVariants.{Either, Realm as ARealm, NoRealm as NoneOf}
+use Rattle.host_commands.specs.declared.refusal.Refusal.TheVariants.{RealmThere, NoRealm, JournalFull, HistoryFull}
+use Rattle.host_commands.specs.BuildsSummary.{BuildsSummary}
+use Rattle.host_commands.specs.Needs.{operands, needs_of}
+use Rattle.host_commands.specs.Checks.{Check, build_checks, order_checks, page_checks, realm_checks, journal_checks, room_checks, vmid_checks, state_checks, checks_of, first_that_holds}
+use Rattle.host_commands.proofs.Refused.{first_passes}
 use Rattle.realm_model.proofs.Booleans.{not_false}
 
 -- ---- lists of checks
@@ -38,60 +38,60 @@ head_false check checks none = at check.0 refl none
 -- ---- the checks of a command
 
 -- the realm that is wanted is there, or not
-abbrev pub IsWanted : Wants → Bool → Type 0
+abbrev pub IsWanted : RealmRequirement → Bool → Type 0
 IsWanted Either there = Unit {0}
 IsWanted NoneOf there = there ≡ false
 IsWanted ARealm there = there ≡ true
 
-module _ (desk : DeskView) (build : ℕ) (cmd : Cmd) (none : first_that_holds (checks_of desk build cmd) ≡ None) where
+module _ (view : BuildsSummary) (build : ℕ) (cmd : Cmd) (none : first_that_holds (checks_of view build cmd) ≡ None) where
   abbrev page_part : List Check
-  page_part = page_checks desk build (operands cmd) ++ state_checks desk build (needs_of cmd)
+  page_part = page_checks view build (operands cmd) ++ state_checks view build (needs_of cmd)
 
   abbrev order_part : List Check
   order_part = order_checks cmd ++ page_part
 
   after_build : first_that_holds order_part ≡ None
   unfolding checks_of
-  after_build = rest_none (build_checks desk build) order_part none
+  after_build = rest_none (build_checks view build) order_part none
 
-  states : first_that_holds (state_checks desk build (needs_of cmd)) ≡ None
+  states : first_that_holds (state_checks view build (needs_of cmd)) ≡ None
   states =
-      rest_none (page_checks desk build (operands cmd)) (state_checks desk build (needs_of cmd)) (rest_none (order_checks cmd) page_part after_build)
+      rest_none (page_checks view build (operands cmd)) (state_checks view build (needs_of cmd)) (rest_none (order_checks cmd) page_part after_build)
 
   pub order_fits : first_that_holds (order_checks cmd) ≡ None
   order_fits = first_none (order_checks cmd) page_part after_build
 
   abbrev room_part : List Check
-  room_part = room_checks desk build (needs_of cmd).room ++ vmid_checks desk (needs_of cmd).vmid
+  room_part = room_checks view build (needs_of cmd).room ++ vmid_checks view (needs_of cmd).vmid
 
   abbrev journal_part : List Check
-  journal_part = journal_checks desk build (needs_of cmd).paired ++ room_part
+  journal_part = journal_checks view build (needs_of cmd).paired ++ room_part
 
   after_realm : first_that_holds journal_part ≡ None
   unfolding state_checks
-  after_realm = rest_none (realm_checks desk build (needs_of cmd).realm) journal_part states
+  after_realm = rest_none (realm_checks view build (needs_of cmd).realm) journal_part states
 
-  pub realm_wanted : IsWanted (needs_of cmd).realm (desk.realm build)
+  pub realm_wanted : IsWanted (needs_of cmd).realm (view.realm build)
   unfolding state_checks
-  realm_wanted = at (needs_of cmd).realm (first_none (realm_checks desk build (needs_of cmd).realm) journal_part states)
+  realm_wanted = at (needs_of cmd).realm (first_none (realm_checks view build (needs_of cmd).realm) journal_part states)
     where
-      at : (wants : Wants) → first_that_holds (realm_checks desk build wants) ≡ None → IsWanted wants (desk.realm build)
+      at : (wants : RealmRequirement) → first_that_holds (realm_checks view build wants) ≡ None → IsWanted wants (view.realm build)
       at Either e = tt
-      at NoneOf e = head_false (desk.realm build, RealmThere) [] e
-      at ARealm e = not_false (desk.realm build) (head_false (not (desk.realm build), NoRealm) [] e)
+      at NoneOf e = head_false (view.realm build, RealmThere) [] e
+      at ARealm e = not_false (view.realm build) (head_false (not (view.realm build), NoRealm) [] e)
 
-  pub journal_fits : (needs_of cmd).paired ≡ true → desk.opened build < 512
-  journal_fits paired = at (needs_of cmd).paired paired (first_none (journal_checks desk build (needs_of cmd).paired) room_part after_realm)
+  pub journal_fits : (needs_of cmd).paired ≡ true → view.opened build < 512
+  journal_fits paired = at (needs_of cmd).paired paired (first_none (journal_checks view build (needs_of cmd).paired) room_part after_realm)
     where
-      at : (p : Bool) → p ≡ true → first_that_holds (journal_checks desk build p) ≡ None → desk.opened build < 512
-      at true is e = leb-false 512 (desk.opened build) (head_false (nat_le 512 (desk.opened build), JournalFull) [] e)
+      at : (p : Bool) → p ≡ true → first_that_holds (journal_checks view build p) ≡ None → view.opened build < 512
+      at true is e = leb-false 512 (view.opened build) (head_false (nat_le 512 (view.opened build), JournalFull) [] e)
       at false is e = cc
 
-  pub room_fits : (needs_of cmd).room ≤ desk.room_left build
+  pub room_fits : (needs_of cmd).room ≤ view.room_left build
   room_fits =
-      ltb-false (desk.room_left build) (needs_of cmd).room
-      (head_false (nat_lt (desk.room_left build) (needs_of cmd).room, HistoryFull) []
-      (first_none (room_checks desk build (needs_of cmd).room) (vmid_checks desk (needs_of cmd).vmid) (rest_none (journal_checks desk build (needs_of cmd).paired) room_part after_realm)))
+      ltb-false (view.room_left build) (needs_of cmd).room
+      (head_false (nat_lt (view.room_left build) (needs_of cmd).room, HistoryFull) []
+      (first_none (room_checks view build (needs_of cmd).room) (vmid_checks view (needs_of cmd).vmid) (rest_none (journal_checks view build (needs_of cmd).paired) room_part after_realm)))
 
 -- ---- the granules of its operands
 

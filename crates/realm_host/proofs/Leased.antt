@@ -4,24 +4,24 @@ use Rattle.std.specs.Prelude.{slice_get}
 use Rattle.std.specs.List.{All}
 use Rattle.std.proofs.lemmas.List.Elements.{All-get_or}
 use Rattle.rmi_monitor.specs.View.{MonitorView, IsTaken}
-use Rattle.realm_acts.proofs.Ready.{all_taken}
-use Rattle.build_commands.specs.declared.cmd.Cmd.{Cmd}
-use Rattle.build_commands.specs.declared.cmd.Cmd.TheVariants.{Peek}
-use Rattle.build_commands.specs.Needs.{operands}
-use Rattle.build_books.specs.View.{HostView, world_of}
+use Rattle.execution.proofs.Ready.{all_taken}
+use Rattle.host_commands.specs.declared.cmd.Cmd.{Cmd}
+use Rattle.host_commands.specs.declared.cmd.Cmd.TheVariants.{Peek}
+use Rattle.host_commands.specs.Needs.{operands}
+use Rattle.host_ledger.specs.View.{HostView, world_of}
 use Rattle.realm_host.specs.Host.{IsWhole}
 
 one_operand : (page offset : ℕ) → length (operands (Peek page offset)) ≡ 1
 unfolding operands
 one_operand page offset = refl
 
-module _ (books : HostView) (monitor : MonitorView) (whole : IsWhole books monitor) (now : HostView) (view_is : books ≡ now) (build : ℕ) where
+module _ (ledger : HostView) (monitor : MonitorView) (whole : IsWhole ledger monitor) (now : HostView) (view_is : ledger ≡ now) (build : ℕ) where
   -- the page of a Peek is taken
   pub first_taken : (cmd : Cmd) (granules : List ℕ) → All (λ g. slice_get (world_of now).leases g ≡ Some (Some build)) granules → length granules ≡ length (operands cmd)
       → (page offset : ℕ) → cmd ≡ Peek page offset → (granule : ℕ) → granule ≡ get_or granules 0 granule → IsTaken monitor granule
   first_taken cmd granules leased long page offset is granule read =
       let one : length granules ≡ 1 = long ∙ ap (λ (c : Cmd). length (operands c)) is ∙ one_operand page offset in
       let taken : All (IsTaken monitor) granules =
-      all_taken books.limits books.history (world_of books) monitor whole.mirror build granules
+      all_taken ledger.limits ledger.history (world_of ledger) monitor whole.mirror build granules
       (subst (λ (h : HostView). All (λ g. slice_get (world_of h).leases g ≡ Some (Some build)) granules) (sym view_is) leased) in
       subst (IsTaken monitor) (sym read) (All-get_or (IsTaken monitor) granules 0 granule (omega (arith, one)) taken)

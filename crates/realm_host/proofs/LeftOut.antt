@@ -11,12 +11,12 @@ use Rattle.realm_model.specs.History.{open_entries, erase, after, replay, IsLega
 use Rattle.realm_model.specs.LeftOut.{IsAccepted, AllAccepted}
 use Rattle.realm_model.proofs.Accepted.{what_is_left_is_accepted}
 use Rattle.realm_model.proofs.Growth.{grows}
-use Rattle.realm_model.proofs.LeftOut.{leaves_no_trace, erase_push}
-use Rattle.build_books.specs.declared.mark.Mark.{Mark}
-use Rattle.build_books.specs.Marks.{mark_while}
-use Rattle.build_books.specs.View.{HostView, world_of, with_event}
-use Rattle.build_books.specs.Kept.{HasRoom}
-use Rattle.build_books.proofs.Worlds.{world_is, world_of-replay}
+use Rattle.realm_model.proofs.LeftOut.{noninterference, erase_push}
+use Rattle.host_ledger.specs.declared.mark.Mark.{Mark}
+use Rattle.host_ledger.specs.Marks.{mark_while}
+use Rattle.host_ledger.specs.View.{HostView, world_of, with_event}
+use Rattle.host_ledger.specs.Kept.{HasRoom}
+use Rattle.host_ledger.proofs.Worlds.{world_is, world_of-replay}
 use Rattle.realm_host.specs.Recorded.{CanApply, fresh_like, IsWithout}
 use Rattle.granule_addr.proofs.Same.{same_each}
 
@@ -108,7 +108,7 @@ module _ (host : HostView) (legal : IsLegal host.limits host.history) (room : (b
   is_without count past fresh so_far =
       let is : fresh ≡ record (fresh_like host) { history = erase build host.history } =
       so_far.fresh_is ∙ ap (λ es. record (fresh_like host) { history = erase build es }) (take_all count host.history past) in
-      let none = leaves_no_trace host.limits host.history build legal in
+      let none = noninterference host.limits host.history build legal in
       let at : replay fresh.limits fresh.history ≡ Some (without (world_of host) build) =
       ap (λ (h : HostView). replay h.limits h.history) is ∙ none.1 ∙ ap (option_map (λ (w : World). without w build)) (world_is host legal) in
       record { new_is = is; world = world_of-replay fresh (without (world_of host) build) at }

@@ -16,8 +16,8 @@ use Rattle.realm_model.proofs.Growth.{grows, open_entries-own}
 use Rattle.realm_model.proofs.HistoryParts.{split}
 use Rattle.realm_model.proofs.Stack.{pushed_paired}
 use Rattle.realm_model.proofs.PairsLeadBack.{pair_leads_back}
-use Rattle.build_books.specs.View.{HostView, world_of, with_event}
-use Rattle.build_books.proofs.Worlds.{world_is, world_of-replay}
+use Rattle.host_ledger.specs.View.{HostView, world_of, with_event}
+use Rattle.host_ledger.proofs.Worlds.{world_is, world_of-replay}
 use Rattle.realm_host.specs.Acting.{IsBack, IsRecorded}
 use Rattle.realm_host.specs.PairLaw.{LeadsBack}
 use Rattle.realm_host.proofs.Backward.{turn}

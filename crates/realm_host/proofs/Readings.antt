@@ -14,9 +14,8 @@ use Rattle.realm_objects.specs.Attributes.{RecAttributes}
 use Rattle.rmi_monitor.specs.View.{MonitorView}
 use Rattle.rmi_monitor.specs.Named.{rec_attributes_at}
 use Rattle.rmi_monitor.specs.Walked.{walk_of, walk_in}
-use Rattle.realm_acts.specs.Mirror.{rd_of}
-use Rattle.realm_acts.specs.Performing.{rec_granule}
-use Rattle.build_books.specs.View.{HostView, world_of}
+use Rattle.realm_model.specs.Places.{rd_of, rec_granule}
+use Rattle.host_ledger.specs.View.{HostView, world_of}
 use Rattle.realm_host.specs.Host.{IsWhole}
 use Rattle.realm_host.specs.Readings.{granule_at, rec_at, row_view, row_at}
 use Rattle.realm_host.specs.declared.reading.GranuleView.{GranuleView}
@@ -36,13 +35,13 @@ past level ipa first is = subst (λ n. ipa < n + covered_count level) (sym is) (
 row_by_rd : (world : World) (build rd ipa level : ℕ) → rd_of build world ≡ Some rd → row_at world build ipa level ≡ option_map (row_view ipa) (walk_in world.machine rd ipa level)
 row_by_rd world build rd ipa level is = ap (λ o. option_map (row_view ipa) (option_and_then (λ (realm : RealmRow). walk_of realm ipa level) o)) (row_at_rd world build rd is)
 
-module _ (books : HostView) (monitor : MonitorView) (whole : IsWhole books monitor) (now : HostView) (view_is : books ≡ now) where
+module _ (ledger : HostView) (monitor : MonitorView) (whole : IsWhole ledger monitor) (now : HostView) (view_is : ledger ≡ now) where
   -- a reading of the world in which the monitor has its machine
-  told : {A : Type 0} (read : World → A) → read (world_of books) ≡ read (world_of now)
+  told : {A : Type 0} (read : World → A) → read (world_of ledger) ≡ read (world_of now)
   told read = ap (λ (h : HostView). read (world_of h)) view_is
 
   pub pages_are : length monitor.machine ≡ now.limits.pages
-  pages_are = long books monitor whole now view_is ∙ ap (λ (h : HostView). h.limits.pages) view_is
+  pages_are = long ledger monitor whole now view_is ∙ ap (λ (h : HostView). h.limits.pages) view_is
 
   -- ---- granules
 
@@ -54,9 +53,9 @@ module _ (books : HostView) (monitor : MonitorView) (whole : IsWhole books monit
       realm = (cell_at world.machine granule).realm;
     })) None
 
-    inside_is : (b : Bool) → nat_lt granule (length monitor.machine) ≡ b → granule_of b (world_of books) ≡ granule_at (world_of now) granule
+    inside_is : (b : Bool) → nat_lt granule (length monitor.machine) ≡ b → granule_of b (world_of ledger) ≡ granule_at (world_of now) granule
     inside_is b is =
-        ap (λ t. granule_of t (world_of books)) (sym is ∙ ap (λ (m : Machine). nat_lt granule (length m)) whole.mirror.machine)
+        ap (λ t. granule_of t (world_of ledger)) (sym is ∙ ap (λ (m : Machine). nat_lt granule (length m)) whole.mirror.machine)
         ∙ told (λ world. granule_at world granule)
 
     -- by the number and the count of pages that code compares
@@ -68,7 +67,7 @@ module _ (books : HostView) (monitor : MonitorView) (whole : IsWhole books monit
       granule_inside inside = omega (arith, inside, number_is, counted)
 
     pub granule_is : (state : GranuleState) (build realm : Option ℕ) → granule < length monitor.machine
-        → state ≡ (cell_at monitor.machine granule).state → build ≡ slice_index_or (world_of books).leases granule None → realm ≡ (cell_at monitor.machine granule).realm
+        → state ≡ (cell_at monitor.machine granule).state → build ≡ slice_index_or (world_of ledger).leases granule None → realm ≡ (cell_at monitor.machine granule).realm
         → Some (record { state = state; build = build; realm = realm }) ≡ granule_at (world_of now) granule
     granule_is state build realm inside state_is build_is realm_is =
         (λ i. Some (record {
@@ -81,23 +80,23 @@ module _ (books : HostView) (monitor : MonitorView) (whole : IsWhole books monit
   -- ---- RECs
 
   module _ (build number : ℕ) where
-    pub rec_told : (granule : ℕ) → Some granule ≡ rec_granule (realm_of build (world_of books)) number
+    pub rec_told : (granule : ℕ) → Some granule ≡ rec_granule (realm_of build (world_of ledger)) number
         → (rec : RecAttributes) → Some rec ≡ rec_attributes_at monitor.machine granule → Some (granule, rec) ≡ rec_at (world_of now) build number
     rec_told granule granule_is rec told_is =
         ap (option_map (λ (r : RecAttributes). (granule, r))) (told_is ∙ ap (λ (m : Machine). rec_attributes_at m granule) whole.mirror.machine)
-        ∙ sym (rec_is books.limits books.history (world_of books) whole.mirror.world_is build granule number (sym granule_is))
+        ∙ sym (rec_is ledger.limits ledger.history (world_of ledger) whole.mirror.world_is build granule number (sym granule_is))
         ∙ told (λ world. rec_at world build number)
 
   -- ---- rows
 
   module _ (build ipa level rd : ℕ) (rd_is : Some rd ≡ rd_of build (world_of now)) where
-    rd_there : rd_of build (world_of books) ≡ Some rd
+    rd_there : rd_of build (world_of ledger) ≡ Some rd
     rd_there = told (rd_of build) ∙ sym rd_is
 
     walk_told : (end : Option Walk) → end ≡ walk_in monitor.machine rd ipa level → option_map (row_view ipa) end ≡ row_at (world_of now) build ipa level
     walk_told end end_is =
         ap (option_map (row_view ipa)) (end_is ∙ ap (λ (m : Machine). walk_in m rd ipa level) whole.mirror.machine)
-        ∙ sym (row_by_rd (world_of books) build rd ipa level rd_there)
+        ∙ sym (row_by_rd (world_of ledger) build rd ipa level rd_there)
         ∙ told (λ world. row_at world build ipa level)
 
     pub no_end : None ≡ walk_in monitor.machine rd ipa level → None ≡ row_at (world_of now) build ipa level
@@ -128,5 +127,5 @@ module _ (books : HostView) (monitor : MonitorView) (whole : IsWhole books monit
         by : (o : Option RealmRow) → (cell_at monitor.machine rd).descriptor ≡ o → Some end ≡ option_and_then (λ (realm : RealmRow). walk_of realm ipa level) o → ipa < widest_space
         by None there e = cc
         by (Some realm) there e =
-            let sound = reachable_worlds books.limits books.history (world_of books) whole.mirror.world_is in
+            let sound = reachable_worlds ledger.limits ledger.history (world_of ledger) whole.mirror.world_is in
             small realm (sound.width rd realm (ap (λ (m : Machine). (cell_at m rd).descriptor) (sym whole.mirror.machine) ∙ there)) (is_in_space ipa realm.root.width) refl e

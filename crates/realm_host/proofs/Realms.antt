@@ -9,8 +9,8 @@ use Rattle.realm_model.proofs.Reached.{sized_reached}
 use Rattle.realm_model.proofs.RealmOf.{IsAt, IsAt-realm_of}
 use Rattle.realm_objects.specs.Attributes.{RealmAttributes}
 use Rattle.rmi_monitor.specs.View.{MonitorView, attributes_of}
-use Rattle.realm_acts.specs.Mirror.{rd_of}
-use Rattle.build_books.specs.View.{HostView, world_of}
+use Rattle.realm_model.specs.Places.{rd_of}
+use Rattle.host_ledger.specs.View.{HostView, world_of}
 use Rattle.realm_host.specs.Host.{IsWhole}
 use Rattle.realm_host.specs.Readings.{row_of}
 
@@ -43,29 +43,29 @@ next_is world build = at (realm_of build world)
     at None = refl
     at (Some rd) = by_row rd.cell.descriptor
 
-module _ (books : HostView) (monitor : MonitorView) (whole : IsWhole books monitor) (now : HostView) (view_is : books ≡ now) where
-  pub long : length monitor.machine ≡ books.limits.pages
-  long = ap length whole.mirror.machine ∙ (sized_reached books.limits books.history (world_of books) whole.mirror.world_is).machine
+module _ (ledger : HostView) (monitor : MonitorView) (whole : IsWhole ledger monitor) (now : HostView) (view_is : ledger ≡ now) where
+  pub long : length monitor.machine ≡ ledger.limits.pages
+  long = ap length whole.mirror.machine ∙ (sized_reached ledger.limits ledger.history (world_of ledger) whole.mirror.world_is).machine
 
   -- what lies inside the machine of the limits lies inside that of the monitor
   pub inside : (granule : ℕ) → granule < now.limits.pages → granule < length monitor.machine
   inside granule below = subst (λ n. granule < n) (sym long) (subst (λ (h : HostView). granule < h.limits.pages) (sym view_is) below)
 
   module _ (build : ℕ) where
-    pub rd_inside : (rd : ℕ) → rd < books.limits.pages → rd < length monitor.machine
+    pub rd_inside : (rd : ℕ) → rd < ledger.limits.pages → rd < length monitor.machine
     rd_inside rd below = subst (λ n. rd < n) (sym long) below
 
-    pub there_is : (rd : ℕ) (told : Option RealmAttributes) → Some rd ≡ rd_of build (world_of books) → told ≡ option_map attributes_of (cell_at monitor.machine rd).descriptor
+    pub there_is : (rd : ℕ) (told : Option RealmAttributes) → Some rd ≡ rd_of build (world_of ledger) → told ≡ option_map attributes_of (cell_at monitor.machine rd).descriptor
         → told ≡ option_map attributes_of (row_of (world_of now) build)
     there_is rd told rd_is is =
         is ∙ ap (λ (m : Machine). option_map attributes_of (cell_at m rd).descriptor) whole.mirror.machine
-        ∙ ap (option_map attributes_of) (sym (row_at_rd (world_of books) build rd (sym rd_is)))
+        ∙ ap (option_map attributes_of) (sym (row_at_rd (world_of ledger) build rd (sym rd_is)))
         ∙ ap (λ (h : HostView). option_map attributes_of (row_of (world_of h) build)) view_is
 
-    pub none_by_rd : None ≡ rd_of build (world_of books) → None ≡ option_map attributes_of (row_of (world_of now) build)
+    pub none_by_rd : None ≡ rd_of build (world_of ledger) → None ≡ option_map attributes_of (row_of (world_of now) build)
     none_by_rd none =
-        sym (ap (option_map attributes_of) (no_row_by_rd (world_of books) build (sym none)))
+        sym (ap (option_map attributes_of) (no_row_by_rd (world_of ledger) build (sym none)))
         ∙ ap (λ (h : HostView). option_map attributes_of (row_of (world_of h) build)) view_is
 
-    pub none_there : realm_of build (world_of books) ≡ None → None ≡ option_map attributes_of (row_of (world_of now) build)
+    pub none_there : realm_of build (world_of ledger) ≡ None → None ≡ option_map attributes_of (row_of (world_of now) build)
     none_there none = none_by_rd (sym (ap (option_map (λ (rd : Seen). rd.number)) none))

@@ -16,7 +16,7 @@ use Rattle.realm_model.specs.Running.{rec_runs, is_rec_running, is_running}
 use Rattle.realm_model.specs.History.{replay}
 use Rattle.realm_model.proofs.Reachable.{reachable_worlds}
 use Rattle.realm_model.proofs.RealmOf.{IsAt, IsAt-realm_of}
-use Rattle.realm_acts.specs.Performing.{rec_granule}
+use Rattle.realm_model.specs.Places.{rec_granule}
 use Rattle.realm_model.specs.World.{World, realm_of}
 use Rattle.realm_objects.specs.Attributes.{RecAttributes}
 use Rattle.rmi_monitor.specs.View.{IsRec, rec_in}

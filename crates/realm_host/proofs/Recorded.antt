@@ -5,29 +5,29 @@ use Rattle.realm_model.specs.World.{World}
 use Rattle.realm_model.specs.History.{IsLegal, IsInTurn}
 use Rattle.realm_model.specs.Undoing.{by}
 use Rattle.rmi_monitor.specs.View.{MonitorView}
-use Rattle.realm_acts.specs.Mirror.{IsMirror, IsPerformed}
-use Rattle.build_books.specs.View.{HostView, world_of, with_event}
-use Rattle.build_books.specs.Kept.{CanRecord}
-use Rattle.build_books.proofs.Worlds.{world_of-replay}
+use Rattle.execution.specs.Mirror.{IsMirror, IsPerformed}
+use Rattle.host_ledger.specs.View.{HostView, world_of, with_event}
+use Rattle.host_ledger.specs.Kept.{CanRecord}
+use Rattle.host_ledger.proofs.Worlds.{world_of-replay}
 use Rattle.realm_host.specs.Host.{IsWhole}
 use Rattle.realm_host.specs.Acting.{HasRoomFor, IsRecorded}
 
-module _ (books : HostView) (monitor : MonitorView) (whole : IsWhole books monitor) (now : HostView) (view_is : books ≡ now) (build : ℕ) (act : Act) (new : MonitorView)
-    (performed : IsPerformed books.limits books.history (world_of books) build act new) where
-  pub can_record : IsInTurn books.history (by build act) → HasRoomFor books build act → CanRecord books build act
+module _ (ledger : HostView) (monitor : MonitorView) (whole : IsWhole ledger monitor) (now : HostView) (view_is : ledger ≡ now) (build : ℕ) (act : Act) (new : MonitorView)
+    (performed : IsPerformed ledger.limits ledger.history (world_of ledger) build act new) where
+  pub can_record : IsInTurn ledger.history (by build act) → HasRoomFor ledger build act → CanRecord ledger build act
   can_record turn room = record { turn = turn; next = performed.next; stepped = performed.stepped; room = room.room; few_open = room.few_open }
 
-  world_after : world_of (with_event books build act) ≡ performed.next
-  world_after = world_of-replay (with_event books build act) performed.next performed.mirror.world_is
+  world_after : world_of (with_event ledger build act) ≡ performed.next
+  world_after = world_of-replay (with_event ledger build act) performed.next performed.mirror.world_is
 
-  module _ (new_books : HostView) (recorded : new_books ≡ with_event books build act) where
-    pub whole_after : IsWhole new_books new
+  module _ (new_ledger : HostView) (recorded : new_ledger ≡ with_event ledger build act) where
+    pub whole_after : IsWhole new_ledger new
     whole_after = subst (λ (h : HostView). IsWhole h new) (sym recorded) (record {
-      mirror = subst (λ (w : World). IsMirror books.limits (books.history ++ by build act ∷ []) w new) (sym world_after) performed.mirror;
+      mirror = subst (λ (w : World). IsMirror ledger.limits (ledger.history ++ by build act ∷ []) w new) (sym world_after) performed.mirror;
       in_range = whole.in_range;
     })
 
-    pub is_recorded : IsRecorded now build act new_books
+    pub is_recorded : IsRecorded now build act new_ledger
     is_recorded = record {
       legal = subst (λ (h : HostView). IsLegal h.limits (h.history ++ by build act ∷ [])) view_is performed.mirror.legal;
       grows = recorded ∙ ap (λ (h : HostView). with_event h build act) view_is;

@@ -9,28 +9,28 @@ use Rattle.realm_model.specs.World.{realm_of}
 use Rattle.realm_objects.specs.Attributes.{RecAttributes}
 use Rattle.rmi_monitor.specs.View.{MonitorView}
 use Rattle.rmi_monitor.specs.Named.{rec_attributes_at}
-use Rattle.realm_acts.specs.Performing.{rec_granule}
-use Rattle.realm_acts.proofs.Ready.{rec_ready}
-use Rattle.build_books.specs.View.{HostView, world_of}
+use Rattle.realm_model.specs.Places.{rec_granule}
+use Rattle.execution.proofs.Ready.{rec_ready}
+use Rattle.host_ledger.specs.View.{HostView, world_of}
 use Rattle.realm_host.specs.Host.{IsWhole}
 use Rattle.realm_host.proofs.RecRuns.{state_runs, is_there, runs_is}
 
-module _ (books : HostView) (monitor : MonitorView) (whole : IsWhole books monitor) (now : HostView) (view_is : books ≡ now) (build number : ℕ) where
-  pub inside_rec : (granule : ℕ) → Some granule ≡ rec_granule (realm_of build (world_of books)) number → granule < length monitor.machine
+module _ (ledger : HostView) (monitor : MonitorView) (whole : IsWhole ledger monitor) (now : HostView) (view_is : ledger ≡ now) (build number : ℕ) where
+  pub inside_rec : (granule : ℕ) → Some granule ≡ rec_granule (realm_of build (world_of ledger)) number → granule < length monitor.machine
   inside_rec granule granule_is =
-      (rec_ready books.limits books.history (world_of books) monitor whole.mirror build (Some number) (Some granule) granule_is).taken.inside
+      (rec_ready ledger.limits ledger.history (world_of ledger) monitor whole.mirror build (Some number) (Some granule) granule_is).taken.inside
 
-  pub told_there : (granule : ℕ) → Some granule ≡ rec_granule (realm_of build (world_of books)) number
+  pub told_there : (granule : ℕ) → Some granule ≡ rec_granule (realm_of build (world_of ledger)) number
       → (told : Option RecAttributes) → told ≡ rec_attributes_at monitor.machine granule → told ≡ None → ⊥
   told_there granule granule_is told told_is none =
-      is_there books.limits books.history (world_of books) whole.mirror.world_is build granule number (sym granule_is)
+      is_there ledger.limits ledger.history (world_of ledger) whole.mirror.world_is build granule number (sym granule_is)
       (sym (told_is ∙ ap (λ (m : Machine). rec_attributes_at m granule) whole.mirror.machine) ∙ none)
 
   module _ (granule_of_act : ℕ) (aux : ArrayVec ℕ 16 (Unit {0})) (act : Act) (is : act ≡ Rec granule_of_act aux number) where
-    pub runs_told : (granule : ℕ) → Some granule ≡ rec_granule (realm_of build (world_of books)) number
+    pub runs_told : (granule : ℕ) → Some granule ≡ rec_granule (realm_of build (world_of ledger)) number
         → (told : Option RecAttributes) → told ≡ rec_attributes_at monitor.machine granule → state_runs told ≡ is_running (realm_of build (world_of now)) act
     runs_told granule granule_is told told_is =
         ap state_runs (told_is ∙ ap (λ (m : Machine). rec_attributes_at m granule) whole.mirror.machine)
-        ∙ runs_is books.limits books.history (world_of books) whole.mirror.world_is build granule number (sym granule_is) aux
+        ∙ runs_is ledger.limits ledger.history (world_of ledger) whole.mirror.world_is build granule number (sym granule_is) aux
         ∙ ap (λ (h : HostView). is_running (realm_of build (world_of h)) (Rec granule_of_act aux number)) view_is
         ∙ ap (is_running (realm_of build (world_of now))) (sym is)

@@ -15,28 +15,28 @@ use Rattle.realm_model.specs.Running.{running_count, IsAtRest}
 use Rattle.realm_model.specs.World.{realm_of}
 use Rattle.realm_model.proofs.Aborting.{abort_goes_on}
 use Rattle.realm_model.proofs.Growth.{open_entries-own, open_entries-other}
-use Rattle.realm_model.proofs.LeftOut.{leaves_no_trace}
+use Rattle.realm_model.proofs.LeftOut.{noninterference}
 use Rattle.realm_model.proofs.Lists.{front, front_last}
 use Rattle.realm_model.proofs.Stack.{pushed_back}
 use Rattle.realm_model.proofs.UndoAll.{undone}
-use Rattle.build_books.specs.declared.mark.Mark.{Mark}
-use Rattle.build_books.specs.Desk.{desk_of}
-use Rattle.build_books.specs.View.{HostView, world_of, open_of, is_aborting, with_event, with_mark}
-use Rattle.build_books.proofs.Worlds.{world_is}
-use Rattle.build_commands.specs.declared.cmd.Cmd.{Cmd}
-use Rattle.build_commands.specs.declared.undone.Undone.{Undone}
-use Rattle.build_commands.specs.declared.refusal.Refusal.{Refusal}
-use Rattle.build_commands.specs.declared.refusal.Refusal.TheVariants.{NoBuild, Aborting, RecRunning}
-use Rattle.build_commands.specs.Checks.{Check, build_checks, checks_of, first_that_holds}
-use Rattle.realm_host.specs.declared.reply.Answer.{Answer}
-use Rattle.realm_host.specs.declared.reply.Answer.TheVariants.{Replied, Undone as WasUndone, Refused}
+use Rattle.host_ledger.specs.declared.mark.Mark.{Mark}
+use Rattle.host_ledger.specs.Summary.{summary_of}
+use Rattle.host_ledger.specs.View.{HostView, world_of, open_of, is_aborting, with_event, with_mark}
+use Rattle.host_ledger.proofs.Worlds.{world_is}
+use Rattle.host_commands.specs.declared.cmd.Cmd.{Cmd}
+use Rattle.host_commands.specs.declared.undo_reply.Undone.{Undone}
+use Rattle.host_commands.specs.declared.refusal.Refusal.{Refusal}
+use Rattle.host_commands.specs.declared.refusal.Refusal.TheVariants.{NoBuild, Aborting, RecRunning}
+use Rattle.host_commands.specs.Checks.{Check, build_checks, checks_of, first_that_holds}
+use Rattle.realm_host.specs.declared.reply.HostAnswer.{HostAnswer}
+use Rattle.realm_host.specs.declared.reply.HostAnswer.TheVariants.{Replied, Undone as WasUndone, Refused}
 use Rattle.realm_host.specs.Abort.{undone_to, IsBegun, IsAbortAnswer}
 use Rattle.realm_host.specs.Answer.{IsAnswer, IsUndone}
 use Rattle.realm_host.specs.Call.{Call, Ask, Undo}
 use Rattle.realm_host.specs.Marked.{IsMarked, IsBackAnswer}
 use Rattle.realm_host.specs.Refusals.{refusal_of}
 use Rattle.realm_host.specs.Served.{any_rec_running}
-use Rattle.realm_host.specs.Sharing.{AnsweredCall, Calls, Begins, Aborts, Marks, GoesBack, IsAnsweredSo, AreWhileAborting, IsInAbortSince}
+use Rattle.realm_host.specs.Sharing.{AnsweredCall, Calls, Begins, Aborts, Marks, GoesBack, Applies, IsApplyAnswer, IsAnsweredSo, MayBeAsked, AreWhileAborting, IsInAbortSince}
 use Rattle.realm_host.proofs.Aborts.{goes_on}
 use Rattle.realm_host.proofs.Backward.{reverse_is}
 use Rattle.realm_host.proofs.Calls.{passed_parts}
@@ -169,7 +169,7 @@ module _ (old : HostView) (build : ℕ) (host : HostView) (since : Going old bui
   unfolding refusal_of checks_of
   asked other cmd none = not_aborting host other _ none
 
-  after_call : (other : ℕ) (call : Call) (answer : Answer) (new : HostView) → IsAnswer host other call answer new → Going old build new
+  after_call : (other : ℕ) (call : Call) (answer : HostAnswer) (new : HostView) → IsAnswer host other call answer new → Going old build new
   after_call other call (Refused refusal) new (refused, same) = unchanged new same
   after_call other (Ask cmd) (Replied reply) new replied =
       with_one other replied.act new replied.accepted.grows (λ mine. absurd (own_refused other (asked other cmd replied.accepted.not_refused) mine))
@@ -224,12 +224,18 @@ module _ (old : HostView) (build : ℕ) (host : HostView) (since : Going old bui
       at true same = own_abort count new legal (subst (λ b. IsAbortAnswer host b (Ok count) new) (eqb-true other build same) aborted)
       at false differs = others_abort other count new (eqb-false other build differs) aborted
 
-  after_answer : (other : ℕ) (call : AnsweredCall) (new : HostView) → IsLegal host.limits host.history → IsAnsweredSo host other call new → Going old build new
-  after_answer other (Calls call answer) new legal is = after_call other call answer new is
-  after_answer other (Begins result) new legal is = after_begin other result new is
-  after_answer other (Aborts result) new legal is = after_abort other result new legal is
-  after_answer other (Marks result) new legal is = after_mark other result new is
-  after_answer other (GoesBack mark result) new legal is = after_back other mark result new is
+  after_apply : (other : ℕ) (act : Act) (result : Bool) (new : HostView) → other ≢ build → IsApplyAnswer host other act result new → Going old build new
+  after_apply other act false new not is = unchanged new is.unchanged
+  after_apply other act true new not is = with_one other act new is.applied (λ mine. absurd (not mine))
+
+  after_answer : (other : ℕ) (call : AnsweredCall) (new : HostView) → MayBeAsked build other call → IsLegal host.limits host.history → IsAnsweredSo host other call new
+      → Going old build new
+  after_answer other (Calls call answer) new may legal is = after_call other call answer new is
+  after_answer other (Begins result) new may legal is = after_begin other result new is
+  after_answer other (Aborts result) new may legal is = after_abort other result new legal is
+  after_answer other (Marks result) new may legal is = after_mark other result new is
+  after_answer other (GoesBack mark result) new may legal is = after_back other mark result new is
+  after_answer other (Applies act result) new not legal is = after_apply other act result new not is
 
 -- ---- what is legal stays so
 
@@ -243,7 +249,7 @@ module _ (host : HostView) (build : ℕ) (legal : IsLegal host.limits host.histo
   legal_event : (act : Act) (new : HostView) → IsLegal host.limits (host.history ++ by build act ∷ []) → new ≡ with_event host build act → IsLegalStill new
   legal_event act new then is = subst IsLegalStill (sym is) then
 
-  legal_call : (call : Call) (answer : Answer) (new : HostView) → IsAnswer host build call answer new → IsLegalStill new
+  legal_call : (call : Call) (answer : HostAnswer) (new : HostView) → IsAnswer host build call answer new → IsLegalStill new
   legal_call call (Refused refusal) new (refused, same) = still_legal new same
   legal_call (Ask cmd) (Replied reply) new replied = legal_event replied.act new replied.accepted.legal replied.accepted.grows
   legal_call (Ask cmd) (WasUndone undone) new none = absurd none
@@ -270,8 +276,18 @@ module _ (host : HostView) (build : ℕ) (legal : IsLegal host.limits host.histo
   legal_answer (Marks (Ok mark)) new (none, is) = subst IsLegalStill (sym is.new_is) legal
   legal_answer (GoesBack mark (Err refusal)) new (refused, same) = still_legal new same
   legal_answer (GoesBack mark (Ok count)) new is = legal_back mark count new is
+  legal_answer (Applies act false) new is = still_legal new is.unchanged
+  legal_answer (Applies act true) new is = legal_event act new (is.answer.0 refl).legal is.applied
 
--- ---- what others ask opens nothing of the build, and takes nothing back
+-- ---- others may ask anything, which opens nothing of the build, and takes nothing back
+
+pub others_may : (build other : ℕ) → other ≢ build → (call : AnsweredCall) → MayBeAsked build other call
+others_may build other not (Calls call answer) = tt
+others_may build other not (Begins result) = tt
+others_may build other not (Aborts result) = tt
+others_may build other not (Marks result) = tt
+others_may build other not (GoesBack mark result) = tt
+others_may build other not (Applies act result) = not
 
 module _ (host : HostView) (build other : ℕ) (not : other ≢ build) where
   abbrev OpenedAsBefore : HostView → Type 0
@@ -300,6 +316,8 @@ module _ (host : HostView) (build other : ℕ) (not : other ≢ build) where
   opened_by_others (Marks (Ok mark)) new (none, is) = ap (λ (h : HostView). open_of h build) is.new_is
   opened_by_others (GoesBack mark (Err refusal)) new (refused, same) = unchanged_open new same
   opened_by_others (GoesBack mark (Ok count)) new (none, is) = many_more _ new (ap (λ (h : HostView). h.history) is.new_is)
+  opened_by_others (Applies act false) new is = unchanged_open new is.unchanged
+  opened_by_others (Applies act true) new is = one_more act new is.applied
 
 -- the act of which this is the reverse
 reversed_act : (newest : Option Act) (back : Act) → option_and_then reverse_of newest ≡ Some back → (act : Act) × (newest ≡ Some act) × (reverse_of act ≡ Some back)
@@ -328,7 +346,7 @@ starts old new build count legal (none, is) = record {
   legal_old = legal;
   going = record {
     there = leb-false old.limits.builds build (passed_parts (nat_le old.limits.builds build) NoBuild _ none).0;
-    rest = at_rest old build (build_checks (desk_of old) build) none;
+    rest = at_rest old build (build_checks (summary_of old) build) none;
     limits = ap (λ (h : HostView). h.limits) is.new_is;
     later = [];
     since = ap (λ (h : HostView). h.history) is.new_is ∙ sym (append-nil old.history);
@@ -339,10 +357,11 @@ starts old new build count legal (none, is) = record {
 }
 
 module _ (old : HostView) (build : ℕ) (host : HostView) (reached : Reached old build host) where
-  pub one_call : is_aborting host build ≡ true → (other : ℕ) (call : AnsweredCall) (new : HostView) → IsAnsweredSo host other call new → Reached old build new
-  one_call aborts other call new is = record {
+  pub one_call : is_aborting host build ≡ true → (other : ℕ) (call : AnsweredCall) (new : HostView) → MayBeAsked build other call → IsAnsweredSo host other call new
+      → Reached old build new
+  one_call aborts other call new may is = record {
     legal_old = reached.legal_old;
-    going = after_answer old build host reached.going aborts other call new reached.legal is;
+    going = after_answer old build host reached.going aborts other call new may reached.legal is;
     legal = legal_answer host other reached.legal call new is;
   }
 
@@ -370,14 +389,14 @@ module _ (old : HostView) (build : ℕ) (host : HostView) (reached : Reached old
     in_abort = reached.going.in_abort;
     served = served;
     aborting = ends;
-    legal_without = (leaves_no_trace host.limits host.history build reached.legal).0;
+    legal_without = (noninterference host.limits host.history build reached.legal).0;
   }
 
 all_calls : (old : HostView) (build : ℕ) (host : HostView) (calls : List (ℕ × AnsweredCall)) (new : HostView) → Reached old build host → AreWhileAborting build host calls new
     → Reached old build new
 all_calls old build host [] new reached same = subst (Reached old build) (sym same) reached
-all_calls old build host ((other, call) ∷ calls) new reached (aborts, (then, (is, meanwhile))) =
-    all_calls old build then calls new (one_call old build host reached aborts other call then is) meanwhile
+all_calls old build host ((other, call) ∷ calls) new reached (aborts, may, (then, (is, meanwhile))) =
+    all_calls old build then calls new (one_call old build host reached aborts other call then may is) meanwhile
 
 pub shared : (old begun host : HostView) (build count : ℕ) (calls : List (ℕ × AnsweredCall)) → IsLegal old.limits old.history → IsBegun old build (Ok count) begun
     → AreWhileAborting build begun calls host → IsInAbortSince old build host

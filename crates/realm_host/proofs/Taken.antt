@@ -5,15 +5,15 @@ use Rattle.std.proofs.lemmas.Bool.{ltb-false, le-leb}
 use Rattle.realm_model.specs.declared.act.Act.TheVariants as acts
 use Rattle.realm_model.specs.Act.{reverse_of}
 use Rattle.realm_model.specs.Room.{room_taken}
-use Rattle.build_commands.specs.declared.cmd.Cmd.TheVariants as cmd
+use Rattle.host_commands.specs.declared.cmd.Cmd.TheVariants as cmd
 use Rattle.realm_host.specs.Call.{Ask}
-use Rattle.build_commands.specs.declared.refusal.Refusal.TheVariants.{BadOrder, NoBlock}
-use Rattle.build_commands.specs.declared.reply.Reply.TheVariants.{FirstPage}
-use Rattle.build_commands.specs.Needs.{needs_of}
-use Rattle.build_commands.specs.Checks.{checks_of, first_that_holds}
-use Rattle.build_commands.proofs.Refused.{first_passes}
-use Rattle.build_books.specs.View.{HostView, pages_of_build}
-use Rattle.build_books.specs.Desk.{desk_of}
+use Rattle.host_commands.specs.declared.refusal.Refusal.TheVariants.{BadOrder, NoBlock}
+use Rattle.host_commands.specs.declared.reply.Reply.TheVariants.{FirstPage}
+use Rattle.host_commands.specs.Needs.{needs_of}
+use Rattle.host_commands.specs.Checks.{checks_of, first_that_holds}
+use Rattle.host_commands.proofs.Refused.{first_passes}
+use Rattle.host_ledger.specs.View.{HostView, pages_of_build}
+use Rattle.host_ledger.specs.Summary.{summary_of}
 use Rattle.realm_host.specs.Refusals.{no_block, refusal_of}
 use Rattle.realm_host.specs.Answer.{IsReplied}
 use Rattle.realm_host.specs.Acting.{HasRoomFor, IsRecorded, IsBlockTaken}
@@ -27,14 +27,14 @@ take_room : (order first : ℕ) → room_taken (acts.Take order first) ≡ (need
 unfolding needs_of room_taken reverse_of
 take_room order first = refl
 
-module _ (host : HostView) (build order : ℕ) (none : first_that_holds (checks_of (desk_of host) build (cmd.Take order)) ≡ None) where
+module _ (host : HostView) (build order : ℕ) (none : first_that_holds (checks_of (summary_of host) build (cmd.Take order)) ≡ None) where
   pub low : order ≤ 9
-  low = ltb-false 9 order (head_false (nat_lt 9 order, BadOrder) [] (order_fits (desk_of host) build (cmd.Take order) none))
+  low = ltb-false 9 order (head_false (nat_lt 9 order, BadOrder) [] (order_fits (summary_of host) build (cmd.Take order) none))
 
   pub room : (first : ℕ) → HasRoomFor host build (acts.Take order first)
   room first = record {
-    room = λ some. let fits = room_fits (desk_of host) build (cmd.Take order) none in let taken = take_room order first in omega (arith, some, fits, taken);
-    few_open = λ paired. journal_fits (desk_of host) build (cmd.Take order) none (take_paired order);
+    room = λ some. let fits = room_fits (summary_of host) build (cmd.Take order) none in let taken = take_room order first in omega (arith, some, fits, taken);
+    few_open = λ paired. journal_fits (summary_of host) build (cmd.Take order) none (take_paired order);
   }
 
   -- so the number is that of an order
@@ -43,7 +43,7 @@ module _ (host : HostView) (build order : ℕ) (none : first_that_holds (checks_
 
   refusal_is : refusal_of host build (Ask (cmd.Take order)) ≡ first_that_holds (no_block host order ∷ [])
   unfolding refusal_of
-  refusal_is = first_passes (checks_of (desk_of host) build (cmd.Take order)) (no_block host order ∷ []) none
+  refusal_is = first_passes (checks_of (summary_of host) build (cmd.Take order)) (no_block host order ∷ []) none
 
   pub no_block_there : (no_block host order).0 ≡ true → refusal_of host build (Ask (cmd.Take order)) ≡ Some (NoBlock order)
   no_block_there is = refusal_is ∙ ap (λ t. cond t (Some (NoBlock order)) None) is

@@ -26,9 +26,9 @@ use Rattle.realm_model.proofs.Reached.{sized_reached}
 use Rattle.realm_model.proofs.StepSays.{step_is}
 use Rattle.realm_objects.specs.Attributes.{RealmAttributes}
 use Rattle.rmi_monitor.specs.View.{MonitorView, IsTaken, Answers, seen_in, attributes_of}
-use Rattle.realm_acts.specs.Mirror.{rd_of}
-use Rattle.realm_acts.proofs.Ready.{all_taken}
-use Rattle.build_books.specs.View.{HostView, world_of}
+use Rattle.realm_model.specs.Places.{rd_of}
+use Rattle.execution.proofs.Ready.{all_taken}
+use Rattle.host_ledger.specs.View.{HostView, world_of}
 use Rattle.realm_host.specs.Acting.{IsNoStep}
 use Rattle.realm_host.specs.Host.{IsWhole}
 use Rattle.realm_host.specs.Readings.{row_of}
@@ -44,30 +44,30 @@ build_there inside host build same there = ltb-true build host.limits.builds (su
 none_of_number : (number pages : ℕ) → pages ≤ 4096 → None ≡ (if nat_lt number 4096 && nat_lt number pages then Some number else None) → pages ≤ number
 none_of_number number pages few none = search (arith, none, few)
 
-module _ (books : HostView) (monitor : MonitorView) (whole : IsWhole books monitor) (now : HostView) (view_is : books ≡ now) (build : ℕ) where
-  long : length monitor.machine ≡ length (world_of books).leases
+module _ (ledger : HostView) (monitor : MonitorView) (whole : IsWhole ledger monitor) (now : HostView) (view_is : ledger ≡ now) (build : ℕ) where
+  long : length monitor.machine ≡ length (world_of ledger).leases
   long =
-      let sized = sized_reached books.limits books.history (world_of books) whole.mirror.world_is in
+      let sized = sized_reached ledger.limits ledger.history (world_of ledger) whole.mirror.world_is in
       ap length whole.mirror.machine ∙ sized.machine ∙ sym sized.leases
 
   -- nobody leases a granule that is not there
   pub none_leased : (number pages : ℕ) → pages ≡ length monitor.machine → pages ≤ 4096 → None ≡ (if nat_lt number 4096 && nat_lt number pages then Some number else None)
       → false ≡ is_leased_to (Some build) (world_of now).leases number
   none_leased number pages pages_is few none =
-      let past : length (world_of books).leases ≤ number = subst (λ n. n ≤ number) (pages_is ∙ long) (none_of_number number pages few none) in
-      ap (λ o. option_eq same_lease o (Some (Some build))) (sym (slice_get_past (world_of books).leases number past))
+      let past : length (world_of ledger).leases ≤ number = subst (λ n. n ≤ number) (pages_is ∙ long) (none_of_number number pages few none) in
+      ap (λ o. option_eq same_lease o (Some (Some build))) (sym (slice_get_past (world_of ledger).leases number past))
       ∙ ap (λ (h : HostView). is_leased_to (Some build) (world_of h).leases number) view_is
 
   -- the page of a Peek is taken
   pub peeked_taken : (act : Act) (granule offset byte : ℕ) → act ≡ Peek granule offset byte → list_all (is_leased_to (Some build) (world_of now).leases) (named act) ≡ true → IsTaken monitor granule
   unfolding named
   peeked_taken act granule offset byte is leased =
-      let there : list_all (is_leased_to (Some build) (world_of books).leases) (named (Peek granule offset byte)) ≡ true =
-      ap (λ (a : Act). list_all (is_leased_to (Some build) (world_of books).leases) (named a)) (sym is)
+      let there : list_all (is_leased_to (Some build) (world_of ledger).leases) (named (Peek granule offset byte)) ≡ true =
+      ap (λ (a : Act). list_all (is_leased_to (Some build) (world_of ledger).leases) (named a)) (sym is)
       ∙ ap (λ (h : HostView). list_all (is_leased_to (Some build) (world_of h).leases) (named act)) view_is ∙ leased in
-      let granules = all_leased (Some build) (world_of books).leases (named (Peek granule offset byte)) there in
+      let granules = all_leased (Some build) (world_of ledger).leases (named (Peek granule offset byte)) there in
       All-head (IsTaken monitor) granule []
-      (all_taken books.limits books.history (world_of books) monitor whole.mirror build (named (Peek granule offset byte)) granules)
+      (all_taken ledger.limits ledger.history (world_of ledger) monitor whole.mirror build (named (Peek granule offset byte)) granules)
 
 -- ---- what an act says
 
@@ -85,7 +85,7 @@ alone : (b : Bool) → b && true ≡ b
 alone true = refl
 alone false = refl
 
-module _ (books : HostView) (monitor : MonitorView) (whole : IsWhole books monitor) (now : HostView) (view_is : books ≡ now) (build : ℕ) (act : Act) where
+module _ (ledger : HostView) (monitor : MonitorView) (whole : IsWhole ledger monitor) (now : HostView) (view_is : ledger ≡ now) (build : ℕ) (act : Act) where
   machine_is : monitor.machine ≡ (world_of now).machine
   machine_is = whole.mirror.machine ∙ ap (λ (h : HostView). (world_of h).machine) view_is
 
@@ -107,11 +107,11 @@ module _ (books : HostView) (monitor : MonitorView) (whole : IsWhole books monit
       subst (λ (o : Outcome). Answers {A = ℕ} (Err rmi) o) here refused
 
   -- that the build has no realm
-  pub none_said : (rd : ℕ) (root : Root) (vmid : ℕ) (told : Option ℕ) (answer : Bool) → act ≡ Realm rd root vmid → told ≡ rd_of build (world_of books)
+  pub none_said : (rd : ℕ) (root : Root) (vmid : ℕ) (told : Option ℕ) (answer : Bool) → act ≡ Realm rd root vmid → told ≡ rd_of build (world_of ledger)
       → is_some told ≡ not answer → answer ≡ says now build act
   unfolding fits
   none_said rd root vmid told answer is told_is answered =
-      answer_is told answer answered ∙ ap is_none told_is ∙ by_rd (realm_of build (world_of books))
+      answer_is told answer answered ∙ ap is_none told_is ∙ by_rd (realm_of build (world_of ledger))
       ∙ ap (λ (h : HostView). is_none (realm_of build (world_of h))) view_is ∙ ap (λ (a : Act). says now build a) (sym is)
     where
       answer_is : (o : Option ℕ) (b : Bool) → is_some o ≡ not b → b ≡ is_none o

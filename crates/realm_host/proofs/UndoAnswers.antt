@@ -11,9 +11,9 @@ use Rattle.realm_model.specs.Act.{is_paired, reverse_of}
 use Rattle.realm_model.specs.Running.{is_running}
 use Rattle.realm_model.specs.World.{realm_of}
 use Rattle.realm_host.specs.Call.{Undo}
-use Rattle.build_commands.specs.declared.refusal.Refusal.{Refusal}
-use Rattle.build_commands.specs.declared.refusal.Refusal.TheVariants.{NoBuild, NothingToUndo, RecRunning}
-use Rattle.build_books.specs.View.{HostView, world_of, open_of}
+use Rattle.host_commands.specs.declared.refusal.Refusal.{Refusal}
+use Rattle.host_commands.specs.declared.refusal.Refusal.TheVariants.{NoBuild, NothingToUndo, RecRunning}
+use Rattle.host_ledger.specs.View.{HostView, world_of, open_of}
 use Rattle.realm_host.specs.Refusals.{is_newest_running, refusal_of}
 use Rattle.realm_host.specs.Answer.{IsUndone}
 use Rattle.realm_host.specs.Acting.{IsBack, IsRecorded}

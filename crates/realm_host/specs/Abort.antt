@@ -1,15 +1,15 @@
 -- The abort of a build.
 use Rattle.std.specs.Prelude.{◌≡◌, ◌≢◌, ℕ, nat_lt, List, [], ◌∷◌, ◌++◌, map, length, drop, reverse, ◌&&◌, false, Some, None, Result, slice_set}
 use Rattle.std.specs.List.{All}
-use Rattle.build_commands.specs.declared.refusal.Refusal.{Refusal}
-use Rattle.build_commands.specs.Checks.{Check, build_checks}
+use Rattle.host_commands.specs.declared.refusal.Refusal.{Refusal}
+use Rattle.host_commands.specs.Checks.{Check, build_checks}
 use Rattle.realm_model.specs.declared.act.Event.{Event}
 use Rattle.realm_model.specs.Aborting.{IsOthersOrReverse}
 use Rattle.realm_model.specs.History.{erase, replay, IsLegal}
 use Rattle.realm_model.specs.Undoing.{by, reverses, undoing}
-use Rattle.build_books.specs.Desk.{desk_of}
-use Rattle.build_books.specs.Marks.{mark_while}
-use Rattle.build_books.specs.View.{HostView, world_of, open_of, is_aborting, mark_of, begun}
+use Rattle.host_ledger.specs.Summary.{summary_of}
+use Rattle.host_ledger.specs.Marks.{mark_while}
+use Rattle.host_ledger.specs.View.{HostView, world_of, open_of, is_aborting, mark_of, begun}
 use Rattle.realm_host.specs.Call.{Undo}
 use Rattle.realm_host.specs.Refusals.{no_build, refusal_of}
 use Rattle.realm_host.specs.Served.{any_rec_running, IsServed}
@@ -17,7 +17,7 @@ use Rattle.realm_host.specs.Served.{any_rec_running, IsServed}
 -- ---- the begin
 
 abbrev pub checks_of_begin : HostView → ℕ → List Check
-checks_of_begin host build = build_checks (desk_of host) build ++ any_rec_running host build ∷ []
+checks_of_begin host build = build_checks (summary_of host) build ++ any_rec_running host build ∷ []
 
 -- The answer is how many acts are open. If there is any, the build is in abort from then on.
 pub record IsBegunAs (host : HostView) (build count : ℕ) (new : HostView) : Type 0 where

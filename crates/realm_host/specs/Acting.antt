@@ -11,8 +11,8 @@ use Rattle.realm_model.specs.Running.{is_running}
 use Rattle.realm_model.specs.Step.{step, outcome_in}
 use Rattle.realm_model.specs.World.{World, realm_of}
 use Rattle.realm_model.specs.Undoing.{by}
-use Rattle.realm_acts.specs.Mirror.{IsAsked}
-use Rattle.build_books.specs.View.{HostView, world_of, open_of, used, with_event}
+use Rattle.execution.specs.Mirror.{IsAsked}
+use Rattle.host_ledger.specs.View.{HostView, world_of, open_of, used, with_event}
 use Rattle.realm_host.specs.Refusals.{no_block}
 
 -- the build has the room that an act takes, if it takes any, and can have one more act open where the act has a reverse

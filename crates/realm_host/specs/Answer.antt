@@ -7,17 +7,17 @@ use Rattle.realm_model.specs.declared.act.Act.TheVariants as acts
 use Rattle.realm_model.specs.Act.{reverse_of}
 use Rattle.realm_model.specs.History.{IsLegal}
 use Rattle.realm_model.specs.Undoing.{by}
-use Rattle.build_commands.specs.declared.cmd.Cmd.{Cmd}
-use Rattle.build_commands.specs.declared.cmd.Cmd.TheVariants.{Take}
-use Rattle.build_commands.specs.declared.refusal.Refusal.{Refusal}
-use Rattle.build_commands.specs.declared.reply.Reply.{Reply}
-use Rattle.build_commands.specs.Replies.{reply_of}
-use Rattle.build_books.specs.View.{HostView, open_of, pages_of_build, with_event}
-use Rattle.realm_host.specs.declared.reply.Answer.{Answer}
-use Rattle.realm_host.specs.declared.reply.Answer.TheVariants.{Replied, Undone as WasUndone, Refused}
-use Rattle.build_commands.specs.declared.undone.Undone.{Undone}
+use Rattle.host_commands.specs.declared.cmd.Cmd.{Cmd}
+use Rattle.host_commands.specs.declared.cmd.Cmd.TheVariants.{Take}
+use Rattle.host_commands.specs.declared.refusal.Refusal.{Refusal}
+use Rattle.host_commands.specs.declared.reply.Reply.{Reply}
+use Rattle.host_commands.specs.Replies.{reply_of}
+use Rattle.host_ledger.specs.View.{HostView, open_of, pages_of_build, with_event}
+use Rattle.realm_host.specs.declared.reply.HostAnswer.{HostAnswer}
+use Rattle.realm_host.specs.declared.reply.HostAnswer.TheVariants.{Replied, Undone as WasUndone, Refused}
+use Rattle.host_commands.specs.declared.undo_reply.Undone.{Undone}
 use Rattle.realm_host.specs.Call.{Call, Ask, Undo}
-use Rattle.realm_host.specs.Picks.{act_asked}
+use Rattle.realm_host.specs.Allocation.{act_asked}
 use Rattle.realm_host.specs.Refusals.{refusal_of}
 
 -- The act is that of the call, its page numbers turned into granules by the build's pages. The block of a Take may be
@@ -48,17 +48,17 @@ pub record IsUndone (host : HostView) (build : ℕ) (undone : Undone) (new : Hos
   pub left : undone.left ≡ length (open_of host build) - 1
 
 -- A call gets the refusal that holds, and nothing changes; or the reply, and its one event is recorded.
-abbrev pub IsAnswer : HostView → ℕ → Call → Answer → HostView → Type 0
+abbrev pub IsAnswer : HostView → ℕ → Call → HostAnswer → HostView → Type 0
 IsAnswer host build call (Refused refusal) new = (refusal_of host build call ≡ Some refusal) × (new ≡ host)
 IsAnswer host build (Ask cmd) (Replied reply) new = IsReplied host build cmd reply new
 IsAnswer host build Undo (WasUndone undone) new = IsUndone host build undone new
 IsAnswer host build _ _ new = ⊥
 
 -- what `command` and `undo` return, as an answer
-abbrev pub replied : Result Reply Refusal → Answer
+abbrev pub replied : Result Reply Refusal → HostAnswer
 replied (Ok reply) = Replied reply
 replied (Err refusal) = Refused refusal
 
-abbrev pub undone : Result Undone Refusal → Answer
+abbrev pub undone : Result Undone Refusal → HostAnswer
 undone (Ok done) = WasUndone done
 undone (Err refusal) = Refused refusal

@@ -1,5 +1,5 @@
 -- The calls of a host that end its history with one event.
-use Rattle.build_commands.specs.declared.cmd.Cmd.{Cmd}
+use Rattle.host_commands.specs.declared.cmd.Cmd.{Cmd}
 
 -- a command of a build, or the undo of its newest open act
 pub data Call : Type 0 where

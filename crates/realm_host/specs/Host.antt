@@ -2,9 +2,9 @@
 use Rattle.std.specs.Prelude.{ℕ, ◌≤◌}
 use Rattle.realm_model.specs.Machine.{Limits}
 use Rattle.rmi_monitor.specs.View.{MonitorView}
-use Rattle.realm_acts.specs.Mirror.{IsMirror}
-use Rattle.build_books.specs.View.{HostView, world_of}
-use Rattle.build_books.specs.Booted.{booted}
+use Rattle.execution.specs.Mirror.{IsMirror}
+use Rattle.host_ledger.specs.View.{HostView, world_of}
+use Rattle.host_ledger.specs.Booted.{booted}
 use Rattle.realm_host.specs.Settings.{AreSettings}
 use Rattle.realm_host.specs.declared.settings.Settings.{Settings}
 

@@ -2,13 +2,13 @@
 use Rattle.std.specs.Prelude.{◌≡◌, ℕ, List, map, Option, option_map, Result}
 use Rattle.realm_model.specs.History.{IsLegal}
 use Rattle.realm_model.specs.Interleaving.{HasSameEvents}
-use Rattle.build_books.specs.declared.mark.Mark.{Mark}
-use Rattle.build_books.specs.View.{HostView, world_of, open_of, pages_of_build, used}
-use Rattle.build_commands.specs.declared.refusal.Refusal.{Refusal}
+use Rattle.host_ledger.specs.declared.mark.Mark.{Mark}
+use Rattle.host_ledger.specs.View.{HostView, world_of, open_of, pages_of_build, used}
+use Rattle.host_commands.specs.declared.refusal.Refusal.{Refusal}
 use Rattle.realm_host.specs.Abort.{IsBegun, IsAbortAnswer}
 use Rattle.realm_host.specs.Answer.{IsAnswer}
 use Rattle.realm_host.specs.Call.{Call}
-use Rattle.realm_host.specs.declared.reply.Answer.{Answer}
+use Rattle.realm_host.specs.declared.reply.HostAnswer.{HostAnswer}
 
 -- how many acts were open at the mark of each build
 abbrev pub depths_of : HostView → List (Option ℕ)
@@ -22,14 +22,14 @@ pub record DidTheSame (host twin : HostView) : Type 0 where
   pub events : HasSameEvents host.history twin.history
 
 -- They have the same world, and for each build the same acts open, the same pages, and as much of its room used.
-pub record LookTheSame (host twin : HostView) : Type 0 where
+pub record AreIndistinguishable (host twin : HostView) : Type 0 where
   pub world : world_of twin ≡ world_of host
   pub opened : (build : ℕ) → open_of twin build ≡ open_of host build
   pub pages : (build : ℕ) → pages_of_build twin build ≡ pages_of_build host build
   pub room : (build : ℕ) → used twin build ≡ used host build
 
 -- Besides, each build has as much room in both, the same builds are in abort, and their marks are as deep.
-pub record DifferInOrder (host twin : HostView) : Type 0 where
+pub record DifferInInterleaving (host twin : HostView) : Type 0 where
   pub same : DidTheSame host twin
   pub capacity : twin.capacity ≡ host.capacity
   pub aborting : twin.aborting ≡ host.aborting
@@ -39,14 +39,14 @@ pub record DifferInOrder (host twin : HostView) : Type 0 where
 pub record IsAlsoAnswered (IsAnswered : HostView → Type 0) (new : HostView) : Type 0 where
   pub then : HostView
   pub answered : IsAnswered then
-  pub differ : DifferInOrder new then
+  pub differ : DifferInInterleaving new then
 
 -- this holds of the answer to a command or an undo, to the begin of an abort, and to a whole abort
-abbrev pub CallTellsNothing : HostView → HostView → ℕ → Call → Answer → HostView → Type 0
-CallTellsNothing host twin build call answer new = IsAnswer host build call answer new → IsAlsoAnswered (IsAnswer twin build call answer) new
+abbrev pub CallRevealsNothing : HostView → HostView → ℕ → Call → HostAnswer → HostView → Type 0
+CallRevealsNothing host twin build call answer new = IsAnswer host build call answer new → IsAlsoAnswered (IsAnswer twin build call answer) new
 
-abbrev pub BeginTellsNothing : HostView → HostView → ℕ → Result ℕ Refusal → HostView → Type 0
-BeginTellsNothing host twin build result new = IsBegun host build result new → IsAlsoAnswered (IsBegun twin build result) new
+abbrev pub BeginRevealsNothing : HostView → HostView → ℕ → Result ℕ Refusal → HostView → Type 0
+BeginRevealsNothing host twin build result new = IsBegun host build result new → IsAlsoAnswered (IsBegun twin build result) new
 
-abbrev pub AbortTellsNothing : HostView → HostView → ℕ → Result ℕ Refusal → HostView → Type 0
-AbortTellsNothing host twin build result new = IsAbortAnswer host build result new → IsAlsoAnswered (IsAbortAnswer twin build result) new
+abbrev pub AbortRevealsNothing : HostView → HostView → ℕ → Result ℕ Refusal → HostView → Type 0
+AbortRevealsNothing host twin build result new = IsAbortAnswer host build result new → IsAlsoAnswered (IsAbortAnswer twin build result) new

@@ -1,7 +1,7 @@
 pub mod Settings
 pub mod Host
 pub mod Readings
-pub mod Picks
+pub mod Allocation
 pub mod Call
 pub mod Refusals
 pub mod Answer

@@ -1,17 +1,17 @@
 -- Marks of builds, and the way back to one.
 use Rattle.std.specs.Prelude.{◌≡◌, ℕ, List, [], ◌∷◌, ◌++◌, length, not, Bool, false, Some, None, Result, Ok, Err}
 use Rattle.std.specs.List.{list_any}
-use Rattle.build_commands.specs.declared.refusal.Refusal.{Refusal}
-use Rattle.build_commands.specs.declared.refusal.Refusal.TheVariants.{NothingToUndo, RecRunning}
-use Rattle.build_commands.specs.Checks.{Check, build_checks, first_that_holds}
+use Rattle.host_commands.specs.declared.refusal.Refusal.{Refusal}
+use Rattle.host_commands.specs.declared.refusal.Refusal.TheVariants.{NothingToUndo, RecRunning}
+use Rattle.host_commands.specs.Checks.{Check, build_checks, first_that_holds}
 use Rattle.realm_model.specs.Marks.{above, rolling_back, IsRolledBack}
 use Rattle.realm_model.specs.Running.{is_running}
 use Rattle.realm_model.specs.World.{realm_of}
-use Rattle.build_books.specs.declared.mark.Mark.{Mark}
-use Rattle.build_books.specs.Marks.{point_of, is_same_mark}
-use Rattle.build_books.specs.Desk.{desk_of}
-use Rattle.build_books.specs.Kept.{IsMarkOf}
-use Rattle.build_books.specs.View.{HostView, world_of, mark_of, mark_now, with_mark}
+use Rattle.host_ledger.specs.declared.mark.Mark.{Mark}
+use Rattle.host_ledger.specs.Marks.{point_of, is_same_mark}
+use Rattle.host_ledger.specs.Summary.{summary_of}
+use Rattle.host_ledger.specs.Kept.{IsMarkOf}
+use Rattle.host_ledger.specs.View.{HostView, world_of, mark_of, mark_now, with_mark}
 use Rattle.realm_host.specs.Abort.{undone_to}
 use Rattle.realm_host.specs.Served.{IsServed}
 
@@ -26,7 +26,7 @@ pub record IsMarkedAs (host : HostView) (build : ℕ) (mark : Mark) (new : HostV
 -- The build's point is answered, and kept in place of an older mark.
 abbrev pub IsMarked : HostView → ℕ → Result Mark Refusal → HostView → Type 0
 IsMarked host build result new =
-    IsServed (build_checks (desk_of host) build) host (IsMarkedAs host build) result new
+    IsServed (build_checks (summary_of host) build) host (IsMarkedAs host build) result new
 
 -- ---- the way back
 
@@ -45,7 +45,7 @@ rec_running_above host build mark =
 
 abbrev pub checks_of_back : HostView → ℕ → Mark → List Check
 checks_of_back host build mark =
-    build_checks (desk_of host) build ++ (not_kept host build mark ∷ rec_running_above host build mark ∷ [])
+    build_checks (summary_of host) build ++ (not_kept host build mark ∷ rec_running_above host build mark ∷ [])
 
 -- How many acts are above the mark, or why the build cannot go back to it.
 abbrev pub way_back : HostView → ℕ → Mark → Result ℕ Refusal

@@ -5,7 +5,7 @@ use Rattle.realm_model.specs.declared.act.Event.{Event}
 use Rattle.realm_model.specs.Act.{is_paired}
 use Rattle.realm_model.specs.Ownership.{OwnsSame}
 use Rattle.realm_model.specs.Undoing.{by}
-use Rattle.build_books.specs.View.{HostView, world_of}
+use Rattle.host_ledger.specs.View.{HostView, world_of}
 
 -- Where the last event of the whole history is an act of the build that has a reverse, it is this act that is reversed,
 -- and the new world owns the same as the world before that event.

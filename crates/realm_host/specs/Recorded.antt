@@ -3,8 +3,8 @@ use Rattle.std.specs.Prelude.{◌≡◌, ◌<◌, ◌≤◌, ◌⊎◌, ℕ, tru
 use Rattle.realm_model.specs.declared.act.Event.{Event}
 use Rattle.realm_model.specs.History.{erase, IsLegal}
 use Rattle.realm_model.specs.World.{without}
-use Rattle.build_books.specs.View.{HostView, world_of}
-use Rattle.build_books.specs.Booted.{booted}
+use Rattle.host_ledger.specs.View.{HostView, world_of}
+use Rattle.host_ledger.specs.Booted.{booted}
 use Rattle.realm_model.specs.Act.{is_reverse}
 use Rattle.realm_host.specs.Acting.{HasRoomFor}
 use Rattle.realm_host.specs.declared.why_not.WhyNot.{WhyNot}

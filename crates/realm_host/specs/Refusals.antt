@@ -6,15 +6,15 @@ use Rattle.realm_model.specs.Outcome.{is_block_start}
 use Rattle.realm_model.specs.Running.{is_running}
 use Rattle.realm_model.specs.Update.{Outcome}
 use Rattle.realm_model.specs.World.{World, is_leased_to, realm_of}
-use Rattle.build_commands.specs.declared.cmd.Cmd.{Cmd}
-use Rattle.build_commands.specs.declared.cmd.Cmd.TheVariants.{Take}
+use Rattle.host_commands.specs.declared.cmd.Cmd.{Cmd}
+use Rattle.host_commands.specs.declared.cmd.Cmd.TheVariants.{Take}
 use Rattle.realm_host.specs.Call.{Call, Ask, Undo}
-use Rattle.build_commands.specs.declared.refusal.Refusal.{Refusal}
-use Rattle.build_commands.specs.declared.refusal.Refusal.TheVariants.{NoBuild, NothingToUndo, RecRunning, NoBlock, Rmi}
-use Rattle.build_commands.specs.Checks.{Check, checks_of, first_that_holds}
-use Rattle.build_books.specs.View.{HostView, world_of, open_of}
-use Rattle.build_books.specs.Desk.{desk_of}
-use Rattle.realm_host.specs.Picks.{outcome_asked}
+use Rattle.host_commands.specs.declared.refusal.Refusal.{Refusal}
+use Rattle.host_commands.specs.declared.refusal.Refusal.TheVariants.{NoBuild, NothingToUndo, RecRunning, NoBlock, Rmi}
+use Rattle.host_commands.specs.Checks.{Check, checks_of, first_that_holds}
+use Rattle.host_ledger.specs.View.{HostView, world_of, open_of}
+use Rattle.host_ledger.specs.Summary.{summary_of}
+use Rattle.realm_host.specs.Allocation.{outcome_asked}
 
 -- ---- by number; those of a command but 11 and 13 are its checks by its needs
 
@@ -60,7 +60,7 @@ last_checks host build cmd = refused_by (outcome_asked host build cmd)
 
 -- A reverse has kept its room, and the monitor refuses only the reverse of a REC that runs.
 abbrev pub checks_of_call : HostView → ℕ → Call → List Check
-checks_of_call host build (Ask cmd) = checks_of (desk_of host) build cmd ++ last_checks host build cmd
+checks_of_call host build (Ask cmd) = checks_of (summary_of host) build cmd ++ last_checks host build cmd
 checks_of_call host build Undo = no_build host build ∷ nothing_to_undo host build ∷ rec_running host build ∷ []
 
 -- The refusal of a call: of those that apply to it and hold, the one with the lowest number.

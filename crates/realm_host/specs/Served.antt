@@ -1,11 +1,11 @@
 -- How a call with checks of its own is answered: with the first that holds, or as it says.
 use Rattle.std.specs.Prelude.{◌≡◌, ℕ, nat_lt, List, Result, Ok, Err, Some, None}
-use Rattle.build_commands.specs.declared.refusal.Refusal.{Refusal}
-use Rattle.build_commands.specs.declared.refusal.Refusal.TheVariants.{RecRunning}
-use Rattle.build_commands.specs.Checks.{Check, first_that_holds}
+use Rattle.host_commands.specs.declared.refusal.Refusal.{Refusal}
+use Rattle.host_commands.specs.declared.refusal.Refusal.TheVariants.{RecRunning}
+use Rattle.host_commands.specs.Checks.{Check, first_that_holds}
 use Rattle.realm_model.specs.Running.{running_count}
 use Rattle.realm_model.specs.World.{realm_of}
-use Rattle.build_books.specs.View.{HostView, world_of}
+use Rattle.host_ledger.specs.View.{HostView, world_of}
 
 -- 8 of an abort: a REC of the build runs
 abbrev pub any_rec_running : HostView → ℕ → Check

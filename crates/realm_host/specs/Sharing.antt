@@ -1,29 +1,40 @@
 -- An abort during which other builds go on.
-use Rattle.std.specs.Prelude.{◌≡◌, ◌≢◌, ℕ, List, [], ◌∷◌, ◌++◌, length, nat_lt, None, Result, true}
+use Rattle.std.specs.Prelude.{◌≡◌, ◌≢◌, ◌↔◌, ℕ, Bool, List, [], ◌∷◌, ◌++◌, length, nat_lt, None, Result, true}
+use Rattle.std.specs.Bool.{OnTrue, OnFalse}
 use Rattle.std.specs.List.{All}
-use Rattle.build_books.specs.declared.mark.Mark.{Mark}
-use Rattle.build_books.specs.View.{HostView, world_of, open_of, is_aborting}
-use Rattle.build_commands.specs.declared.refusal.Refusal.{Refusal}
+use Rattle.host_ledger.specs.declared.mark.Mark.{Mark}
+use Rattle.host_ledger.specs.View.{HostView, world_of, open_of, is_aborting, with_event}
+use Rattle.host_commands.specs.declared.refusal.Refusal.{Refusal}
 use Rattle.realm_host.specs.Abort.{IsBegun, IsAbortAnswer}
 use Rattle.realm_host.specs.Answer.{IsAnswer}
 use Rattle.realm_host.specs.Call.{Call, Undo}
 use Rattle.realm_host.specs.Marked.{IsMarked, IsBackAnswer}
+use Rattle.realm_host.specs.Recorded.{CanApply}
 use Rattle.realm_host.specs.Refusals.{refusal_of}
-use Rattle.realm_host.specs.declared.reply.Answer.{Answer}
+use Rattle.realm_host.specs.declared.reply.HostAnswer.{HostAnswer}
 use Rattle.realm_model.specs.Aborting.{IsAborting, IsOthersOrReverse}
 use Rattle.realm_model.specs.History.{erase, IsLegal}
+use Rattle.realm_model.specs.Undoing.{by}
+use Rattle.realm_model.specs.declared.act.Act.{Act}
 use Rattle.realm_model.specs.declared.act.Event.{Event}
 
 -- ---- calls
 
+-- An act of a build that is applied as recorded: it is exactly where it can be, and nothing changes elsewhere.
+pub record IsApplyAnswer (host : HostView) (build : ℕ) (act : Act) (result : Bool) (new : HostView) : Type 0 where
+  pub answer : (result ≡ true) ↔ CanApply host (by build act)
+  pub applied : OnTrue result (new ≡ with_event host build act)
+  pub unchanged : OnFalse result (new ≡ host)
+
 -- What a build asks of a host, and what it is answered: a command or an undo, the begin of an abort, an abort as a whole,
--- a mark, the way back to one.
+-- a mark, the way back to one, a recorded act.
 pub data AnsweredCall : Type 0 where
-  Calls : Call → Answer → AnsweredCall
+  Calls : Call → HostAnswer → AnsweredCall
   Begins : Result ℕ Refusal → AnsweredCall
   Aborts : Result ℕ Refusal → AnsweredCall
   Marks : Result Mark Refusal → AnsweredCall
   GoesBack : Mark → Result ℕ Refusal → AnsweredCall
+  Applies : Act → Bool → AnsweredCall
 
 -- The call's contract allows this answer, and the host `new` after it.
 abbrev pub IsAnsweredSo : HostView → ℕ → AnsweredCall → HostView → Type 0
@@ -32,12 +43,19 @@ IsAnsweredSo host build (Begins result) new = IsBegun host build result new
 IsAnsweredSo host build (Aborts result) new = IsAbortAnswer host build result new
 IsAnsweredSo host build (Marks result) new = IsMarked host build result new
 IsAnsweredSo host build (GoesBack mark result) new = IsBackAnswer host build mark result new
+IsAnsweredSo host build (Applies act result) new = IsApplyAnswer host build act result new
+
+-- A recorded act is applied even to a build in abort. So it is asked of other builds alone; all else of any build.
+abbrev pub MayBeAsked : ℕ → ℕ → AnsweredCall → Type 0
+MayBeAsked build other (Applies act result) = other ≢ build
+MayBeAsked build other _ = Unit {0}
 
 -- Calls of any builds, one after another. The build is in abort before each of them, so at most the last one ends the abort.
 abbrev pub AreWhileAborting : ℕ → HostView → List (ℕ × AnsweredCall) → HostView → Type 0
 AreWhileAborting build host [] new = new ≡ host
 AreWhileAborting build host ((other, call) ∷ calls) new =
-    (is_aborting host build ≡ true) × ((then : HostView) × (IsAnsweredSo host other call then × AreWhileAborting build then calls new))
+    (is_aborting host build ≡ true) × MayBeAsked build other call
+    × ((then : HostView) × (IsAnsweredSo host other call then × AreWhileAborting build then calls new))
 
 -- ---- what comes of them
 

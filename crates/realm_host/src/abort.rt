@@ -4,12 +4,12 @@ ghost use Rattle.std.specs.List.{list_any};
 ghost use Rattle.std.specs.Result.{OnOk};
 ghost use Rattle.realm_model.specs.Running.{is_running};
 ghost use Rattle.realm_model.specs.World.{realm_of};
-ghost use Rattle.build_books.specs.View.{world_of, open_of};
+ghost use Rattle.host_ledger.specs.View.{world_of, open_of};
 ghost use Rattle.realm_host.specs.Abort.{IsBegun, GoesOn, IsAbortAnswer, LeavesNothing, IsDown};
 
 use crate::{Host, Refusal};
-use build_commands::check_build;
 use granule_addr::BuildId;
+use host_commands::check_build;
 use page_arena::PageStore;
 
 impl<S: PageStore> Host<S> {
@@ -22,12 +22,12 @@ impl<S: PageStore> Host<S> {
         ensures answer { IsBegun self.old build result self.new }
         ensures goes_on { OnOk result (GoesOn self.old build) }
     {
-        check_build(&self.books, build)?;
-        if self.books.running(build) > 0 {
+        check_build(&self.ledger, build)?;
+        if self.ledger.running(build) > 0 {
             return Err(Refusal::RecRunning);
         }
-        let count = self.books.open_count(build);
-        self.books.begin_abort(build);
+        let count = self.ledger.open_count(build);
+        self.ledger.begin_abort(build);
         Ok(count)
     }
 
@@ -39,13 +39,13 @@ impl<S: PageStore> Host<S> {
         ensures answer { IsAbortAnswer self.old build result self.new }
         ensures nothing_left { OnOk result (LeavesNothing self.old build self.new) }
     {
-        if !self.books.has_build(build) {
+        if !self.ledger.has_build(build) {
             return Err(Refusal::NoBuild);
         }
-        if self.books.running(build) > 0 {
+        if self.ledger.running(build) > 0 {
             return Err(Refusal::RecRunning);
         }
-        let count = self.books.open_count(build);
+        let count = self.ledger.open_count(build);
         self.undo_down_to(build, 0);
         Ok(count)
     }
@@ -59,7 +59,7 @@ impl<S: PageStore> Host<S> {
         ensures { IsDown self.old build count self.new }
     {
         // (no undo is refused here: that is a law of histories, newest_can_be_undone)
-        for _ in count..self.books.open_count(build) {
+        for _ in count..self.ledger.open_count(build) {
             let Ok(_) = self.undo(build) else {
                 unreachable!()
             };

@@ -2,9 +2,9 @@
 ghost use Rattle.realm_host.specs.Acting.{CanAct, IsActed};
 
 use crate::Host;
+use execution::perform;
 use granule_addr::BuildId;
 use page_arena::PageStore;
-use realm_acts::perform;
 use realm_model::{Act, Rmi};
 
 impl<S: PageStore> Host<S> {
@@ -13,11 +13,11 @@ impl<S: PageStore> Host<S> {
         requires { CanAct self.old build act }
         ensures { IsActed self.old build act result self.new }
     {
-        let place = self.books.place(build, &act);
+        let place = self.ledger.place(build, &act);
         if let Err(rmi) = perform(&mut self.monitor, place, &act) {
             return Err(rmi);
         }
-        self.books.record(build, act);
+        self.ledger.record(build, act);
         Ok(())
     }
 }

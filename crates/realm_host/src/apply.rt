@@ -10,7 +10,7 @@ ghost use Rattle.realm_model.specs.Room.{room_taken};
 ghost use Rattle.realm_model.specs.Outcome.{is_in_range, fits};
 ghost use Rattle.realm_model.specs.Step.{named_cells};
 ghost use Rattle.realm_model.specs.World.{is_leased_to, realm_of};
-ghost use Rattle.build_books.specs.View.{world_of, with_event};
+ghost use Rattle.host_ledger.specs.View.{world_of, with_event};
 ghost use Rattle.realm_host.specs.Acting.{HasRoomFor, IsApplied, IsNoStep};
 ghost use Rattle.realm_host.specs.Recorded.{CanApply};
 
@@ -68,7 +68,7 @@ impl<S: PageStore> Host<S> {
     {
         let build = event.build;
         let act = &event.act;
-        if !self.books.has_build(build) {
+        if !self.ledger.has_build(build) {
             return false;
         }
         if !self.has_room_for(build, act) {
@@ -86,8 +86,9 @@ impl<S: PageStore> Host<S> {
         requires { build < self.now.limits.builds }
         ensures { (result ≡ true) ↔ HasRoomFor self.now build act.now }
     {
-        let left = self.books.capacity() - self.books.used(build);
-        room_taken(act) <= left && (!act.is_paired() || self.books.open_count(build) < JOURNAL_ROOM)
+        let left = self.ledger.capacity() - self.ledger.used(build);
+        room_taken(act) <= left
+            && (!act.is_paired() || self.ledger.open_count(build) < JOURNAL_ROOM)
     }
 
     // Takes the block that was picked, where it is free.
@@ -100,7 +101,7 @@ impl<S: PageStore> Host<S> {
         if !self.monitor.take_at(order, first) {
             return false;
         }
-        self.books.record(build, Act::Take { order, first });
+        self.ledger.record(build, Act::Take { order, first });
         true
     }
 
@@ -110,7 +111,7 @@ impl<S: PageStore> Host<S> {
         requires kind { is_reverse act.now ≡ true }
         ensures { IsApplied self.old build act.now result self.new }
     {
-        let Some(newest) = self.books.newest(build) else {
+        let Some(newest) = self.ledger.newest(build) else {
             return false;
         };
         if !takes_back(act, newest) {
@@ -119,7 +120,7 @@ impl<S: PageStore> Host<S> {
         if self.is_running(build, newest) {
             return false;
         }
-        self.reverse(build, act.again());
+        self.reverse(build, act.clone());
         true
     }
 
@@ -139,7 +140,7 @@ impl<S: PageStore> Host<S> {
             return false;
         }
         check_ranges(act);
-        self.act(build, act.again()).is_ok()
+        self.act(build, act.clone()).is_ok()
     }
 
     // Whether a build leases granules.
@@ -147,7 +148,7 @@ impl<S: PageStore> Host<S> {
         ensures { result ≡ list_all (is_leased_to (Some build) (world_of self.now).leases) granules.now }
     {
         for granule in granules {
-            if !self.books.is_leased_by(*granule, build) {
+            if !self.ledger.is_leased_by(*granule, build) {
                 return false;
             }
         }
@@ -159,7 +160,7 @@ impl<S: PageStore> Host<S> {
         ensures { result ≡ is_leased_to (Some build) (world_of self.now).leases number }
     {
         match Gran::new(number, self.monitor.pages()) {
-            Some(granule) => self.books.is_leased_by(granule, build),
+            Some(granule) => self.ledger.is_leased_by(granule, build),
             None => false,
         }
     }
@@ -188,23 +189,24 @@ impl<S: PageStore> Host<S> {
             | Act::Peek { granule, .. }
             | Act::Delegate { granule }
             | Act::Rtt { granule, .. }
-            | Act::Unknown { granule, .. } => self.books.is_leased_by(*granule, build),
+            | Act::Unknown { granule, .. } => self.ledger.is_leased_by(*granule, build),
             Act::Data {
                 granule,
                 source,
                 ..
             } => {
-                self.books.is_leased_by(*granule, build) && self.books.is_leased_by(*source, build)
+                self.ledger.is_leased_by(*granule, build)
+                    && self.ledger.is_leased_by(*source, build)
             }
             Act::Realm { rd, root, .. } => {
-                self.books.is_leased_by(*rd, build) && self.leases_tables(build, *root)
+                self.ledger.is_leased_by(*rd, build) && self.leases_tables(build, *root)
             }
             Act::Rec {
                 granule,
                 auxiliaries,
                 ..
             } => {
-                self.books.is_leased_by(*granule, build)
+                self.ledger.is_leased_by(*granule, build)
                     && self.leases_all(build, auxiliaries.as_slice())
             }
             _ => true,
@@ -230,7 +232,7 @@ impl<S: PageStore> Host<S> {
                 Ok(found) => found == *byte,
                 Err(_) => false,
             },
-            Act::Realm { .. } => self.books.realm(build).is_none(),
+            Act::Realm { .. } => self.ledger.realm(build).is_none(),
             Act::Rec { number, .. } => match self.realm(build) {
                 Some(realm) => *number == realm.next_number(),
                 None => false,

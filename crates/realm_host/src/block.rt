@@ -2,7 +2,7 @@
 ghost use Rattle.std.specs.Prelude.{◌≡◌, ℕ, ◌<◌, ◌≤◌, Some, None};
 ghost use Rattle.std.specs.List.{last_or};
 ghost use Rattle.realm_model.specs.declared.act.Act.TheVariants as acts;
-ghost use Rattle.build_books.specs.View.{open_of};
+ghost use Rattle.host_ledger.specs.View.{open_of};
 ghost use Rattle.realm_host.specs.Acting.{HasRoomFor, IsBlockTaken, IsRecorded};
 
 use crate::Host;
@@ -20,7 +20,7 @@ impl<S: PageStore> Host<S> {
     {
         match self.monitor.take(order) {
             Some(first) => {
-                self.books.record(build, Act::Take { order, first });
+                self.ledger.record(build, Act::Take { order, first });
                 Some(first)
             }
             None => None,
@@ -34,6 +34,6 @@ impl<S: PageStore> Host<S> {
         ensures { IsRecorded self.old build (acts.UnTake order first) self.new }
     {
         self.monitor.give(first, order);
-        self.books.record(build, Act::UnTake { order, first });
+        self.ledger.record(build, Act::UnTake { order, first });
     }
 }

@@ -1,14 +1,14 @@
 //! Commands of builds.
 ghost use Rattle.std.specs.Prelude.{◌≡◌, ◌<◌, None};
-ghost use Rattle.build_commands.specs.declared.cmd.Cmd.TheVariants as cmd;
+ghost use Rattle.host_commands.specs.declared.cmd.Cmd.TheVariants as cmd;
 ghost use Rattle.realm_host.specs.Call.{Ask};
-ghost use Rattle.build_commands.specs.Checks.{checks_of, first_that_holds};
-ghost use Rattle.build_books.specs.Desk.{desk_of};
+ghost use Rattle.host_commands.specs.Checks.{checks_of, first_that_holds};
+ghost use Rattle.host_ledger.specs.Summary.{summary_of};
 ghost use Rattle.realm_host.specs.Answer.{IsAnswer, replied};
 
 use crate::{Cmd, Host, Refusal, Reply};
-use build_commands::{act_of, check_needs, reply_of};
 use granule_addr::{BuildId, Order};
+use host_commands::{act_of, check_needs, reply_of};
 use page_arena::PageStore;
 use realm_model::Rmi;
 
@@ -28,19 +28,19 @@ impl<S: PageStore> Host<S> {
     pub fn ask(&mut self, build: BuildId, cmd: &Cmd) -> Result<Reply, Refusal>
         ensures { IsAnswer self.old build (Ask cmd.now) (replied result) self.new }
     {
-        let granules = check_needs(&self.books, build, cmd)?;
+        let granules = check_needs(&self.ledger, build, cmd)?;
         if let Cmd::Take { order } = cmd {
             return self.take(build, *order);
         }
-        let picked = match self.picked_for(build, cmd, granules.as_slice()) {
-            Ok(picked) => picked,
+        let allocated = match self.allocated_for(build, cmd, granules.as_slice()) {
+            Ok(allocated) => allocated,
             Err(rmi) => return Err(Refusal::Rmi(rmi)),
         };
         // (a number that no act can hold is an input error at once)
-        let Some(act) = act_of(cmd, &granules, picked) else {
+        let Some(act) = act_of(cmd, &granules, allocated) else {
             return Err(Refusal::Rmi(Rmi::INPUT));
         };
-        let reply = reply_of(self.books.page_count(build), &act);
+        let reply = reply_of(self.ledger.page_count(build), &act);
         if let Err(rmi) = self.act(build, act) {
             return Err(Refusal::Rmi(rmi));
         }
@@ -50,11 +50,11 @@ impl<S: PageStore> Host<S> {
     // A block of free pages is leased, for a Take that passed its checks.
     fn take(&mut self, build: BuildId, order: u8) -> Result<Reply, Refusal>
         requires there { build < self.old.limits.builds }
-        requires passed { first_that_holds (checks_of (desk_of self.old) build (cmd.Take order)) ≡ None }
+        requires passed { first_that_holds (checks_of (summary_of self.old) build (cmd.Take order)) ≡ None }
         ensures { IsAnswer self.old build (Ask (cmd.Take order)) (replied result) self.new }
     {
         let order = Order::new(order).unwrap();
-        let page = self.books.page_count(build);
+        let page = self.ledger.page_count(build);
         match self.take_block(build, order) {
             Some(_first) => Ok(Reply::FirstPage(page)),
             None => Err(Refusal::NoBlock(order)),

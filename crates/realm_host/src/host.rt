@@ -3,17 +3,17 @@ ghost use Rattle.std.specs.Prelude.{◌≡◌, ◌<◌, ◌≤◌, ℕ, length, 
 ghost use Rattle.granule_addr.specs.Page.{zero_page};
 ghost use Rattle.realm_model.specs.Machine.{cell_at};
 ghost use Rattle.realm_model.specs.World.{free_set};
-ghost use Rattle.realm_model.specs.History.{IsLegal, LeavesNoTrace};
-ghost use Rattle.build_books.specs.View.{world_of, pages_of_build, granule_of_page};
-ghost use Rattle.build_books.specs.Kept.{HasRoom, AreOfEach, PointsHold};
+ghost use Rattle.realm_model.specs.History.{IsLegal, Noninterference};
+ghost use Rattle.host_ledger.specs.View.{world_of, pages_of_build, granule_of_page};
+ghost use Rattle.host_ledger.specs.Kept.{HasRoom, AreOfEach, PointsHold};
 ghost use Rattle.std.specs.Option.{option_copied};
 ghost use Rattle.rmi_monitor.specs.View.{attributes_of};
 ghost use Rattle.realm_host.specs.Host.{booted_by, IsInRange};
 ghost use Rattle.realm_host.specs.Readings.{row_of, realm_at, measurement_at};
 
 use crate::Settings;
-use build_books::Books;
 use granule_addr::{BuildId, Gran, Vmid};
+use host_ledger::HostLedger;
 use page_arena::PageStore;
 use realm_model::{Event, GranuleState, RealmState};
 use realm_objects::RealmDesc;
@@ -25,21 +25,21 @@ use std::marker::Model;
 #[derive(Drop)]
 pub struct Host<S: PageStore> {
     pub(crate) monitor: Monitor<S>,
-    pub(crate) books: Books,
+    pub(crate) ledger: HostLedger,
 }
 
 impl<S: PageStore> Model for Host<S> {
-    ghost use Rattle.build_books.specs.View.{HostView};
-    ghost use Rattle.build_books.specs.Codes.{host_code};
+    ghost use Rattle.host_ledger.specs.View.{HostView};
+    ghost use Rattle.host_ledger.specs.Codes.{host_code};
     ghost use Rattle.realm_host.specs.Host.{IsWhole};
 
     ghost Value = { HostView };
 
     ghost coded = { host_code };
 
-    ghost view = { λ h. h.books };
+    ghost view = { λ h. h.ledger };
 
-    ghost invariant = { λ h. IsWhole h.books h.monitor };
+    ghost invariant = { λ h. IsWhole h.ledger h.monitor };
 }
 
 impl<S: PageStore> Host<S> {
@@ -51,7 +51,7 @@ impl<S: PageStore> Host<S> {
         ensures ok { IfOk result (λ h. h ≡ booted_by settings (length (S.page_bytes store))) }
         ensures err { IfErr result (λ e. e.1 ≡ store) }
     {
-        let books = match Books::build(
+        let ledger = match HostLedger::build(
             alloc,
             store.pages(),
             settings.vmids,
@@ -59,11 +59,11 @@ impl<S: PageStore> Host<S> {
             settings.builds,
             settings.history,
         ) {
-            Ok(books) => books,
+            Ok(ledger) => ledger,
             Err(error) => return Err((error, store)),
         };
         match Monitor::build(alloc, settings.vmids, settings.aux, store) {
-            Ok(monitor) => Ok(Host { monitor, books }),
+            Ok(monitor) => Ok(Host { monitor, ledger }),
             Err(handed_back) => Err(handed_back),
         }
     }
@@ -79,24 +79,24 @@ impl<S: PageStore> Host<S> {
         ensures room { (build : ℕ) → HasRoom self.now build }
         ensures each { AreOfEach self.now }
         ensures points { (build : ℕ) → PointsHold self.now build }
-        ensures no_trace { (build : ℕ) → LeavesNoTrace self.now.limits self.now.history build }
+        ensures no_trace { (build : ℕ) → Noninterference self.now.limits self.now.history build }
     {
-        self.books.history()
+        self.ledger.history()
     }
 
     /// Returns the books of the host: all that contracts see of it, and what the checks of a command look at. None of the
     /// machine's memory is in them.
-    pub fn books(&self) -> &Books
+    pub fn ledger(&self) -> &HostLedger
         ensures { result.now ≡ self.now }
     {
-        &self.books
+        &self.ledger
     }
 
     /// How much room each build has in the history.
     pub fn capacity(&self) -> u16
         ensures { result ≡ self.now.capacity }
     {
-        self.books.capacity()
+        self.ledger.capacity()
     }
 
     /// How many builds there are.
@@ -104,15 +104,15 @@ impl<S: PageStore> Host<S> {
         ensures value { result ≡ self.now.limits.builds }
         ensures few { result ≤ 8 }
     {
-        self.books.build_count()
+        self.ledger.build_count()
     }
 
     /// Returns how many pages a build has, and 0 if there is no such build.
     pub fn page_count(&self, build: BuildId) -> u16
         ensures { result ≡ length (pages_of_build self.now build) }
     {
-        if self.books.has_build(build) {
-            self.books.page_count(build)
+        if self.ledger.has_build(build) {
+            self.ledger.page_count(build)
         } else {
             0
         }
@@ -162,8 +162,8 @@ impl<S: PageStore> Host<S> {
         ensures value { result ≡ granule_of_page self.now build page }
         ensures inside { IfSome result (λ g. g < self.now.limits.pages) }
     {
-        if self.books.has_build(build) {
-            self.books.page(build, page)
+        if self.ledger.has_build(build) {
+            self.ledger.page(build, page)
         } else {
             None
         }
@@ -174,10 +174,10 @@ impl<S: PageStore> Host<S> {
     pub fn realm(&self, build: BuildId) -> Option<&RealmDesc>
         ensures { option_copied result ≡ option_map attributes_of (row_of (world_of self.now) build) }
     {
-        if !self.books.has_build(build) {
+        if !self.ledger.has_build(build) {
             return None;
         }
-        match self.books.realm(build) {
+        match self.ledger.realm(build) {
             Some(rd) => self.monitor.realm(rd),
             None => None,
         }
@@ -186,10 +186,10 @@ impl<S: PageStore> Host<S> {
 
 impl<S: PageStore + Drop> Host<S> {
     /// Returns the books, and gives back all memory of the machine.
-    pub fn into_books(self) -> Books
+    pub fn into_ledger(self) -> HostLedger
         ensures { result ≡ self }
     {
-        let Host { monitor: _, books } = self;
-        books
+        let Host { monitor: _, ledger } = self;
+        ledger
     }
 }

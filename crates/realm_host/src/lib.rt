@@ -7,13 +7,13 @@
 
 mod abort;
 mod act;
+mod allocation;
 mod apply;
 mod block;
 mod command;
 mod host;
 pub mod law;
 mod marks;
-mod picks;
 mod reading;
 mod reply;
 mod settings;
@@ -21,19 +21,19 @@ mod undo;
 mod why_not;
 mod without;
 
-pub use build_books::{Books, Mark};
-pub use build_commands::{Cmd, Refusal, Reply, Undone};
 pub use granule_addr::{
     BuildId, Gran, IpaGran, IpaWidth, Level, Order, PageOff, RecNo, Root, Vmid,
 };
 pub use host::Host;
+pub use host_commands::{Cmd, Refusal, Reply, Undone};
+pub use host_ledger::{HostLedger, Mark};
 pub use page_arena::{BuildError, PageStore, PlainStore};
 pub use reading::{GranuleView, RowView};
 pub use realm_model::{
     Act, EntryState, Event, GranuleState, Kind, RealmState, RecState, Ripas, Rmi, Status,
 };
 pub use realm_objects::{RealmDesc, Rec};
-pub use reply::Answer;
+pub use reply::HostAnswer;
 pub use rtt::Entry;
 pub use settings::Settings;
 pub use why_not::WhyNot;

@@ -6,14 +6,14 @@ ghost use Rattle.std.specs.Result.{OnOk};
 ghost use Rattle.realm_model.specs.Marks.{IsRolledBack};
 ghost use Rattle.realm_model.specs.Running.{is_running};
 ghost use Rattle.realm_model.specs.World.{realm_of};
-ghost use Rattle.build_books.specs.View.{world_of};
-ghost use Rattle.build_books.specs.Kept.{IsMarkOf};
-ghost use Rattle.build_books.specs.Marks.{point_of};
+ghost use Rattle.host_ledger.specs.View.{world_of};
+ghost use Rattle.host_ledger.specs.Kept.{IsMarkOf};
+ghost use Rattle.host_ledger.specs.Marks.{point_of};
 ghost use Rattle.realm_host.specs.Marked.{IsMarked, way_back, IsBackAnswer, is_kept};
 
 use crate::{Host, Mark, Refusal};
-use build_commands::check_build;
 use granule_addr::BuildId;
+use host_commands::check_build;
 use page_arena::PageStore;
 use realm_model::Act;
 
@@ -25,9 +25,9 @@ impl<S: PageStore> Host<S> {
     pub fn mark(&mut self, build: BuildId) -> Result<Mark, Refusal>
         ensures { IsMarked self.old build result self.new }
     {
-        check_build(&self.books, build)?;
-        let mark = self.books.mark_now(build);
-        self.books.keep_mark(build, &mark);
+        check_build(&self.ledger, build)?;
+        let mark = self.ledger.mark_now(build);
+        self.ledger.keep_mark(build, &mark);
         Ok(mark)
     }
 
@@ -38,15 +38,15 @@ impl<S: PageStore> Host<S> {
         ensures stands { OnOk result (IsMarkOf self.now build mark) }
         ensures leads_back { OnOk result (IsRolledBack self.now.limits (point_of mark) self.now.history) }
     {
-        check_build(&self.books, build)?;
+        check_build(&self.ledger, build)?;
         if !self.is_kept(build, mark) {
             return Err(Refusal::NothingToUndo);
         }
-        let above = self.books.open_above(build, mark.length());
+        let above = self.ledger.open_above(build, mark.length());
         if self.is_any_running(build, above) {
             return Err(Refusal::RecRunning);
         }
-        Ok(self.books.open_count(build) - mark.length())
+        Ok(self.ledger.open_count(build) - mark.length())
     }
 
     /// Undoes what a build has opened above a mark, the newest first, and returns how many acts that were. The world then owns
@@ -69,7 +69,7 @@ impl<S: PageStore> Host<S> {
         ensures value { result ≡ is_kept self.now build mark }
         ensures stands { OnTrue result (IsMarkOf self.now build mark) }
     {
-        match self.books.mark(build) {
+        match self.ledger.mark(build) {
             Some(kept) => kept.is(mark),
             None => false,
         }

@@ -1,15 +1,15 @@
 //! What is read of granules, of realms with their RECs and rows, and of what builds have open.
 ghost use Rattle.std.specs.Prelude.{◌≡◌, ◌+◌, ◌<◌, IfSome, option_map};
 ghost use Rattle.granule_addr.specs.Ipa.{covered_count, first_covered, widest_space};
-ghost use Rattle.realm_acts.specs.Mirror.{rd_of};
-ghost use Rattle.build_books.specs.View.{world_of, open_of, is_aborting, mark_of};
-ghost use Rattle.build_books.specs.Kept.{IsMarkOf};
+ghost use Rattle.realm_model.specs.Places.{rd_of};
+ghost use Rattle.host_ledger.specs.View.{world_of, open_of, is_aborting, mark_of};
+ghost use Rattle.host_ledger.specs.Kept.{IsMarkOf};
 ghost use Rattle.realm_host.specs.Readings.{granule_at, rec_at, row_at};
 ghost use Rattle.realm_host.specs.Refusals.{is_newest_running};
 
 use crate::{Host, Mark};
-use build_commands::Desk;
 use granule_addr::{BuildId, Gran, IpaGran, Level, RecNo};
+use host_commands::BuildsView;
 use page_arena::PageStore;
 use realm_model::{Act, GranuleState};
 use realm_objects::Rec;
@@ -86,7 +86,7 @@ impl<S: PageStore> Host<S> {
         }
         Some(GranuleView {
             state: self.monitor.state(granule),
-            build: self.books.holder(granule),
+            build: self.ledger.holder(granule),
             realm: self.monitor.realm_of(granule),
         })
     }
@@ -96,8 +96,8 @@ impl<S: PageStore> Host<S> {
         ensures value { result ≡ rd_of build (world_of self.now) }
         ensures inside { IfSome result (λ rd. rd < self.now.limits.pages) }
     {
-        if self.books.has_build(build) {
-            self.books.realm(build)
+        if self.ledger.has_build(build) {
+            self.ledger.realm(build)
         } else {
             None
         }
@@ -108,10 +108,10 @@ impl<S: PageStore> Host<S> {
     pub fn rec(&self, build: BuildId, number: RecNo) -> Option<(Gran, &Rec)>
         ensures { option_map (λ rec. (rec.0, rec.1.now)) result ≡ rec_at (world_of self.now) build number }
     {
-        if !self.books.has_build(build) {
+        if !self.ledger.has_build(build) {
             return None;
         }
-        let granule = self.books.rec(build, number)?;
+        let granule = self.ledger.rec(build, number)?;
         let rec = self.monitor.rec_at(granule)?;
         Some((granule, rec))
     }
@@ -139,8 +139,8 @@ impl<S: PageStore> Host<S> {
     pub fn open_acts(&self, build: BuildId) -> &[Act]
         ensures { result.now ≡ open_of self.now build }
     {
-        if self.books.has_build(build) {
-            self.books.open_above(build, 0)
+        if self.ledger.has_build(build) {
+            self.ledger.open_above(build, 0)
         } else {
             &[]
         }
@@ -151,10 +151,10 @@ impl<S: PageStore> Host<S> {
     pub fn is_newest_running(&self, build: BuildId) -> bool
         ensures { result ≡ is_newest_running self.now build }
     {
-        if !self.books.has_build(build) {
+        if !self.ledger.has_build(build) {
             return false;
         }
-        match self.books.newest(build) {
+        match self.ledger.newest(build) {
             Some(newest) => self.is_running(build, newest),
             None => false,
         }
@@ -164,7 +164,7 @@ impl<S: PageStore> Host<S> {
     pub fn is_aborting(&self, build: BuildId) -> bool
         ensures { result ≡ is_aborting self.now build }
     {
-        self.books.has_build(build) && self.books.is_aborting(build)
+        self.ledger.has_build(build) && self.ledger.is_aborting(build)
     }
 
     /// The mark that is kept of a build, if there is one. It stands; `check_back` says whether the build can go back to
@@ -173,8 +173,8 @@ impl<S: PageStore> Host<S> {
         ensures value { result ≡ mark_of self.now build }
         ensures stands { IfSome result (IsMarkOf self.now build) }
     {
-        if self.books.has_build(build) {
-            self.books.mark(build)
+        if self.ledger.has_build(build) {
+            self.ledger.mark(build)
         } else {
             None
         }

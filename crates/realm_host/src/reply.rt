@@ -1,9 +1,9 @@
 //! What the host answers.
-use build_commands::{Refusal, Reply, Undone};
+use host_commands::{Refusal, Reply, Undone};
 
 /// The answer to a step.
 #[derive(Clone, Copy, Debug, PartialEq, Eq)]
-pub enum Answer {
+pub enum HostAnswer {
     Replied(Reply),
     Undone(Undone),
     Refused(Refusal),

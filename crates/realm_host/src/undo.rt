@@ -5,7 +5,7 @@ ghost use Rattle.realm_model.specs.History.{IsLegal};
 ghost use Rattle.realm_model.specs.Running.{is_running};
 ghost use Rattle.realm_model.specs.World.{realm_of};
 ghost use Rattle.realm_host.specs.Call.{Undo};
-ghost use Rattle.build_books.specs.View.{world_of};
+ghost use Rattle.host_ledger.specs.View.{world_of};
 ghost use Rattle.realm_host.specs.Abort.{LeavesNothing};
 ghost use Rattle.realm_host.specs.Acting.{IsBack, IsRecorded};
 ghost use Rattle.realm_host.specs.Answer.{IsAnswer, undone};
@@ -29,10 +29,10 @@ impl<S: PageStore> Host<S> {
         ensures pair { OnOk result (LeadsBack self.old build self.new) }
         ensures last { IfOk result (λ undone. undone.left ≡ 0 → LeavesNothing self.old build self.new) }
     {
-        if !self.books.has_build(build) {
+        if !self.ledger.has_build(build) {
             return Err(Refusal::NoBuild);
         }
-        let Some(newest) = self.books.newest(build) else {
+        let Some(newest) = self.ledger.newest(build) else {
             return Err(Refusal::NothingToUndo);
         };
         if self.is_running(build, newest) {
@@ -41,7 +41,7 @@ impl<S: PageStore> Host<S> {
         // (an open act has a kind and a reverse)
         let kind = kind_of(newest).unwrap();
         let back = reverse_of(newest).unwrap();
-        let left = self.books.open_count(build) - 1;
+        let left = self.ledger.open_count(build) - 1;
         self.reverse(build, back);
         Ok(Undone { kind, left })
     }
@@ -54,7 +54,7 @@ impl<S: PageStore> Host<S> {
         let Act::Rec { number, .. } = act else {
             return false;
         };
-        let Some(granule) = self.books.rec(build, *number) else {
+        let Some(granule) = self.ledger.rec(build, *number) else {
             return false;
         };
         match self.monitor.rec_at(granule) {

@@ -28,7 +28,7 @@ impl<S: PageStore> Host<S> {
     pub fn why_not(&self, event: &Event) -> WhyNot
         ensures { IsWhyNot self.now event.now result }
     {
-        if !self.books.has_build(event.build) {
+        if !self.ledger.has_build(event.build) {
             return WhyNot::NoStep;
         }
         if !self.has_room_for(event.build, &event.act) {

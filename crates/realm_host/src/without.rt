@@ -3,18 +3,18 @@ ghost use Rattle.std.specs.Prelude.{◌≡◌};
 ghost use Rattle.realm_host.specs.Recorded.{fresh_like, IsWithout};
 
 use crate::Host;
-use build_books::Books;
 use granule_addr::BuildId;
+use host_ledger::HostLedger;
 use page_arena::PageStore;
 
 /// Applies the history in a host's books, without the events of a build, to a host that has just been booted, with the
 /// same settings and as many pages. Each event is accepted in turn. That host then has the history without the build,
 /// and the world without it.
-pub fn apply_without<S: PageStore>(books: &Books, build: BuildId, fresh: &mut Host<S>)
-    requires { fresh.old ≡ fresh_like books.now }
-    ensures { IsWithout books.now build fresh.new }
+pub fn apply_without<S: PageStore>(ledger: &HostLedger, build: BuildId, fresh: &mut Host<S>)
+    requires { fresh.old ≡ fresh_like ledger.now }
+    ensures { IsWithout ledger.now build fresh.new }
 {
-    for event in books.history() {
+    for event in ledger.history() {
         if event.build == build {
             continue;
         }

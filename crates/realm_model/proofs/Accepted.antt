@@ -15,7 +15,7 @@ use Rattle.realm_model.specs.Room.{room_taken}
 use Rattle.realm_model.specs.LeftOut.{KeepsItsRoom, AllAccepted, WhatIsLeftIsAccepted}
 use Rattle.realm_model.proofs.Growth.{acts_of-own, open_entries-own, grows}
 use Rattle.realm_model.proofs.HistoryParts.{acts_of-append, open_others}
-use Rattle.realm_model.proofs.LeftOut.{leaves_no_trace, acts_of-erase, acts_of-erased}
+use Rattle.realm_model.proofs.LeftOut.{noninterference, acts_of-erase, acts_of-erased}
 use Rattle.realm_model.proofs.Room.{room_is_sum}
 use Rattle.realm_model.proofs.Stack.{pushed_paired}
 
@@ -72,10 +72,10 @@ none_open b es = ap unmatched (acts_of-erased b es)
 
 module _ (limits : Limits) (history : List Event) (w : World) (b : ℕ) (legal : IsLegal limits history) (at_w : replay limits history ≡ Some w) where
   left_legal : IsLegal limits (erase b history)
-  left_legal = (leaves_no_trace limits history b legal).0
+  left_legal = (noninterference limits history b legal).0
 
   at_left : replay limits (erase b history) ≡ Some (without w b)
-  at_left = (leaves_no_trace limits history b legal).1 ∙ ap (option_map (λ x. without x b)) at_w
+  at_left = (noninterference limits history b legal).1 ∙ ap (option_map (λ x. without x b)) at_w
 
   pub keeps_its_room : (c : ℕ) → b ≢ c → KeepsItsRoom history w b c
   keeps_its_room c apart = record {

@@ -31,7 +31,7 @@ use Rattle.realm_model.proofs.Reaching.{step_says_reached}
 use Rattle.realm_model.proofs.Growth.{grows, Grows, takes_away, open_entries-own, open_entries-other}
 use Rattle.realm_model.proofs.HistoryParts.{split}
 use Rattle.realm_model.proofs.OpenVmids.{vmid_is_open}
-use Rattle.realm_model.proofs.TakenAlone.{order_does_not_matter}
+use Rattle.realm_model.proofs.TakenAlone.{schedule_does_not_matter}
 use Rattle.realm_model.proofs.GoesThere.{goes_there, vmid_unused, named_lease, was_free}
 
 -- ---- granules that an event takes or gives back
@@ -344,5 +344,5 @@ events_commute limits history one other apart legal =
         nothing_given limits history one other apart run,
         λ none. let first = other_at_first limits history one other apart run none in swapped limits history one other apart run first.0 first.1,
       );
-      same_world = λ turned. order_does_not_matter limits (history ++ other ∷ one ∷ []) (history ++ one ∷ other ∷ []) turned legal (same_events limits history one other apart run);
+      same_world = λ turned. schedule_does_not_matter limits (history ++ other ∷ one ∷ []) (history ++ one ∷ other ∷ []) turned legal (same_events limits history one other apart run);
     }

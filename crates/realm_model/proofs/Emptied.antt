@@ -9,7 +9,7 @@ use Rattle.realm_model.proofs.SoundParts.{IsSound}
 use Rattle.realm_model.proofs.Clean.{IsClean, scrubbed}
 use Rattle.realm_model.proofs.OwnLaws.{laws, SameFor}
 use Rattle.realm_model.proofs.Chain.{nothing_open, kept}
-use Rattle.realm_model.proofs.LeftOut.{leaves_no_trace}
+use Rattle.realm_model.proofs.LeftOut.{noninterference}
 use Rattle.realm_model.proofs.Lists.{head_or, tail}
 
 -- a lease that is not the build's, since the build's part has none
@@ -51,4 +51,4 @@ emptied limits b history w legal at_w none =
     let clean : IsClean w = (kept limits b (SameFor b) (IsSound b) (laws limits b) history w legal at_w).1.sound.clean in
     let free = none_leased b limits.pages w.leases (sym same.leases ∙ none_at_first b limits.pages) in
     let whole : without w b ≡ w = λ i. record { machine = cells_kept b w.leases w.machine free clean i; leases = leases_kept b w.leases free i } in
-    (leaves_no_trace limits history b legal).1 ∙ ap (option_map (λ v. without v b)) at_w ∙ ap Some whole
+    (noninterference limits history b legal).1 ∙ ap (option_map (λ v. without v b)) at_w ∙ ap Some whole

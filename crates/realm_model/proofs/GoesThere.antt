@@ -14,7 +14,7 @@ use Rattle.realm_model.specs.Act.{named, holder}
 use Rattle.realm_model.specs.Outcome.{fits, outcome_of}
 use Rattle.realm_model.specs.World.{World, is_leased_to, realm_of, unleased, is_of, without}
 use Rattle.realm_model.specs.Step.{step, used_vmids}
-use Rattle.realm_model.specs.StepLaw.{leases_after, IsStep, StepIsWhatItSays}
+use Rattle.realm_model.specs.StepLaw.{leases_after, IsStep, StepIsExact}
 use Rattle.realm_model.specs.Undoing.{by}
 use Rattle.realm_model.specs.Interleaving.{granules_taken, vmids_taken}
 use Rattle.realm_model.specs.Command.Check.{is_in}
@@ -98,7 +98,7 @@ module _ (limits : Limits) (b : ℕ) (y x : World) (rest : without x b ≡ witho
   realm_there c apart =
       sym (realm_kept (is_of b) c 0 (ne_eqb c b apart) x.leases x.machine) ∙ ap (realm_of c) rest ∙ realm_kept (is_of b) c 0 (ne_eqb c b apart) y.leases y.machine
 
-  pub goes_there : (e : Event) → e.build ≢ b → StepIsWhatItSays limits x e
+  pub goes_there : (e : Event) → e.build ≢ b → StepIsExact limits x e
       → ((g : ℕ) → is_in g (granules_taken e.act) ≡ true → slice_get x.leases g ≡ Some (Some b) → ⊥)
       → ((v : ℕ) → is_in v (vmids_taken e.act) ≡ true → is_in v (used_vmids x.machine) ≡ false)
       → (y' : World) → step limits y e ≡ Some y' → (x' : World) × (step limits x e ≡ Some x')

@@ -12,7 +12,7 @@ use Rattle.realm_model.specs.Machine.{Cell, Limits, blank}
 use Rattle.realm_model.specs.Act.{reverse_of}
 use Rattle.realm_model.specs.World.{World, each, hidden, unleased, is_of, opening, without}
 use Rattle.realm_model.specs.Step.{step}
-use Rattle.realm_model.specs.History.{erase, acts_of, open_entries, unmatched, IsInTurn, AllInTurn, after, replay, IsLegal, LeavesNoTrace}
+use Rattle.realm_model.specs.History.{erase, acts_of, open_entries, unmatched, IsInTurn, AllInTurn, after, replay, IsLegal, Noninterference}
 use Rattle.realm_model.proofs.HiddenSteps.{step-without, without-own_step, IsClean-step}
 use Rattle.realm_model.proofs.Clean.{IsClean, scrubbed}
 
@@ -94,7 +94,7 @@ AllInTurn-erase b before (e ∷ es) h =
 -- ---- legal histories
 
 module _ (limits : Limits) (history : List Event) (build : ℕ) (turns : AllInTurn [] history) where
-  at_world : (o : Option World) → replay limits history ≡ o → is_some o ≡ true → LeavesNoTrace limits history build
+  at_world : (o : Option World) → replay limits history ≡ o → is_some o ≡ true → Noninterference limits history build
   at_world None e some = cc
   at_world (Some v) e some =
       let left : replay limits (erase build history) ≡ Some (without v build) =
@@ -102,5 +102,5 @@ module _ (limits : Limits) (history : List Event) (build : ℕ) (turns : AllInTu
       ∙ after-erase limits build history (opening limits) v (IsClean-opening limits) e in
       (record { steps = ap is_some left; in_turn = AllInTurn-erase build [] history turns }, left ∙ sym (ap (option_map (λ w. without w build)) e))
 
-pub leaves_no_trace : (limits : Limits) (history : List Event) (build : ℕ) → IsLegal limits history → LeavesNoTrace limits history build
-leaves_no_trace limits history build legal = at_world limits history build legal.in_turn (replay limits history) refl legal.steps
+pub noninterference : (limits : Limits) (history : List Event) (build : ℕ) → IsLegal limits history → Noninterference limits history build
+noninterference limits history build legal = at_world limits history build legal.in_turn (replay limits history) refl legal.steps

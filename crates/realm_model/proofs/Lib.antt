@@ -88,7 +88,7 @@ pub mod AtRest
 pub mod UndoAll
 pub mod Aborting
 -- what becomes of ownership
-pub mod LookSame
+pub mod SameMappings
 pub mod Alike
 pub mod OwnFollows
 -- marks
@@ -98,3 +98,10 @@ pub mod RollBack
 pub mod Marks
 -- worked histories
 pub mod Examples
+-- what a build has open, and its realm
+pub mod EachOfRange
+pub mod Made
+pub mod RecLists
+pub mod RecsAfter
+pub mod RecsOpen
+pub mod VmidsFollow

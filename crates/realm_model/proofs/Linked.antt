@@ -26,12 +26,12 @@ use Rattle.realm_model.specs.World.{World, part_of, realm_of, opening, hidden, i
 use Rattle.realm_model.specs.Step.{step, used_vmids}
 use Rattle.realm_model.specs.History.{after, replay}
 use Rattle.realm_model.specs.Ownership.{mapping_of_row, granules_of_rec}
-use Rattle.realm_model.specs.Sound.{look}
+use Rattle.realm_model.specs.Sound.{mapping_at}
 use Rattle.realm_model.specs.Roles.{AsRec, row_target, is_role_state}
 use Rattle.realm_model.specs.Undoing.{by}
 use Rattle.realm_model.proofs.NewRealms.{seen-creation, can_be_made}
 use Rattle.realm_model.proofs.Written.{seen-each_put, seen_frees, put_takes, seen_takes, put_at, cell_put, put_frees, IsSquare}
-use Rattle.realm_model.proofs.SoundRows.{with_table_cases, without_table_cases, leads_nowhere, look-with_table}
+use Rattle.realm_model.proofs.SoundRows.{with_table_cases, without_table_cases, leads_nowhere, mapping_at-with_table}
 use Rattle.realm_model.proofs.Maps.{same_insert}
 use Rattle.realm_model.proofs.Outcomes.{Yields-Ok, Yields-with_realm, Yields-Err, Yields, Yields-check, Yields-with_end, Yields-with_granule, Yields-with_rec}
 use Rattle.realm_model.proofs.RealmOf.{IsAt-realm_of, realm_of-part_of, IsAt, no_row}
@@ -82,13 +82,13 @@ module _ (limits : Limits) (w : World) (sound : IsSoundPart w) (old : IsLinked (
       → R (Put g c ∷ Put rd.number (record rd.cell { descriptor = Some (record d { rows = put_row d.rows 3 ipa (assigned ripas g); measurement = m }) }) ∷ [])
   data_linked rd d at is g c ripas ipa m row free bare state mine there plain =
       let place : ℕ × ℕ = (3, first_covered 3 ipa) in
-      let nowhere : row_target (look d.rows place) ≡ None = ap (λ o. row_target (option_map mapping_of_row o)) there ∙ unassigned_target row.state row.granule plain in
+      let nowhere : row_target (mapping_at d.rows place) ≡ None = ap (λ o. row_target (option_map mapping_of_row o)) there ∙ unassigned_target row.state row.granule plain in
       row_more w sound old rd d (record d { rows = put_row d.rows 3 ipa (assigned ripas g); measurement = m }) at is refl refl g c place free bare mine
       (leaf_target d.rows place (assigned ripas g) ∙ (λ i. Some (g, sym state i)))
       (λ q to h. elim (leaf_new d.rows place (assigned ripas g) q to h) [ inl same ↦ inl same | inr new ↦ inr new.0 ])
       (λ q to h. elim (leaf_old d.rows place (assigned ripas g) q to h) [
         | inl same ↦ same
-        | inr here ↦ absurd (true_false _ (ap is_some h) (ap is_some (ap (λ p. row_target (look d.rows p)) here ∙ nowhere)))
+        | inr here ↦ absurd (true_false _ (ap is_some h) (ap is_some (ap (λ p. row_target (mapping_at d.rows p)) here ∙ nowhere)))
       ])
 
   linked : (act : Act) (realm : Option Seen) → IsAt w.machine realm → (realm ≡ None → (k : ℕ) → (now k).descriptor ≡ None) → fits act realm (map (seen w.machine) (named act)) ≡ true
@@ -118,7 +118,7 @@ module _ (limits : Limits) (w : World) (sound : IsSoundPart w) (old : IsLinked (
       let there = walk_at d.rows ipa (level - 1) end e (eqb-true end.level (level - 1) last) in
       Yields-Ok R _ (row_more w sound old rd d (record d { rows = with_table d.rows level ipa g end.row.ripas }) at is refl refl g (held InRtt rd.number)
       (level - 1, first_covered (level - 1) ipa) outer.0 refl refl
-      (ap row_target (look-with_table d.rows level ipa end.row rows (table_place ipa level outer.1) there g end.row.ripas (not_true _ plain)))
+      (ap row_target (mapping_at-with_table d.rows level ipa end.row rows (table_place ipa level outer.1) there g end.row.ripas (not_true _ plain)))
       (λ q to h. elim (with_table_cases d.rows level ipa end.row rows (table_place ipa level outer.1) there g end.row.ripas q (not_true _ plain)) [
         | inl new ↦ inr new.0
         | inr old ↦ elim old [

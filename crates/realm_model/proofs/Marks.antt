@@ -5,11 +5,11 @@ use Rattle.std.proofs.lemmas.Bool.{ltb-true, ltb-false}
 use Rattle.std.proofs.lemmas.List.{take_all, take-append-le, length-append}
 use Rattle.realm_model.specs.declared.act.Event.{Event}
 use Rattle.realm_model.specs.History.{open_entries}
-use Rattle.realm_model.specs.Marks.{Mark, mark_at, Stands}
+use Rattle.realm_model.specs.Marks.{Mark, mark_at, IsValidMark}
 
 -- a mark stands when it is made
-pub stands_now : (build : ℕ) (history : List Event) → Stands (mark_at build history) history
-stands_now build history = record {
+pub valid_now : (build : ℕ) (history : List Event) → IsValidMark (mark_at build history) history
+valid_now build history = record {
   place = omega arith;
   depth = ap (λ es. length (open_entries build es)) (take_all (length history) history (omega arith));
   since = λ n h. subst (λ es. length (open_entries build history) ≤ length (open_entries build es)) (sym (take_all n history h)) (omega arith);
@@ -37,8 +37,8 @@ module _ (mark : Mark) (history : List Event) (event : Event) (within : mark.pla
   ] refl
 
   -- the mark stands after one more event where it stood, and no less is open
-  pub stands_on : Stands mark next ↔ (Stands mark history × (mark.depth ≤ length (open_entries mark.build next)))
-  stands_on = (
+  pub stays_valid : IsValidMark mark next ↔ (IsValidMark mark history × (mark.depth ≤ length (open_entries mark.build next)))
+  stays_valid = (
     λ s. (
       record {
         place = within;

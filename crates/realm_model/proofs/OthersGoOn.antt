@@ -6,7 +6,7 @@ use Rattle.realm_model.specs.declared.act.Event.{Event}
 use Rattle.realm_model.specs.Machine.{Limits, RealmRow, Machine, blank, cell_at}
 use Rattle.realm_model.specs.World.{World, each, hidden, is_of, is_of_other, without, part_of}
 use Rattle.realm_model.specs.Step.{step, used_vmids}
-use Rattle.realm_model.specs.StepLaw.{StepIsWhatItSays}
+use Rattle.realm_model.specs.StepLaw.{StepIsExact}
 use Rattle.realm_model.specs.Interleaving.{granules_taken, vmids_taken}
 use Rattle.realm_model.specs.Command.Check.{is_in}
 use Rattle.realm_model.proofs.Booleans.{false_from, true_false}
@@ -59,7 +59,7 @@ module _ (limits : Limits) (b : ℕ) (base y x : World) (back : IsBack b base y 
             (ap (λ n. is_in n (used_vmids (without y b).machine)) (sym user.same) ∙ used_at (without y b).machine user.at user.realm there)
       ]
 
-  pub other_there : IsSound b x → (y' : World) (e : Event) → e.build ≢ b → StepIsWhatItSays limits x e → IsSound b y → step limits y e ≡ Some y'
+  pub other_there : IsSound b x → (y' : World) (e : Event) → e.build ≢ b → StepIsExact limits x e → IsSound b y → step limits y e ≡ Some y'
       → (x' : World) × (step limits x e ≡ Some x') × IsBack b base y' x'
   other_there sound_x y' e apart says sound_y stepped =
       let free : (g : ℕ) → is_in g (granules_taken e.act) ≡ true → slice_get x.leases g ≡ Some (Some b) → ⊥ =

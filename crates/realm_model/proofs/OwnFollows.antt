@@ -37,7 +37,7 @@ use Rattle.realm_model.proofs.Reached.{sized_reached}
 use Rattle.realm_model.proofs.OwnsSame.{cell_itself, own_chain, own_turned}
 use Rattle.realm_model.proofs.Unpaired.{own_step}
 use Rattle.realm_model.proofs.Reversal.{seen_numbers}
-use Rattle.realm_model.proofs.LookSame.{LookSame, both_insert, both_remove, both_put, both_with_table, both_without_table}
+use Rattle.realm_model.proofs.SameMappings.{SameMappings, both_insert, both_remove, both_put, both_with_table, both_without_table}
 use Rattle.realm_model.proofs.Alike.{IsAlike, alike_put, alike_lease, alike_free, alike_more, alike_seen, alike_lefts, own_alike, Agree}
 use Rattle.realm_model.proofs.Alike.{Agree-Ok, Agree-Err, Agree-check, Agree-with_realm, Agree-with_rec, Agree-with_granule, Agree-with_end}
 
@@ -93,7 +93,7 @@ held_same state m n e = record { state = refl; realm = ap Some e; descriptor = t
 alike_realm : (rd sd : Seen) (d e : RealmRow) → IsTwin rd sd → SameRealm d e → IsAlike (put_realm rd d) (put_realm sd e)
 alike_realm rd sd d e twin same = alike_put rd.number sd.number _ _ twin.number (record { state = twin.cell.state; realm = twin.cell.realm; descriptor = same })
 
-module _ (r s : Rows) (same : LookSame r s) (ipa level : ℕ) (a b : Walk) (ra : walk r ipa level ≡ Some a) (sb : walk s ipa level ≡ Some b)
+module _ (r s : Rows) (same : SameMappings r s) (ipa level : ℕ) (a b : Walk) (ra : walk r ipa level ≡ Some a) (sb : walk s ipa level ≡ Some b)
     (at_a : (a.level == level) ≡ true) (at_b : (b.level == level) ≡ true) where
   -- walks that end at the level end at rows that look the same
   end_same : mapping_of_row a.row ≡ mapping_of_row b.row

@@ -6,14 +6,14 @@ use Rattle.granule_addr.specs.Root.{start_count}
 use Rattle.realm_model.specs.declared.states.GranuleState.{GranuleState}
 use Rattle.realm_model.specs.Machine.{RecRow, RealmRow, Cell, cell_at}
 use Rattle.realm_model.specs.World.{World, part_of}
-use Rattle.realm_model.specs.Sound.{look, is_host_state, is_rd_state, IsSoundRows, IsFull, HasEmptyRows}
+use Rattle.realm_model.specs.Sound.{mapping_at, is_host_state, is_rd_state, IsSoundRows, IsFull, HasEmptyRows}
 use Rattle.realm_model.specs.Roles.{Role, target, is_role_state, HasRole}
 
 pub record IsSoundRealm (realm : RealmRow) : Type 0 where
   pub width : is_width realm.root.width ≡ true
   pub aligned : realm.root.first % start_count realm.root.width ≡ 0
-  pub rows : IsSoundRows realm.root.width (look realm.rows)
-  pub full : IsFull realm.root.width (look realm.rows)
+  pub rows : IsSoundRows realm.root.width (mapping_at realm.rows)
+  pub full : IsFull realm.root.width (mapping_at realm.rows)
   pub recs : (number : ℕ) (rec : RecRow) → get realm.recs number ≡ Some rec → number < realm.next
   pub empty : HasEmptyRows realm.root.width realm.rows
 

@@ -6,7 +6,7 @@ use Rattle.granule_addr.specs.Ipa.{first_covered}
 use Rattle.realm_model.specs.declared.act.Act.{Act}
 use Rattle.realm_model.specs.declared.act.Act.TheVariants.{Poke}
 use Rattle.realm_model.specs.declared.act.Event.{Event}
-use Rattle.realm_model.specs.StepLaw.{StepIsWhatItSays}
+use Rattle.realm_model.specs.StepLaw.{StepIsExact}
 use Rattle.realm_model.specs.History.{replay}
 use Rattle.realm_model.specs.Machine.{Limits, Cell, Machine, Seen, blank, cell_at}
 use Rattle.realm_model.specs.World.{World, part_of, each, hidden, unleased, is_of_other, realm_of}
@@ -54,6 +54,6 @@ reaches_own limits b w act sound linked = subst (ReachesOwn limits b w act) (rea
     by_act (Poke n ipa o v) None at = tt
     by_act _ realm at = tt
 
-pub step_says_reached : (limits : Limits) (history : List Event) (w : World) (event : Event) → replay limits history ≡ Some w → StepIsWhatItSays limits w event
+pub step_says_reached : (limits : Limits) (history : List Event) (w : World) (event : Event) → replay limits history ≡ Some w → StepIsExact limits w event
 step_says_reached limits history w event at_w =
     step_says limits w event (reaches_own limits event.build w event.act (sound_after limits event.build history w at_w) (linked_reached limits event.build history w at_w))

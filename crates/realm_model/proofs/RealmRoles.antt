@@ -16,7 +16,7 @@ use Rattle.realm_model.specs.Update.{Update}
 use Rattle.realm_model.specs.Command.Realm.{new_realm}
 use Rattle.realm_model.specs.World.{World}
 use Rattle.realm_model.specs.Ownership.{mapping_of_row, granules_of_rec}
-use Rattle.realm_model.specs.Sound.{look}
+use Rattle.realm_model.specs.Sound.{mapping_at}
 use Rattle.realm_model.specs.Roles.{Role, AsStart, AtRow, AsRec, AsAux, row_target, aux_target, target, is_role_state, HasRole}
 use Rattle.realm_model.proofs.Booleans.{true_false, or_parts}
 use Rattle.realm_model.specs.Command.Check.{is_in}
@@ -86,7 +86,7 @@ module _ (w : World) (sound : IsSoundPart w) (old : IsLinked (λ k. cell_at w.ma
       written : (k : ℕ) → put_at us k (now k) ≡ cond (is_in k gs) x (cond (k == rd) z (now k))
       written k = put_at-creation rd root v k (now k)
 
-      no_row : (q : ℕ × ℕ) → row_target (look (root_rows root.width) q) ≡ None
+      no_row : (q : ℕ × ℕ) → row_target (mapping_at (root_rows root.width) q) ≡ None
       no_row q = elim (put_kinds (unassigned Empty) empty 1 0 (512 * start_count root.width) q) [
         | inl old ↦ ap row_target (old ∙ ap (option_map mapping_of_row) (get-empty place_cmp q))
         | inr new ↦ ap row_target new.0
@@ -129,7 +129,7 @@ module _ (w : World) (sound : IsSoundPart w) (old : IsLinked (λ k. cell_at w.ma
       ] refl (sym (ap (λ (c : Cell). is_role_state c.state) (written g)) ∙ role)
 
   -- a realm that names its starting tables alone is gone
-  pub realm_gone : (rd : ℕ) (d : RealmRow) → (now rd).descriptor ≡ Some d → ((q : ℕ × ℕ) → row_target (look d.rows q) ≡ None) → ((n : ℕ) → get d.recs n ≡ None)
+  pub realm_gone : (rd : ℕ) (d : RealmRow) → (now rd).descriptor ≡ Some d → ((q : ℕ × ℕ) → row_target (mapping_at d.rows q) ≡ None) → ((n : ℕ) → get d.recs n ≡ None)
       → IsLinked (λ k. put_at (lefts (rd ∷ starting_tables d.root)) k (now k))
   realm_gone rd d is no_rows no_recs = record {
     roles = old.roles;

@@ -14,7 +14,7 @@ use Rattle.realm_model.specs.Update.{Update, Put, granule_of}
 use Rattle.realm_model.specs.Command.Check.{is_delegated, is_in}
 use Rattle.realm_model.specs.World.{World}
 use Rattle.realm_model.specs.Ownership.{granules_of_rec}
-use Rattle.realm_model.specs.Sound.{look, is_host_state}
+use Rattle.realm_model.specs.Sound.{mapping_at, is_host_state}
 use Rattle.realm_model.specs.Roles.{Role, AsStart, AtRow, AsRec, AsAux, row_target, start_target, aux_target, target, is_role_state}
 use Rattle.realm_model.proofs.Booleans.{true_false}
 use Rattle.realm_model.proofs.Lists.{is_in_at, is_in_more, index_of, AllDistinct}
@@ -48,8 +48,8 @@ module _ (w : World) (sound : IsSoundPart w) (old : IsLinked (λ k. cell_at w.ma
   abbrev recs_of : RealmRow → ℕ → Option (ℕ × List ℕ)
   recs_of r q = option_map granules_of_rec (get r.recs q)
 
-  same_row : (q : ℕ × ℕ) → row_target (look e1.rows q) ≡ row_target (look d.rows q)
-  same_row q = ap (λ rs. row_target (look rs q)) rows
+  same_row : (q : ℕ × ℕ) → row_target (mapping_at e1.rows q) ≡ row_target (mapping_at d.rows q)
+  same_row q = ap (λ rs. row_target (mapping_at rs q)) rows
 
   -- DELEGATED granules, all different, become a REC of a number that no REC has
   pub rec_more : (g : ℕ) (gs : List ℕ) (m : ℕ) → list_all is_delegated (map (seen w.machine) (g ∷ gs)) ≡ true → AllDistinct (g ∷ gs) → recs_of d m ≡ None

@@ -39,16 +39,16 @@ use Rattle.realm_model.specs.Outcome.{outcome_of, fits, leads_to, realm_is, is_r
 use Rattle.realm_model.specs.World.{World, is_leased_to, realm_of}
 use Rattle.realm_model.specs.Step.{used_vmids}
 use Rattle.realm_model.specs.Ownership.{mapping_of_row, granules_of_rec, SameRealm, SameDescriptor, SameCell, Mapping, mapping}
-use Rattle.realm_model.specs.Sound.{look, is_host_state, is_rd_state}
+use Rattle.realm_model.specs.Sound.{mapping_at, is_host_state, is_rd_state}
 use Rattle.realm_model.specs.Running.{is_running}
 use Rattle.realm_model.proofs.Written.{lefts, put_more, put_at, put_at-each_put, granules-each_put, put_other, put_last}
 use Rattle.realm_model.proofs.NewRealms.{new_rd, creation, seen-creation, put_at-creation_rd, can_be_made}
 use Rattle.realm_model.proofs.Roots.{root_same}
 use Rattle.realm_model.proofs.Outcomes.{granule_there, realm_there, rec_there, Yields-Ok, check_true, Yields-with_realm, Yields-Err, Yields, Yields-check, end_there, Yields-with_end}
 use Rattle.realm_model.proofs.Maps.{same_place, nat_place}
-use Rattle.realm_model.proofs.SoundRows.{none_among, look-with_table, look-with_table_below}
+use Rattle.realm_model.proofs.SoundRows.{none_among, mapping_at-with_table, mapping_at-with_table_below}
 use Rattle.realm_model.proofs.RealmOf.{IsHeld, realm_test, realm_of_there, IsAt}
-use Rattle.realm_model.proofs.Rows.{place_self, put_there, look-insert, all_rows_from}
+use Rattle.realm_model.proofs.Rows.{place_self, put_there, mapping_at-insert, all_rows_from}
 use Rattle.realm_model.proofs.OwnsSame.{descriptor_some, same_bare, descriptor_none}
 use Rattle.realm_model.proofs.Booleans.{none_from, not_true, none_map, not_false}
 use Rattle.realm_model.proofs.SoundCells.{undelegated_state, delegated_state}
@@ -57,7 +57,7 @@ use Rattle.realm_model.proofs.TableBack.{table_back}
 use Rattle.realm_model.proofs.TablePlaces.{IsTablePlace, table_place}
 use Rattle.realm_model.proofs.Puts.{is_of_block}
 use Rattle.realm_model.proofs.Walks.{walk_at, walk_there}
-use Rattle.realm_model.proofs.RowKinds.{free_unassigned, free_above, shape_of, Vacant, look_get}
+use Rattle.realm_model.proofs.RowKinds.{free_unassigned, free_above, shape_of, Vacant, mapping_get}
 use Rattle.realm_model.proofs.Parts.{IsSoundRealm, IsSoundCell, IsSoundPart}
 
 pub record Reversal (limits : Limits) (b : ℕ) (u w : World) (act r : Act) : Type 0 where
@@ -301,14 +301,14 @@ module _ (limits : Limits) (b : ℕ) (u w : World) (su : IsSoundPart u) (sw : Is
       let spot : IsTablePlace ipa level = table_place ipa level place in
       let sound : IsSoundRealm d = (subst (IsSoundCell su.rd n) at (su.cells n)).row d is in
       let up : ℕ × ℕ = (level - 1, first_covered (level - 1) ipa) in
-      let row = look_get (get d2.rows up) (mapping Table (Some g)) (sym (both.same.rows up) ∙ look-with_table d.rows level ipa above sound.rows spot there g above.ripas plain) in
+      let row = mapping_get (get d2.rows up) (mapping Table (Some g)) (sym (both.same.rows up) ∙ mapping_at-with_table d.rows level ipa above sound.rows spot there g above.ripas plain) in
       let unused : is_table_unused d2.rows level ipa ≡ true = all_rows_from is_unassigned (λ r e. ap (λ (p : Mapping). is_unassigned_state p.state) e) d2.rows level ipa 512
-      (λ k less. sym (both.same.rows (level, ipa + k * covered_count level)) ∙ look-with_table_below d.rows level ipa above sound.rows spot there g above.ripas k less) in
+      (λ k less. sym (both.same.rows (level, ipa + k * covered_count level)) ∙ mapping_at-with_table_below d.rows level ipa above sound.rows spot there g above.ripas k less) in
       let d3 : RealmRow = record d2 { rows = without_table d2.rows level ipa } in
       let last : Cell = record (cell_at w.machine n) { descriptor = Some d3 } in
       let tail : List Update = Put n last ∷ [] in
       let was_free : mapping_of_row above ≡ Vacant = free_above (level - 1) above.state above.granule spot.low.1 (shape_of d.rows up above sound.rows there) plain in
-      let rows_back : (q : ℕ × ℕ) → look d.rows q ≡ look d3.rows q = table_back d.rows d2.rows level ipa g above.ripas above there was_free
+      let rows_back : (q : ℕ × ℕ) → mapping_at d.rows q ≡ mapping_at d3.rows q = table_back d.rows d2.rows level ipa g above.ripas above there was_free
       (none_among d.rows level ipa above sound.rows spot there plain) both.same.rows in
       let granule : row.0.granule ≡ Some g = ap (λ (p : Mapping). p.granule) row.2 in
       record {
@@ -356,19 +356,19 @@ module _ (limits : Limits) (b : ℕ) (u w : World) (su : IsSoundPart u) (sw : Is
       let both = in_both n z d1 refl held_rd at_n in
       let d2 : RealmRow = both.realm in
       let place : ℕ × ℕ = (3, first_covered 3 ipa) in
-      let now_there : look d1.rows place ≡ Some (mapping Assigned (Some g)) = look-insert d.rows place place (assigned ripas g)
-      ∙ ap (λ t. cond t (Some (mapping_of_row (assigned ripas g))) (look d.rows place)) (place_self place) in
-      let row = look_get (get d2.rows place) (mapping Assigned (Some g)) (sym (both.same.rows place) ∙ now_there) in
+      let now_there : mapping_at d1.rows place ≡ Some (mapping Assigned (Some g)) = mapping_at-insert d.rows place place (assigned ripas g)
+      ∙ ap (λ t. cond t (Some (mapping_of_row (assigned ripas g))) (mapping_at d.rows place)) (place_self place) in
+      let row = mapping_get (get d2.rows place) (mapping Assigned (Some g)) (sym (both.same.rows place) ∙ now_there) in
       let d3 : RealmRow = record d2 { rows = put_row d2.rows 3 ipa (unassigned (unmapped_ripas row.0.ripas)) } in
       let last : Cell = record (cell_at w.machine n) { descriptor = Some d3 } in
       let tail : List Update = Put n last ∷ [] in
       let sound : IsSoundRealm d = (subst (IsSoundCell su.rd n) at (su.cells n)).row d is in
       let was_free : mapping_of_row old ≡ Vacant = free_unassigned 3 old.state old.granule (shape_of d.rows place old sound.rows there) free in
-      let rows_back : (q : ℕ × ℕ) → look d.rows q ≡ look d3.rows q = λ q.
-      elim (eq_by_cmp place_cmp q place) as (λ t. eq_by_cmp place_cmp q place ≡ t → look d.rows q ≡ cond t (Some Vacant) (look d2.rows q)) [
-        | true ↦ λ e. ap (look d.rows) (same_place q place e) ∙ ap (option_map mapping_of_row) there ∙ ap Some was_free
-        | false ↦ λ e. sym (look-insert d.rows place q (assigned ripas g) ∙ ap (λ t. cond t (Some (mapping_of_row (assigned ripas g))) (look d.rows q)) e) ∙ both.same.rows q
-      ] refl ∙ sym (look-insert d2.rows place q (unassigned (unmapped_ripas row.0.ripas))) in
+      let rows_back : (q : ℕ × ℕ) → mapping_at d.rows q ≡ mapping_at d3.rows q = λ q.
+      elim (eq_by_cmp place_cmp q place) as (λ t. eq_by_cmp place_cmp q place ≡ t → mapping_at d.rows q ≡ cond t (Some Vacant) (mapping_at d2.rows q)) [
+        | true ↦ λ e. ap (mapping_at d.rows) (same_place q place e) ∙ ap (option_map mapping_of_row) there ∙ ap Some was_free
+        | false ↦ λ e. sym (mapping_at-insert d.rows place q (assigned ripas g) ∙ ap (λ t. cond t (Some (mapping_of_row (assigned ripas g))) (mapping_at d.rows q)) e) ∙ both.same.rows q
+      ] refl ∙ sym (mapping_at-insert d2.rows place q (unassigned (unmapped_ripas row.0.ripas))) in
       let granule : row.0.granule ≡ Some g = ap (λ (p : Mapping). p.granule) row.2 in
       record {
         ready = true;

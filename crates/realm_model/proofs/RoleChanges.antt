@@ -12,7 +12,7 @@ use Rattle.realm_model.specs.Update.{Update, Put, PutByte, granule_of, cell_afte
 use Rattle.realm_model.specs.Command.Check.{is_delegated, is_undelegated, is_in}
 use Rattle.realm_model.specs.World.{World}
 use Rattle.realm_model.specs.Ownership.{granules_of_rec}
-use Rattle.realm_model.specs.Sound.{look, is_host_state, is_rd_state}
+use Rattle.realm_model.specs.Sound.{mapping_at, is_host_state, is_rd_state}
 use Rattle.realm_model.specs.Roles.{Role, AsStart, AtRow, AsRec, AsAux, row_target, start_target, aux_target, target, is_role_state, HasRole}
 use Rattle.realm_model.proofs.Booleans.{true_false, none_from}
 use Rattle.realm_model.proofs.Written.{put_at, put_more, put_last, put_other}
@@ -218,7 +218,7 @@ module _ (w : World) (sound : IsSoundPart w) where
 
     -- a realm changes that names what it named
     pub realm_same : (rd : Seen) (d e1 : RealmRow) → now rd.number ≡ rd.cell → rd.cell.descriptor ≡ Some d → e1.root ≡ d.root
-        → ((q : ℕ × ℕ) → look d.rows q ≡ look e1.rows q) → ((q : ℕ) → option_map granules_of_rec (get d.recs q) ≡ option_map granules_of_rec (get e1.recs q))
+        → ((q : ℕ × ℕ) → mapping_at d.rows q ≡ mapping_at e1.rows q) → ((q : ℕ) → option_map granules_of_rec (get d.recs q) ≡ option_map granules_of_rec (get e1.recs q))
         → IsLinked (λ k. put_at (Put rd.number (record rd.cell { descriptor = Some e1 }) ∷ []) k (now k))
     realm_same rd d e1 at is root rows recs =
         changed rd d e1 at is [] (λ k c e h. h) (λ k. None) (λ k q f. absurd (no_role q f)) (λ p to h. inl (sym (same p) ∙ h, λ f role. refl)) (λ p to h out. same p ∙ h) (λ k i h. cc)

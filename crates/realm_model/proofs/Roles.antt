@@ -10,7 +10,7 @@ use Rattle.realm_model.specs.declared.states.EntryState.{EntryState}
 use Rattle.realm_model.specs.declared.states.EntryState.TheVariants.{Unassigned, Assigned, Table}
 use Rattle.realm_model.specs.Machine.{RealmRow, Cell}
 use Rattle.realm_model.specs.Ownership.{granules_of_rec, Mapping}
-use Rattle.realm_model.specs.Sound.{look, is_host_state, is_rd_state}
+use Rattle.realm_model.specs.Sound.{mapping_at, is_host_state, is_rd_state}
 use Rattle.realm_model.specs.Roles.{Role, AsStart, AtRow, AsRec, AsAux, kind_target, row_target, aux_target, target, is_role_state, HasRole}
 use Rattle.realm_model.proofs.Booleans.{true_false}
 use Rattle.realm_model.proofs.Parts.{IsLinked}
@@ -70,7 +70,7 @@ aux_state (Some rec) i to e = one_state RecAux refl (slice_get rec.1 i) to e
 
 pub target_state : (d : RealmRow) (p : Role) (to : ℕ × GranuleState) → target d p ≡ Some to → is_role_state to.1 ≡ true
 target_state d (AsStart i) to e = one_state InRtt refl (slice_get (starting_tables d.root) i) to e
-target_state d (AtRow place) to e = row_state (look d.rows place) to e
+target_state d (AtRow place) to e = row_state (mapping_at d.rows place) to e
 target_state d (AsRec n) to e = rec_state (option_map granules_of_rec (get d.recs n)) to e
 target_state d (AsAux n i) to e = aux_state (option_map granules_of_rec (get d.recs n)) i to e
 

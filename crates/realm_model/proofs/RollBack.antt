@@ -15,13 +15,13 @@ use Rattle.realm_model.specs.Step.{step}
 use Rattle.realm_model.specs.History.{erase, open_entries, IsInTurn, AllInTurn, after, replay, IsLegal}
 use Rattle.realm_model.specs.Running.{is_running}
 use Rattle.realm_model.specs.Undoing.{reverses, by}
-use Rattle.realm_model.specs.Marks.{Mark, Stands, above, rolling_back, erase_after, IsRolledBack}
+use Rattle.realm_model.specs.Marks.{Mark, IsValidMark, above, rolling_back, erase_after, IsRolledBack}
 use Rattle.realm_model.specs.Ownership.{OwnsSame}
 use Rattle.realm_model.proofs.Chain.{Kept, kept_step}
 use Rattle.realm_model.proofs.OwnLaws.{laws, SameFor}
 use Rattle.realm_model.proofs.OwnsSame.{own_itself, same_whole}
 use Rattle.realm_model.proofs.SoundParts.{IsSound, sound_after}
-use Rattle.realm_model.proofs.LeftOut.{erase_push, leaves_no_trace}
+use Rattle.realm_model.proofs.LeftOut.{erase_push, noninterference}
 use Rattle.realm_model.proofs.HiddenSteps.{without-own_step}
 use Rattle.realm_model.proofs.Growth.{grows, Grows}
 use Rattle.realm_model.proofs.Reached.{clean_reached}
@@ -126,7 +126,7 @@ erase_after_own b place history acts within =
     (filter-append (λ (x : Event). not (x.build == b)) (drop place history) (map (by b) acts)
     ∙ ap (λ es. erase b (drop place history) ++ es) (erase_own b acts) ∙ append-nil (erase b (drop place history)))
 
-pub rolled_back : (limits : Limits) (history : List Event) (mark : Mark) (w : World) → IsLegal limits history → replay limits history ≡ Some w → Stands mark history
+pub rolled_back : (limits : Limits) (history : List Event) (mark : Mark) (w : World) → IsLegal limits history → replay limits history ≡ Some w → IsValidMark mark history
     → list_any (is_running (realm_of mark.build w)) (above mark history) ≡ false → IsRolledBack limits mark history
 rolled_back limits history mark w legal at_w stands rest =
     let b = mark.build in
@@ -146,9 +146,9 @@ rolled_back limits history mark w legal at_w stands rest =
     let ended : Ended limits b parts.base (open_entries b p) (history ++ rolling_back mark history) =
     subst (λ st. Ended limits b parts.base (open_entries b p) (history ++ events b st)) stack (undo_all limits b parts.base (open_entries b p) st history w legal at_w kept none_runs) in
     let apart : without ended.world b ≡ without w b = same_Some _ _ (
-    sym (ap (option_map (λ x. without x b)) ended.world_is) ∙ sym (leaves_no_trace limits (history ++ rolling_back mark history) b ended.legal).1
+    sym (ap (option_map (λ x. without x b)) ended.world_is) ∙ sym (noninterference limits (history ++ rolling_back mark history) b ended.legal).1
     ∙ ap (replay limits) (erase_events b history (reverse (above mark history)))
-    ∙ (leaves_no_trace limits history b legal).1 ∙ ap (option_map (λ x. without x b)) at_w) in
+    ∙ (noninterference limits history b legal).1 ∙ ap (option_map (λ x. without x b)) at_w) in
     let part : SameFor b both_there.world ended.world = subst (λ x. OwnsSame x (part_of ended.world b)) (sym both_there.back.part) ended.kept.chained in
     let others : without both_there.world b ≡ without ended.world b = both_there.back.rest ∙ sym apart in
     record {

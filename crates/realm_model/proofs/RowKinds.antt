@@ -8,15 +8,15 @@ use Rattle.realm_model.specs.declared.states.EntryState.{EntryState}
 use Rattle.realm_model.specs.declared.states.EntryState.TheVariants.{Unassigned, Assigned, Table}
 use Rattle.realm_model.specs.Rows.{Row, Rows, is_unassigned, is_assigned, is_unassigned_state, is_assigned_state, is_table_state}
 use Rattle.realm_model.specs.Ownership.{mapping_of_row, Mapping, mapping}
-use Rattle.realm_model.specs.Sound.{look, IsKind, IsShaped, is_table_kind, IsSoundRows}
+use Rattle.realm_model.specs.Sound.{mapping_at, IsKind, IsShaped, is_table_kind, IsSoundRows}
 use Rattle.realm_model.specs.Roles.{kind_target}
 
 abbrev pub Vacant : Mapping
 Vacant = mapping Unassigned None
 
-pub look_get : (o : Option Row) (p : Mapping) → option_map mapping_of_row o ≡ Some p → (row : Row) × (o ≡ Some row) × (mapping_of_row row ≡ p)
-look_get None p e = cc
-look_get (Some row) p e = (row, refl, same_Some _ _ e)
+pub mapping_get : (o : Option Row) (p : Mapping) → option_map mapping_of_row o ≡ Some p → (row : Row) × (o ≡ Some row) × (mapping_of_row row ≡ p)
+mapping_get None p e = cc
+mapping_get (Some row) p e = (row, refl, same_Some _ _ e)
 
 pub free_unassigned : (level : ℕ) (h : EntryState) (g : Option ℕ) → IsKind level h g → is_unassigned_state h ≡ true → mapping h g ≡ Vacant
 free_unassigned level Unassigned g k e = ap (mapping Unassigned) k
@@ -29,7 +29,7 @@ free_above level Assigned g low k e = let three : level ≡ 3 = k.0 in absurd (o
 free_above level Table g low k e = cc
 
 -- the row at a place of sound rows
-pub shape_of : {width : ℕ} (rows : Rows) (place : ℕ × ℕ) (row : Row) → IsSoundRows width (look rows) → get rows place ≡ Some row → IsKind place.0 row.state row.granule
+pub shape_of : {width : ℕ} (rows : Rows) (place : ℕ × ℕ) (row : Row) → IsSoundRows width (mapping_at rows) → get rows place ≡ Some row → IsKind place.0 row.state row.granule
 shape_of rows place row sound there = subst (IsShaped place.0) (ap (option_map mapping_of_row) there) (sound.shaped place)
 
 -- ---- tables

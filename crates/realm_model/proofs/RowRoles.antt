@@ -12,12 +12,12 @@ use Rattle.realm_model.specs.Update.{Put}
 use Rattle.realm_model.specs.Command.Check.{is_delegated, is_in}
 use Rattle.realm_model.specs.World.{World}
 use Rattle.realm_model.specs.Ownership.{mapping_of_row, granules_of_rec}
-use Rattle.realm_model.specs.Sound.{look, is_host_state}
+use Rattle.realm_model.specs.Sound.{mapping_at, is_host_state}
 use Rattle.realm_model.specs.Roles.{Role, AsStart, AtRow, AsRec, AsAux, kind_target, row_target, start_target, aux_target, target, is_role_state}
 use Rattle.realm_model.proofs.Booleans.{true_false}
 use Rattle.realm_model.proofs.Maps.{same_place}
 use Rattle.realm_model.proofs.Written.{put_at}
-use Rattle.realm_model.proofs.Rows.{look-insert, place_self}
+use Rattle.realm_model.proofs.Rows.{mapping_at-insert, place_self}
 use Rattle.realm_model.proofs.Roles.{rec_target}
 use Rattle.realm_model.proofs.RoleChanges.{bare_one, delegated_host, changed}
 use Rattle.realm_model.proofs.Parts.{IsSoundPart, IsLinked}
@@ -25,22 +25,22 @@ use Rattle.realm_model.proofs.Parts.{IsSoundPart, IsLinked}
 -- ---- a row in place of another that led nowhere
 
 module _ (rows : Rows) (place : ℕ × ℕ) (row : Row) where
-  leaf_cases : (q : ℕ × ℕ) → ((q ≡ place) × (row_target (look (insert rows place row) q) ≡ kind_target row.state row.granule)) ⊎ (look (insert rows place row) q ≡ look rows q)
-  leaf_cases q = elim (eq_by_cmp place_cmp q place) as (λ t. eq_by_cmp place_cmp q place ≡ t → look (insert rows place row) q ≡ cond t (Some (mapping_of_row row)) (look rows q)
-      → ((q ≡ place) × (row_target (look (insert rows place row) q) ≡ kind_target row.state row.granule)) ⊎ (look (insert rows place row) q ≡ look rows q)) [
+  leaf_cases : (q : ℕ × ℕ) → ((q ≡ place) × (row_target (mapping_at (insert rows place row) q) ≡ kind_target row.state row.granule)) ⊎ (mapping_at (insert rows place row) q ≡ mapping_at rows q)
+  leaf_cases q = elim (eq_by_cmp place_cmp q place) as (λ t. eq_by_cmp place_cmp q place ≡ t → mapping_at (insert rows place row) q ≡ cond t (Some (mapping_of_row row)) (mapping_at rows q)
+      → ((q ≡ place) × (row_target (mapping_at (insert rows place row) q) ≡ kind_target row.state row.granule)) ⊎ (mapping_at (insert rows place row) q ≡ mapping_at rows q)) [
         | true ↦ λ e is. inl (same_place q place e, ap row_target is)
         | false ↦ λ e is. inr is
-      ] refl (look-insert rows place q row)
+      ] refl (mapping_at-insert rows place q row)
 
-  pub leaf_target : row_target (look (insert rows place row) place) ≡ kind_target row.state row.granule
-  leaf_target = ap row_target (look-insert rows place place row ∙ ap (λ t. cond t (Some (mapping_of_row row)) (look rows place)) (place_self place))
+  pub leaf_target : row_target (mapping_at (insert rows place row) place) ≡ kind_target row.state row.granule
+  leaf_target = ap row_target (mapping_at-insert rows place place row ∙ ap (λ t. cond t (Some (mapping_of_row row)) (mapping_at rows place)) (place_self place))
 
   -- what a row leads to then: what it led to, or what the new row leads to
-  pub leaf_new : (q : ℕ × ℕ) (to : ℕ × GranuleState) → row_target (look (insert rows place row) q) ≡ Some to
-      → (row_target (look rows q) ≡ Some to) ⊎ ((q ≡ place) × (kind_target row.state row.granule ≡ Some to))
+  pub leaf_new : (q : ℕ × ℕ) (to : ℕ × GranuleState) → row_target (mapping_at (insert rows place row) q) ≡ Some to
+      → (row_target (mapping_at rows q) ≡ Some to) ⊎ ((q ≡ place) × (kind_target row.state row.granule ≡ Some to))
   leaf_new q to h = elim (leaf_cases q) [ inl new ↦ inr (new.0, sym new.1 ∙ h) | inr same ↦ inl (ap row_target (sym same) ∙ h) ]
 
-  pub leaf_old : (q : ℕ × ℕ) (to : ℕ × GranuleState) → row_target (look rows q) ≡ Some to → (row_target (look (insert rows place row) q) ≡ Some to) ⊎ (q ≡ place)
+  pub leaf_old : (q : ℕ × ℕ) (to : ℕ × GranuleState) → row_target (mapping_at rows q) ≡ Some to → (row_target (mapping_at (insert rows place row) q) ≡ Some to) ⊎ (q ≡ place)
   leaf_old q to h = elim (leaf_cases q) [ inl new ↦ inr new.0 | inr same ↦ inl (ap row_target same ∙ h) ]
 
 module _ (w : World) (sound : IsSoundPart w) (old : IsLinked (λ k. cell_at w.machine k)) (rd : Seen) (d e1 : RealmRow)
@@ -71,9 +71,9 @@ module _ (w : World) (sound : IsSoundPart w) (old : IsLinked (λ k. cell_at w.ma
 
   -- a DELEGATED granule comes under a row
   pub row_more : (g : ℕ) (c : Cell) (place : ℕ × ℕ) → is_delegated (seen w.machine g) ≡ true → c.descriptor ≡ None → c.realm ≡ Some n
-      → row_target (look e1.rows place) ≡ Some (g, c.state)
-      → ((q : ℕ × ℕ) (to : ℕ × GranuleState) → row_target (look e1.rows q) ≡ Some to → (row_target (look d.rows q) ≡ Some to) ⊎ (q ≡ place))
-      → ((q : ℕ × ℕ) (to : ℕ × GranuleState) → row_target (look d.rows q) ≡ Some to → row_target (look e1.rows q) ≡ Some to)
+      → row_target (mapping_at e1.rows place) ≡ Some (g, c.state)
+      → ((q : ℕ × ℕ) (to : ℕ × GranuleState) → row_target (mapping_at e1.rows q) ≡ Some to → (row_target (mapping_at d.rows q) ≡ Some to) ⊎ (q ≡ place))
+      → ((q : ℕ × ℕ) (to : ℕ × GranuleState) → row_target (mapping_at d.rows q) ≡ Some to → row_target (mapping_at e1.rows q) ≡ Some to)
       → IsLinked (λ k. put_at (Put g c ∷ Put n (record rd.cell { descriptor = Some e1 }) ∷ []) k (now k))
   row_more g c place free bare mine there new stays =
       changed w sound old rd d e1 at is (Put g c ∷ []) (bare_one g c bare) (at_g g (AtRow place))
@@ -102,7 +102,7 @@ module _ (w : World) (sound : IsSoundPart w) (old : IsLinked (λ k. cell_at w.ma
       names (AtRow q) to h = elim (new q to h) [
         | inl same ↦ inl (same, λ f role. at_g_out g (AtRow place) to.0 f)
         | inr here ↦
-            let m = made to (sym there ∙ ap (λ p. row_target (look e1.rows p)) (sym here) ∙ h) in
+            let m = made to (sym there ∙ ap (λ p. row_target (mapping_at e1.rows p)) (sym here) ∙ h) in
             inr (m.0 ∙ ap (λ p. Some (AtRow p)) (sym here), m.1, m.2)
       ]
 
@@ -113,10 +113,10 @@ module _ (w : World) (sound : IsSoundPart w) (old : IsLinked (λ k. cell_at w.ma
       named (AtRow q) to h out = stays q to h
 
   -- a granule leaves from under a row
-  pub row_less : (g : ℕ) (place : ℕ × ℕ) (s : GranuleState) → row_target (look d.rows place) ≡ Some (g, s)
-      → ((q : ℕ × ℕ) (to : ℕ × GranuleState) → row_target (look e1.rows q) ≡ Some to → row_target (look d.rows q) ≡ Some to)
-      → row_target (look e1.rows place) ≡ None
-      → ((q : ℕ × ℕ) (to : ℕ × GranuleState) → row_target (look d.rows q) ≡ Some to → (row_target (look e1.rows q) ≡ Some to) ⊎ (q ≡ place))
+  pub row_less : (g : ℕ) (place : ℕ × ℕ) (s : GranuleState) → row_target (mapping_at d.rows place) ≡ Some (g, s)
+      → ((q : ℕ × ℕ) (to : ℕ × GranuleState) → row_target (mapping_at e1.rows q) ≡ Some to → row_target (mapping_at d.rows q) ≡ Some to)
+      → row_target (mapping_at e1.rows place) ≡ None
+      → ((q : ℕ × ℕ) (to : ℕ × GranuleState) → row_target (mapping_at d.rows q) ≡ Some to → (row_target (mapping_at e1.rows q) ≡ Some to) ⊎ (q ≡ place))
       → IsLinked (λ k. put_at (Put g left ∷ Put n (record rd.cell { descriptor = Some e1 }) ∷ []) k (now k))
   row_less g place s was rows none stays =
       changed w sound old rd d e1 at is (Put g left ∷ []) (bare_one g left refl) (λ k. None) (λ k q f. absurd (no_role q f))
@@ -151,6 +151,6 @@ module _ (w : World) (sound : IsSoundPart w) (old : IsLinked (λ k. cell_at w.ma
       named (AtRow q) to h out = elim (stays q to h) [
         | inl same ↦ same
         | inr here ↦
-            let to_g : to.0 ≡ g = ap (λ (t : ℕ × GranuleState). t.0) (same_Some _ _ (sym h ∙ ap (λ p. row_target (look d.rows p)) here ∙ was)) in
+            let to_g : to.0 ≡ g = ap (λ (t : ℕ × GranuleState). t.0) (same_Some _ _ (sym h ∙ ap (λ p. row_target (mapping_at d.rows p)) here ∙ was)) in
             absurd (true_false _ (ap (λ t. t || false) (eq-eqb to.0 g to_g)) out)
       ]

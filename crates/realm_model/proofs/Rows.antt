@@ -9,10 +9,10 @@ use Rattle.std.proofs.Math.Nat.{mul-le-mul_left}
 use Rattle.granule_addr.specs.Ipa.{covered_count}
 use Rattle.realm_model.specs.Rows.{Row, Rows, place_cmp, put_rows, drop_rows, is_unassigned, all_rows, as_ram}
 use Rattle.realm_model.specs.Ownership.{mapping_of_row, Mapping}
-use Rattle.realm_model.specs.Sound.{look}
+use Rattle.realm_model.specs.Sound.{mapping_at}
 use Rattle.realm_model.proofs.Maps.{place_total, same_place, same_insert, place_cmp-IsAntisymmetric}
 use Rattle.realm_model.proofs.Booleans.{true_false}
-use Rattle.realm_model.proofs.RowKinds.{look_get, Vacant}
+use Rattle.realm_model.proofs.RowKinds.{mapping_get, Vacant}
 
 abbrev pub is_place : ℕ × ℕ → ℕ × ℕ → Bool
 is_place q k = eq_by_cmp place_cmp q k
@@ -100,26 +100,26 @@ among_put level first n k h =
 abbrev pub Look : Type 0
 Look = ℕ × ℕ → Option Mapping
 
-pub look-insert : (rows : Rows) (k q : ℕ × ℕ) (row : Row) → look (insert rows k row) q ≡ cond (is_place q k) (Some (mapping_of_row row)) (look rows q)
-look-insert rows k q row = ap (option_map mapping_of_row) (get-insert place_total rows k row q)
-    ∙ elim (is_place q k) as (λ t. option_map mapping_of_row (cond t (Some row) (get rows q)) ≡ cond t (Some (mapping_of_row row)) (look rows q)) [ true ↦ refl | false ↦ refl ]
+pub mapping_at-insert : (rows : Rows) (k q : ℕ × ℕ) (row : Row) → mapping_at (insert rows k row) q ≡ cond (is_place q k) (Some (mapping_of_row row)) (mapping_at rows q)
+mapping_at-insert rows k q row = ap (option_map mapping_of_row) (get-insert place_total rows k row q)
+    ∙ elim (is_place q k) as (λ t. option_map mapping_of_row (cond t (Some row) (get rows q)) ≡ cond t (Some (mapping_of_row row)) (mapping_at rows q)) [ true ↦ refl | false ↦ refl ]
 
-pub put_kinds : (r : Row) (rows : Rows) (level first n : ℕ) (q : ℕ × ℕ) → (look (put_rows (λ _. r) rows level first n) q ≡ look rows q)
-    ⊎ ((look (put_rows (λ _. r) rows level first n) q ≡ Some (mapping_of_row r)) × (k : ℕ) × (k < n) × (q ≡ (level, first + k * covered_count level)))
+pub put_kinds : (r : Row) (rows : Rows) (level first n : ℕ) (q : ℕ × ℕ) → (mapping_at (put_rows (λ _. r) rows level first n) q ≡ mapping_at rows q)
+    ⊎ ((mapping_at (put_rows (λ _. r) rows level first n) q ≡ Some (mapping_of_row r)) × (k : ℕ) × (k < n) × (q ≡ (level, first + k * covered_count level)))
 put_kinds r rows level first n q = elim (put_cases (λ _. r) rows level first n q) [
   | inl same ↦ inl (ap (option_map mapping_of_row) same)
   | inr new ↦ inr (ap (option_map mapping_of_row) new.0, new.1, new.2, new.3)
 ]
 
-pub put_there : (r : Row) (rows : Rows) (level first n k : ℕ) → k < n → look (put_rows (λ _. r) rows level first n) (level, first + k * covered_count level) ≡ Some (mapping_of_row r)
+pub put_there : (r : Row) (rows : Rows) (level first n k : ℕ) → k < n → mapping_at (put_rows (λ _. r) rows level first n) (level, first + k * covered_count level) ≡ Some (mapping_of_row r)
 put_there r rows level first n k less = ap (option_map mapping_of_row) (get-put_rows (λ _. r) rows level first n k less)
 
 pub all_rows_from : (test : Row → Bool) → ((row : Row) → mapping_of_row row ≡ Vacant → test row ≡ true) → (rows : Rows) (level first n : ℕ)
-    → ((k : ℕ) → k < n → look rows (level, first + k * covered_count level) ≡ Some Vacant) → all_rows test rows level first n ≡ true
+    → ((k : ℕ) → k < n → mapping_at rows (level, first + k * covered_count level) ≡ Some Vacant) → all_rows test rows level first n ≡ true
 unfolding all_rows
 all_rows_from test passes rows level first zero h = refl
 all_rows_from test passes rows level first (suc n) h =
-    let found = look_get (get rows (level, first + n * covered_count level)) Vacant (h n (omega arith)) in
+    let found = mapping_get (get rows (level, first + n * covered_count level)) Vacant (h n (omega arith)) in
     and_from _ _ (ap (λ o. elim o [ Some row ↦ test row | None ↦ false ]) found.1 ∙ passes found.0 found.2)
     (all_rows_from test passes rows level first n (λ k less. h k (omega arith)))
 

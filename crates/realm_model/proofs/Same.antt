@@ -9,30 +9,30 @@ use denote.Enum.Declared.{Record, Choice, left_or, right_or, values_one}
 use denote.Struct.Field.{Field}
 
 -- a record, so that its type tells the test
-pub record TellsSame {A : Type 0} (test : A → A → Bool) : Type 0 where
+pub record DecidesEquality {A : Type 0} (test : A → A → Bool) : Type 0 where
   pub tells : (x y : A) → Decides (test x y) (x ≡ y)
 
-pub number : TellsSame nat_eq
+pub number : DecidesEquality nat_eq
 number = record { tells = Decides-eqb }
 
-pub numbers : TellsSame bytes_eq
+pub numbers : DecidesEquality bytes_eq
 numbers = record { tells = bytes_eq-Decides }
 
-pub nothing : TellsSame (λ (x y : Unit {0}). true)
+pub nothing : DecidesEquality (λ (x y : Unit {0}). true)
 nothing = record { tells = λ x y. (λ is. refl, λ same. refl) }
 
 -- by a part that fixes the whole
-pub through : {A B : Type 0} {test : B → B → Bool} (part : A → B) → ((x y : A) → part x ≡ part y → x ≡ y) → TellsSame test → TellsSame (λ x y. test (part x) (part y))
+pub through : {A B : Type 0} {test : B → B → Bool} (part : A → B) → ((x y : A) → part x ≡ part y → x ≡ y) → DecidesEquality test → DecidesEquality (λ x y. test (part x) (part y))
 through part one by_part = record {
   tells = λ x y.
       let tells = by_part.tells (part x) (part y) in
       (λ is. one x y (tells.0 is), λ same. tells.1 (ap part same));
 }
 
-pub last : {A : Type 0} {test : A → A → Bool} → TellsSame test → TellsSame (λ (x y : A × Unit {0}). test x.0 y.0)
+pub last : {A : Type 0} {test : A → A → Bool} → DecidesEquality test → DecidesEquality (λ (x y : A × Unit {0}). test x.0 y.0)
 last {A} field = through (λ (x : A × Unit {0}). x.0) (λ x y same i. (same i, tt)) field
 
-pub both : {A B : Type 0} {test : A → A → Bool} {other : B → B → Bool} → TellsSame test → TellsSame other → TellsSame (λ (x y : A × B). test x.0 y.0 && other x.1 y.1)
+pub both : {A B : Type 0} {test : A → A → Bool} {other : B → B → Bool} → DecidesEquality test → DecidesEquality other → DecidesEquality (λ (x y : A × B). test x.0 y.0 && other x.1 y.1)
 both {A} {B} {test} {other} first rest = record {
   tells = λ x y.
       let tells = Decides-and (test x.0 y.0) (other x.1 y.1) (first.tells x.0 y.0) (rest.tells x.1 y.1) in
@@ -41,11 +41,11 @@ both {A} {B} {test} {other} first rest = record {
 
 -- ---- an enum
 
-abbrev pub EachTellsSame : (variants : List (List Field)) → Each Bool variants → Type 0
-EachTellsSame [] tests = Unit {0}
-EachTellsSame (fields ∷ variants) tests = TellsSame tests.0 × EachTellsSame variants tests.1
+abbrev pub EachDecidesEquality : (variants : List (List Field)) → Each Bool variants → Type 0
+EachDecidesEquality [] tests = Unit {0}
+EachDecidesEquality (fields ∷ variants) tests = DecidesEquality tests.0 × EachDecidesEquality variants tests.1
 
-choice_tells : (variants : List (List Field)) (tests : Each Bool variants) → EachTellsSame variants tests → (c d : Choice variants) → Decides (by false false variants tests c d) (c ≡ d)
+choice_tells : (variants : List (List Field)) (tests : Each Bool variants) → EachDecidesEquality variants tests → (c d : Choice variants) → Decides (by false false variants tests c d) (c ≡ d)
 choice_tells [] tests each c d = absurd c
 choice_tells (fields ∷ variants) tests each (inl x) (inl y) =
     let tells = each.0.tells x y in
@@ -56,5 +56,5 @@ choice_tells (fields ∷ variants) tests each (inr x) (inr y) =
     let tells = choice_tells variants tests.1 each.1 x y in
     (λ is. ap inr (tells.0 is), λ same. tells.1 (ap (right_or x) same))
 
-pub variant : (N : Record) (tests : Each Bool N.parts) → EachTellsSame N.parts tests → TellsSame (λ x y. by false false N.parts tests (N.as_values x) (N.as_values y))
+pub variant : (N : Record) (tests : Each Bool N.parts) → EachDecidesEquality N.parts tests → DecidesEquality (λ x y. by false false N.parts tests (N.as_values x) (N.as_values y))
 variant N tests each = through N.as_values (values_one N) (record { tells = choice_tells N.parts tests each })

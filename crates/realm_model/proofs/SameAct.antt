@@ -5,16 +5,16 @@ use Rattle.arrayvec.specs.declared.array_vec.ArrayVec.{ArrayVec}
 use Rattle.granule_addr.specs.declared.root.Root.{Root}
 use Rattle.realm_model.specs.contracts.act.Act as act
 use Rattle.realm_model.specs.contracts.act.ActPartialEq.TheImpl as derived
-use Rattle.realm_model.proofs.Same.{TellsSame, number, numbers, nothing, through, last, both, variant}
+use Rattle.realm_model.proofs.Same.{DecidesEquality, number, numbers, nothing, through, last, both, variant}
 
-root : TellsSame (λ (x y : Root). nat_eq x.first y.first && nat_eq x.width y.width)
+root : DecidesEquality (λ (x y : Root). nat_eq x.first y.first && nat_eq x.width y.width)
 root = through (λ (x : Root). (x.first, x.width)) (λ x y same i. record { first = (same i).0; width = (same i).1 }) (both number number)
 
-granules : TellsSame (λ (x y : ArrayVec ℕ 16 (Unit {0})). bytes_eq x.items y.items)
+granules : DecidesEquality (λ (x y : ArrayVec ℕ 16 (Unit {0})). bytes_eq x.items y.items)
 granules = through (λ (x : ArrayVec ℕ 16 (Unit {0})). x.items) (λ x y same i. record { items = same i }) numbers
 
 -- in the order of the acts
-pub same_act : TellsSame derived.eq-value.it
+pub same_act : DecidesEquality derived.eq-value.it
 same_act =
     let one = last number in
     let two = both number one in

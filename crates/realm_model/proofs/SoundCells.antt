@@ -28,7 +28,7 @@ use Rattle.realm_model.specs.Outcome.{outcome_of}
 use Rattle.realm_model.specs.World.{World, updated, updated_all}
 use Rattle.realm_model.specs.Step.{used_vmids}
 use Rattle.realm_model.specs.Ownership.{mapping_of_row}
-use Rattle.realm_model.specs.Sound.{look, IsShaped, is_table_kind, is_host_state, is_rd_state, IsSoundRows, IsFull, HasEmptyRows}
+use Rattle.realm_model.specs.Sound.{mapping_at, IsShaped, is_table_kind, is_host_state, is_rd_state, IsSoundRows, IsFull, HasEmptyRows}
 use Rattle.realm_model.proofs.Booleans.{guarded, not_true, true_false}
 use Rattle.realm_model.proofs.SoundRows.{root_sound, put_sound, with_table_sound, without_table_sound, with_ram_sound}
 use Rattle.realm_model.proofs.FullRows.{root_full, put_full, with_table_full, without_table_full, with_ram_full}
@@ -171,7 +171,7 @@ module _ (limits : Limits) (w : World) (o : ℕ) (sound : AllCells o w) where
   }
 
   -- other rows
-  rows_put : (d : RealmRow) (rows : Rows) (m : List ℕ) → IsSoundRealm d → IsSoundRows d.root.width (look rows) → IsFull d.root.width (look rows) → HasEmptyRows d.root.width rows
+  rows_put : (d : RealmRow) (rows : Rows) (m : List ℕ) → IsSoundRealm d → IsSoundRows d.root.width (mapping_at rows) → IsFull d.root.width (mapping_at rows) → HasEmptyRows d.root.width rows
       → IsSoundRealm (record d { rows = rows; measurement = m })
   rows_put d rows m h sound full empty = record { width = h.width; aligned = h.aligned; rows = sound; full = full; empty = empty; recs = h.recs }
 

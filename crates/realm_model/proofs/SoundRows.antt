@@ -12,10 +12,10 @@ use Rattle.realm_model.specs.declared.states.EntryState.{EntryState}
 use Rattle.realm_model.specs.Rows.{Row, Rows, place_cmp, put_rows, drop_rows, put_row, with_table, without_table, with_ram, root_rows}
 use Rattle.realm_model.specs.Rows.{unassigned, table, is_table, is_unassigned, is_table_unused, all_rows, has_root_table, is_table_state}
 use Rattle.realm_model.specs.Ownership.{mapping_of_row, Mapping, mapping}
-use Rattle.realm_model.specs.Sound.{look, IsShaped, is_table_kind, has_table, IsSoundRows, IsPlace}
+use Rattle.realm_model.specs.Sound.{mapping_at, IsShaped, is_table_kind, has_table, IsSoundRows, IsPlace}
 use Rattle.realm_model.specs.Roles.{row_target}
 use Rattle.realm_model.proofs.Maps.{same_place}
-use Rattle.realm_model.proofs.Rows.{is_among, put_there, get-drop_rows, look-insert, same_rows, put_kinds, place_self, Look, is_place, all_rows_at}
+use Rattle.realm_model.proofs.Rows.{is_among, put_there, get-drop_rows, mapping_at-insert, same_rows, put_kinds, place_self, Look, is_place, all_rows_at}
 use Rattle.realm_model.proofs.TablePlaces.{IsTablePlace}
 use Rattle.realm_model.proofs.Booleans.{true_false, not_false, not_true}
 use Rattle.realm_model.proofs.RowKinds.{plain_unassigned, unassigned_target, above_target}
@@ -27,7 +27,7 @@ pub absent : {A : Type 0} (o : Option A) → (is_some o ≡ true → ⊥) → o 
 absent None h = refl
 absent (Some x) h = absurd (h refl)
 
-pub root_sound : (width : ℕ) → IsSoundRows width (look (root_rows width))
+pub root_sound : (width : ℕ) → IsSoundRows width (mapping_at (root_rows width))
 unfolding root_rows
 root_sound width = record {
   placed = λ q some. elim (put_kinds (unassigned Empty) empty 1 0 (512 * start_count width) q) [
@@ -40,7 +40,7 @@ root_sound width = record {
   ];
   below = λ q some. elim (put_kinds (unassigned Empty) empty 1 0 (512 * start_count width) q) [
     | inl none ↦ absurd (true_false _ some (ap is_some (none ∙ ap (option_map mapping_of_row) (get-empty place_cmp q))))
-    | inr new ↦ ap (λ (p : ℕ × ℕ). has_table (look (put_rows (λ _. unassigned Empty) empty 1 0 (512 * start_count width))) p) new.3
+    | inr new ↦ ap (λ (p : ℕ × ℕ). has_table (mapping_at (put_rows (λ _. unassigned Empty) empty 1 0 (512 * start_count width))) p) new.3
   ];
 }
   where
@@ -52,50 +52,50 @@ root_sound width = record {
 
 -- ---- a row that is no table, put anew
 
-pub put_sound : {width : ℕ} (rows : Rows) (place : ℕ × ℕ) (row : Row) → IsSoundRows width (look rows) → is_some (look rows place) ≡ true → is_table_kind (look rows place) ≡ false
-    → IsShaped place.0 (Some (mapping_of_row row)) → IsSoundRows width (look (insert rows place row))
+pub put_sound : {width : ℕ} (rows : Rows) (place : ℕ × ℕ) (row : Row) → IsSoundRows width (mapping_at rows) → is_some (mapping_at rows place) ≡ true → is_table_kind (mapping_at rows place) ≡ false
+    → IsShaped place.0 (Some (mapping_of_row row)) → IsSoundRows width (mapping_at (insert rows place row))
 put_sound {width} rows place row sound there no_table shaped = record {
   placed = λ q some. elim (is_place q place) as (λ t. is_place q place ≡ t → IsPlace width q) [
     | true ↦ λ e. subst (IsPlace width) (sym (same_place q place e)) (sound.placed place there)
     | false ↦ λ e. sound.placed q (ap is_some (sym (old q e)) ∙ some)
   ] refl;
-  shaped = λ q. elim (is_place q place) as (λ t. is_place q place ≡ t → IsShaped q.0 (look (insert rows place row) q)) [
+  shaped = λ q. elim (is_place q place) as (λ t. is_place q place ≡ t → IsShaped q.0 (mapping_at (insert rows place row) q)) [
     | true ↦ λ e. subst (IsShaped q.0) (sym (new q e)) (subst (λ (p : ℕ × ℕ). IsShaped p.0 (Some (mapping_of_row row))) (sym (same_place q place e)) shaped)
     | false ↦ λ e. subst (IsShaped q.0) (sym (old q e)) (sound.shaped q)
   ] refl;
-  below = λ q some. stays q (sound.below q (elim (is_place q place) as (λ t. is_place q place ≡ t → is_some (look rows q) ≡ true) [
-    | true ↦ λ e. ap (λ p. is_some (look rows p)) (same_place q place e) ∙ there
+  below = λ q some. stays q (sound.below q (elim (is_place q place) as (λ t. is_place q place ≡ t → is_some (mapping_at rows q) ≡ true) [
+    | true ↦ λ e. ap (λ p. is_some (mapping_at rows p)) (same_place q place e) ∙ there
     | false ↦ λ e. ap is_some (sym (old q e)) ∙ some
   ] refl));
 }
   where
-    new : (q : ℕ × ℕ) → is_place q place ≡ true → look (insert rows place row) q ≡ Some (mapping_of_row row)
-    new q e = look-insert rows place q row ∙ ap (λ t. cond t (Some (mapping_of_row row)) (look rows q)) e
+    new : (q : ℕ × ℕ) → is_place q place ≡ true → mapping_at (insert rows place row) q ≡ Some (mapping_of_row row)
+    new q e = mapping_at-insert rows place q row ∙ ap (λ t. cond t (Some (mapping_of_row row)) (mapping_at rows q)) e
 
-    old : (q : ℕ × ℕ) → is_place q place ≡ false → look (insert rows place row) q ≡ look rows q
-    old q e = look-insert rows place q row ∙ ap (λ t. cond t (Some (mapping_of_row row)) (look rows q)) e
+    old : (q : ℕ × ℕ) → is_place q place ≡ false → mapping_at (insert rows place row) q ≡ mapping_at rows q
+    old q e = mapping_at-insert rows place q row ∙ ap (λ t. cond t (Some (mapping_of_row row)) (mapping_at rows q)) e
 
-    table_stays : (q : ℕ × ℕ) → is_table_kind (look rows q) ≡ true → is_table_kind (look (insert rows place row) q) ≡ true
-    table_stays q h = elim (is_place q place) as (λ t. is_place q place ≡ t → is_table_kind (look (insert rows place row) q) ≡ true) [
-      | true ↦ λ e. absurd (true_false _ (ap (λ p. is_table_kind (look rows p)) (sym (same_place q place e)) ∙ h) no_table)
+    table_stays : (q : ℕ × ℕ) → is_table_kind (mapping_at rows q) ≡ true → is_table_kind (mapping_at (insert rows place row) q) ≡ true
+    table_stays q h = elim (is_place q place) as (λ t. is_place q place ≡ t → is_table_kind (mapping_at (insert rows place row) q) ≡ true) [
+      | true ↦ λ e. absurd (true_false _ (ap (λ p. is_table_kind (mapping_at rows p)) (sym (same_place q place e)) ∙ h) no_table)
       | false ↦ λ e. ap is_table_kind (old q e) ∙ h
     ] refl
 
-    stays : (q : ℕ × ℕ) → has_table (look rows) q ≡ true → has_table (look (insert rows place row)) q ≡ true
-    stays q h = elim (q.0 == 1) as (λ t. (t || is_table_kind (look rows (q.0 - 1, first_covered (q.0 - 1) q.1))) ≡ true
-        → (t || is_table_kind (look (insert rows place row) (q.0 - 1, first_covered (q.0 - 1) q.1))) ≡ true) [
+    stays : (q : ℕ × ℕ) → has_table (mapping_at rows) q ≡ true → has_table (mapping_at (insert rows place row)) q ≡ true
+    stays q h = elim (q.0 == 1) as (λ t. (t || is_table_kind (mapping_at rows (q.0 - 1, first_covered (q.0 - 1) q.1))) ≡ true
+        → (t || is_table_kind (mapping_at (insert rows place row) (q.0 - 1, first_covered (q.0 - 1) q.1))) ≡ true) [
           | true ↦ λ h. refl
           | false ↦ λ h. table_stays (q.0 - 1, first_covered (q.0 - 1) q.1) h
         ] h
 
 -- ---- tables
 
-module _ {width : ℕ} (old : Rows) (level ipa : ℕ) (above : Row) (sound : IsSoundRows width (look old)) (at : IsTablePlace ipa level)
+module _ {width : ℕ} (old : Rows) (level ipa : ℕ) (above : Row) (sound : IsSoundRows width (mapping_at old)) (at : IsTablePlace ipa level)
     (was : get old (level - 1, first_covered (level - 1) ipa) ≡ Some above) where
   abbrev up : ℕ × ℕ
   up = (level - 1, first_covered (level - 1) ipa)
 
-  up_is : look old up ≡ Some (mapping_of_row above)
+  up_is : mapping_at old up ≡ Some (mapping_of_row above)
   up_is = ap (option_map mapping_of_row) was
 
   up_placed : IsPlace width up
@@ -108,13 +108,13 @@ module _ {width : ℕ} (old : Rows) (level ipa : ℕ) (above : Row) (sound : IsS
   not_first = ne_eqb level 1 (λ e. let l = at.low in omega (arith, l, e))
 
   -- no row stands below a row that is no table
-  pub none_under : is_table above ≡ false → (q : ℕ × ℕ) → q.0 ≡ level → first_covered (level - 1) q.1 ≡ ipa → look old q ≡ None
-  none_under plain q same under = absent (look old q) (λ some.
-      let parent : has_table (look old) q ≡ true = sound.below q some in
-      let at_level : (q.0 == 1 || is_table_kind (look old (q.0 - 1, first_covered (q.0 - 1) q.1))) ≡ is_table_kind (look old up) =
-      (λ i. same i == 1 || is_table_kind (look old (same i - 1, first_covered (same i - 1) q.1)))
-      ∙ ap (λ t. t || is_table_kind (look old (level - 1, first_covered (level - 1) q.1))) not_first
-      ∙ ap (λ n. is_table_kind (look old (level - 1, n))) (under ∙ sym at.first) in
+  pub none_under : is_table above ≡ false → (q : ℕ × ℕ) → q.0 ≡ level → first_covered (level - 1) q.1 ≡ ipa → mapping_at old q ≡ None
+  none_under plain q same under = absent (mapping_at old q) (λ some.
+      let parent : has_table (mapping_at old) q ≡ true = sound.below q some in
+      let at_level : (q.0 == 1 || is_table_kind (mapping_at old (q.0 - 1, first_covered (q.0 - 1) q.1))) ≡ is_table_kind (mapping_at old up) =
+      (λ i. same i == 1 || is_table_kind (mapping_at old (same i - 1, first_covered (same i - 1) q.1)))
+      ∙ ap (λ t. t || is_table_kind (mapping_at old (level - 1, first_covered (level - 1) q.1))) not_first
+      ∙ ap (λ n. is_table_kind (mapping_at old (level - 1, n))) (under ∙ sym at.first) in
       true_false _ (sym at_level ∙ parent) (ap is_table_kind up_is ∙ plain))
 
   pub none_among : is_table above ≡ false → (q : ℕ × ℕ) → is_among level ipa (512 * covered_count level) q ≡ true → get old q ≡ None
@@ -133,44 +133,44 @@ module _ {width : ℕ} (old : Rows) (level ipa : ℕ) (above : Row) (sound : IsS
     abbrev made : Rows
     made = put_rows (λ _. unassigned ripas) topped level ipa 512
 
-    new_up : (q : ℕ × ℕ) → is_place q up ≡ true → look topped q ≡ Some (mapping Table (Some granule))
-    new_up q e = look-insert old up q (table granule) ∙ ap (λ t. cond t (Some (mapping_of_row (table granule))) (look old q)) e
+    new_up : (q : ℕ × ℕ) → is_place q up ≡ true → mapping_at topped q ≡ Some (mapping Table (Some granule))
+    new_up q e = mapping_at-insert old up q (table granule) ∙ ap (λ t. cond t (Some (mapping_of_row (table granule))) (mapping_at old q)) e
 
-    not_up : (q : ℕ × ℕ) → is_place q up ≡ false → look topped q ≡ look old q
-    not_up q e = look-insert old up q (table granule) ∙ ap (λ t. cond t (Some (mapping_of_row (table granule))) (look old q)) e
+    not_up : (q : ℕ × ℕ) → is_place q up ≡ false → mapping_at topped q ≡ mapping_at old q
+    not_up q e = mapping_at-insert old up q (table granule) ∙ ap (λ t. cond t (Some (mapping_of_row (table granule))) (mapping_at old q)) e
 
     abbrev Fresh : ℕ × ℕ → Type 0
-    Fresh q = (look made q ≡ Some (mapping Unassigned None)) × (k : ℕ) × (k < 512) × (q ≡ (level, ipa + k * covered_count level))
+    Fresh q = (mapping_at made q ≡ Some (mapping Unassigned None)) × (k : ℕ) × (k < 512) × (q ≡ (level, ipa + k * covered_count level))
 
     fresh_under : (q : ℕ × ℕ) → Fresh q → (q.0 ≡ level) × (first_covered (level - 1) q.1 ≡ ipa)
     fresh_under q f = (ap (λ (p : ℕ × ℕ). p.0) f.3, ap (λ (p : ℕ × ℕ). first_covered (level - 1) p.1) f.3 ∙ at.below f.1 f.2)
 
-    table_stays : (q : ℕ × ℕ) → is_table_kind (look old q) ≡ true → is_table_kind (look made q) ≡ true
+    table_stays : (q : ℕ × ℕ) → is_table_kind (mapping_at old q) ≡ true → is_table_kind (mapping_at made q) ≡ true
     table_stays q h = elim (put_kinds (unassigned ripas) topped level ipa 512 q) [
-      | inl same ↦ elim (is_place q up) as (λ t. is_place q up ≡ t → is_table_kind (look made q) ≡ true) [
+      | inl same ↦ elim (is_place q up) as (λ t. is_place q up ≡ t → is_table_kind (mapping_at made q) ≡ true) [
         | true ↦ λ e. ap is_table_kind (same ∙ new_up q e)
         | false ↦ λ e. ap is_table_kind (same ∙ not_up q e) ∙ h
       ] refl
       | inr new ↦ let under = fresh_under q new in absurd (true_false _ h (ap is_table_kind (none_under no_table q under.0 under.1)))
     ]
 
-    up_look : look made up ≡ Some (mapping Table (Some granule))
+    up_look : mapping_at made up ≡ Some (mapping Table (Some granule))
     up_look = elim (put_kinds (unassigned ripas) topped level ipa 512 up) [
       | inl same ↦ same ∙ new_up up (place_self up)
       | inr new ↦ let l = at.low in let e : level - 1 ≡ level = (fresh_under up new).0 in absurd (omega (arith, l, e))
     ]
 
-    up_table : is_table_kind (look made up) ≡ true
+    up_table : is_table_kind (mapping_at made up) ≡ true
     up_table = ap is_table_kind up_look
 
-    stays : (q : ℕ × ℕ) → has_table (look old) q ≡ true → has_table (look made) q ≡ true
-    stays q h = elim (q.0 == 1) as (λ t. (t || is_table_kind (look old (q.0 - 1, first_covered (q.0 - 1) q.1))) ≡ true
-        → (t || is_table_kind (look made (q.0 - 1, first_covered (q.0 - 1) q.1))) ≡ true) [
+    stays : (q : ℕ × ℕ) → has_table (mapping_at old) q ≡ true → has_table (mapping_at made) q ≡ true
+    stays q h = elim (q.0 == 1) as (λ t. (t || is_table_kind (mapping_at old (q.0 - 1, first_covered (q.0 - 1) q.1))) ≡ true
+        → (t || is_table_kind (mapping_at made (q.0 - 1, first_covered (q.0 - 1) q.1))) ≡ true) [
           | true ↦ λ h. refl
           | false ↦ λ h. table_stays (q.0 - 1, first_covered (q.0 - 1) q.1) h
         ] h
 
-    made_sound : IsSoundRows width (look made)
+    made_sound : IsSoundRows width (mapping_at made)
     made_sound = record {
       placed = λ q some. elim (put_kinds (unassigned ripas) topped level ipa 512 q) [
         | inl same ↦ elim (is_place q up) as (λ t. is_place q up ≡ t → IsPlace width q) [
@@ -180,41 +180,41 @@ module _ {width : ℕ} (old : Rows) (level ipa : ℕ) (above : Row) (sound : IsS
         | inr new ↦ subst (IsPlace width) (sym new.3) (at.places width inside new.1 new.2)
       ];
       shaped = λ q. elim (put_kinds (unassigned ripas) topped level ipa 512 q) [
-        | inl same ↦ elim (is_place q up) as (λ t. is_place q up ≡ t → IsShaped q.0 (look made q)) [
+        | inl same ↦ elim (is_place q up) as (λ t. is_place q up ≡ t → IsShaped q.0 (mapping_at made q)) [
           | true ↦ λ e. subst (IsShaped q.0) (sym (same ∙ new_up q e)) (subst (λ (p : ℕ × ℕ). p.0 ≤ 2) (sym (same_place q up e)) at.low.1, refl)
           | false ↦ λ e. subst (IsShaped q.0) (sym (same ∙ not_up q e)) (sound.shaped q)
         ] refl
         | inr new ↦ subst (IsShaped q.0) (sym new.0) refl
       ];
       below = λ q some. elim (put_kinds (unassigned ripas) topped level ipa 512 q) [
-        | inl same ↦ stays q (sound.below q (elim (is_place q up) as (λ t. is_place q up ≡ t → is_some (look old q) ≡ true) [
-          | true ↦ λ e. ap (λ p. is_some (look old p)) (same_place q up e) ∙ ap is_some up_is
+        | inl same ↦ stays q (sound.below q (elim (is_place q up) as (λ t. is_place q up ≡ t → is_some (mapping_at old q) ≡ true) [
+          | true ↦ λ e. ap (λ p. is_some (mapping_at old p)) (same_place q up e) ∙ ap is_some up_is
           | false ↦ λ e. ap is_some (sym (same ∙ not_up q e)) ∙ some
         ] refl))
         | inr new ↦ let under = fresh_under q new in
-            (λ i. under.0 i == 1 || is_table_kind (look made (under.0 i - 1, first_covered (under.0 i - 1) q.1)))
-            ∙ ap (λ t. t || is_table_kind (look made (level - 1, first_covered (level - 1) q.1))) not_first
-            ∙ ap (λ n. is_table_kind (look made (level - 1, n))) (under.1 ∙ sym at.first)
+            (λ i. under.0 i == 1 || is_table_kind (mapping_at made (under.0 i - 1, first_covered (under.0 i - 1) q.1)))
+            ∙ ap (λ t. t || is_table_kind (mapping_at made (level - 1, first_covered (level - 1) q.1))) not_first
+            ∙ ap (λ n. is_table_kind (mapping_at made (level - 1, n))) (under.1 ∙ sym at.first)
             ∙ up_table
       ];
     }
 
-  pub with_table_sound : (granule : ℕ) (ripas : Ripas) → is_table above ≡ false → IsSoundRows width (look (with_table old level ipa granule ripas))
+  pub with_table_sound : (granule : ℕ) (ripas : Ripas) → is_table above ≡ false → IsSoundRows width (mapping_at (with_table old level ipa granule ripas))
   unfolding with_table
   with_table_sound granule ripas plain = made_sound granule ripas plain
 
   -- each row then: the table where a row led nowhere, a free row where there was none, or as before
   pub with_table_cases : (granule : ℕ) (ripas : Ripas) (q : ℕ × ℕ) → is_table above ≡ false
-      → ((q ≡ up) × (look (with_table old level ipa granule ripas) q ≡ Some (mapping Table (Some granule))) × (row_target (look old q) ≡ None))
-      ⊎ ((look (with_table old level ipa granule ripas) q ≡ Some (mapping Unassigned None)) × (look old q ≡ None)) ⊎ (look (with_table old level ipa granule ripas) q ≡ look old q)
+      → ((q ≡ up) × (mapping_at (with_table old level ipa granule ripas) q ≡ Some (mapping Table (Some granule))) × (row_target (mapping_at old q) ≡ None))
+      ⊎ ((mapping_at (with_table old level ipa granule ripas) q ≡ Some (mapping Unassigned None)) × (mapping_at old q ≡ None)) ⊎ (mapping_at (with_table old level ipa granule ripas) q ≡ mapping_at old q)
   unfolding with_table
   with_table_cases granule ripas q plain = elim (put_kinds (unassigned ripas) (topped granule ripas plain) level ipa 512 q) [
-    | inl same ↦ elim (is_place q up) as (λ t. is_place q up ≡ t → ((q ≡ up) × (look (made granule ripas plain) q ≡ Some (mapping Table (Some granule))) × (row_target (look old q) ≡ None))
-        ⊎ ((look (made granule ripas plain) q ≡ Some (mapping Unassigned None)) × (look old q ≡ None)) ⊎ (look (made granule ripas plain) q ≡ look old q)) [
+    | inl same ↦ elim (is_place q up) as (λ t. is_place q up ≡ t → ((q ≡ up) × (mapping_at (made granule ripas plain) q ≡ Some (mapping Table (Some granule))) × (row_target (mapping_at old q) ≡ None))
+        ⊎ ((mapping_at (made granule ripas plain) q ≡ Some (mapping Unassigned None)) × (mapping_at old q ≡ None)) ⊎ (mapping_at (made granule ripas plain) q ≡ mapping_at old q)) [
           | true ↦ λ e. inl (
             same_place q up e,
             same ∙ new_up granule ripas plain q e,
-            ap (λ p. row_target (look old p)) (same_place q up e) ∙ ap row_target up_is
+            ap (λ p. row_target (mapping_at old p)) (same_place q up e) ∙ ap row_target up_is
                 ∙ above_target (level - 1) above.state above.granule at.low.1 (subst (IsShaped (level - 1)) up_is (sound.shaped up)) plain,
           )
           | false ↦ λ e. inr (inr (same ∙ not_up granule ripas plain q e))
@@ -223,13 +223,13 @@ module _ {width : ℕ} (old : Rows) (level ipa : ℕ) (above : Row) (sound : IsS
   ]
 
   -- the row above is the table then, and the rows below are free
-  pub look-with_table : (granule : ℕ) (ripas : Ripas) → is_table above ≡ false → look (with_table old level ipa granule ripas) up ≡ Some (mapping Table (Some granule))
+  pub mapping_at-with_table : (granule : ℕ) (ripas : Ripas) → is_table above ≡ false → mapping_at (with_table old level ipa granule ripas) up ≡ Some (mapping Table (Some granule))
   unfolding with_table
-  look-with_table granule ripas plain = up_look granule ripas plain
+  mapping_at-with_table granule ripas plain = up_look granule ripas plain
 
-  pub look-with_table_below : (granule : ℕ) (ripas : Ripas) (k : ℕ) → k < 512 → look (with_table old level ipa granule ripas) (level, ipa + k * covered_count level) ≡ Some (mapping Unassigned None)
+  pub mapping_at-with_table_below : (granule : ℕ) (ripas : Ripas) (k : ℕ) → k < 512 → mapping_at (with_table old level ipa granule ripas) (level, ipa + k * covered_count level) ≡ Some (mapping Unassigned None)
   unfolding with_table
-  look-with_table_below granule ripas k less = put_there (unassigned ripas) (put_row old (level - 1) ipa (table granule)) level ipa 512 k less
+  mapping_at-with_table_below granule ripas k less = put_there (unassigned ripas) (put_row old (level - 1) ipa (table granule)) level ipa 512 k less
 
   -- ---- a table goes
 
@@ -238,11 +238,11 @@ module _ {width : ℕ} (old : Rows) (level ipa : ℕ) (above : Row) (sound : IsS
     unfolding is_table_unused
     unused_row k less = all_rows_at is_unassigned old level ipa 512 k unused less
 
-    no_table_under : (i : ℕ) → first_covered (level - 1) (first_covered level i) ≡ ipa → is_table_kind (look old (level, first_covered level i)) ≡ false
+    no_table_under : (i : ℕ) → first_covered (level - 1) (first_covered level i) ≡ ipa → is_table_kind (mapping_at old (level, first_covered level i)) ≡ false
     no_table_under i h =
         let k = at.aligned i h in
         let row = unused_row k.0 k.1 in
-        ap (λ n. is_table_kind (look old (level, n))) k.2 ∙ ap (λ o. is_table_kind (option_map mapping_of_row o)) row.1 ∙ plain_unassigned row.0 row.2
+        ap (λ n. is_table_kind (mapping_at old (level, n))) k.2 ∙ ap (λ o. is_table_kind (option_map mapping_of_row o)) row.1 ∙ plain_unassigned row.0 row.2
 
     abbrev dropped : Rows
     dropped = drop_rows old level ipa (512 * covered_count level)
@@ -253,20 +253,20 @@ module _ {width : ℕ} (old : Rows) (level ipa : ℕ) (above : Row) (sound : IsS
     abbrev under : ℕ × ℕ → Bool
     under q = is_among level ipa (512 * covered_count level) q
 
-    look-dropped : (q : ℕ × ℕ) → look dropped q ≡ cond (not (under q)) (look old q) None
-    look-dropped q = ap (option_map mapping_of_row) (get-drop_rows old level ipa (512 * covered_count level) q)
-        ∙ elim (under q) as (λ t. option_map mapping_of_row (cond (not t) (get old q) None) ≡ cond (not t) (look old q) None) [ true ↦ refl | false ↦ refl ]
+    mapping_at-dropped : (q : ℕ × ℕ) → mapping_at dropped q ≡ cond (not (under q)) (mapping_at old q) None
+    mapping_at-dropped q = ap (option_map mapping_of_row) (get-drop_rows old level ipa (512 * covered_count level) q)
+        ∙ elim (under q) as (λ t. option_map mapping_of_row (cond (not t) (get old q) None) ≡ cond (not t) (mapping_at old q) None) [ true ↦ refl | false ↦ refl ]
 
-    left_up : (q : ℕ × ℕ) → is_place q up ≡ true → look left_rows q ≡ Some (mapping Unassigned None)
-    left_up q e = look-insert dropped up q (unassigned Destroyed) ∙ ap (λ t. cond t (Some (mapping Unassigned None)) (look dropped q)) e
+    left_up : (q : ℕ × ℕ) → is_place q up ≡ true → mapping_at left_rows q ≡ Some (mapping Unassigned None)
+    left_up q e = mapping_at-insert dropped up q (unassigned Destroyed) ∙ ap (λ t. cond t (Some (mapping Unassigned None)) (mapping_at dropped q)) e
 
-    left_under : (q : ℕ × ℕ) → is_place q up ≡ false → under q ≡ true → look left_rows q ≡ None
+    left_under : (q : ℕ × ℕ) → is_place q up ≡ false → under q ≡ true → mapping_at left_rows q ≡ None
     left_under q e u =
-        look-insert dropped up q (unassigned Destroyed) ∙ ap (λ t. cond t (Some (mapping Unassigned None)) (look dropped q)) e ∙ look-dropped q ∙ ap (λ t. cond (not t) (look old q) None) u
+        mapping_at-insert dropped up q (unassigned Destroyed) ∙ ap (λ t. cond t (Some (mapping Unassigned None)) (mapping_at dropped q)) e ∙ mapping_at-dropped q ∙ ap (λ t. cond (not t) (mapping_at old q) None) u
 
-    left_other : (q : ℕ × ℕ) → is_place q up ≡ false → under q ≡ false → look left_rows q ≡ look old q
+    left_other : (q : ℕ × ℕ) → is_place q up ≡ false → under q ≡ false → mapping_at left_rows q ≡ mapping_at old q
     left_other q e u =
-        look-insert dropped up q (unassigned Destroyed) ∙ ap (λ t. cond t (Some (mapping Unassigned None)) (look dropped q)) e ∙ look-dropped q ∙ ap (λ t. cond (not t) (look old q) None) u
+        mapping_at-insert dropped up q (unassigned Destroyed) ∙ ap (λ t. cond t (Some (mapping Unassigned None)) (mapping_at dropped q)) e ∙ mapping_at-dropped q ∙ ap (λ t. cond (not t) (mapping_at old q) None) u
 
     under_level : (q : ℕ × ℕ) → under q ≡ true → q.0 ≡ level
     under_level q u = eqb-true q.0 level (and_parts _ _ (and_parts _ _ u).0).0
@@ -275,10 +275,10 @@ module _ {width : ℕ} (old : Rows) (level ipa : ℕ) (above : Row) (sound : IsS
     under_up q u = at.from_among q.1 (subst (λ l. is_among level ipa (512 * covered_count level) (l, q.1) ≡ true) (under_level q u) u)
 
     -- what stands under the table leads nowhere
-    under_target : (q : ℕ × ℕ) → under q ≡ true → row_target (look old q) ≡ None
-    under_target q u = of_look (look old q) refl
+    under_target : (q : ℕ × ℕ) → under q ≡ true → row_target (mapping_at old q) ≡ None
+    under_target q u = of_look (mapping_at old q) refl
       where
-        of_look : (o : Option Mapping) → look old q ≡ o → row_target o ≡ None
+        of_look : (o : Option Mapping) → mapping_at old q ≡ o → row_target o ≡ None
         of_look None e = refl
         of_look (Some row) e =
             let placed : IsPlace width q = sound.placed q (ap is_some e) in
@@ -286,36 +286,36 @@ module _ {width : ℕ} (old : Rows) (level ipa : ℕ) (above : Row) (sound : IsS
             let k = at.aligned q.1 (ap (first_covered (level - 1)) whole ∙ under_up q u) in
             let found = unused_row k.0 k.1 in
             let same : q ≡ (level, ipa + k.0 * covered_count level) = λ i. (under_level q u i, (sym whole ∙ k.2) i) in
-            ap row_target (sym e ∙ ap (look old) same ∙ ap (option_map mapping_of_row) found.1) ∙ unassigned_target found.0.state found.0.granule found.2
+            ap row_target (sym e ∙ ap (mapping_at old) same ∙ ap (option_map mapping_of_row) found.1) ∙ unassigned_target found.0.state found.0.granule found.2
 
     from_under : (q : ℕ × ℕ) → q.0 ≡ level → first_covered (level - 1) q.1 ≡ ipa → under q ≡ true
     from_under q same h = subst (λ l. is_among level ipa (512 * covered_count level) (l, q.1) ≡ true) (sym same) (at.among q.1 h)
 
     -- the table above a row that stays, stays
-    parent_stays : (l i : ℕ) → under (l, i) ≡ false → (l == 1) ≡ false → is_table_kind (look old (l - 1, first_covered (l - 1) i)) ≡ true
-        → is_table_kind (look left_rows (l - 1, first_covered (l - 1) i)) ≡ true
+    parent_stays : (l i : ℕ) → under (l, i) ≡ false → (l == 1) ≡ false → is_table_kind (mapping_at old (l - 1, first_covered (l - 1) i)) ≡ true
+        → is_table_kind (mapping_at left_rows (l - 1, first_covered (l - 1) i)) ≡ true
     parent_stays l i out deep h =
         let p : ℕ × ℕ = (l - 1, first_covered (l - 1) i) in
-        elim (is_place p up) as (λ t. is_place p up ≡ t → is_table_kind (look left_rows p) ≡ true) [
+        elim (is_place p up) as (λ t. is_place p up ≡ t → is_table_kind (mapping_at left_rows p) ≡ true) [
           | true ↦ λ e.
               let low = at.low in
               let levels : l - 1 ≡ level - 1 = ap (λ (x : ℕ × ℕ). x.0) (same_place p up e) in
               let same : l ≡ level = omega (arith, low, levels) in
               let firsts : first_covered (level - 1) i ≡ ipa = ap (λ n. first_covered n i) (sym levels) ∙ ap (λ (x : ℕ × ℕ). x.1) (same_place p up e) ∙ at.first in
               absurd (true_false _ (from_under (l, i) same firsts) out)
-          | false ↦ λ e. elim (under p) as (λ t. under p ≡ t → is_table_kind (look left_rows p) ≡ true) [
+          | false ↦ λ e. elim (under p) as (λ t. under p ≡ t → is_table_kind (mapping_at left_rows p) ≡ true) [
             | true ↦ λ u.
                 let same : l - 1 ≡ level = under_level p u in
                 let low : first_covered (level - 1) (first_covered level i) ≡ ipa = ap (λ n. first_covered (level - 1) (first_covered n i)) (sym same) ∙ under_up p u in
-                absurd (true_false _ (ap (λ n. is_table_kind (look old (n, first_covered n i))) (sym same) ∙ h) (no_table_under i low))
+                absurd (true_false _ (ap (λ n. is_table_kind (mapping_at old (n, first_covered n i))) (sym same) ∙ h) (no_table_under i low))
             | false ↦ λ u. ap is_table_kind (left_other p e u) ∙ h
           ] refl
         ] refl
 
-    left_below : (q : ℕ × ℕ) → under q ≡ false → is_some (look old q) ≡ true → has_table (look left_rows) q ≡ true
+    left_below : (q : ℕ × ℕ) → under q ≡ false → is_some (mapping_at old q) ≡ true → has_table (mapping_at left_rows) q ≡ true
     left_below q out some =
-        elim (q.0 == 1) as (λ t. (q.0 == 1) ≡ t → (t || is_table_kind (look old (q.0 - 1, first_covered (q.0 - 1) q.1))) ≡ true
-        → (t || is_table_kind (look left_rows (q.0 - 1, first_covered (q.0 - 1) q.1))) ≡ true) [
+        elim (q.0 == 1) as (λ t. (q.0 == 1) ≡ t → (t || is_table_kind (mapping_at old (q.0 - 1, first_covered (q.0 - 1) q.1))) ≡ true
+        → (t || is_table_kind (mapping_at left_rows (q.0 - 1, first_covered (q.0 - 1) q.1))) ≡ true) [
           | true ↦ λ e h. refl
           | false ↦ λ e h. parent_stays q.0 q.1 out e h
         ] refl (sound.below q some)
@@ -323,7 +323,7 @@ module _ {width : ℕ} (old : Rows) (level ipa : ℕ) (above : Row) (sound : IsS
     up_out : under up ≡ false
     up_out = ap (λ t. t && nat_le ipa up.1 && nat_lt up.1 (ipa + 512 * covered_count level)) (ne_eqb (level - 1) level (λ e. let l = at.low in omega (arith, l, e)))
 
-    left_sound : IsSoundRows width (look left_rows)
+    left_sound : IsSoundRows width (mapping_at left_rows)
     left_sound = record {
       placed = λ q some. elim (is_place q up) as (λ t. is_place q up ≡ t → IsPlace width q) [
         | true ↦ λ e. subst (IsPlace width) (sym (same_place q up e)) up_placed
@@ -332,35 +332,35 @@ module _ {width : ℕ} (old : Rows) (level ipa : ℕ) (above : Row) (sound : IsS
           | false ↦ λ u. sound.placed q (ap is_some (sym (left_other q e u)) ∙ some)
         ] refl
       ] refl;
-      shaped = λ q. elim (is_place q up) as (λ t. is_place q up ≡ t → IsShaped q.0 (look left_rows q)) [
+      shaped = λ q. elim (is_place q up) as (λ t. is_place q up ≡ t → IsShaped q.0 (mapping_at left_rows q)) [
         | true ↦ λ e. subst (IsShaped q.0) (sym (left_up q e)) refl
-        | false ↦ λ e. elim (under q) as (λ t. under q ≡ t → IsShaped q.0 (look left_rows q)) [
+        | false ↦ λ e. elim (under q) as (λ t. under q ≡ t → IsShaped q.0 (mapping_at left_rows q)) [
           | true ↦ λ u. subst (IsShaped q.0) (sym (left_under q e u)) tt
           | false ↦ λ u. subst (IsShaped q.0) (sym (left_other q e u)) (sound.shaped q)
         ] refl
       ] refl;
-      below = λ q some. elim (is_place q up) as (λ t. is_place q up ≡ t → has_table (look left_rows) q ≡ true) [
-        | true ↦ λ e. subst (λ p. has_table (look left_rows) p ≡ true) (sym (same_place q up e)) (left_below up up_out (ap is_some up_is))
-        | false ↦ λ e. elim (under q) as (λ t. under q ≡ t → has_table (look left_rows) q ≡ true) [
+      below = λ q some. elim (is_place q up) as (λ t. is_place q up ≡ t → has_table (mapping_at left_rows) q ≡ true) [
+        | true ↦ λ e. subst (λ p. has_table (mapping_at left_rows) p ≡ true) (sym (same_place q up e)) (left_below up up_out (ap is_some up_is))
+        | false ↦ λ e. elim (under q) as (λ t. under q ≡ t → has_table (mapping_at left_rows) q ≡ true) [
           | true ↦ λ u. absurd (true_false _ some (ap is_some (left_under q e u)))
           | false ↦ λ u. left_below q u (ap is_some (sym (left_other q e u)) ∙ some)
         ] refl
       ] refl;
     }
 
-  pub without_table_sound : is_table_unused old level ipa ≡ true → IsSoundRows width (look (without_table old level ipa))
+  pub without_table_sound : is_table_unused old level ipa ≡ true → IsSoundRows width (mapping_at (without_table old level ipa))
   unfolding without_table
   without_table_sound unused = left_sound unused
 
   -- each row then: free above the table, none where none led anywhere, or as before
-  pub without_table_cases : is_table_unused old level ipa ≡ true → (q : ℕ × ℕ) → ((q ≡ up) × (look (without_table old level ipa) q ≡ Some (mapping Unassigned None)))
-      ⊎ ((look (without_table old level ipa) q ≡ None) × (row_target (look old q) ≡ None)) ⊎ ((look (without_table old level ipa) q ≡ look old q) × (is_place q up ≡ false))
+  pub without_table_cases : is_table_unused old level ipa ≡ true → (q : ℕ × ℕ) → ((q ≡ up) × (mapping_at (without_table old level ipa) q ≡ Some (mapping Unassigned None)))
+      ⊎ ((mapping_at (without_table old level ipa) q ≡ None) × (row_target (mapping_at old q) ≡ None)) ⊎ ((mapping_at (without_table old level ipa) q ≡ mapping_at old q) × (is_place q up ≡ false))
   unfolding without_table
-  without_table_cases unused q = elim (is_place q up) as (λ t. is_place q up ≡ t → ((q ≡ up) × (look (left_rows unused) q ≡ Some (mapping Unassigned None)))
-      ⊎ ((look (left_rows unused) q ≡ None) × (row_target (look old q) ≡ None)) ⊎ ((look (left_rows unused) q ≡ look old q) × (t ≡ false))) [
+  without_table_cases unused q = elim (is_place q up) as (λ t. is_place q up ≡ t → ((q ≡ up) × (mapping_at (left_rows unused) q ≡ Some (mapping Unassigned None)))
+      ⊎ ((mapping_at (left_rows unused) q ≡ None) × (row_target (mapping_at old q) ≡ None)) ⊎ ((mapping_at (left_rows unused) q ≡ mapping_at old q) × (t ≡ false))) [
         | true ↦ λ e. inl (same_place q up e, left_up unused q e)
-        | false ↦ λ e. elim (under unused q) as (λ t. under unused q ≡ t → ((q ≡ up) × (look (left_rows unused) q ≡ Some (mapping Unassigned None)))
-            ⊎ ((look (left_rows unused) q ≡ None) × (row_target (look old q) ≡ None)) ⊎ ((look (left_rows unused) q ≡ look old q) × (false ≡ false))) [
+        | false ↦ λ e. elim (under unused q) as (λ t. under unused q ≡ t → ((q ≡ up) × (mapping_at (left_rows unused) q ≡ Some (mapping Unassigned None)))
+            ⊎ ((mapping_at (left_rows unused) q ≡ None) × (row_target (mapping_at old q) ≡ None)) ⊎ ((mapping_at (left_rows unused) q ≡ mapping_at old q) × (false ≡ false))) [
               | true ↦ λ u. inr (inl (left_under unused q e u, under_target unused q u))
               | false ↦ λ u. inr (inr (left_other unused q e u, refl))
             ] refl
@@ -369,38 +369,38 @@ module _ {width : ℕ} (old : Rows) (level ipa : ℕ) (above : Row) (sound : IsS
 -- ---- a realm with no table below its root
 
 -- it has rows of the root alone, and they lead nowhere
-module _ {width : ℕ} (rows : Rows) (sound : IsSoundRows width (look rows)) (plain : has_root_table width rows ≡ false) where
+module _ {width : ℕ} (rows : Rows) (sound : IsSoundRows width (mapping_at rows)) (plain : has_root_table width rows ≡ false) where
   no_root_table : all_rows (λ row. not (is_table row)) rows 1 0 (512 * start_count width) ≡ true
   no_root_table = not_false _ plain
 
   -- none is a table
-  first_plain : (i : ℕ) → is_table_kind (look rows (1, i)) ≡ false
-  first_plain i = of_look (look rows (1, i)) refl
+  first_plain : (i : ℕ) → is_table_kind (mapping_at rows (1, i)) ≡ false
+  first_plain i = of_look (mapping_at rows (1, i)) refl
     where
       row_of : (tables i : ℕ) → i / 262144 * 262144 ≡ i → i < tables * 134217728 → (k : ℕ) × (k < 512 * tables) × (i ≡ 0 + k * 262144)
       row_of tables i first inside = (i / 262144, omega arith, omega arith)
 
-      of_look : (o : Option Mapping) → look rows (1, i) ≡ o → is_table_kind o ≡ false
+      of_look : (o : Option Mapping) → mapping_at rows (1, i) ≡ o → is_table_kind o ≡ false
       of_look None e = refl
       of_look (Some row) e =
           let placed : IsPlace width (1, i) = sound.placed (1, i) (ap is_some e) in
           let k = row_of (start_count width) i placed.first placed.inside in
           let found = all_rows_at (λ row. not (is_table row)) rows 1 0 (512 * start_count width) k.0 no_root_table k.1 in
-          ap is_table_kind (sym e ∙ ap (λ n. look rows (1, n)) k.2 ∙ ap (option_map mapping_of_row) found.1) ∙ not_true _ found.2
+          ap is_table_kind (sym e ∙ ap (λ n. mapping_at rows (1, n)) k.2 ∙ ap (option_map mapping_of_row) found.1) ∙ not_true _ found.2
 
   -- a row below it would stand below a table
-  no_second : (i : ℕ) → look rows (2, i) ≡ None
-  no_second i = absent (look rows (2, i)) (λ some. true_false _ (sound.below (2, i) some) (first_plain (first_covered 1 i)))
+  no_second : (i : ℕ) → mapping_at rows (2, i) ≡ None
+  no_second i = absent (mapping_at rows (2, i)) (λ some. true_false _ (sound.below (2, i) some) (first_plain (first_covered 1 i)))
 
-  no_third : (i : ℕ) → look rows (3, i) ≡ None
-  no_third i = absent (look rows (3, i)) (λ some. true_false _ (sound.below (3, i) some) (ap is_table_kind (no_second (first_covered 2 i))))
+  no_third : (i : ℕ) → mapping_at rows (3, i) ≡ None
+  no_third i = absent (mapping_at rows (3, i)) (λ some. true_false _ (sound.below (3, i) some) (ap is_table_kind (no_second (first_covered 2 i))))
 
-  pub leads_nowhere : (q : ℕ × ℕ) → row_target (look rows q) ≡ None
-  leads_nowhere q = of_look (look rows q) refl
+  pub leads_nowhere : (q : ℕ × ℕ) → row_target (mapping_at rows q) ≡ None
+  leads_nowhere q = of_look (mapping_at rows q) refl
     where
-      first_of : (l : ℕ) → l ≡ 1 → (row : Mapping) → look rows (l, q.1) ≡ Some row → row_target (Some row) ≡ None
+      first_of : (l : ℕ) → l ≡ 1 → (row : Mapping) → mapping_at rows (l, q.1) ≡ Some row → row_target (Some row) ≡ None
       first_of l one row e =
-          let there : look rows (1, q.1) ≡ Some row = ap (λ l. look rows (l, q.1)) (sym one) ∙ e in
+          let there : mapping_at rows (1, q.1) ≡ Some row = ap (λ l. mapping_at rows (l, q.1)) (sym one) ∙ e in
           above_target 1 row.state row.granule (lit≤ tt) (subst (IsShaped 1) there (sound.shaped (1, q.1))) (by_kind row.state row.granule (ap is_table_kind (sym there) ∙ first_plain q.1))
         where
           by_kind : (h : EntryState) (g : Option ℕ) → is_table_kind (Some (mapping h g)) ≡ false → is_table_state h ≡ false
@@ -408,7 +408,7 @@ module _ {width : ℕ} (rows : Rows) (sound : IsSoundRows width (look rows)) (pl
           by_kind Assigned g e = refl
           by_kind Table g e = cc
 
-      of_look : (o : Option Mapping) → look rows q ≡ o → row_target o ≡ None
+      of_look : (o : Option Mapping) → mapping_at rows q ≡ o → row_target o ≡ None
       of_look None e = refl
       of_look (Some row) e =
           let placed : IsPlace width q = sound.placed q (ap is_some e) in
@@ -417,16 +417,16 @@ module _ {width : ℕ} (rows : Rows) (sound : IsSoundRows width (look rows)) (pl
           elim (q.0 == 1) as (λ t. (q.0 == 1) ≡ t → row_target (Some row) ≡ None) [
             | true ↦ λ one. first_of q.0 (eqb-true q.0 1 one) row e
             | false ↦ λ no_one. elim (q.0 == 2) as (λ t. (q.0 == 2) ≡ t → row_target (Some row) ≡ None) [
-              | true ↦ λ two. absurd (true_false _ (ap is_some e) (ap is_some (ap (λ l. look rows (l, q.1)) (eqb-true q.0 2 two) ∙ no_second q.1)))
+              | true ↦ λ two. absurd (true_false _ (ap is_some e) (ap is_some (ap (λ l. mapping_at rows (l, q.1)) (eqb-true q.0 2 two) ∙ no_second q.1)))
               | false ↦ λ no_two.
                   let ones : q.0 ≢ 1 = eqb-false q.0 1 no_one in
                   let twos : q.0 ≢ 2 = eqb-false q.0 2 no_two in
                   let three : q.0 ≡ 3 = omega arith in
-                  absurd (true_false _ (ap is_some e) (ap is_some (ap (λ l. look rows (l, q.1)) three ∙ no_third q.1)))
+                  absurd (true_false _ (ap is_some e) (ap is_some (ap (λ l. mapping_at rows (l, q.1)) three ∙ no_third q.1)))
             ] refl
           ] refl
 
 -- rows that become RAM
-pub with_ram_sound : {width : ℕ} (rows : Rows) (ipa n : ℕ) → IsSoundRows width (look rows) → all_rows is_unassigned rows 3 ipa n ≡ true → IsSoundRows width (look (with_ram rows ipa n))
+pub with_ram_sound : {width : ℕ} (rows : Rows) (ipa n : ℕ) → IsSoundRows width (mapping_at rows) → all_rows is_unassigned rows 3 ipa n ≡ true → IsSoundRows width (mapping_at (with_ram rows ipa n))
 unfolding with_ram
 with_ram_sound rows ipa n sound all = sound_same _ _ sound (same_rows rows ipa n all)

@@ -13,7 +13,7 @@ use Rattle.realm_model.specs.Act.{block, named, holder}
 use Rattle.realm_model.specs.Outcome.{outcome_of, is_in_range, fits}
 use Rattle.realm_model.specs.World.{World, is_leased_to, realm_of, updated, updated_all}
 use Rattle.realm_model.specs.Step.{step, is_allowed, used_vmids, after_outcome, named_cells, outcome_in}
-use Rattle.realm_model.specs.StepLaw.{set_each, leases_after, IsStep, StepIsWhatItSays}
+use Rattle.realm_model.specs.StepLaw.{set_each, leases_after, IsStep, StepIsExact}
 use Rattle.realm_model.specs.Undoing.{by}
 use Rattle.realm_model.proofs.Booleans.{guarded}
 use Rattle.realm_model.proofs.Written.{takes, puts_leases, seen_takes, seen_frees, frees}
@@ -139,7 +139,7 @@ same_step limits w x y event h k =
     λ i. record { machine = machine i; leases = leases i }
 
 -- where a guest's write reaches a granule of its build
-pub step_says : (limits : Limits) (w : World) (event : Event) → ReachesOwn limits event.build w event.act (realm_of event.build w) → StepIsWhatItSays limits w event
+pub step_says : (limits : Limits) (w : World) (event : Event) → ReachesOwn limits event.build w event.act (realm_of event.build w) → StepIsExact limits w event
 step_says limits w event reach v = (
   step_is limits w v event,
   λ h. let gone = step_goes limits w v event.build event.act reach h in gone.1 ∙ ap Some (same_step limits w gone.0 v event (step_is limits w gone.0 event gone.1) h),

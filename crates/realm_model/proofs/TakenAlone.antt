@@ -12,7 +12,7 @@ use Rattle.realm_model.specs.Act.{reverse_of}
 use Rattle.realm_model.specs.World.{World, each, hidden, unleased, is_of_other, opening, part_of}
 use Rattle.realm_model.specs.Step.{step}
 use Rattle.realm_model.specs.History.{events_of, acts_of, open_entries, unmatched, IsInTurn, AllInTurn, after, replay, IsLegal}
-use Rattle.realm_model.specs.Interleaving.{StandsAlone, HasSameEvents}
+use Rattle.realm_model.specs.Interleaving.{IsLegalAlone, HasSameEvents}
 use Rattle.realm_model.proofs.Clean.{IsClean, scrubbed}
 use Rattle.realm_model.proofs.HiddenSteps.{step-part_of, part_of-other_step, IsClean-step}
 use Rattle.realm_model.proofs.LeftOut.{each-replicate, map-replicate, IsClean-opening}
@@ -73,10 +73,10 @@ alone_is : (limits : Limits) (history : List Event) (b : ℕ) (w : World) → re
 alone_is limits history b w at_w =
     ap (after limits (events_of b history)) (sym (part_of-opening limits b)) ∙ after-alone limits b history (opening limits) w (IsClean-opening limits) at_w
 
-pub stands_alone : (limits : Limits) (history : List Event) (b : ℕ) → IsLegal limits history → StandsAlone limits history b
-stands_alone limits history b legal = at_world (replay limits history) refl legal.steps
+pub legal_alone : (limits : Limits) (history : List Event) (b : ℕ) → IsLegal limits history → IsLegalAlone limits history b
+legal_alone limits history b legal = at_world (replay limits history) refl legal.steps
   where
-    at_world : (o : Option World) → replay limits history ≡ o → is_some o ≡ true → StandsAlone limits history b
+    at_world : (o : Option World) → replay limits history ≡ o → is_some o ≡ true → IsLegalAlone limits history b
     at_world None e some = cc
     at_world (Some w) e some =
         let alone = alone_is limits history b w e in
@@ -145,8 +145,8 @@ same_reached limits history other w v at_w at_v same =
     same_parts w v (clean_reached limits history w at_w) (clean_reached limits other v at_v)
     (λ b. same_Some _ _ (sym (alone_is limits history b w at_w) ∙ ap (replay limits) (same b) ∙ alone_is limits other b v at_v))
 
-pub order_does_not_matter : (limits : Limits) (history other : List Event) → IsLegal limits history → IsLegal limits other → HasSameEvents history other → replay limits history ≡ replay limits other
-order_does_not_matter limits history other legal too same = at_worlds (replay limits history) (replay limits other) refl refl legal.steps too.steps
+pub schedule_does_not_matter : (limits : Limits) (history other : List Event) → IsLegal limits history → IsLegal limits other → HasSameEvents history other → replay limits history ≡ replay limits other
+schedule_does_not_matter limits history other legal too same = at_worlds (replay limits history) (replay limits other) refl refl legal.steps too.steps
   where
     at_worlds : (o p : Option World) → replay limits history ≡ o → replay limits other ≡ p → is_some o ≡ true → is_some p ≡ true → o ≡ p
     at_worlds None p at_o at_p some also = cc

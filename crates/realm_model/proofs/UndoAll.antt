@@ -26,7 +26,7 @@ use Rattle.realm_model.proofs.Progress.{undoable}
 use Rattle.realm_model.proofs.Stack.{pushed_back}
 use Rattle.realm_model.proofs.Chain.{kept, Kept, Chain, kept_back, on_top, newest}
 use Rattle.realm_model.proofs.Growth.{open_entries-own}
-use Rattle.realm_model.proofs.LeftOut.{leaves_no_trace}
+use Rattle.realm_model.proofs.LeftOut.{noninterference}
 use Rattle.realm_model.proofs.FreeSets.{free_set-without, part_of-without}
 use Rattle.realm_model.proofs.ZeroPages.{kept_reached}
 
@@ -109,7 +109,7 @@ undone limits history b w legal at_w rest =
     let others : erase b (history ++ undoing b history) ≡ erase b history = erase_events b history (reverse (open_entries b history)) in
     let world_is : replay limits (history ++ undoing b history) ≡ replay limits (erase b history) =
     ended.world_is ∙ sym (emptied limits b (history ++ undoing b history) ended.world ended.legal ended.world_is ended.kept.open_is) ∙ ap (replay limits) others in
-    let left : replay limits (erase b history) ≡ Some (without w b) = (leaves_no_trace limits history b legal).1 ∙ ap (option_map (λ x. without x b)) at_w in
+    let left : replay limits (erase b history) ≡ Some (without w b) = (noninterference limits history b legal).1 ∙ ap (option_map (λ x. without x b)) at_w in
     record {
       legal = ended.legal;
       all = subst (λ st. length (events b st) ≡ length st) stack (counted limits b (opening limits) [] k.0 w k.1.chained) ∙ length-reverse (open_entries b history);

@@ -89,7 +89,7 @@ pub record IsLegal (limits : Limits) (history : List Event) : Type 0 where
 -- ---- a history without a build
 
 -- The history without a build is legal, and leads to the world without that build.
-abbrev pub LeavesNoTrace : Limits → List Event → ℕ → Type 0
-LeavesNoTrace limits history build =
+abbrev pub Noninterference : Limits → List Event → ℕ → Type 0
+Noninterference limits history build =
     IsLegal limits (erase build history)
     × (replay limits (erase build history) ≡ option_map (λ world. without world build) (replay limits history))

@@ -11,8 +11,8 @@ use Rattle.realm_model.specs.World.{part_of}
 use Rattle.realm_model.specs.History.{events_of, replay, IsLegal}
 
 -- The events of a build alone are a legal history, and lead to the build's part of the world.
-abbrev pub StandsAlone : Limits → List Event → ℕ → Type 0
-StandsAlone limits history build =
+abbrev pub IsLegalAlone : Limits → List Event → ℕ → Type 0
+IsLegalAlone limits history build =
     IsLegal limits (events_of build history)
     × (replay limits (events_of build history) ≡ option_map (λ world. part_of world build) (replay limits history))
 

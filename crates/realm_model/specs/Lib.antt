@@ -26,3 +26,6 @@ pub mod Undoing
 pub mod Aborting
 pub mod Marks
 pub mod Codes
+pub mod Places
+pub mod RecsOpen
+pub mod VmidsUsed

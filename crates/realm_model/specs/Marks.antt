@@ -20,15 +20,15 @@ abbrev pub mark_at : ℕ → List Event → Mark
 mark_at build history = record { build = build; depth = length (open_entries build history); place = length history }
 
 -- The mark was made in this history, and the build never had less open since.
-pub record Stands (mark : Mark) (history : List Event) : Type 0 where
+pub record IsValidMark (mark : Mark) (history : List Event) : Type 0 where
   pub place : mark.place ≤ length history
   pub depth : length (open_entries mark.build (take mark.place history)) ≡ mark.depth
   pub since : (n : ℕ) → mark.place ≤ n → mark.depth ≤ length (open_entries mark.build (take n history))
 
 -- after one more event it stands where it stood, unless less is open now
-abbrev pub StandsOn : Mark → List Event → Event → Type 0
-StandsOn mark history event =
-    mark.place ≤ length history → Stands mark (history ++ event ∷ []) ↔ (Stands mark history × (mark.depth ≤ length (open_entries mark.build (history ++ event ∷ []))))
+abbrev pub StaysValid : Mark → List Event → Event → Type 0
+StaysValid mark history event =
+    mark.place ≤ length history → IsValidMark mark (history ++ event ∷ []) ↔ (IsValidMark mark history × (mark.depth ≤ length (open_entries mark.build (history ++ event ∷ []))))
 
 -- The history without the events of a build at a place or later.
 abbrev pub erase_after : ℕ → ℕ → List Event → List Event
@@ -60,4 +60,4 @@ pub record IsRolledBack (limits : Limits) (mark : Mark) (history : List Event) :
 -- where the mark stands and no REC above it runs, the build can be rolled back to it
 abbrev pub CanRollBack : Limits → List Event → Mark → World → Type 0
 CanRollBack limits history mark world =
-    Stands mark history → list_any (is_running (realm_of mark.build world)) (above mark history) ≡ false → IsRolledBack limits mark history
+    IsValidMark mark history → list_any (is_running (realm_of mark.build world)) (above mark history) ≡ false → IsRolledBack limits mark history

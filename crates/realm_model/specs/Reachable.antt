@@ -7,7 +7,7 @@ use Rattle.realm_model.specs.declared.states.GranuleState.{GranuleState}
 use Rattle.realm_model.specs.Rows.{walk}
 use Rattle.realm_model.specs.Machine.{Limits, RecRow, RealmRow, blank, cell_at}
 use Rattle.realm_model.specs.World.{World}
-use Rattle.realm_model.specs.Sound.{look, is_host_state, is_rd_state, IsSoundRows, IsFull, HasEmptyRows, IsZeroed}
+use Rattle.realm_model.specs.Sound.{mapping_at, is_host_state, is_rd_state, IsSoundRows, IsFull, HasEmptyRows, IsZeroed}
 use Rattle.realm_model.specs.Roles.{Role, target, is_role_state, HasRole}
 
 -- a realm stands at an RD granule
@@ -38,8 +38,8 @@ pub record IsReachable (limits : Limits) (world : World) : Type 0 where
   -- ends at a row.
   -- Rows of unprotected IPAs are UNASSIGNED and EMPTY, and TABLE rows count as EMPTY.
   -- The numbers of RECs are below the next.
-  pub rows : (rd : ℕ) (realm : RealmRow) → IsRealmAt world rd realm → IsSoundRows realm.root.width (look realm.rows)
-  pub full : (rd : ℕ) (realm : RealmRow) → IsRealmAt world rd realm → IsFull realm.root.width (look realm.rows)
+  pub rows : (rd : ℕ) (realm : RealmRow) → IsRealmAt world rd realm → IsSoundRows realm.root.width (mapping_at realm.rows)
+  pub full : (rd : ℕ) (realm : RealmRow) → IsRealmAt world rd realm → IsFull realm.root.width (mapping_at realm.rows)
   pub walks : (rd : ℕ) (realm : RealmRow) → IsRealmAt world rd realm → (ipa level : ℕ) → ipa < served_space realm.root.width → 1 ≤ level → is_some (walk realm.rows ipa level) ≡ true
   pub empty : (rd : ℕ) (realm : RealmRow) → IsRealmAt world rd realm → HasEmptyRows realm.root.width realm.rows
   pub recs : (rd : ℕ) (realm : RealmRow) → IsRealmAt world rd realm → (number : ℕ) (rec : RecRow) → get realm.recs number ≡ Some rec → number < realm.next

@@ -9,7 +9,7 @@ use Rattle.realm_model.specs.declared.states.EntryState.{EntryState}
 use Rattle.realm_model.specs.declared.states.EntryState.TheVariants.{Unassigned, Assigned, Table}
 use Rattle.realm_model.specs.Machine.{RealmRow, Cell}
 use Rattle.realm_model.specs.Ownership.{Mapping, granules_of_rec}
-use Rattle.realm_model.specs.Sound.{look}
+use Rattle.realm_model.specs.Sound.{mapping_at}
 
 -- A role that a granule can have in a realm: a starting table, what a row leads to, a REC, or an auxiliary of a REC.
 pub data Role : Type 0 where
@@ -37,7 +37,7 @@ aux_target (Some rec) index = option_map (λ g. (g, RecAux)) (slice_get rec.1 in
 -- the granule that a realm has in a role, and the state that goes with the role
 abbrev pub target : RealmRow → Role → Option (ℕ × GranuleState)
 target realm (AsStart index) = start_target realm.root index
-target realm (AtRow place) = row_target (look realm.rows place)
+target realm (AtRow place) = row_target (mapping_at realm.rows place)
 target realm (AsRec number) = option_map (λ rec. (rec.0, InRec)) (option_map granules_of_rec (get realm.recs number))
 target realm (AsAux number index) = aux_target (option_map granules_of_rec (get realm.recs number)) index
 

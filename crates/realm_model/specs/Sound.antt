@@ -14,8 +14,8 @@ use Rattle.realm_model.specs.Machine.{Cell}
 use Rattle.realm_model.specs.Ownership.{Mapping, mapping_of_row}
 
 -- the mapping at a place
-abbrev pub look : Rows → ℕ × ℕ → Option Mapping
-look rows place = option_map mapping_of_row (get rows place)
+abbrev pub mapping_at : Rows → ℕ × ℕ → Option Mapping
+mapping_at rows place = option_map mapping_of_row (get rows place)
 
 abbrev pub IsKind : ℕ → EntryState → Option ℕ → Type 0
 IsKind level Unassigned granule = granule ≡ None

@@ -36,5 +36,5 @@ pub record IsStep (limits : Limits) (world : World) (event : Event) (next : Worl
   pub leases : next.leases ≡ leases_after event.build event.act world.leases
 
 -- a step is exactly that, so the guards in the updates add nothing
-abbrev pub StepIsWhatItSays : Limits → World → Event → Type 0
-StepIsWhatItSays limits world event = (next : World) → (step limits world event ≡ Some next) ↔ IsStep limits world event next
+abbrev pub StepIsExact : Limits → World → Event → Type 0
+StepIsExact limits world event = (next : World) → (step limits world event ≡ Some next) ↔ IsStep limits world event next

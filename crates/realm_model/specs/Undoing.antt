@@ -56,8 +56,8 @@ abbrev pub AllCanBeUndone : Limits → List Event → ℕ → World → Type 0
 AllCanBeUndone limits history build world = IsAtRest (realm_of build world) → IsUndone limits history build world
 
 -- where nothing of a build is open, the world is that of the history without it
-abbrev pub NothingOpenIsNoTrace : Limits → List Event → ℕ → World → Type 0
-NothingOpenIsNoTrace limits history build world = open_entries build history ≡ [] → replay limits (erase build history) ≡ Some world
+abbrev pub NothingOpenIsNoninterference : Limits → List Event → ℕ → World → Type 0
+NothingOpenIsNoninterference limits history build world = open_entries build history ≡ [] → replay limits (erase build history) ≡ Some world
 
 -- a reverse act is accepted, and leads back to a world that owns the same
 pub record LeadsBack (limits : Limits) (build : ℕ) (world middle : World) (back : Act) : Type 0 where

@@ -133,14 +133,14 @@ impl Event {
 }
 
 /// The same granules again. No memory is taken.
-pub fn granules_again(granules: &ArrayVec<Gran, 16>) -> ArrayVec<Gran, 16>
+pub fn clone_granules(granules: &ArrayVec<Gran, 16>) -> ArrayVec<Gran, 16>
     ensures { result ≡ granules.now }
 {
-    let mut again = ArrayVec::new();
+    let mut clone = ArrayVec::new();
     for granule in granules.as_slice() {
-        again.push(*granule);
+        clone.push(*granule);
     }
-    again
+    clone
 }
 
 impl Act {
@@ -156,10 +156,10 @@ impl Act {
 
     /// The same act again. No memory is taken.
     #[tactic(auto, unfolding(crate::specs::Act::reverse_of))]
-    pub fn again(&self) -> Act
+    pub fn clone(&self) -> Act
         ensures { result ≡ self.now }
     {
-        if let Some(paired) = self.paired_again() {
+        if let Some(paired) = self.clone_paired() {
             return paired;
         }
         match *self {
@@ -194,7 +194,7 @@ impl Act {
                 number,
             } => Act::UnRec {
                 granule,
-                auxiliaries: granules_again(auxiliaries),
+                auxiliaries: clone_granules(auxiliaries),
                 number,
             },
             Act::Enter { number } => Act::Enter { number },
@@ -216,7 +216,7 @@ impl Act {
 
     // The same act again, where it has a reverse.
     #[tactic(auto, unfolding(crate::specs::Act::reverse_of))]
-    fn paired_again(&self) -> Option<Act>
+    fn clone_paired(&self) -> Option<Act>
         ensures { result ≡ (if acts.is_paired self.now then Some self.now else None) }
     {
         let paired = match *self {
@@ -248,7 +248,7 @@ impl Act {
                 number,
             } => Act::Rec {
                 granule,
-                auxiliaries: granules_again(auxiliaries),
+                auxiliaries: clone_granules(auxiliaries),
                 number,
             },
             _ => return None,

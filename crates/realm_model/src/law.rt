@@ -4,32 +4,34 @@ ghost use Rattle.realm_model.specs.declared.act.Act.{Act};
 ghost use Rattle.realm_model.specs.declared.act.Event.{Event};
 ghost use Rattle.realm_model.specs.Machine.{Limits};
 ghost use Rattle.realm_model.specs.World.{World};
-ghost use Rattle.realm_model.specs.StepLaw.{StepIsWhatItSays};
-ghost use Rattle.realm_model.specs.History.{replay, IsLegal, LeavesNoTrace};
+ghost use Rattle.realm_model.specs.StepLaw.{StepIsExact};
+ghost use Rattle.realm_model.specs.History.{replay, IsLegal, Noninterference};
 ghost use Rattle.realm_model.specs.Stack.{MatchingIsAStack};
 ghost use Rattle.realm_model.specs.Pages.{PagesAreLeased};
 ghost use Rattle.realm_model.specs.Reachable.{IsReachable};
 ghost use Rattle.realm_model.specs.Running.{RestIsOfAll};
 ghost use Rattle.realm_model.specs.Room.{RoomIsTaken, RoomIsSum};
 ghost use Rattle.realm_model.specs.LeftOut.{OthersKeepTheirRoom, WhatIsLeftIsAccepted};
-ghost use Rattle.realm_model.specs.Interleaving.{StandsAlone, HasSameEvents, EventsCommute};
+ghost use Rattle.realm_model.specs.Interleaving.{IsLegalAlone, HasSameEvents, EventsCommute};
 ghost use Rattle.realm_model.specs.Aborting.{StaysAtRest, AbortGoesOn};
 ghost use Rattle.realm_model.specs.OpenRealm.{RealmIsOpen, VmidIsOpen, NumbersAreFew};
-ghost use Rattle.realm_model.specs.Marks.{Mark, mark_at, Stands, StandsOn, CanRollBack};
-ghost use Rattle.realm_model.specs.Undoing.{NewestCanBeUndone, AllCanBeUndone, NothingOpenIsNoTrace, PairLeadsBack, OtherActOwnsSame, OwnershipFollows};
+ghost use Rattle.realm_model.specs.Marks.{Mark, mark_at, IsValidMark, StaysValid, CanRollBack};
+ghost use Rattle.realm_model.specs.Undoing.{NewestCanBeUndone, AllCanBeUndone, NothingOpenIsNoninterference, PairLeadsBack, OtherActOwnsSame, OwnershipFollows};
+ghost use Rattle.realm_model.specs.RecsOpen.{RecsAreOpen};
+ghost use Rattle.realm_model.specs.VmidsUsed.{VmidsFollowSteps};
 
 /// A legal history without the events of a build is legal, and gives the world without that build's part.
 pub fn builds_can_be_left_out()
-    ensures { (limits : Limits) (history : List Event) (build : ℕ) → IsLegal limits history → LeavesNoTrace limits history build }
+    ensures { (limits : Limits) (history : List Event) (build : ℕ) → IsLegal limits history → Noninterference limits history build }
 {}
 
 /// The events of one build of a legal history are legal alone, and lead to that build's part of the world.
 pub fn builds_can_be_taken_alone()
-    ensures { (limits : Limits) (history : List Event) (build : ℕ) → IsLegal limits history → StandsAlone limits history build }
+    ensures { (limits : Limits) (history : List Event) (build : ℕ) → IsLegal limits history → IsLegalAlone limits history build }
 {}
 
 /// Two legal histories with the same events of each build, each build's in the same order, lead to the same world.
-pub fn order_does_not_matter()
+pub fn schedule_does_not_matter()
     ensures { (limits : Limits) (history other : List Event) → IsLegal limits history → IsLegal limits other → HasSameEvents history other → replay limits history ≡ replay limits other }
 {}
 
@@ -40,8 +42,8 @@ pub fn events_of_two_builds_commute()
 {}
 
 /// A step is what it says: it asks no more than `IsStep` does, in any world that a history leads to.
-pub fn step_is_what_it_says()
-    ensures { (limits : Limits) (history : List Event) (world : World) (event : Event) → replay limits history ≡ Some world → StepIsWhatItSays limits world event }
+pub fn step_is_exact()
+    ensures { (limits : Limits) (history : List Event) (world : World) (event : Event) → replay limits history ≡ Some world → StepIsExact limits world event }
 {}
 
 /// What no reverse act matches is what is left on a stack of the paired acts.
@@ -126,8 +128,8 @@ pub fn newest_can_be_undone()
 {}
 
 /// Where nothing of a build is open, the world is that of the history without it.
-pub fn nothing_open_is_no_trace()
-    ensures { (limits : Limits) (history : List Event) (world : World) (build : ℕ) → IsLegal limits history → replay limits history ≡ Some world → NothingOpenIsNoTrace limits history build world }
+pub fn nothing_open_is_noninterference()
+    ensures { (limits : Limits) (history : List Event) (world : World) (build : ℕ) → IsLegal limits history → replay limits history ≡ Some world → NothingOpenIsNoninterference limits history build world }
 {}
 
 /// Where no REC of a build runs, all that it has open can be undone, newest first, and then it leaves no trace.
@@ -149,15 +151,26 @@ pub fn aborts_go_on()
 
 /// A mark stands when it is made.
 pub fn new_marks_stand()
-    ensures { (build : ℕ) (history : List Event) → Stands (mark_at build history) history }
+    ensures { (build : ℕ) (history : List Event) → IsValidMark (mark_at build history) history }
 {}
 
 /// A mark stands on until the build has less open than at the mark.
 pub fn marks_stand_on()
-    ensures { (mark : Mark) (history : List Event) (event : Event) → StandsOn mark history event }
+    ensures { (mark : Mark) (history : List Event) (event : Event) → StaysValid mark history event }
 {}
 
 /// A build can be rolled back to a mark that stands, where no REC that it made since runs.
 pub fn marks_can_be_rolled_back_to()
     ensures { (limits : Limits) (history : List Event) (world : World) (mark : Mark) → IsLegal limits history → replay limits history ≡ Some world → CanRollBack limits history mark world }
+{}
+
+/// The RECs of a build's realm are those of its open Rec acts, whose numbers rise.
+pub fn recs_are_open_acts()
+    ensures { (limits : Limits) (history : List Event) (world : World) (build : ℕ) → IsLegal limits history → replay limits history ≡ Some world → RecsAreOpen history world build }
+{}
+
+/// The VMIDs in use after an act are those before it, with that of a realm that is made, and without that of one that ends.
+pub fn vmids_follow_steps()
+    ensures { (limits : Limits) (history : List Event) (world : World) (build : ℕ) (act : Act) (next : World)
+        → IsLegal limits history → replay limits history ≡ Some world → VmidsFollowSteps limits history world build act next }
 {}

@@ -9,11 +9,13 @@ mod act;
 mod bounds;
 mod kind;
 pub mod law;
+mod place;
 mod rmi;
 mod states;
 
-pub use act::{Act, Event, granules_again};
+pub use act::{Act, Event, clone_granules};
 pub use bounds::{JOURNAL_ROOM, LEAST_HISTORY, MOST_HISTORY};
 pub use kind::{Kind, kind_of};
+pub use place::RealmAndRec;
 pub use rmi::{Rmi, Status};
 pub use states::{EntryState, GranuleState, RealmState, RecState, Ripas};

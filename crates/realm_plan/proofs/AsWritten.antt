@@ -3,10 +3,10 @@ use Rattle.std.proofs.Common.{◌≡◌, ℕ, ◌+◌, List, [], ◌∷◌, leng
 use Rattle.std.specs.Prelude.{nat_lt, IfOk}
 use Rattle.std.proofs.lemmas.Bool.{cases_Bool}
 use Rattle.toml.specs.Data.{Members}
-use Rattle.plan_steps.specs.Steps.{step_of}
-use Rattle.plan_steps.specs.Written.{spelling}
-use Rattle.plan_steps.specs.declared.step.PlanStep.{PlanStep}
-use Rattle.plan_steps.proofs.StepTexts.{text_of_step}
+use Rattle.realm_plan.specs.Steps.{step_of}
+use Rattle.realm_plan.specs.StepsWritten.{spelling}
+use Rattle.realm_plan.specs.declared.step.PlanStep.{PlanStep}
+use Rattle.realm_plan.proofs.StepTexts.{text_of_step}
 use Rattle.realm_plan.specs.Contents.{Contents, contents_of}
 use Rattle.realm_plan.specs.Outcome.{◌>>=◌, or_fault, Gives}
 use Rattle.realm_plan.specs.Plan.{Plan, steps_of, builds_of, order_of, plan_numbers_of, lengths_of, plan_of_contents, document_of, plan_of}

@@ -1,6 +1,6 @@
 -- The parts of a plan are read one after another: the first that fails is its fault.
 use Rattle.std.proofs.Common.{◌≡◌, ℕ, List, length, Result, Ok, refl}
-use Rattle.plan_steps.specs.declared.step.PlanStep.{PlanStep}
+use Rattle.realm_plan.specs.declared.step.PlanStep.{PlanStep}
 use Rattle.realm_plan.specs.Contents.{Contents}
 use Rattle.realm_plan.specs.Outcome.{◌>>=◌, Fails}
 use Rattle.realm_plan.specs.Plan.{Plan, builds_of, order_of, plan_numbers_of, lengths_of, plan_of_contents}

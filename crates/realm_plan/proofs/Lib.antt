@@ -3,3 +3,8 @@ pub mod Documents
 pub mod Fronts
 pub mod InOrder
 pub mod Views
+-- words and their numbers
+pub mod Auxiliaries
+pub mod StepMeans
+pub mod StepSpells
+pub mod StepTexts

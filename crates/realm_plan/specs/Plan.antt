@@ -4,8 +4,8 @@ use Rattle.std.specs.List.{list_all}
 use Rattle.std.specs.Str.{is_utf8}
 use Rattle.toml.specs.Data.{Members}
 use Rattle.toml.specs.Parse.{parse_document}
-use Rattle.plan_steps.specs.Steps.{step_of}
-use Rattle.plan_steps.specs.declared.step.PlanStep.{PlanStep}
+use Rattle.realm_plan.specs.Steps.{step_of}
+use Rattle.realm_plan.specs.declared.step.PlanStep.{PlanStep}
 use Rattle.realm_plan.specs.Contents.{Contents, contents_of}
 use Rattle.realm_plan.specs.Outcome.{◌>>=◌, or_fault}
 use Rattle.realm_plan.specs.declared.fault.PlanFault.{PlanFault}

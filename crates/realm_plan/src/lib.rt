@@ -1,15 +1,31 @@
 //! The plan of builds: from bytes to a plan, or to the one fault of the bytes.
 //!
 //! Values to values: nothing here reads a device or knows a host. `Plan::from_bytes` gives the plan that the bytes are, or
-//! the one fault that `plan_of` names.
+//! the one fault that `plan_of` names. `step_from_text` reads a step, and `StepText` writes one; the texts of answers and the
+//! lines of a map are here too, so that each has one place.
 #![tactic(auto)]
 
+mod answer;
+mod command;
 mod contents;
 mod fault;
+mod law;
 mod limits;
+mod lines;
+mod numbers;
+mod operands;
 mod plan;
+mod spelling;
+mod step;
+mod text;
 mod turns;
 
+pub use answer::{KindWord, RefusalText, ReplyText};
 pub use fault::{PlanError, PlanFault};
+pub use law::step_texts_are_injective;
 pub use limits::{MOST_BUILDS, MOST_STEPS, MOST_TURNS};
+pub use lines::{push_free, push_idle, push_page, push_realm, realm_word, state_word};
 pub use plan::{MOST_BYTES, Plan};
+pub use spelling::StepText;
+pub use step::PlanStep;
+pub use text::step_from_text;

@@ -5,10 +5,10 @@ ghost use Rattle.realm_plan.specs.ContentsView.{contents_view};
 ghost use Rattle.realm_plan.specs.Outcome.{Gives};
 ghost use Rattle.realm_plan.specs.Plan.{between as between_at, within as within_at, plan_numbers_of, lengths_of};
 
+use crate::PlanStep;
 use crate::contents::Contents;
 use crate::fault::{PlanError, PlanFault};
 use granule_addr::MOST_PAGES;
-use plan_steps::PlanStep;
 use realm_model::{LEAST_HISTORY, MOST_HISTORY};
 
 /// The most builds of a plan.

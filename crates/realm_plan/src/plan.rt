@@ -1,12 +1,12 @@
 //! What is to be run.
 ghost use Rattle.std.specs.Prelude.{◌≡◌, ◌<◌, ◌≤◌, map, All, IfOk, vec_len};
 
+use crate::PlanStep;
 use crate::contents::Contents;
 use crate::fault::{PlanError, PlanFault};
 use crate::limits::{lengths_of, numbers_of};
 use crate::turns::{builds_of, order_of, turns_of};
 use granule_addr::BuildId;
-use plan_steps::PlanStep;
 use std::alloc::Global;
 use toml::Table;
 
@@ -38,7 +38,7 @@ pub struct Plan {
 
 impl Plan {
     ghost use Rattle.toml.specs.View.{table_view};
-    ghost use Rattle.plan_steps.specs.Written.{spelling};
+    ghost use Rattle.realm_plan.specs.StepsWritten.{spelling};
     ghost use Rattle.realm_plan.specs.declared.fault.PlanFault.TheVariants.{Syntax};
     ghost use Rattle.realm_plan.specs.ContentsView.{contents_view};
     ghost use Rattle.realm_plan.specs.Outcome.{Gives, or_fault};

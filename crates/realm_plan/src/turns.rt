@@ -4,8 +4,8 @@ ghost use Rattle.realm_plan.specs.Outcome.{Gives};
 ghost use Rattle.realm_plan.specs.Plan.{steps_of, builds_of, build_named as build_named_at, order_of};
 
 use crate::fault::{PlanError, PlanFault};
+use crate::{PlanStep, step_from_text};
 use granule_addr::BuildId;
-use plan_steps::{PlanStep, step_from_text};
 use std::alloc::{AllocError, Global};
 
 /// The steps of one build.

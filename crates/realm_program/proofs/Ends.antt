@@ -5,8 +5,8 @@ use Rattle.realm_plan.specs.Outcome.{Fails}
 use Rattle.realm_plan.specs.Plan.{Plan, plan_of}
 use Rattle.realm_plan.specs.declared.fault.PlanError.{PlanError}
 use Rattle.realm_plan.specs.declared.fault.PlanError.TheVariants as plan_error
-use Rattle.told_device.specs.Whole.{AppendsFront}
-use Rattle.told_device.proofs.Read.{keeps_same}
+use Rattle.checked_io.specs.Whole.{AppendsFront}
+use Rattle.checked_io.proofs.Read.{keeps_same}
 use Rattle.realm_program.specs.Fault.{fault_of_plan}
 use Rattle.realm_program.specs.Whole.{kept_of}
 use Rattle.realm_program.specs.Printed.{IsPlanOf, HasNoPlan, IsFaultOfText, IsPrinted, IsEnd}

@@ -1,10 +1,10 @@
 -- What a replay prints.
 use Rattle.std.specs.Prelude.{◌≡◌, ◌<◌, ◌≤◌, ℕ, List, [], ◌++◌, length, Option, Some, None}
-use Rattle.build_books.specs.View.{HostView}
-use Rattle.build_books.specs.Booted.{booted}
+use Rattle.host_ledger.specs.View.{HostView}
+use Rattle.host_ledger.specs.Booted.{booted}
 use Rattle.realm_host.specs.Recorded.{IsWithout}
 use Rattle.realm_plan.specs.Plan.{Plan}
-use Rattle.plan_runs.specs.Run.{IsToldRun, map_text}
+use Rattle.plan_replay.specs.Run.{IsReportedRun, map_text}
 use Rattle.realm_program.specs.declared.fault.Fault.{Fault}
 use Rattle.realm_program.specs.declared.fault.Fault.TheVariants.{EraseNamesNoBuild, Memory}
 
@@ -15,7 +15,7 @@ opening_host plan = booted plan.pages plan.vmids plan.aux (length plan.builds) p
 -- some run of the plan leads to this host
 pub record RunLeadsTo (plan : Plan) (last : HostView) : Type 0 where
   pub lines : List ℕ
-  pub run : IsToldRun plan (opening_host plan) last [] lines
+  pub run : IsReportedRun plan (opening_host plan) last [] lines
 
 -- the map of a host's history without the build's events
 pub record IsMapWithout (host : HostView) (build : ℕ) (text : List ℕ) : Type 0 where
@@ -27,7 +27,7 @@ pub record IsMapWithout (host : HostView) (build : ℕ) (text : List ℕ) : Type
 pub record IsText (plan : Plan) (text : List ℕ) : Type 0 where
   pub last : HostView
   pub lines : List ℕ
-  pub run : IsToldRun plan (opening_host plan) last [] lines
+  pub run : IsReportedRun plan (opening_host plan) last [] lines
   pub whole : text ≡ lines ++ map_text last
 
 -- The text with a build of the plan left out: the map of the history of some run without the build's events.
@@ -35,7 +35,7 @@ pub record IsErasedText (plan : Plan) (build : ℕ) (text : List ℕ) : Type 0 w
   pub of_plan : build < length plan.builds
   pub last : HostView
   pub lines : List ℕ
-  pub run : IsToldRun plan (opening_host plan) last [] lines
+  pub run : IsReportedRun plan (opening_host plan) last [] lines
   pub fresh : HostView
   pub without : IsWithout last build fresh
   pub whole : text ≡ map_text fresh

@@ -3,12 +3,12 @@ ghost use Rattle.std.specs.Prelude.{◌≡◌};
 ghost use Rattle.realm_program.specs.declared.fault.Fault.TheVariants.{Memory, Device};
 
 use crate::input::ReadError;
+use checked_io::DeviceFailed;
 use command_line::Reason;
 use granule_addr::BuildId;
 use realm_plan::{PlanError, PlanFault};
 use std::alloc::AllocError;
 use thiserror::Error;
-use told_device::DeviceFailed;
 
 /// Why nothing is printed, or only a prefix of the text. Its line goes to standard error.
 #[derive(Clone, Copy, Debug, PartialEq, Eq, Error)]

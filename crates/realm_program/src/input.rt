@@ -3,9 +3,9 @@ ghost use Rattle.std.specs.Prelude.{◌≡◌, ◌+◌, ◌≤◌, ◌↔◌, []
 ghost use Rattle.realm_program.specs.Whole.{kept_of};
 ghost use Rattle.realm_program.specs.declared.input.ReadError.TheVariants.{Device};
 
+use checked_io::Told;
 use std::alloc::Global;
 use std::io::Read;
-use told_device::Told;
 
 /// How many bytes are kept of an input: one more than a plan may have.
 pub const KEPT: usize = 1_048_577;

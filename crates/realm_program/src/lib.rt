@@ -5,16 +5,16 @@
 //! in: a caller hands in the devices.
 #![tactic(auto)]
 
-mod booting;
-mod built;
+mod boot_host;
+mod buildable_store;
 mod fault;
 mod input;
 mod printing;
 mod source;
 mod text;
 
-pub use booting::{boot, boot_by};
-pub use built::Built;
+pub use boot_host::{boot, boot_by};
+pub use buildable_store::BuildableStore;
 pub use command_line::realmhost::Line;
 pub use fault::Fault;
 pub use input::{ReadError, read_whole};

@@ -8,10 +8,10 @@ ghost use Rattle.realm_program.specs.declared.fault.Fault.TheVariants.{Device};
 
 use crate::fault::Fault;
 use crate::source::plan_in;
+use checked_io::Told;
 use realm_plan::Plan;
 use std::alloc::Global;
 use std::io::{Read, Write};
-use told_device::Told;
 
 /// A kind of texts of plans.
 pub trait PlanText {

@@ -6,10 +6,10 @@ ghost use Rattle.realm_program.specs.declared.fault.Fault.TheVariants.{Device};
 
 use crate::fault::Fault;
 use crate::input::read_whole;
+use checked_io::Told;
 use realm_plan::Plan;
 use std::alloc::Global;
 use std::io::Read;
-use told_device::Told;
 
 /// Reads a plan. Errors: its fault; Memory, where allocation failed; Device, where a read failed.
 pub fn plan_in<R: Read>(alloc: Global, input: &mut Told<R>) -> Result<Plan, Fault>

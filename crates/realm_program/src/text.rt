@@ -1,29 +1,33 @@
 //! A plan in, the text of its run out.
 ghost use Rattle.std.specs.Prelude.{◌≡◌, ◌+◌, ◌<◌, ◌≤◌, ◌↔◌, ◌⊎◌, ◌≢◌, [], false, true, Err, IfOk, IfErr, string_bytes, vec_len};
 ghost use Rattle.std.specs.Result.{OnOk};
-ghost use Rattle.plan_runs.specs.Run.{IsToldRun};
+ghost use Rattle.plan_replay.specs.Run.{IsReportedRun};
 ghost use Rattle.realm_plan.specs.PlanView.{plan_view};
 ghost use Rattle.realm_program.specs.Printed.{IsEnd};
 ghost use Rattle.realm_host.specs.Recorded.{fresh_like};
 ghost use Rattle.realm_program.specs.Replay.{opening_host, RunLeadsTo, IsMapWithout, IsText, IsErasedText, IsAskedText, IsWithoutText};
 ghost use Rattle.realm_program.specs.declared.fault.Fault.TheVariants.{Device, Mismatch};
 
-use crate::booting::boot;
-use crate::built::Built;
+use crate::boot_host::boot;
+use crate::buildable_store::BuildableStore;
 use crate::fault::Fault;
 use crate::printing::{PlanText, print};
 use buddy::BuddyArena;
+use checked_io::Told;
 use granule_addr::BuildId;
-use plan_runs::{map_text, push_map, run_turns, text_for};
-use realm_host::{Books, Host, apply_without};
+use plan_replay::{map_text, push_map, run_turns, text_for};
+use realm_host::{Host, HostLedger, apply_without};
 use realm_plan::Plan;
 use std::alloc::{AllocError, Global};
 use std::io::{Read, Write};
-use told_device::Told;
 
 // The host after a run of the plan. The lines of its turns are appended.
-fn run_plan<S: Built>(alloc: Global, plan: &Plan, lines: &mut String) -> Result<Host<S>, AllocError>
-    ensures { IfOk result (λ host. IsToldRun (plan_view plan.now) (opening_host (plan_view plan.now)) host (string_bytes lines.old) (string_bytes lines.new)) }
+fn run_plan<S: BuildableStore>(
+    alloc: Global,
+    plan: &Plan,
+    lines: &mut String,
+) -> Result<Host<S>, AllocError>
+    ensures { IfOk result (λ host. IsReportedRun (plan_view plan.now) (opening_host (plan_view plan.now)) host (string_bytes lines.old) (string_bytes lines.new)) }
 {
     let mut host = boot(alloc, plan)?;
     run_turns(&mut host, plan, lines)?;
@@ -31,7 +35,11 @@ fn run_plan<S: Built>(alloc: Global, plan: &Plan, lines: &mut String) -> Result<
 }
 
 // Appends the text of a run of the plan.
-fn push_text<S: Built>(alloc: Global, plan: &Plan, text: &mut String) -> Result<(), AllocError>
+fn push_text<S: BuildableStore>(
+    alloc: Global,
+    plan: &Plan,
+    text: &mut String,
+) -> Result<(), AllocError>
     requires { string_bytes text.old ≡ [] }
     ensures { OnOk result (IsText (plan_view plan.now) (string_bytes text.new)) }
 {
@@ -40,7 +48,7 @@ fn push_text<S: Built>(alloc: Global, plan: &Plan, text: &mut String) -> Result<
 }
 
 /// The text of a run of the plan, made whole in memory. The one error is that allocation failed.
-pub fn text_of<S: Built>(alloc: Global, plan: &Plan) -> Result<String, AllocError>
+pub fn text_of<S: BuildableStore>(alloc: Global, plan: &Plan) -> Result<String, AllocError>
     ensures { IfOk result (λ text. IsText (plan_view plan.now) (string_bytes text)) }
 {
     let mut text = text_for(alloc, plan)?;
@@ -49,12 +57,12 @@ pub fn text_of<S: Built>(alloc: Global, plan: &Plan) -> Result<String, AllocErro
 }
 
 // The books after a run of the plan. Its lines are let go, and the memory of its machine is given back.
-fn books_of(alloc: Global, plan: &Plan) -> Result<Books, AllocError>
+fn ledger_of(alloc: Global, plan: &Plan) -> Result<HostLedger, AllocError>
     ensures { IfOk result (RunLeadsTo (plan_view plan.now)) }
 {
     let mut lines = text_for(alloc, plan)?;
     let host = run_plan::<BuddyArena>(alloc, plan, &mut lines)?;
-    Ok(host.into_books())
+    Ok(host.into_ledger())
 }
 
 /// The map of a host's history without the build's events: it is applied to a fresh host of the plan. The one error is that
@@ -62,14 +70,14 @@ fn books_of(alloc: Global, plan: &Plan) -> Result<Books, AllocError>
 pub fn map_without(
     alloc: Global,
     plan: &Plan,
-    books: &Books,
+    ledger: &HostLedger,
     build: BuildId,
 ) -> Result<String, AllocError>
-    requires { opening_host (plan_view plan.now) ≡ fresh_like books.now }
-    ensures { IfOk result (λ text. IsMapWithout books.now build (string_bytes text)) }
+    requires { opening_host (plan_view plan.now) ≡ fresh_like ledger.now }
+    ensures { IfOk result (λ text. IsMapWithout ledger.now build (string_bytes text)) }
 {
     let mut fresh = boot::<BuddyArena>(alloc, plan)?;
-    apply_without(books, build, &mut fresh);
+    apply_without(ledger, build, &mut fresh);
     map_text(alloc, &fresh)
 }
 
@@ -78,8 +86,8 @@ fn run_without(alloc: Global, plan: &Plan, build: BuildId) -> Result<String, All
     requires { build < vec_len plan.now.builds }
     ensures { IfOk result (λ text. IsErasedText (plan_view plan.now) build (string_bytes text)) }
 {
-    let books = books_of(alloc, plan)?;
-    map_without(alloc, plan, &books, build)
+    let ledger = ledger_of(alloc, plan)?;
+    map_without(alloc, plan, &ledger, build)
 }
 
 // The map of a run of the plan with a build left out.

@@ -7,6 +7,7 @@ ghost use Rattle.std.specs.Process.{exit_status};
 ghost use Rattle.realm_program.specs.Stop.{status_of_outcome, IsStatus};
 
 use builders::OpenGate;
+use checked_io::Told;
 use command_line::{Stop, arguments};
 use realm_program::{Fault, Line, replay};
 use run_program::run;
@@ -16,7 +17,6 @@ use std::process::ExitCode;
 use std::rt::Env;
 use std::sync::Wait;
 use std::thread::Threads;
-use told_device::Told;
 
 /// Does what the command line asks for, from an input to an output.
 fn perform<H: Env + AllocGlobal + Threads + Wait + Sync, R: Read, W: Write>(

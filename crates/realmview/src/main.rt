@@ -9,33 +9,33 @@ ghost use Rattle.view_program.specs.Stop.{view_exit_status};
 
 mod meter;
 
+use checked_io::Told;
 use command_line::{Ended, Input, Output, Painting, Stop, arguments};
 use meter::Meter;
 use std::process::ExitCode;
-use told_device::Told;
-use view_program::{Asked, Fault, Verdict, run};
+use view_program::{ViewError, ViewOutcome, ViewSubcommand, run};
 
 /// The input that is awaited.
-fn awaited(asked: Asked) -> &'static str {
+fn awaited(asked: ViewSubcommand) -> &'static str {
     match asked {
-        Asked::Apply(_) => "a history",
+        ViewSubcommand::Apply(_) => "a history",
         _ => "a plan",
     }
 }
 
 /// The lines of the output that are painted on a terminal.
-fn painting(asked: Asked) -> Option<Painting> {
+fn painting(asked: ViewSubcommand) -> Option<Painting> {
     match asked {
-        Asked::Check | Asked::Why { .. } => Some(Painting::Messages),
+        ViewSubcommand::Check | ViewSubcommand::Why { .. } => Some(Painting::Messages),
         _ => None,
     }
 }
 
 /// Does what the command line asks for.
-fn show(rt: &HostRuntime) -> Result<Ended<Verdict>, Stop<Fault>> {
+fn show(rt: &HostRuntime) -> Result<Ended<ViewOutcome>, Stop<ViewError>> {
     let alloc = rt.alloc();
-    let words = arguments::<_, Fault>(rt)?;
-    let line = match Asked::of(alloc, &words) {
+    let words = arguments::<_, ViewError>(rt)?;
+    let line = match ViewSubcommand::of(alloc, &words) {
         Ok(line) => line,
         Err(error) => return Ended::shown(alloc, error, &mut Told::new(rt.stdout())),
     };
@@ -49,13 +49,13 @@ fn show(rt: &HostRuntime) -> Result<Ended<Verdict>, Stop<Fault>> {
 }
 
 /// The exit status. Where the program stops, standard error is told why. The errors of a plan stand on standard output.
-fn end(rt: &HostRuntime, outcome: Result<Ended<Verdict>, Stop<Fault>>) -> ExitCode
+fn end(rt: &HostRuntime, outcome: Result<Ended<ViewOutcome>, Stop<ViewError>>) -> ExitCode
     ensures value { exit_status result ≡ view_exit_status outcome }
     ensures stops { IfErr outcome (λ _. IsStatus (exit_status result)) }
 {
     match outcome {
-        Ok(Ended::Done(Verdict::Done) | Ended::Shown) => ExitCode::SUCCESS,
-        Ok(Ended::Done(Verdict::HasErrors)) => ExitCode::FAILURE,
+        Ok(Ended::Done(ViewOutcome::Done) | Ended::Shown) => ExitCode::SUCCESS,
+        Ok(Ended::Done(ViewOutcome::HasErrors)) => ExitCode::FAILURE,
         Ok(Ended::Closed) => ExitCode::from(141),
         Err(stop) => stop.end_in_colour(rt),
     }

@@ -1,5 +1,5 @@
 //! How far an exploration has come, on a terminal.
-use order_runs::{Expected, Progress};
+use schedules::{Expected, Progress};
 use std::cell::Cell;
 use std::io::IsTerminal;
 use std::time::Instant;

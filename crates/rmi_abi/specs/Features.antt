@@ -2,13 +2,13 @@
 use Rattle.std.specs.Prelude.{ℕ, ◌+◌, ◌*◌, ◌^◌, ◌==◌, if◌then◌else◌}
 use Rattle.rmi_abi.specs.declared.settings.Layout.{Layout}
 use Rattle.rmi_abi.specs.declared.settings.Layout.TheVariants.{Rel0, Eac5}
-use Rattle.rmi_abi.specs.declared.settings.Settings.{Settings}
+use Rattle.rmi_abi.specs.declared.settings.RmmSettings.{RmmSettings}
 
 -- S2SZ, NUM_BPS, NUM_WPS, both hashes, GICV3_NUM_LRS and MAX_RECS_ORDER, each at its first bit
-abbrev pub fields : Layout → Settings → ℕ
+abbrev pub fields : Layout → RmmSettings → ℕ
 fields Rel0 s = s.s2sz + s.bps * 2 ^ 14 + s.wps * 2 ^ 20 + (2 ^ 32 + 2 ^ 33) + s.lrs * 2 ^ 34 + s.max_recs_order * 2 ^ 38
 fields Eac5 s = s.s2sz + s.bps * 2 ^ 14 + s.wps * 2 ^ 18 + (2 ^ 28 + 2 ^ 29) + s.lrs * 2 ^ 30 + s.max_recs_order * 2 ^ 34
 
 -- The feature register of an index: there is no other than 0.
-unfoldable pub feature_register : Settings → ℕ → ℕ
+unfoldable pub feature_register : RmmSettings → ℕ → ℕ
 feature_register s index = if index == 0 then fields s.layout s else 0

@@ -1,6 +1,7 @@
 pub mod Answer
 pub mod Call
 pub mod Features
+pub mod Gic
 pub mod Mpidr
 pub mod RealmParams
 pub mod RecParams

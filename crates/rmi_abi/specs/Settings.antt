@@ -2,14 +2,14 @@
 use Rattle.std.specs.Prelude.{◌≡◌, ℕ, ◌%◌, ◌^◌, ◌<◌, ◌≤◌, ◌==◌, ◌&&◌, ◌||◌, Bool, nat_le, nat_lt, IsTrue}
 use Rattle.rmi_abi.specs.declared.settings.Layout.{Layout}
 use Rattle.rmi_abi.specs.declared.settings.Layout.TheVariants.{Rel0, Eac5}
-use Rattle.rmi_abi.specs.declared.settings.Settings.{Settings}
+use Rattle.rmi_abi.specs.declared.settings.RmmSettings.{RmmSettings}
 
 -- both addresses are those of granules below 2^47
-abbrev pub has_addresses : Settings → Bool
+abbrev pub has_addresses : RmmSettings → Bool
 has_addresses s = nat_lt s.base (2 ^ 47) && s.base % 4096 == 0 && nat_lt s.secure_base (2 ^ 47) && s.secure_base % 4096 == 0
 
 -- the sizes are ones that a monitor can have
-abbrev pub has_sizes : Settings → Bool
+abbrev pub has_sizes : RmmSettings → Bool
 has_sizes s =
     nat_le s.aux 16 && (s.vmid_bits == 8 || s.vmid_bits == 16) && nat_le 32 s.s2sz && nat_le s.s2sz 48 && nat_le s.max_recs_order 15
     && (s.block_level == 1 || s.block_level == 2)
@@ -20,14 +20,14 @@ most_breakpoints Rel0 = 63
 most_breakpoints Eac5 = 15
 
 -- the fields fit feature register 0 in its layout
-abbrev pub has_fields : Settings → Bool
+abbrev pub has_fields : RmmSettings → Bool
 has_fields s = nat_le s.bps (most_breakpoints s.layout) && nat_le s.wps (most_breakpoints s.layout) && nat_le s.lrs 15
 
-abbrev pub is_platform : Settings → Bool
+abbrev pub is_platform : RmmSettings → Bool
 is_platform s = has_addresses s && has_sizes s && has_fields s
 
 -- The ranges of a platform's settings.
-pub record IsPlatform (s : Settings) : Type 0 where
+pub record IsPlatform (s : RmmSettings) : Type 0 where
   pub base : s.base < 2 ^ 47
   pub base_aligned : s.base % 4096 ≡ 0
   pub aux : s.aux ≤ 16

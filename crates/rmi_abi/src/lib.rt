@@ -5,6 +5,7 @@
 
 mod call;
 mod features;
+mod gic;
 mod hash;
 pub mod law;
 mod mpidr;
@@ -17,11 +18,12 @@ mod word;
 
 pub use call::{Call, decode_call, encode_call};
 pub use features::feature_register;
+pub use gic::GicFields;
 pub use hash::HashAlgorithm;
 pub use mpidr::{is_mpidr, rec_number};
 pub use realm_params::RealmParams;
 pub use rec_params::RecParams;
 pub use rec_run::{EnterFlags, ExitReason, RecExit, entry_gpr};
-pub use registers::{Answer, Registers, answer_registers, unknown_registers};
-pub use settings::{Layout, Platform, Settings};
+pub use registers::{Registers, SmcResult, answer_registers, unknown_registers};
+pub use settings::{Layout, Platform, RmmSettings};
 pub use word::Word;

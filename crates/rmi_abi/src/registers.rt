@@ -18,7 +18,7 @@ pub struct Registers {
 
 /// The result word of a command, and its outputs X1 to X4.
 #[derive(Clone, Copy, Debug, PartialEq, Eq)]
-pub struct Answer {
+pub struct SmcResult {
     pub word: Word,
     pub x1: u64,
     pub x2: u64,
@@ -26,12 +26,12 @@ pub struct Answer {
     pub x4: u64,
 }
 
-impl Answer {
+impl SmcResult {
     /// An answer without outputs.
-    pub fn only(word: Word) -> Answer
+    pub fn only(word: Word) -> SmcResult
         ensures { result ≡ answers.only word }
     {
-        Answer {
+        SmcResult {
             word,
             x1: 0,
             x2: 0,
@@ -42,7 +42,7 @@ impl Answer {
 }
 
 /// The registers with an answer in X0 to X4.
-pub fn answer_registers(regs: Registers, answer: Answer) -> Registers
+pub fn answer_registers(regs: Registers, answer: SmcResult) -> Registers
     ensures { result ≡ answers.with_answer regs answer }
 {
     Registers {

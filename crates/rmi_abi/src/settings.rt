@@ -13,7 +13,7 @@ pub enum Layout {
 
 /// The settings of a monitor. What the standard leaves open has the default that is the likeliest.
 #[derive(Clone, Copy, Debug, PartialEq, Eq)]
-pub struct Settings {
+pub struct RmmSettings {
     /// The address of the first granule.
     pub base: u64,
     /// The address of the first granule that cannot be delegated, and how many there are.
@@ -52,9 +52,9 @@ pub struct Settings {
     pub checks_gic: bool,
 }
 
-impl Settings {
+impl RmmSettings {
     /// The defaults, with the first granule at 0x8000_0000.
-    pub const DEFAULT: Settings = Settings {
+    pub const DEFAULT: RmmSettings = RmmSettings {
         base: 0x8000_0000,
         secure_base: 0,
         secure_count: 0,
@@ -115,14 +115,14 @@ impl Settings {
 /// Settings that are in range.
 #[derive(Clone, Copy, Debug, PartialEq, Eq)]
 pub struct Platform {
-    settings: Settings,
+    settings: RmmSettings,
 }
 
 impl Model for Platform {
-    ghost use Rattle.rmi_abi.specs.declared.settings.Settings.{Settings};
+    ghost use Rattle.rmi_abi.specs.declared.settings.RmmSettings.{RmmSettings};
     ghost use Rattle.rmi_abi.specs.Settings.{IsPlatform};
 
-    ghost Value = { Settings };
+    ghost Value = { RmmSettings };
 
     ghost view = { λ p. p.settings };
 
@@ -133,7 +133,7 @@ impl Model for Platform {
 
 impl Platform {
     /// The platform of settings; `None` comes for a setting out of its range.
-    pub fn new(settings: Settings) -> Option<Platform>
+    pub fn new(settings: RmmSettings) -> Option<Platform>
         ensures { result ≡ (if ranges.is_platform settings then Some settings else None) }
     {
         if settings.has_addresses() && settings.has_sizes() && settings.has_fields() {
@@ -143,7 +143,7 @@ impl Platform {
         }
     }
 
-    pub fn settings(&self) -> &Settings
+    pub fn settings(&self) -> &RmmSettings
         ensures value { result.now ≡ self.now }
         ensures ranges { ranges.IsPlatform result.now }
     {

@@ -4,7 +4,7 @@ use Rattle.std.specs.Prelude.{◌&&◌, option_and_then}
 use Rattle.std.proofs.lemmas.Bool.Decides.{nat_tests}
 use Rattle.realm_model.specs.Update.{Outcome}
 use Rattle.rmi_monitor.specs.View.{MonitorView, after_command}
-use Rattle.rmi_bench_c.specs.Answers.{fits_u16, word_of, word_on, bench_after, Performs, Serves, Tells, Reads}
+use Rattle.rmi_bench_c.specs.Answers.{fits_u16, word_of, word_on, bench_after, Performs, Serves, Reports, Reads}
 
 pub fits : (a : ℕ) → a ≤ 65535 → fits_u16 a ≡ true
 fits a h = grind (arith, nat_tests)
@@ -32,8 +32,8 @@ serves fits command old new word fit performed = record {
 
 -- what was found in the bench m is told
 pub reads : {A : Type 0} (fits : Bool) (read : MonitorView → Option A) (bench : Option MonitorView) (old new : A) (told : Bool) (m : MonitorView) (found : Option A)
-    → fits ≡ true → bench ≡ Some m → found ≡ read m → Tells found old told new → Reads fits read bench old told new
+    → fits ≡ true → bench ≡ Some m → found ≡ read m → Reports found old told new → Reads fits read bench old told new
 reads {A} fits read bench old new told m found fit was is tells = record {
-  fitting = λ _. subst (λ (it : Option A). Tells it old told new) (is ∙ ap (option_and_then read) (sym was)) tells;
+  fitting = λ _. subst (λ (it : Option A). Reports it old told new) (is ∙ ap (option_and_then read) (sym was)) tells;
   unfit = λ unfit. absurd (true-false (sym fit ∙ unfit));
 }

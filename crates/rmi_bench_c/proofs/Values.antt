@@ -29,7 +29,7 @@ use Rattle.rmi_monitor.specs.View.{MonitorView}
 use Rattle.rmi_bench.specs.contracts.bench.Bench.{the_row as bench_row}
 use Rattle.rmi_bench_c.specs.Owned.{right, held_owns}
 use Rattle.rmi_bench_c.specs.contracts.parts.Parts as parts
-use Rattle.rmi_bench_c.specs.contracts.held.Held as held
+use Rattle.rmi_bench_c.specs.contracts.held_bench.Held as held
 
 pub record Full {A : Type 0} (o : Option A) : Type 0 where
   pub value : A

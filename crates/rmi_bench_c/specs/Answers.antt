@@ -79,14 +79,14 @@ abbrev pub FindsAt : {F M R : Type 0} → Once F (Bor M × (ℕ × Unit {0})) R 
 FindsAt {F} {M} g f granule m r = (p : Bor M) × g.post f (p, (granule, tt)) r × (p.now ≡ m)
 
 -- What is read is told, and whether there was anything; where there was nothing, what was to be written stays as it is.
-pub record Tells {A : Type 0} (read : Option A) (old : A) (told : Bool) (new : A) : Type 0 where
+pub record Reports {A : Type 0} (read : Option A) (old : A) (told : Bool) (new : A) : Type 0 where
   pub is_told : told ≡ is_some read
   pub value : new ≡ unwrap_or read old
 
 -- A reading of the bench of a handle: nothing where the handle is closed, or the operand does not fit its field.
 pub record Reads {A : Type 0} (fits : Bool) (read : MonitorView → Option A) (bench : Option MonitorView) (old : A) (told : Bool) (new : A) : Type 0 where
-  pub fitting : fits ≡ true → Tells (option_and_then read bench) old told new
-  pub unfit : fits ≡ false → Tells None old told new
+  pub fitting : fits ≡ true → Reports (option_and_then read bench) old told new
+  pub unfit : fits ≡ false → Reports None old told new
 
 -- the machine has the granule, and its page has the word
 abbrev pub has_word : Option MonitorView → ℕ → ℕ → Bool

@@ -1,3 +1,3 @@
 pub mod Owned
 pub mod Answers
-pub mod Told
+pub mod Info

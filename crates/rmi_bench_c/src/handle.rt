@@ -9,9 +9,9 @@ ghost use Rattle.rmi_bench.specs.Calls.{Does};
 ghost use Rattle.rmi_bench_c.specs.Answers.{fits_u16, Performs, Serves, Reads, DoesAt, FindsAt};
 
 use crate::Held;
+use crate::info::tell;
 use crate::operands::narrow;
 use crate::parts::Parts;
-use crate::told::tell;
 use crate::word::{CLOSED, word};
 use realm_model::Rmi;
 use rmi_bench::Bench;

@@ -7,7 +7,8 @@
 mod data;
 mod granule;
 mod handle;
-mod held;
+mod held_bench;
+mod info;
 mod made;
 mod open;
 mod operands;
@@ -18,9 +19,8 @@ mod realm;
 mod rec;
 mod run;
 mod table;
-mod told;
 mod word;
 
 pub use handle::Handle;
-pub use held::Held;
-pub use told::{Realm, Rec};
+pub use held_bench::Held;
+pub use info::{RealmInfo, RecInfo};

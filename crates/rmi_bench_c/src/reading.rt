@@ -3,11 +3,11 @@
 ghost use Rattle.std.specs.Prelude.{◌≡◌, ◌&&◌, true, false, sum, option_map, IfSome};
 ghost use Rattle.rmi_bench.specs.Readings.{reading, realm_reading, rec_reading, IsWordOf};
 ghost use Rattle.rmi_bench_c.specs.Answers.{fits_u16, has_word, Reads};
-ghost use Rattle.rmi_bench_c.specs.Told.{granule_state_code, realm_told, rec_told};
+ghost use Rattle.rmi_bench_c.specs.Info.{granule_state_code, realm_info, rec_info};
 
 use crate::Handle;
+use crate::info::{RealmInfo, RecInfo, realm_of, rec_of, state_of, sum_of};
 use crate::operands::narrow;
-use crate::told::{Realm, Rec, realm_of, rec_of, state_of, sum_of};
 use std::alloc::Global;
 
 /// The state of a granule, by its number, into `state`. RMM 1.0, Granule state.
@@ -80,9 +80,9 @@ pub extern "C" fn rmi_read_realm(
     alloc: Global,
     handle: &mut Handle,
     granule: u64,
-    realm: &mut Realm,
+    realm: &mut RealmInfo,
 ) -> bool
-    ensures read { Reads (fits_u16 granule) (λ m. option_map realm_told (realm_reading m granule))
+    ensures read { Reads (fits_u16 granule) (λ m. option_map realm_info (realm_reading m granule))
         handle.old.held.bench realm.old result realm.new }
     ensures same { handle.new.held.bench ≡ handle.old.held.bench }
 {
@@ -95,9 +95,9 @@ pub extern "C" fn rmi_read_rec(
     alloc: Global,
     handle: &mut Handle,
     granule: u64,
-    rec: &mut Rec,
+    rec: &mut RecInfo,
 ) -> bool
-    ensures read { Reads (fits_u16 granule) (λ m. option_map rec_told (rec_reading m granule))
+    ensures read { Reads (fits_u16 granule) (λ m. option_map rec_info (rec_reading m granule))
         handle.old.held.bench rec.old result rec.new }
     ensures same { handle.new.held.bench ≡ handle.old.held.bench }
 {

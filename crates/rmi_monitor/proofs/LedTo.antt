@@ -10,7 +10,7 @@ use Rattle.realm_model.specs.declared.states.EntryState.{EntryState}
 use Rattle.realm_model.specs.declared.states.EntryState.TheVariants.{Unassigned, Assigned, Table}
 use Rattle.realm_model.specs.declared.states.Ripas.{Ripas}
 use Rattle.realm_model.specs.Rows.{Row, row_at, is_assigned, is_table}
-use Rattle.rtt.specs.Word.{IsSaid}
+use Rattle.rtt.specs.Word.{IsEncodable}
 use Rattle.rtt.specs.Tables.{Entries, entries_of, table_at, rows}
 use Rattle.rtt.specs.Realm.{IsInside, HasTables}
 use Rattle.rtt.proofs.EntryKinds.{table_of-table}
@@ -20,14 +20,14 @@ use Rattle.rtt.proofs.Walks.{child_in, page_in}
 
 -- ---- the granule of a row
 
-table_said : (state : EntryState) (ripas : Ripas) (granule : Option ℕ) → elim state [ Unassigned ↦ false | Assigned ↦ false | Table ↦ true ] ≡ true → IsSaid state ripas granule
+table_said : (state : EntryState) (ripas : Ripas) (granule : Option ℕ) → elim state [ Unassigned ↦ false | Assigned ↦ false | Table ↦ true ] ≡ true → IsEncodable state ripas granule
     → (g : ℕ) × (granule ≡ Some g)
 table_said Unassigned ripas granule h is = cc
 table_said Assigned ripas granule h is = cc
 table_said Table ripas None h is = absurd is
 table_said Table ripas (Some g) h is = (g, refl)
 
-page_said : (state : EntryState) (ripas : Ripas) (granule : Option ℕ) → elim state [ Unassigned ↦ false | Assigned ↦ true | Table ↦ false ] ≡ true → IsSaid state ripas granule
+page_said : (state : EntryState) (ripas : Ripas) (granule : Option ℕ) → elim state [ Unassigned ↦ false | Assigned ↦ true | Table ↦ false ] ≡ true → IsEncodable state ripas granule
     → (g : ℕ) × (granule ≡ Some g)
 page_said Unassigned ripas granule h is = cc
 page_said Assigned ripas None h is = absurd is

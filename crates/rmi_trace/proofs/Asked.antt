@@ -6,8 +6,8 @@ use Rattle.std.proofs.lemmas.List.{take-append-drop}
 use Rattle.std.proofs.lemmas.Slice.Eq.{bytes_eq-Decides}
 use Rattle.std.proofs.lemmas.Str.Parse.{not_in_digits}
 use Rattle.std.proofs.lemmas.Fmt.{digits_decimal}
-use Rattle.number_text.specs.Numbers.{spelled_numbers}
-use Rattle.number_text.proofs.Decimals.{ascii_numerals}
+use Rattle.decimal_text.specs.Numbers.{spelled_numbers}
+use Rattle.decimal_text.proofs.Decimals.{ascii_numerals}
 use Rattle.rmi_trace.specs.Lines.{before_answer, IsAskedIn}
 use Rattle.rmi_trace.proofs.Answered.{begins}
 

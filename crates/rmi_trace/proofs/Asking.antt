@@ -1,7 +1,7 @@
 -- A text asks for the request that is written before its answer.
 use Rattle.std.proofs.Common.{◌≡◌, ℕ, List, ◌++◌, true, false, not, eqb, codes, refl, sym, ap, subst, ◌∙◌, append_assoc, inl, inr}
 use Rattle.std.specs.List.{list_all}
-use Rattle.number_text.specs.Numbers.{spelled_numbers}
+use Rattle.decimal_text.specs.Numbers.{spelled_numbers}
 use Rattle.rmi_trace.specs.declared.request.Command.{Command}
 use Rattle.rmi_trace.specs.declared.request.Command.TheVariants.{RecCreate}
 use Rattle.rmi_trace.specs.declared.request.Reading.{Reading}

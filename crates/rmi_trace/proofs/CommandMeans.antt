@@ -1,11 +1,11 @@
 -- A command in its ranges is what its word and numbers mean.
 use Rattle.std.proofs.Common.{◌≡◌, Some, codes, refl}
 use Rattle.std.proofs.lemmas.Bool.{le-leb}
-use Rattle.number_text.specs.Numbers.{AreNumbers}
-use Rattle.number_text.specs.Written.{u8, u16, u32}
-use Rattle.number_text.proofs.Cuts.{HasNoSpace}
-use Rattle.number_text.proofs.Spelled.{no_space_from_test}
-use Rattle.number_text.proofs.UpTo.{up_to-items, few_from_test}
+use Rattle.decimal_text.specs.Numbers.{AreNumbers}
+use Rattle.decimal_text.specs.Written.{u8, u16, u32}
+use Rattle.decimal_text.proofs.Cuts.{HasNoSpace}
+use Rattle.decimal_text.proofs.Spelled.{no_space_from_test}
+use Rattle.decimal_text.proofs.UpTo.{up_to-items, few_from_test}
 use Rattle.rmi_trace.specs.declared.request.Command.{Command}
 use Rattle.rmi_trace.specs.declared.request.Command.TheVariants.{GranuleDelegate, GranuleUndelegate, HostFill, HostPeek, RealmCreate, RealmActivate, RealmDestroy, RttCreate, RttDestroy}
 use Rattle.rmi_trace.specs.declared.request.Command.TheVariants.{RttInitRipas, DataCreate, DataCreateUnknown, DataDestroy, RecCreate, RecEnter, RecExit, RecDestroy, GuestWrite}

@@ -1,12 +1,12 @@
 -- A word and its numbers mean no command but the one that they spell.
 use Rattle.std.proofs.Common.{◌≡◌, ℕ, List, [], ◌∷◌, true, false, cond, leb, ◌&&◌, Some, None, option_map, codes, refl, subst}
 use Rattle.std.proofs.lemmas.Bool.{leb-true, and_parts}
-use Rattle.number_text.specs.Ranges.{AreAtMost}
-use Rattle.number_text.specs.Rows.{one, two, three, four, up_to}
-use Rattle.number_text.specs.Written.{u8, u16, u32}
-use Rattle.number_text.proofs.Grammars.{Spells, map_some}
-use Rattle.number_text.proofs.Rows.{one_makes, two_makes, three_makes, four_makes, choose, among_five}
-use Rattle.number_text.proofs.UpTo.{up_to-some}
+use Rattle.decimal_text.specs.Ranges.{AreAtMost}
+use Rattle.decimal_text.specs.Rows.{one, two, three, four, up_to}
+use Rattle.decimal_text.specs.Written.{u8, u16, u32}
+use Rattle.decimal_text.proofs.Grammars.{Spells, map_some}
+use Rattle.decimal_text.proofs.Rows.{one_makes, two_makes, three_makes, four_makes, choose, among_five}
+use Rattle.decimal_text.proofs.UpTo.{up_to-some}
 use Rattle.rmi_trace.specs.declared.request.Command.{Command}
 use Rattle.rmi_trace.specs.declared.request.Command.TheVariants.{GranuleDelegate, GranuleUndelegate, HostFill, HostPeek, RealmCreate, RealmActivate, RealmDestroy, RttCreate, RttDestroy}
 use Rattle.rmi_trace.specs.declared.request.Command.TheVariants.{RttInitRipas, DataCreate, DataCreateUnknown, DataDestroy, RecCreate, RecEnter, RecExit, RecDestroy, GuestWrite}

@@ -8,9 +8,9 @@ use Rattle.std.proofs.lemmas.List.{take-append-drop, length-append}
 use Rattle.std.specs.Str.{is_utf8}
 use Rattle.std.proofs.lemmas.Bool.{cases_Bool, eq-eqb, eqb-true, le-leb, leb-true, and_parts, false≢true}
 use Rattle.std.proofs.lemmas.Str.{IsUtf8-from_is_utf8, is_utf8-from_IsUtf8, IsUtf8-take, IsCharBoundary-before_ascii}
-use Rattle.number_text.specs.Grammar.{meaning_of_text}
-use Rattle.rmi_trace.specs.declared.line.Line.{Line}
-use Rattle.rmi_trace.specs.declared.line.Line.TheVariants as line
+use Rattle.decimal_text.specs.Grammar.{meaning_of_text}
+use Rattle.rmi_trace.specs.declared.line.TraceLine.{TraceLine}
+use Rattle.rmi_trace.specs.declared.line.TraceLine.TheVariants as line
 use Rattle.rmi_trace.specs.declared.request.Request.{Request}
 use Rattle.rmi_trace.specs.Requests.{request_at}
 use Rattle.rmi_trace.specs.Lines.{text_of, before_answer, is_readable, IsReadable, is_remark, IsRemark, Asks, Means, line_of_request, line_of_trace}
@@ -130,7 +130,7 @@ neither : (bytes : List ℕ) (found : Option Request) → meaning_of_text reques
 neither bytes None e none = refl
 neither bytes (Some request) e none = absurd (none request (asks-from_written (text_of bytes) request (written-from_meaning (asked bytes) request e)))
 
-pub line_of_trace-means : (bytes : List ℕ) (l : Line) → Means bytes l → l ≡ line_of_trace bytes
+pub line_of_trace-means : (bytes : List ℕ) (l : TraceLine) → Means bytes l → l ≡ line_of_trace bytes
 line_of_trace-means bytes line.Remark (is, remark) = line_of_trace-remark bytes is (test-from_remark (text_of bytes) remark)
 line_of_trace-means bytes (line.Request request) (is, asks) =
     line_of_trace-asked bytes (Some request) is (not_remark-asks (text_of bytes) request asks) (sym (meaning-written (asked bytes) request (written-from_asks (text_of bytes) request asks)))
@@ -142,8 +142,8 @@ line_of_trace-means bytes line.Neither means = elim (cases_Bool (is_readable byt
       line_of_trace-asked bytes None is (test-from_not_remark (text_of bytes) is_not) (neither bytes (meaning_of_text request_at (asked bytes)) refl none)
 ]
 
-pub one_meaning : (bytes : List ℕ) (a b : Line) → Means bytes a → Means bytes b → a ≡ b
+pub one_meaning : (bytes : List ℕ) (a b : TraceLine) → Means bytes a → Means bytes b → a ≡ b
 one_meaning bytes a b is_a is_b = line_of_trace-means bytes a is_a ∙ sym (line_of_trace-means bytes b is_b)
 
-pub meant-line_of_trace : (bytes : List ℕ) (l : Line) → l ≡ line_of_trace bytes → Means bytes l
+pub meant-line_of_trace : (bytes : List ℕ) (l : TraceLine) → l ≡ line_of_trace bytes → Means bytes l
 meant-line_of_trace bytes l same = subst (Means bytes) (sym same) (means-line_of_trace bytes)

@@ -1,16 +1,16 @@
 -- Requests are a grammar: each is what its text means, and a text means no other.
 use Rattle.std.proofs.Common.{◌≡◌, ℕ, List, [], ◌∷◌, true, false, cond, leb, ◌&&◌, Option, Some, None, option_map, codes, refl, subst}
 use Rattle.std.proofs.lemmas.Bool.{le-leb, leb-true, and_parts}
-use Rattle.number_text.specs.Numbers.{AreNumbers}
-use Rattle.number_text.specs.Ranges.{AreAtMost}
-use Rattle.number_text.specs.Rows.{one, two}
-use Rattle.number_text.specs.Written.{u16}
-use Rattle.number_text.proofs.Cuts.{HasNoSpace}
-use Rattle.number_text.proofs.Spelled.{no_space_from_test}
-use Rattle.number_text.proofs.Grammars.{IsGrammar, test_from_some, map_some}
-use Rattle.number_text.proofs.Rows.{one_makes, two_makes, choose, either}
-use Rattle.number_text.proofs.UpTo.{few_from_test}
-use Rattle.rmi_trace.specs.declared.request.Opening.{Opening}
+use Rattle.decimal_text.specs.Numbers.{AreNumbers}
+use Rattle.decimal_text.specs.Ranges.{AreAtMost}
+use Rattle.decimal_text.specs.Rows.{one, two}
+use Rattle.decimal_text.specs.Written.{u16}
+use Rattle.decimal_text.proofs.Cuts.{HasNoSpace}
+use Rattle.decimal_text.proofs.Spelled.{no_space_from_test}
+use Rattle.decimal_text.proofs.Grammars.{IsGrammar, test_from_some, map_some}
+use Rattle.decimal_text.proofs.Rows.{one_makes, two_makes, choose, either}
+use Rattle.decimal_text.proofs.UpTo.{few_from_test}
+use Rattle.rmi_trace.specs.declared.request.TraceOpening.{TraceOpening}
 use Rattle.rmi_trace.specs.declared.request.Reading.{Reading}
 use Rattle.rmi_trace.specs.declared.request.Reading.TheVariants as reading
 use Rattle.rmi_trace.specs.declared.request.Request.{Request}
@@ -59,11 +59,11 @@ reading_numbers r h = few_from_test 18 (written_reading r).numbers (written_read
 
 -- ---- openings
 
-opening_means : (o : Opening) → IsRequestInRange (request.Opening o) → request_at (written_opening o).word (written_opening o).numbers ≡ Some (request.Opening o)
+opening_means : (o : TraceOpening) → IsRequestInRange (request.Opening o) → request_at (written_opening o).word (written_opening o).numbers ≡ Some (request.Opening o)
 opening_means o h =
     rw (le-leb o.pages 4096 h.at_most.0, le-leb o.vmids 255 h.at_most.1.0, le-leb o.auxiliaries 16 h.at_most.1.1.0, le-leb 1 o.pages h.counts.0, le-leb 1 o.vmids h.counts.1) refl
 
-machine_spells : (ns : List ℕ) (o : Opening) → machine_at ns ≡ Some o → SpellsRequest (codes "machine") ns (request.Opening o)
+machine_spells : (ns : List ℕ) (o : TraceOpening) → machine_at ns ≡ Some o → SpellsRequest (codes "machine") ns (request.Opening o)
 machine_spells [] o e = absurd (cc)
 machine_spells (p ∷ []) o e = absurd (cc)
 machine_spells (p ∷ v ∷ []) o e = absurd (cc)
@@ -87,10 +87,10 @@ machine_spells (p ∷ v ∷ a ∷ []) o e = elim (leb p 4096 && leb v 255 && leb
       | false ↦ λ test made. absurd (cc)
     ] refl e
 
-abbrev SpellsOpening : List ℕ → List ℕ → Opening → Type 0
+abbrev SpellsOpening : List ℕ → List ℕ → TraceOpening → Type 0
 SpellsOpening word ns o = SpellsRequest word ns (request.Opening o)
 
-opening_spells : (word ns : List ℕ) (o : Opening) → opening_at word ns ≡ Some o → SpellsOpening word ns o
+opening_spells : (word ns : List ℕ) (o : TraceOpening) → opening_at word ns ≡ Some o → SpellsOpening word ns o
 opening_spells word ns o = choose SpellsOpening word ns o (codes "machine") machine_at _ machine_spells (λ e. absurd (cc))
 
 -- ---- requests

@@ -1,8 +1,8 @@
 -- The request that a text means is the one that is written so.
 use Rattle.std.proofs.Common.{◌≡◌, ℕ, List, Option, Some, None, sym, ◌∙◌}
 use Rattle.std.specs.Prelude.{IfSome, IfNone}
-use Rattle.number_text.specs.Grammar.{meaning_of_text}
-use Rattle.number_text.proofs.Grammars.{meaning_of_spelled, spelled_from_meaning}
+use Rattle.decimal_text.specs.Grammar.{meaning_of_text}
+use Rattle.decimal_text.proofs.Grammars.{meaning_of_spelled, spelled_from_meaning}
 use Rattle.rmi_trace.specs.declared.request.Request.{Request}
 use Rattle.rmi_trace.specs.Requests.{request_at}
 use Rattle.rmi_trace.specs.Written.{IsWritten}

@@ -1,17 +1,17 @@
 -- The texts of answers.
 use Rattle.std.specs.Prelude.{ℕ, List, [], ◌∷◌, ◌++◌, codes, decimal}
 use Rattle.hex.specs.Hex.{encode_lower}
-use Rattle.number_text.specs.Numbers.{spelled_numbers}
-use Rattle.rmi_trace.specs.declared.answer.State.{State}
-use Rattle.rmi_trace.specs.declared.answer.State.TheVariants as state
-use Rattle.rmi_trace.specs.declared.answer.RealmState.{RealmState}
-use Rattle.rmi_trace.specs.declared.answer.RealmState.TheVariants.{New, Active}
-use Rattle.rmi_trace.specs.declared.answer.RecState.{RecState}
-use Rattle.rmi_trace.specs.declared.answer.RecState.TheVariants.{Ready, Running}
-use Rattle.rmi_trace.specs.declared.answer.Answer.{Answer}
-use Rattle.rmi_trace.specs.declared.answer.Answer.TheVariants as answer
+use Rattle.decimal_text.specs.Numbers.{spelled_numbers}
+use Rattle.rmi_trace.specs.declared.answer.TraceGranuleState.{TraceGranuleState}
+use Rattle.rmi_trace.specs.declared.answer.TraceGranuleState.TheVariants as state
+use Rattle.rmi_trace.specs.declared.answer.TraceRealmState.{TraceRealmState}
+use Rattle.rmi_trace.specs.declared.answer.TraceRealmState.TheVariants.{New, Active}
+use Rattle.rmi_trace.specs.declared.answer.TraceRecState.{TraceRecState}
+use Rattle.rmi_trace.specs.declared.answer.TraceRecState.TheVariants.{Ready, Running}
+use Rattle.rmi_trace.specs.declared.answer.TraceAnswer.{TraceAnswer}
+use Rattle.rmi_trace.specs.declared.answer.TraceAnswer.TheVariants as answer
 
-abbrev pub trace_state_word : State → List ℕ
+abbrev pub trace_state_word : TraceGranuleState → List ℕ
 trace_state_word state.Undelegated = codes "UNDELEGATED"
 trace_state_word state.Delegated = codes "DELEGATED"
 trace_state_word state.Rd = codes "RD"
@@ -20,21 +20,21 @@ trace_state_word state.RecAux = codes "REC_AUX"
 trace_state_word state.Data = codes "DATA"
 trace_state_word state.Rtt = codes "RTT"
 
-abbrev pub trace_realm_word : RealmState → List ℕ
+abbrev pub trace_realm_word : TraceRealmState → List ℕ
 trace_realm_word New = codes "NEW"
 trace_realm_word Active = codes "ACTIVE"
 
-abbrev pub rec_word : RecState → List ℕ
+abbrev pub rec_word : TraceRecState → List ℕ
 rec_word Ready = codes " READY"
 rec_word Running = codes " RUNNING"
 
 -- `next` is the number of the next REC
-abbrev pub realm_answer_text : RealmState → ℕ → ℕ → ℕ → ℕ → List ℕ
+abbrev pub realm_answer_text : TraceRealmState → ℕ → ℕ → ℕ → ℕ → List ℕ
 realm_answer_text s vmid root width next =
     trace_realm_word s ++ codes " vmid " ++ decimal vmid ++ codes " root " ++ decimal root ++ codes " width " ++ decimal width ++ codes " next " ++ decimal next
 
 -- each auxiliary behind one space
-abbrev pub rec_text : ℕ → RecState → List ℕ → List ℕ
+abbrev pub rec_text : ℕ → TraceRecState → List ℕ → List ℕ
 rec_text number s auxiliaries = codes "number " ++ decimal number ++ rec_word s ++ codes " aux" ++ spelled_numbers auxiliaries
 
 -- two digits in lower case for each byte
@@ -42,7 +42,7 @@ abbrev pub measurement_text : List ℕ → List ℕ
 measurement_text bytes = encode_lower bytes
 
 -- what stands behind ` = `; a value stands behind the result word of RMI_SUCCESS
-abbrev pub trace_answer_text : Answer → List ℕ
+abbrev pub trace_answer_text : TraceAnswer → List ℕ
 trace_answer_text (answer.ResultWord word) = decimal word
 trace_answer_text (answer.Value value) = codes "0 " ++ decimal value
 trace_answer_text answer.Nothing = codes "none"
@@ -59,5 +59,5 @@ trace_answer_text answer.NoCommand = codes "no command"
 abbrev pub repeated_line : List ℕ → List ℕ
 repeated_line line = line ++ 10 ∷ []
 
-abbrev pub answered_line : List ℕ → Answer → List ℕ
+abbrev pub answered_line : List ℕ → TraceAnswer → List ℕ
 answered_line asked given = asked ++ codes " = " ++ trace_answer_text given ++ 10 ∷ []

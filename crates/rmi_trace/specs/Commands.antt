@@ -2,8 +2,8 @@
 use Rattle.std.specs.Prelude.{ℕ, nat_le, ◌&&◌, List, ◌∷◌, codes, if◌then◌else◌, Option, None, option_map}
 use Rattle.std.specs.Option.{option_or}
 use Rattle.std.specs.Str.{bytes_eq}
-use Rattle.number_text.specs.Rows.{one, two, three, four, up_to}
-use Rattle.number_text.specs.Written.{u8, u16, u32}
+use Rattle.decimal_text.specs.Rows.{one, two, three, four, up_to}
+use Rattle.decimal_text.specs.Written.{u8, u16, u32}
 use Rattle.rmi_trace.specs.declared.request.Command.{Command}
 use Rattle.rmi_trace.specs.declared.request.Command.TheVariants.{GranuleDelegate, GranuleUndelegate, HostFill, HostPeek, RealmCreate, RealmActivate, RealmDestroy, RttCreate, RttDestroy}
 use Rattle.rmi_trace.specs.declared.request.Command.TheVariants.{RttInitRipas, DataCreate, DataCreateUnknown, DataDestroy, RecCreate, RecEnter, RecExit, RecDestroy, GuestWrite}

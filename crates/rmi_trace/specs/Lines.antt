@@ -2,9 +2,9 @@
 use Rattle.std.specs.Prelude.{◌≡◌, ℕ, ◌-◌, ◌≤◌, ◌==◌, ◌&&◌, nat_eq, nat_le, List, [], ◌∷◌, ◌++◌, codes, length, take, drop, slice_index, if◌then◌else◌, Bool, true, Option, Some, None, IsUtf8, ◌⊎◌}
 use Rattle.std.specs.List.{starts_with, ends_with}
 use Rattle.std.specs.Str.{is_utf8}
-use Rattle.number_text.specs.Grammar.{meaning_of_text}
-use Rattle.rmi_trace.specs.declared.line.Line.{Line}
-use Rattle.rmi_trace.specs.declared.line.Line.TheVariants as line
+use Rattle.decimal_text.specs.Grammar.{meaning_of_text}
+use Rattle.rmi_trace.specs.declared.line.TraceLine.{TraceLine}
+use Rattle.rmi_trace.specs.declared.line.TraceLine.TheVariants as line
 use Rattle.rmi_trace.specs.declared.request.Request.{Request}
 use Rattle.rmi_trace.specs.Requests.{request_at}
 use Rattle.rmi_trace.specs.Written.{IsWritten}
@@ -30,7 +30,7 @@ abbrev pub Asks : List ℕ → Request → Type 0
 Asks text request = (asked : List ℕ) × IsAskedIn text asked × IsWritten asked request
 
 -- what a line means: no command where it is neither a remark nor a request
-abbrev pub Means : List ℕ → Line → Type 0
+abbrev pub Means : List ℕ → TraceLine → Type 0
 Means bytes line.Remark = IsReadable bytes × IsRemark (text_of bytes)
 Means bytes (line.Request request) = IsReadable bytes × Asks (text_of bytes) request
 Means bytes line.Neither = IsReadable bytes → (¬ IsRemark (text_of bytes)) × ((request : Request) → ¬ Asks (text_of bytes) request)
@@ -53,11 +53,11 @@ abbrev pub is_remark : List ℕ → Bool
 is_remark [] = true
 is_remark (b ∷ bs) = b == 35
 
-abbrev pub line_of_request : Option Request → Line
+abbrev pub line_of_request : Option Request → TraceLine
 line_of_request (Some request) = line.Request request
 line_of_request None = line.Neither
 
-abbrev pub line_of_trace : List ℕ → Line
+abbrev pub line_of_trace : List ℕ → TraceLine
 line_of_trace bytes =
     if is_readable bytes then (if is_remark (text_of bytes) then line.Remark else line_of_request (meaning_of_text request_at (before_answer (text_of bytes))))
     else line.Neither

@@ -2,9 +2,9 @@
 use Rattle.std.specs.Prelude.{ℕ, nat_le, ◌&&◌, List, [], ◌∷◌, codes, if◌then◌else◌, Option, Some, None, option_map}
 use Rattle.std.specs.Option.{option_or}
 use Rattle.std.specs.Str.{bytes_eq}
-use Rattle.number_text.specs.Rows.{one, two}
-use Rattle.number_text.specs.Written.{u16}
-use Rattle.rmi_trace.specs.declared.request.Opening.{Opening}
+use Rattle.decimal_text.specs.Rows.{one, two}
+use Rattle.decimal_text.specs.Written.{u16}
+use Rattle.rmi_trace.specs.declared.request.TraceOpening.{TraceOpening}
 use Rattle.rmi_trace.specs.declared.request.Reading.{Reading}
 use Rattle.rmi_trace.specs.declared.request.Reading.TheVariants as reading
 use Rattle.rmi_trace.specs.declared.request.Request.{Request}
@@ -21,14 +21,14 @@ reading_at word ns =
     else if bytes_eq word (codes "rec") then one u16 (λ granule. reading.Rec granule) ns
     else None
 
-abbrev pub machine_at : List ℕ → Option Opening
+abbrev pub machine_at : List ℕ → Option TraceOpening
 machine_at (pages ∷ vmids ∷ auxiliaries ∷ []) =
     if nat_le pages 4096 && nat_le vmids 255 && nat_le auxiliaries 16 then
     (if nat_le 1 pages && nat_le 1 vmids then Some (record { pages = pages; vmids = vmids; auxiliaries = auxiliaries }) else None)
     else None
 machine_at _ = None
 
-abbrev pub opening_at : List ℕ → List ℕ → Option Opening
+abbrev pub opening_at : List ℕ → List ℕ → Option TraceOpening
 opening_at word ns = if bytes_eq word (codes "machine") then machine_at ns else None
 
 abbrev pub request_at : List ℕ → List ℕ → Option Request

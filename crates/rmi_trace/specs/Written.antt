@@ -1,13 +1,13 @@
 -- Requests as they are written: a word, and its numbers in their ranges.
 use Rattle.std.specs.Prelude.{◌≡◌, ℕ, ◌≤◌, List, [], ◌∷◌, codes, replicate}
 use Rattle.arrayvec.specs.ArrayVec.{array_vec_len}
-use Rattle.number_text.specs.Grammar.{spelled}
-use Rattle.number_text.specs.Ranges.{AreAtMost}
-use Rattle.number_text.specs.Written.{Written, written, u8, u16, u32}
+use Rattle.decimal_text.specs.Grammar.{spelled}
+use Rattle.decimal_text.specs.Ranges.{AreAtMost}
+use Rattle.decimal_text.specs.Written.{Written, written, u8, u16, u32}
 use Rattle.rmi_trace.specs.declared.request.Command.{Command}
 use Rattle.rmi_trace.specs.declared.request.Command.TheVariants.{GranuleDelegate, GranuleUndelegate, HostFill, HostPeek, RealmCreate, RealmActivate, RealmDestroy, RttCreate, RttDestroy}
 use Rattle.rmi_trace.specs.declared.request.Command.TheVariants.{RttInitRipas, DataCreate, DataCreateUnknown, DataDestroy, RecCreate, RecEnter, RecExit, RecDestroy, GuestWrite}
-use Rattle.rmi_trace.specs.declared.request.Opening.{Opening}
+use Rattle.rmi_trace.specs.declared.request.TraceOpening.{TraceOpening}
 use Rattle.rmi_trace.specs.declared.request.Reading.{Reading}
 use Rattle.rmi_trace.specs.declared.request.Reading.TheVariants as reading
 use Rattle.rmi_trace.specs.declared.request.Request.{Request}
@@ -42,7 +42,7 @@ written_reading (reading.Measurement granule) = written (codes "measurement") (g
 written_reading (reading.Rec granule) = written (codes "rec") (granule ∷ []) (u16 ∷ [])
 
 -- no machine has more pages, VMIDs or auxiliaries of a REC
-abbrev pub written_opening : Opening → Written
+abbrev pub written_opening : TraceOpening → Written
 written_opening opening = written (codes "machine") (opening.pages ∷ opening.vmids ∷ opening.auxiliaries ∷ []) (4096 ∷ 255 ∷ 16 ∷ [])
 
 abbrev pub written_request : Request → Written

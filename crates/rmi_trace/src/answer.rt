@@ -10,7 +10,7 @@ pub const MOST_BYTES: usize = 128;
 
 /// The state of a granule.
 #[derive(Clone, Copy)]
-pub enum State {
+pub enum TraceGranuleState {
     Undelegated,
     Delegated,
     Rd,
@@ -22,32 +22,32 @@ pub enum State {
 
 /// The state of a realm.
 #[derive(Clone, Copy)]
-pub enum RealmState {
+pub enum TraceRealmState {
     New,
     Active,
 }
 
 /// The state of a REC.
 #[derive(Clone, Copy)]
-pub enum RecState {
+pub enum TraceRecState {
     Ready,
     Running,
 }
 
 /// What the monitor answers.
 #[derive(Drop)]
-pub enum Answer {
+pub enum TraceAnswer {
     /// The result word of a command.
     ResultWord(u64),
     /// RMI_SUCCESS, and the byte that was read or the number of the REC.
     Value(u16),
     /// There is nothing to read.
     Nothing,
-    State(State),
+    State(TraceGranuleState),
     Sum(u32),
     Word(u64),
     Realm {
-        state: RealmState,
+        state: TraceRealmState,
         vmid: u8,
         root: u16,
         width: u8,
@@ -56,7 +56,7 @@ pub enum Answer {
     Measurement([u8; 32]),
     Rec {
         number: u16,
-        state: RecState,
+        state: TraceRecState,
         auxiliaries: ArrayVec<u16, 16>,
     },
     /// The line is no command.
@@ -108,24 +108,24 @@ fn value_text(value: u16) -> ArrayVec<u8, MOST_BYTES>
 }
 
 // The name of the state.
-fn state_word(state: State) -> &'static [u8]
+fn state_word(state: TraceGranuleState) -> &'static [u8]
     ensures word { result.now ≡ trace_state_word state }
     ensures short { length result.now ≤ 11 }
 {
     match state {
-        State::Undelegated => b"UNDELEGATED",
-        State::Delegated => b"DELEGATED",
-        State::Rd => b"RD",
-        State::Rec => b"REC",
-        State::RecAux => b"REC_AUX",
-        State::Data => b"DATA",
-        State::Rtt => b"RTT",
+        TraceGranuleState::Undelegated => b"UNDELEGATED",
+        TraceGranuleState::Delegated => b"DELEGATED",
+        TraceGranuleState::Rd => b"RD",
+        TraceGranuleState::Rec => b"REC",
+        TraceGranuleState::RecAux => b"REC_AUX",
+        TraceGranuleState::Data => b"DATA",
+        TraceGranuleState::Rtt => b"RTT",
     }
 }
 
 // The attributes of a realm.
 fn realm_text(
-    state: RealmState,
+    state: TraceRealmState,
     vmid: u8,
     root: u16,
     width: u8,
@@ -135,8 +135,8 @@ fn realm_text(
 {
     let mut text = ArrayVec::new();
     match state {
-        RealmState::New => push(&mut text, b"NEW"),
-        RealmState::Active => push(&mut text, b"ACTIVE"),
+        TraceRealmState::New => push(&mut text, b"NEW"),
+        TraceRealmState::Active => push(&mut text, b"ACTIVE"),
     }
     push(&mut text, b" vmid ");
     push_number(&mut text, u16::from(vmid));
@@ -150,7 +150,7 @@ fn realm_text(
 }
 
 // The attributes of a REC.
-fn rec_text(number: u16, state: RecState, auxiliaries: &[u16]) -> ArrayVec<u8, MOST_BYTES>
+fn rec_text(number: u16, state: TraceRecState, auxiliaries: &[u16]) -> ArrayVec<u8, MOST_BYTES>
     requires { length auxiliaries.now ≤ 16 }
     ensures { result.items ≡ rec_text number state auxiliaries.now }
 {
@@ -158,8 +158,8 @@ fn rec_text(number: u16, state: RecState, auxiliaries: &[u16]) -> ArrayVec<u8, M
     push(&mut text, b"number ");
     push_number(&mut text, number);
     match state {
-        RecState::Ready => push(&mut text, b" READY aux"),
-        RecState::Running => push(&mut text, b" RUNNING aux"),
+        TraceRecState::Ready => push(&mut text, b" READY aux"),
+        TraceRecState::Running => push(&mut text, b" RUNNING aux"),
     }
     for granule in auxiliaries {
         push(&mut text, b" ");
@@ -177,32 +177,32 @@ fn measurement_text(measurement: &[u8; 32]) -> ArrayVec<u8, MOST_BYTES>
     text_of_bytes(&digits)
 }
 
-impl Answer {
+impl TraceAnswer {
     /// The text of the answer, as a trace has it behind ` = `. It takes no memory.
     pub fn text(&self) -> ArrayVec<u8, MOST_BYTES>
         ensures { result.items ≡ trace_answer_text self.now }
     {
         match self {
-            Answer::ResultWord(word) => number_text(*word),
-            Answer::Value(value) => value_text(*value),
-            Answer::Nothing => text_of_bytes(b"none"),
-            Answer::State(state) => text_of_bytes(state_word(*state)),
-            Answer::Sum(sum) => number_text(u64::from(*sum)),
-            Answer::Word(word) => number_text(*word),
-            Answer::Realm {
+            TraceAnswer::ResultWord(word) => number_text(*word),
+            TraceAnswer::Value(value) => value_text(*value),
+            TraceAnswer::Nothing => text_of_bytes(b"none"),
+            TraceAnswer::State(state) => text_of_bytes(state_word(*state)),
+            TraceAnswer::Sum(sum) => number_text(u64::from(*sum)),
+            TraceAnswer::Word(word) => number_text(*word),
+            TraceAnswer::Realm {
                 state,
                 vmid,
                 root,
                 width,
                 next,
             } => realm_text(*state, *vmid, *root, *width, *next),
-            Answer::Measurement(measurement) => measurement_text(measurement),
-            Answer::Rec {
+            TraceAnswer::Measurement(measurement) => measurement_text(measurement),
+            TraceAnswer::Rec {
                 number,
                 state,
                 auxiliaries,
             } => rec_text(*number, *state, auxiliaries.as_slice()),
-            Answer::NoCommand => text_of_bytes(b"no command"),
+            TraceAnswer::NoCommand => text_of_bytes(b"no command"),
         }
     }
 }

@@ -3,7 +3,7 @@ ghost use Rattle.std.specs.Prelude.{◌≡◌};
 ghost use Rattle.rmi_trace.specs.Commands.{rec_create_at, granule_command_at, realm_command_at, table_command_at, data_command_at, rec_command_at, command_at};
 
 use crate::request::Command;
-use number_text::{
+use decimal_text::{
     Operand, four_operands, made_of, one_operand, three_operands, two_operands, up_to,
 };
 

@@ -1,16 +1,16 @@
 //! Laws of lines.
 ghost use Rattle.std.specs.Prelude.{◌≡◌, ℕ, List};
-ghost use Rattle.rmi_trace.specs.declared.line.Line.{Line};
+ghost use Rattle.rmi_trace.specs.declared.line.TraceLine.{TraceLine};
 ghost use Rattle.rmi_trace.specs.declared.request.Request.{Request};
 ghost use Rattle.rmi_trace.specs.Lines.{Means};
 ghost use Rattle.rmi_trace.specs.Written.{IsWritten};
 
 /// No two requests are written alike.
-pub fn requests_are_told_apart()
+pub fn request_texts_are_injective()
     ensures { (text : List ℕ) (a b : Request) → IsWritten text a → IsWritten text b → a ≡ b }
 {}
 
 /// A line means one thing.
 pub fn lines_have_one_meaning()
-    ensures { (line : List ℕ) (a b : Line) → Means line a → Means line b → a ≡ b }
+    ensures { (line : List ℕ) (a b : TraceLine) → Means line a → Means line b → a ≡ b }
 {}

@@ -15,9 +15,9 @@ mod request;
 mod requests;
 mod text;
 
-pub use answer::{Answer, MOST_BYTES, RealmState, RecState, State};
-pub use law::{lines_have_one_meaning, requests_are_told_apart};
-pub use line::{Line, MOST_LINE, cut_answer, parse};
+pub use answer::{MOST_BYTES, TraceAnswer, TraceGranuleState, TraceRealmState, TraceRecState};
+pub use law::{lines_have_one_meaning, request_texts_are_injective};
+pub use line::{MOST_LINE, TraceLine, cut_answer, parse};
 pub use nearest::nearest_word;
-pub use request::{Command, Opening, Reading, Request};
+pub use request::{Command, Reading, Request, TraceOpening};
 pub use text::{push_answered, push_line};

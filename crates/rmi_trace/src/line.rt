@@ -11,7 +11,7 @@ pub const MOST_LINE: usize = 65_536;
 
 /// What a line is.
 #[derive(Drop)]
-pub enum Line {
+pub enum TraceLine {
     /// A comment, or an empty line.
     Remark,
     Request(Request),
@@ -54,24 +54,24 @@ fn is_remark(text: &[u8]) -> bool
 }
 
 /// What the line is. A line of more than `MOST_LINE` bytes, or one that is not UTF-8, is no command. It takes no memory.
-pub fn parse(line: &[u8]) -> Line
+pub fn parse(line: &[u8]) -> TraceLine
     ensures meant { Means line.now result }
     ensures exact { result ≡ line_of_trace line.now }
 {
     if line.len() > MOST_LINE {
-        return Line::Neither;
+        return TraceLine::Neither;
     }
     let Ok(_) = str::from_utf8(line) else {
-        return Line::Neither;
+        return TraceLine::Neither;
     };
     if is_remark(text_of(line)) {
-        return Line::Remark;
+        return TraceLine::Remark;
     }
     let Ok(asked) = str::from_utf8(cut_answer(line).0) else {
         unreachable!()
     };
     match request_of(asked) {
-        Some(request) => Line::Request(request),
-        None => Line::Neither,
+        Some(request) => TraceLine::Request(request),
+        None => TraceLine::Neither,
     }
 }

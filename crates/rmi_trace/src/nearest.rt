@@ -1,5 +1,5 @@
 //! The word of a request that was probably meant.
-use number_text::cut_at_space;
+use decimal_text::cut_at_space;
 use std::alloc::{AllocError, Global};
 use strsim::osa_distance;
 

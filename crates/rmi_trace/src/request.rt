@@ -7,7 +7,7 @@ use arrayvec::ArrayVec;
 /// A fresh machine, in which every page is taken and zero: of 1 to 4,096 pages, with 1 to 255 VMIDs, and with up to 16
 /// auxiliary granules for each REC.
 #[derive(Drop)]
-pub struct Opening {
+pub struct TraceOpening {
     pub pages: u16,
     pub vmids: u8,
     pub auxiliaries: u8,
@@ -116,7 +116,7 @@ pub enum Reading {
 /// What a line asks for.
 #[derive(Drop)]
 pub enum Request {
-    Opening(Opening),
+    Opening(TraceOpening),
     Command(Command),
     Reading(Reading),
 }

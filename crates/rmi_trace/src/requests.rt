@@ -1,13 +1,13 @@
 //! The request that a text is.
 ghost use Rattle.std.specs.Prelude.{◌≡◌, IfSome, IfNone};
-ghost use Rattle.number_text.specs.Grammar.{meaning_of_text};
+ghost use Rattle.decimal_text.specs.Grammar.{meaning_of_text};
 ghost use Rattle.rmi_trace.specs.declared.request.Request.{Request};
 ghost use Rattle.rmi_trace.specs.Requests.{reading_at, machine_at, opening_at, request_at};
 ghost use Rattle.rmi_trace.specs.Written.{IsWritten};
 
 use crate::command::command;
-use crate::request::{Opening, Reading, Request};
-use number_text::{cut_at_space, made_of, numbers_of, one_operand, three_operands, two_operands};
+use crate::request::{Reading, Request, TraceOpening};
+use decimal_text::{cut_at_space, made_of, numbers_of, one_operand, three_operands, two_operands};
 
 /// The most numbers that a request has: an RD, a REC's granule, and its auxiliaries.
 const MOST_NUMBERS: usize = 18;
@@ -33,14 +33,14 @@ fn reading(word: &str, numbers: &[u32]) -> Option<Reading>
     }
 }
 
-fn machine(numbers: &[u32]) -> Option<Opening>
+fn machine(numbers: &[u32]) -> Option<TraceOpening>
     ensures { result ≡ machine_at numbers.now }
 {
     let (pages, vmids, auxiliaries) = three_operands(numbers)?;
     if pages == 0 || pages > MOST_PAGES || vmids == 0 || auxiliaries > MOST_AUXILIARIES {
         return None;
     }
-    Some(Opening {
+    Some(TraceOpening {
         pages,
         vmids,
         auxiliaries,
@@ -48,7 +48,7 @@ fn machine(numbers: &[u32]) -> Option<Opening>
 }
 
 // The opening that the word and its numbers are.
-fn opening(word: &str, numbers: &[u32]) -> Option<Opening>
+fn opening(word: &str, numbers: &[u32]) -> Option<TraceOpening>
     ensures { result ≡ opening_at word.now numbers.now }
 {
     match word {

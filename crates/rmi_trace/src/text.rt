@@ -2,7 +2,7 @@
 ghost use Rattle.std.specs.Prelude.{◌≡◌, ◌≤◌, ◌+◌, ◌++◌, length, OnOk, OnErr, IsOk, vec_len, vec_capacity};
 ghost use Rattle.rmi_trace.specs.Answers.{repeated_line, answered_line};
 
-use crate::answer::Answer;
+use crate::answer::TraceAnswer;
 use std::alloc::AllocError;
 
 /// Appends the line as it is.
@@ -19,7 +19,11 @@ pub fn push_line(text: &mut Vec<u8>, line: &[u8]) -> Result<(), AllocError>
 }
 
 /// Appends what is asked, and the answer behind ` = `.
-pub fn push_answered(text: &mut Vec<u8>, asked: &[u8], answer: &Answer) -> Result<(), AllocError>
+pub fn push_answered(
+    text: &mut Vec<u8>,
+    asked: &[u8],
+    answer: &TraceAnswer,
+) -> Result<(), AllocError>
     ensures ok { OnOk result (text.new.items ≡ text.old.items ++ answered_line asked.now answer.now) }
     ensures err { OnErr result (text.new.items ≡ text.old.items) }
     // With room for any answer it does not fail.

@@ -6,24 +6,24 @@ ghost use Rattle.std.specs.Prelude.{◌≡◌, IfErr};
 ghost use Rattle.std.specs.Process.{exit_status};
 ghost use Rattle.trace_program.specs.Stop.{trace_exit_status, IsTraceStatus};
 
+use checked_io::Told;
 use command_line::{Ended, Input, Output, Painting, Stop, arguments};
 use std::process::ExitCode;
-use told_device::Told;
-use trace_program::{Asked, Fault, Verdict, run};
+use trace_program::{TraceError, TraceSubcommand, Verdict, run};
 
 /// The lines of the output that are painted on a terminal.
-fn painting(asked: Asked) -> Option<Painting> {
+fn painting(asked: TraceSubcommand) -> Option<Painting> {
     match asked {
-        Asked::Answer => None,
-        Asked::Check => Some(Painting::Difference),
+        TraceSubcommand::Answer => None,
+        TraceSubcommand::Check => Some(Painting::Difference),
     }
 }
 
 /// Does what the command line asks for.
-fn serve(rt: &HostRuntime) -> Result<Ended<Verdict>, Stop<Fault>> {
+fn serve(rt: &HostRuntime) -> Result<Ended<Verdict>, Stop<TraceError>> {
     let alloc = rt.alloc();
-    let words = arguments::<_, Fault>(rt)?;
-    let line = match Asked::of(alloc, &words) {
+    let words = arguments::<_, TraceError>(rt)?;
+    let line = match TraceSubcommand::of(alloc, &words) {
         Ok(line) => line,
         Err(error) => return Ended::shown(alloc, error, &mut Told::new(rt.stdout())),
     };
@@ -34,7 +34,7 @@ fn serve(rt: &HostRuntime) -> Result<Ended<Verdict>, Stop<Fault>> {
 }
 
 /// The exit status. Where the program stops, standard error says why. A line that is wrong stands on standard output.
-fn end(rt: &HostRuntime, outcome: Result<Ended<Verdict>, Stop<Fault>>) -> ExitCode
+fn end(rt: &HostRuntime, outcome: Result<Ended<Verdict>, Stop<TraceError>>) -> ExitCode
     ensures value { exit_status result ≡ trace_exit_status outcome }
     ensures stops { IfErr outcome (λ _. IsTraceStatus (exit_status result)) }
 {

@@ -1,7 +1,7 @@
 -- The checks of RMI_REALM_CREATE, one operand after another.
 use Rattle.std.proofs.Common.{◌≡◌, ℕ, List, Some, None, ap, ◌∙◌}
 use Rattle.rmi_abi.specs.declared.realm_params.RealmParams.{RealmParams}
-use Rattle.rmm_model.specs.declared.answer.Refusal.{Refusal}
+use Rattle.rmm_model.specs.declared.answer.FailedCondition.{FailedCondition}
 use Rattle.rmm_model.specs.declared.condition.Condition.TheVariants.{ParamsAlign, ParamsBound, ParamsPas, RdAlign, RdBound, RdState}
 use Rattle.rmm_model.specs.Check.{Check, first_failing}
 use Rattle.rmm_model.specs.Machine.{Machine}
@@ -17,13 +17,13 @@ module _ (m : Machine) (rd params : ℕ) where
   rd_checks = delegated_checks RdAlign RdBound RdState m rd
 
   -- a page that is not the host's decides
-  pub source_fails : (r : Refusal) → Some r ≡ first_failing source_checks → Some r ≡ first_failing (realm_create rd params m).checks
+  pub source_fails : (r : FailedCondition) → Some r ≡ first_failing source_checks → Some r ≡ first_failing (realm_create rd params m).checks
   unfolding realm_create
   source_fails r fails = first_fails source_checks (params_checks m.settings (params_at m params) rd) rd_checks (free_checks m (params_at m params)) r fails
 
   module _ (p : RealmParams) (same : p ≡ params_at m params) (source : None ≡ first_failing source_checks) where
     -- parameters that fail decide
-    pub params_fail : (r : Refusal) → Some r ≡ first_failing (params_checks m.settings p rd) → Some r ≡ first_failing (realm_create rd params m).checks
+    pub params_fail : (r : FailedCondition) → Some r ≡ first_failing (params_checks m.settings p rd) → Some r ≡ first_failing (realm_create rd params m).checks
     unfolding realm_create
     params_fail r fails =
         second_fails source_checks (params_checks m.settings (params_at m params) rd) rd_checks (free_checks m (params_at m params)) r source
@@ -34,7 +34,7 @@ module _ (m : Machine) (rd params : ℕ) where
       right_there = right ∙ ap (λ (q : RealmParams). first_failing (params_checks m.settings q rd)) same
 
       -- an RD that fails decides
-      pub rd_fails : (r : Refusal) → Some r ≡ first_failing rd_checks → Some r ≡ first_failing (realm_create rd params m).checks
+      pub rd_fails : (r : FailedCondition) → Some r ≡ first_failing rd_checks → Some r ≡ first_failing (realm_create rd params m).checks
       unfolding realm_create
       rd_fails r fails =
           third_fails source_checks (params_checks m.settings (params_at m params) rd) rd_checks (free_checks m (params_at m params)) r source right_there fails

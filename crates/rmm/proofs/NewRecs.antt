@@ -1,9 +1,9 @@
 -- The checks of RMI_REC_CREATE, one operand after another.
 use Rattle.std.proofs.Common.{◌≡◌, ℕ, ◌++◌, List, Some, None, ap, ◌∙◌}
-use Rattle.rmi_abi.specs.declared.settings.Settings.{Settings}
-use Rattle.rmm_model.specs.declared.answer.Refusal.{Refusal}
+use Rattle.rmi_abi.specs.declared.settings.RmmSettings.{RmmSettings}
+use Rattle.rmm_model.specs.declared.answer.FailedCondition.{FailedCondition}
 use Rattle.rmm_model.specs.declared.condition.Condition.TheVariants.{ParamsAlign, ParamsBound, ParamsPas, RecAlign, RecBound, RecState}
-use Rattle.rmm_model.specs.declared.realm.Realm.{Realm}
+use Rattle.rmm_model.specs.declared.realm.RmmRealm.{RmmRealm}
 use Rattle.rmm_model.specs.Check.{Check, first_failing}
 use Rattle.rmm_model.specs.Machine.{Machine, page_in, number_of}
 use Rattle.rmm_model.specs.Command.Operand.{host_checks, delegated_checks, rd_checks, realm_at}
@@ -27,25 +27,25 @@ module _ (m : Machine) (rd rec params : ℕ) where
   number = number_checks m.settings (page_in m (number_of m params)) (realm_at m rd)
 
   -- a page that is not the host's decides
-  pub source_fails : (r : Refusal) → Some r ≡ first_failing source → Some r ≡ first_failing (rec_create rd rec params m).checks
+  pub source_fails : (r : FailedCondition) → Some r ≡ first_failing source → Some r ≡ first_failing (rec_create rd rec params m).checks
   unfolding rec_create
   source_fails r fails = failed (source ++ granule ++ owner ++ aux) number r (first_fails source granule owner aux r fails)
 
   module _ (one : None ≡ first_failing source) where
     -- a granule that is not DELEGATED decides
-    pub rec_fails : (r : Refusal) → Some r ≡ first_failing granule → Some r ≡ first_failing (rec_create rd rec params m).checks
+    pub rec_fails : (r : FailedCondition) → Some r ≡ first_failing granule → Some r ≡ first_failing (rec_create rd rec params m).checks
     unfolding rec_create
     rec_fails r fails = failed (source ++ granule ++ owner ++ aux) number r (second_fails source granule owner aux r one fails)
 
     module _ (two : None ≡ first_failing granule) where
       -- an RD that fails decides
-      pub rd_fails : (r : Refusal) → Some r ≡ first_failing owner → Some r ≡ first_failing (rec_create rd rec params m).checks
+      pub rd_fails : (r : FailedCondition) → Some r ≡ first_failing owner → Some r ≡ first_failing (rec_create rd rec params m).checks
       unfolding rec_create
       rd_fails r fails = failed (source ++ granule ++ owner ++ aux) number r (third_fails source granule owner aux r one two fails)
 
       module _ (three : None ≡ first_failing owner) where
         -- auxiliary granules that fail decide
-        pub aux_fail : (r : Refusal) → Some r ≡ first_failing aux → Some r ≡ first_failing (rec_create rd rec params m).checks
+        pub aux_fail : (r : FailedCondition) → Some r ≡ first_failing aux → Some r ≡ first_failing (rec_create rd rec params m).checks
         unfolding rec_create
         aux_fail r fails = failed (source ++ granule ++ owner ++ aux) number r (fails ∙ fourth_decides source granule owner aux one two three)
 
@@ -55,10 +55,10 @@ module _ (m : Machine) (rd rec params : ℕ) where
         by_number four = passed (source ++ granule ++ owner ++ aux) number (four ∙ fourth_decides source granule owner aux one two three)
 
         -- and the number that is found with settings, a page and a realm which are those of the command
-        pub by_number_of : (s : Settings) (page : List ℕ) (realm : Realm) → s ≡ m.settings → page ≡ page_in m (number_of m params) → realm ≡ realm_at m rd → None ≡ first_failing aux
+        pub by_number_of : (s : RmmSettings) (page : List ℕ) (realm : RmmRealm) → s ≡ m.settings → page ≡ page_in m (number_of m params) → realm ≡ realm_at m rd → None ≡ first_failing aux
             → first_failing (number_checks s page realm) ≡ first_failing (rec_create rd rec params m).checks
         by_number_of s page realm settings there same four =
-            ap (λ (x : Settings). first_failing (number_checks x page realm)) settings
+            ap (λ (x : RmmSettings). first_failing (number_checks x page realm)) settings
             ∙ ap (λ (x : List ℕ). first_failing (number_checks m.settings x realm)) there
-            ∙ ap (λ (x : Realm). first_failing (number_checks m.settings (page_in m (number_of m params)) x)) same
+            ∙ ap (λ (x : RmmRealm). first_failing (number_checks m.settings (page_in m (number_of m params)) x)) same
             ∙ by_number four

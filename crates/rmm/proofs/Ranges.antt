@@ -1,10 +1,10 @@
 -- The checks of RMI_RTT_INIT_RIPAS, one operand after another.
 use Rattle.std.proofs.Common.{◌≡◌, ℕ, ◌++◌, List, [], ◌∷◌, Some, None, ap, ◌∙◌}
-use Rattle.rmi_abi.specs.declared.settings.Settings.{Settings}
-use Rattle.rmm_model.specs.declared.answer.Refusal.{Refusal}
+use Rattle.rmi_abi.specs.declared.settings.RmmSettings.{RmmSettings}
+use Rattle.rmm_model.specs.declared.answer.FailedCondition.{FailedCondition}
 use Rattle.rmm_model.specs.declared.condition.Condition.TheVariants.{Size, RdState, BaseBound, TopBound, RealmState}
 use Rattle.rmm_model.specs.declared.entry.Changeable.{Changeable}
-use Rattle.rmm_model.specs.declared.realm.Realm.{Realm}
+use Rattle.rmm_model.specs.declared.realm.RmmRealm.{RmmRealm}
 use Rattle.rmm_model.specs.declared.realm.RttWalk.{RttWalk as Walked}
 use Rattle.rmm_model.specs.Check.{Check, first_failing}
 use Rattle.rmm_model.specs.Machine.{Machine}
@@ -22,28 +22,28 @@ module _ (m : Machine) (rd base top : ℕ) where
   goes = progress_checks (Size ∷ RdState ∷ BaseBound ∷ TopBound ∷ RealmState ∷ []) m (init_changeable m.settings) (walk m (realm_at m rd) base 3) base top
 
   -- a range without addresses decides
-  pub size_fails : (r : Refusal) → Some r ≡ first_failing (size_checks base top) → Some r ≡ first_failing (rtt_init_ripas rd base top m).checks
+  pub size_fails : (r : FailedCondition) → Some r ≡ first_failing (size_checks base top) → Some r ≡ first_failing (rtt_init_ripas rd base top m).checks
   unfolding rtt_init_ripas
   size_fails r fails = first_fails (size_checks base top) (rd_checks m rd) there goes r fails
 
   module _ (size : None ≡ first_failing (size_checks base top)) where
     -- an RD that fails decides
-    pub rd_fails : (r : Refusal) → Some r ≡ first_failing (rd_checks m rd) → Some r ≡ first_failing (rtt_init_ripas rd base top m).checks
+    pub rd_fails : (r : FailedCondition) → Some r ≡ first_failing (rd_checks m rd) → Some r ≡ first_failing (rtt_init_ripas rd base top m).checks
     unfolding rtt_init_ripas
     rd_fails r fails = second_fails (size_checks base top) (rd_checks m rd) there goes r size fails
 
-    module _ (passes : None ≡ first_failing (rd_checks m rd)) (realm : Realm) (same : realm ≡ realm_at m rd) where
+    module _ (passes : None ≡ first_failing (rd_checks m rd)) (realm : RmmRealm) (same : realm ≡ realm_at m rd) where
       -- a range that fails decides
-      pub range_fails : (r : Refusal) → Some r ≡ first_failing (range_checks realm base top) → Some r ≡ first_failing (rtt_init_ripas rd base top m).checks
+      pub range_fails : (r : FailedCondition) → Some r ≡ first_failing (range_checks realm base top) → Some r ≡ first_failing (rtt_init_ripas rd base top m).checks
       unfolding rtt_init_ripas
       range_fails r fails =
-          third_fails (size_checks base top) (rd_checks m rd) there goes r size passes (fails ∙ ap (λ (x : Realm). first_failing (range_checks x base top)) same)
+          third_fails (size_checks base top) (rd_checks m rd) there goes r size passes (fails ∙ ap (λ (x : RmmRealm). first_failing (range_checks x base top)) same)
 
       -- the first entry decides
-      pub by_progress : None ≡ first_failing (range_checks realm base top) → (found : Walked) → found ≡ walk m realm base 3 → (s : Settings) → s ≡ m.settings → (which : Changeable) → which ≡ init_changeable s
+      pub by_progress : None ≡ first_failing (range_checks realm base top) → (found : Walked) → found ≡ walk m realm base 3 → (s : RmmSettings) → s ≡ m.settings → (which : Changeable) → which ≡ init_changeable s
           → first_failing (progress_checks [] m which found base top) ≡ first_failing (rtt_init_ripas rd base top m).checks
       unfolding rtt_init_ripas
       by_progress right found place s settings which is =
           ap (λ (x : Changeable). first_failing (progress_checks [] m x found base top)) (is ∙ ap init_changeable settings)
-          ∙ ap (λ (x : Walked). first_failing (progress_checks [] m (init_changeable m.settings) x base top)) (place ∙ ap (λ (x : Realm). walk m x base 3) same)
-          ∙ fourth_decides (size_checks base top) (rd_checks m rd) there goes size passes (right ∙ ap (λ (x : Realm). first_failing (range_checks x base top)) same)
+          ∙ ap (λ (x : Walked). first_failing (progress_checks [] m (init_changeable m.settings) x base top)) (place ∙ ap (λ (x : RmmRealm). walk m x base 3) same)
+          ∙ fourth_decides (size_checks base top) (rd_checks m rd) there goes size passes (right ∙ ap (λ (x : RmmRealm). first_failing (range_checks x base top)) same)

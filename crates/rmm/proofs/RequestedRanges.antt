@@ -1,11 +1,11 @@
 -- The checks of RMI_RTT_SET_RIPAS, one operand after another.
 use Rattle.std.proofs.Common.{◌≡◌, ℕ, ◌++◌, Bool, List, [], ◌∷◌, Some, None, ap, ◌∙◌}
-use Rattle.rmm_model.specs.declared.answer.Refusal.{Refusal}
+use Rattle.rmm_model.specs.declared.answer.FailedCondition.{FailedCondition}
 use Rattle.rmm_model.specs.declared.condition.Condition.TheVariants.{Size, BaseBound, TopBound, RdState, RecAlign, RecBound, RecGranState, RecState, RecOwner}
 use Rattle.rmm_model.specs.declared.entry.Changeable.{Changeable}
-use Rattle.rmm_model.specs.declared.realm.Realm.{Realm}
+use Rattle.rmm_model.specs.declared.realm.RmmRealm.{RmmRealm}
 use Rattle.rmm_model.specs.declared.realm.RttWalk.{RttWalk as Walked}
-use Rattle.rmm_model.specs.declared.rec.Rec.{Rec}
+use Rattle.rmm_model.specs.declared.rec.RmmRec.{RmmRec}
 use Rattle.rmm_model.specs.Check.{Check, first_failing}
 use Rattle.rmm_model.specs.Machine.{Machine}
 use Rattle.rmm_model.specs.Walk.{walk}
@@ -31,32 +31,32 @@ module _ (m : Machine) (rd rec base top : ℕ) where
   goes = progress_checks (Size ∷ RecGranState ∷ RdState ∷ RecState ∷ RecOwner ∷ BaseBound ∷ TopBound ∷ []) m (set_changeable (rec_at m rec).ripas) (walk m (realm_at m rd) base 3) base top
 
   -- a range without addresses decides
-  pub size_fails : (r : Refusal) → Some r ≡ first_failing size → Some r ≡ first_failing (rtt_set_ripas rd rec base top m).checks
+  pub size_fails : (r : FailedCondition) → Some r ≡ first_failing size → Some r ≡ first_failing (rtt_set_ripas rd rec base top m).checks
   unfolding rtt_set_ripas
   size_fails r fails = failed (size ++ owner ++ asking ++ request) goes r (first_fails size owner asking request r fails)
 
   module _ (one : None ≡ first_failing size) where
     -- an RD that fails decides
-    pub rd_fails : (r : Refusal) → Some r ≡ first_failing owner → Some r ≡ first_failing (rtt_set_ripas rd rec base top m).checks
+    pub rd_fails : (r : FailedCondition) → Some r ≡ first_failing owner → Some r ≡ first_failing (rtt_set_ripas rd rec base top m).checks
     unfolding rtt_set_ripas
     rd_fails r fails = failed (size ++ owner ++ asking ++ request) goes r (second_fails size owner asking request r one fails)
 
     module _ (two : None ≡ first_failing owner) where
       -- a REC that fails decides
-      pub rec_fails : (r : Refusal) → Some r ≡ first_failing asking → Some r ≡ first_failing (rtt_set_ripas rd rec base top m).checks
+      pub rec_fails : (r : FailedCondition) → Some r ≡ first_failing asking → Some r ≡ first_failing (rtt_set_ripas rd rec base top m).checks
       unfolding rtt_set_ripas
       rec_fails r fails = failed (size ++ owner ++ asking ++ request) goes r (third_fails size owner asking request r one two fails)
 
-      module _ (three : None ≡ first_failing asking) (realm : Realm) (same : realm ≡ realm_at m rd) (who : Rec) (named : who ≡ rec_at m rec) (is : Bool) (told : is ≡ is_rec_of m rd rec) where
+      module _ (three : None ≡ first_failing asking) (realm : RmmRealm) (same : realm ≡ realm_at m rd) (who : RmmRec) (named : who ≡ rec_at m rec) (is : Bool) (told : is ≡ is_rec_of m rd rec) where
         -- what is found is what the command speaks of
         there : first_failing (ripas_request_checks realm who is base top) ≡ first_failing request
         there =
-            ap (λ (x : Realm). first_failing (ripas_request_checks x who is base top)) same
-            ∙ ap (λ (x : Rec). first_failing (ripas_request_checks (realm_at m rd) x is base top)) named
+            ap (λ (x : RmmRealm). first_failing (ripas_request_checks x who is base top)) same
+            ∙ ap (λ (x : RmmRec). first_failing (ripas_request_checks (realm_at m rd) x is base top)) named
             ∙ ap (λ (x : Bool). first_failing (ripas_request_checks (realm_at m rd) (rec_at m rec) x base top)) told
 
         -- a request that fails decides
-        pub request_fails : (r : Refusal) → Some r ≡ first_failing (ripas_request_checks realm who is base top) → Some r ≡ first_failing (rtt_set_ripas rd rec base top m).checks
+        pub request_fails : (r : FailedCondition) → Some r ≡ first_failing (ripas_request_checks realm who is base top) → Some r ≡ first_failing (rtt_set_ripas rd rec base top m).checks
         unfolding rtt_set_ripas
         request_fails r fails = failed (size ++ owner ++ asking ++ request) goes r (fails ∙ there ∙ fourth_decides size owner asking request one two three)
 
@@ -65,6 +65,6 @@ module _ (m : Machine) (rd rec base top : ℕ) where
             → first_failing (progress_checks [] m which found base top) ≡ first_failing (rtt_set_ripas rd rec base top m).checks
         unfolding rtt_set_ripas
         by_progress right found place which changes =
-            ap (λ (x : Changeable). first_failing (progress_checks [] m x found base top)) (changes ∙ ap (λ (x : Rec). set_changeable x.ripas) named)
-            ∙ ap (λ (x : Walked). first_failing (progress_checks [] m (set_changeable (rec_at m rec).ripas) x base top)) (place ∙ ap (λ (x : Realm). walk m x base 3) same)
+            ap (λ (x : Changeable). first_failing (progress_checks [] m x found base top)) (changes ∙ ap (λ (x : RmmRec). set_changeable x.ripas) named)
+            ∙ ap (λ (x : Walked). first_failing (progress_checks [] m (set_changeable (rec_at m rec).ripas) x base top)) (place ∙ ap (λ (x : RmmRealm). walk m x base 3) same)
             ∙ passed (size ++ owner ++ asking ++ request) goes (right ∙ there ∙ fourth_decides size owner asking request one two three)

@@ -1,11 +1,11 @@
 -- Granules of two states are two granules.
 use Rattle.std.proofs.Common.{◌≡◌, ◌≢◌, ℕ, true, ap, sym, ◌∙◌}
-use Rattle.rmm_model.specs.declared.granule.GranuleState.{GranuleState}
-use Rattle.rmm_model.specs.declared.granule.GranuleState.TheVariants.{Undelegated}
+use Rattle.rmm_model.specs.declared.granule.RmmGranuleState.{RmmGranuleState}
+use Rattle.rmm_model.specs.declared.granule.RmmGranuleState.TheVariants.{Undelegated}
 use Rattle.rmm_model.specs.Granule.{is_undelegated, is_delegated}
 use Rattle.rmm_model.specs.Machine.{Machine, granule_at}
 
-one_state : (state : GranuleState) → is_undelegated state ≡ true → is_delegated state ≡ true → ⊥
+one_state : (state : RmmGranuleState) → is_undelegated state ≡ true → is_delegated state ≡ true → ⊥
 one_state Undelegated host mine = cc
 one_state _ host mine = cc
 

@@ -1,10 +1,10 @@
 -- Parts of RMI_DATA_CREATE.
 use Rattle.std.specs.Prelude.{ℕ, not, List, [], ◌∷◌}
-use Rattle.rmi_abi.specs.declared.settings.Settings.{Settings}
+use Rattle.rmi_abi.specs.declared.settings.RmmSettings.{RmmSettings}
 use Rattle.rmm_model.specs.declared.condition.Condition.TheVariants.{FlagsValid}
-use Rattle.rmm_model.specs.declared.entry.Entry.TheVariants.{Assigned}
-use Rattle.rmm_model.specs.declared.entry.Ripas.TheVariants.{Ram}
-use Rattle.rmm_model.specs.declared.granule.GranuleState.TheVariants.{Data}
+use Rattle.rmm_model.specs.declared.entry.RmmRttEntry.TheVariants.{Assigned}
+use Rattle.rmm_model.specs.declared.entry.RmmRipas.TheVariants.{Ram}
+use Rattle.rmm_model.specs.declared.granule.RmmGranuleState.TheVariants.{Data}
 use Rattle.rmm_model.specs.Check.{Check, check, error_input}
 use Rattle.rmm_model.specs.Granule.{of_realm}
 use Rattle.rmm_model.specs.Machine.{Machine, page_in, with_granule, with_page}
@@ -13,7 +13,7 @@ use Rattle.rmm_model.specs.Command.DataCreate.{are_flags_valid}
 use Rattle.rmm.specs.declared.data_create.NewPage.{NewPage}
 
 -- flags that there are, where they are checked: the first check of the command
-abbrev pub flags_checks : Settings → ℕ → List Check
+abbrev pub flags_checks : RmmSettings → ℕ → List Check
 flags_checks s flags = check FlagsValid [] (not (are_flags_valid s flags)) error_input ∷ []
 
 -- the machine with a page of data that the entry of an address leads to

@@ -8,17 +8,17 @@ use crate::walking::granule_named;
 use granule_addr::Gran;
 use page_arena::PageStore;
 use rmm_granules::Granules;
-use rmm_model::{Granule, aux_address};
+use rmm_model::{RmmGranule, aux_address};
 
 // A granule gets other attributes, and its page is zero.
-fn wipe<S: PageStore>(granules: &mut Granules<S>, granule: Gran, kept: &Granule)
+fn wipe<S: PageStore>(granules: &mut Granules<S>, granule: Gran, kept: &RmmGranule)
     requires inside { granule < granule_count granules.old }
     requires plain { realm_of kept.now.state ≡ None }
     ensures { granules.new ≡ auxiliary.with_wiped granules.old granule kept.now }
 {
     granules.set(
         granule,
-        Granule {
+        RmmGranule {
             state: kept.state,
             owner: kept.owner,
         },
@@ -37,7 +37,7 @@ fn aux_granule<S: PageStore>(granules: &Granules<S>, rec: Gran, k: u8) -> Option
 }
 
 // Auxiliary granule k of a REC gets other attributes, and is wiped.
-fn set_one<S: PageStore>(granules: &mut Granules<S>, rec: Gran, kept: &Granule, k: u8)
+fn set_one<S: PageStore>(granules: &mut Granules<S>, rec: Gran, kept: &RmmGranule, k: u8)
     requires inside { rec < granule_count granules.old }
     requires plain { realm_of kept.now.state ≡ None }
     requires below { k < 16 }
@@ -51,7 +51,7 @@ fn set_one<S: PageStore>(granules: &mut Granules<S>, rec: Gran, kept: &Granule, 
 }
 
 // The first auxiliary granules of a REC get other attributes, and are wiped.
-pub fn set_aux<S: PageStore>(granules: &mut Granules<S>, rec: Gran, kept: &Granule, count: u8)
+pub fn set_aux<S: PageStore>(granules: &mut Granules<S>, rec: Gran, kept: &RmmGranule, count: u8)
     requires inside { rec < granule_count granules.old }
     requires plain { realm_of kept.now.state ≡ None }
     requires few { count ≤ 16 }

@@ -13,9 +13,11 @@ use crate::operand::{Names, check_entry, check_page, delegated, error_rtt_top, r
 use crate::walking::{memory_below, read, top, walk, write};
 use granule_addr::Gran;
 use page_arena::PageStore;
-use rmi_abi::{Answer, Word};
+use rmi_abi::{SmcResult, Word};
 use rmm_granules::Granules;
-use rmm_model::{Condition, Entry, Granule, GranuleState, Refusal, Ripas, RttWalk};
+use rmm_model::{
+    Condition, FailedCondition, RmmGranule, RmmGranuleState, RmmRipas, RmmRttEntry, RttWalk,
+};
 
 pub const DATA: Names = Names {
     align: Condition::DataAlign,
@@ -29,7 +31,7 @@ pub struct PageVacancy {
     pub rd: Gran,
     pub data: Gran,
     pub found: RttWalk,
-    pub entry: Entry,
+    pub entry: RmmRttEntry,
 }
 
 // A page that is mapped, and its entry.
@@ -37,7 +39,7 @@ pub struct PageVacancy {
 pub struct Mapped {
     pub data: Gran,
     pub found: RttWalk,
-    pub entry: Entry,
+    pub entry: RmmRttEntry,
 }
 
 // ---- making
@@ -49,7 +51,7 @@ fn find_vacancy<S: PageStore>(
     rd: u64,
     page: u64,
     ipa: u64,
-) -> Result<PageVacancy, Refusal>
+) -> Result<PageVacancy, FailedCondition>
     ensures refusal { refusal_in result
         ≡ first_failing (creating.data_create_unknown rd page ipa granules.now).checks }
     ensures vacancy { IfOk result (IsPageVacancy granules.now rd page ipa) }
@@ -75,7 +77,7 @@ pub fn data_create_unknown<S: PageStore>(
     rd: u64,
     page: u64,
     ipa: u64,
-) -> Answer
+) -> SmcResult
     ensures answer { result
         ≡ (outcome (creating.data_create_unknown rd page ipa granules.old) granules.old).0 }
     ensures machine { granules.new
@@ -83,15 +85,15 @@ pub fn data_create_unknown<S: PageStore>(
 {
     match find_vacancy(granules, rd, page, ipa) {
         Ok(vacancy) => {
-            let kept = Granule {
-                state: GranuleState::Data,
+            let kept = RmmGranule {
+                state: RmmGranuleState::Data,
                 owner: Some(vacancy.rd),
             };
             granules.set(vacancy.data, kept);
             granules.fill(vacancy.data, 0);
-            let entry = Entry::Assigned(vacancy.entry.ripas(), page);
+            let entry = RmmRttEntry::Assigned(vacancy.entry.ripas(), page);
             write(granules, &vacancy.found, ipa, entry);
-            Answer::only(Word::Success)
+            SmcResult::only(Word::Success)
         }
         Err(refusal) => refusal.answer,
     }
@@ -100,12 +102,12 @@ pub fn data_create_unknown<S: PageStore>(
 // ---- removing
 
 // The RIPAS that is left where memory of a RIPAS was.
-fn left_ripas(ripas: Ripas) -> Ripas
+fn left_ripas(ripas: RmmRipas) -> RmmRipas
     ensures { result ≡ destroying.left_ripas ripas }
 {
     match ripas {
-        Ripas::Empty => Ripas::Empty,
-        _ => Ripas::Destroyed,
+        RmmRipas::Empty => RmmRipas::Empty,
+        _ => RmmRipas::Destroyed,
     }
 }
 
@@ -113,9 +115,9 @@ fn left_ripas(ripas: Ripas) -> Ripas
 fn check_mapped<S: PageStore>(
     granules: &Granules<S>,
     found: &RttWalk,
-    entry: Entry,
+    entry: RmmRttEntry,
     ipa: u64,
-) -> Result<Gran, Refusal>
+) -> Result<Gran, FailedCondition>
     requires inside { found.now.table < granule_count granules.now }
     requires low { ipa < 2 ^ 48 }
     ensures refusal { refusal_in result
@@ -136,7 +138,11 @@ fn check_mapped<S: PageStore>(
 
 // The page that RMI_DATA_DESTROY removes, if its operands pass.
 #[tactic(auto, unfolding(rmm_model::specs::Command::DataDestroy::data_destroy))]
-fn find_mapped<S: PageStore>(granules: &Granules<S>, rd: u64, ipa: u64) -> Result<Mapped, Refusal>
+fn find_mapped<S: PageStore>(
+    granules: &Granules<S>,
+    rd: u64,
+    ipa: u64,
+) -> Result<Mapped, FailedCondition>
     ensures refusal { refusal_in result
         ≡ first_failing (destroying.data_destroy rd ipa granules.now).checks }
     ensures mapped { IfOk result (IsMapped granules.now rd ipa) }
@@ -151,7 +157,7 @@ fn find_mapped<S: PageStore>(granules: &Granules<S>, rd: u64, ipa: u64) -> Resul
 
 // RMI_DATA_DESTROY
 #[tactic(auto, unfolding(rmm_model::specs::Command::DataDestroy::data_destroy))]
-pub fn data_destroy<S: PageStore>(granules: &mut Granules<S>, rd: u64, ipa: u64) -> Answer
+pub fn data_destroy<S: PageStore>(granules: &mut Granules<S>, rd: u64, ipa: u64) -> SmcResult
     ensures answer { result
         ≡ (outcome (destroying.data_destroy rd ipa granules.old) granules.old).0 }
     ensures machine { granules.new
@@ -159,13 +165,13 @@ pub fn data_destroy<S: PageStore>(granules: &mut Granules<S>, rd: u64, ipa: u64)
 {
     match find_mapped(granules, rd, ipa) {
         Ok(mapped) => {
-            let left = Entry::Unassigned(left_ripas(mapped.entry.ripas()));
+            let left = RmmRttEntry::Unassigned(left_ripas(mapped.entry.ripas()));
             write(granules, &mapped.found, ipa, left);
-            blank(granules, mapped.data, GranuleState::Delegated);
-            Answer {
+            blank(granules, mapped.data, RmmGranuleState::Delegated);
+            SmcResult {
                 x1: mapped.entry.descriptor(),
                 x2: top(granules, &mapped.found, ipa),
-                ..Answer::only(Word::Success)
+                ..SmcResult::only(Word::Success)
             }
         }
         Err(refusal) => refusal.answer,

@@ -12,11 +12,12 @@ use crate::realm::{check_new, set_rim};
 use crate::walking::{read, walk, write};
 use granule_addr::Gran;
 use page_arena::PageStore;
-use rmi_abi::{Answer, HashAlgorithm, Settings, Word};
+use rmi_abi::{HashAlgorithm, RmmSettings, SmcResult, Word};
 use rmm_granules::Granules;
 use rmm_measurement::{Extension, extend, page_digest};
 use rmm_model::{
-    Condition, Entry, Granule, GranuleState, Realm, Refusal, Ripas, RttWalk, error_input, error_rtt,
+    Condition, FailedCondition, RmmGranule, RmmGranuleState, RmmRealm, RmmRipas, RmmRttEntry,
+    RttWalk, error_input, error_rtt,
 };
 
 const SOURCE: Names = Names {
@@ -51,7 +52,7 @@ pub struct NewPage {
 // ---- operands
 
 // Passes flags that there are, if the settings say that they are checked.
-fn check_flags(settings: &Settings, flags: u64) -> Result<(), Refusal>
+fn check_flags(settings: &RmmSettings, flags: u64) -> Result<(), FailedCondition>
     ensures { refusal_in result ≡ first_failing (flags_checks settings.now flags) }
 {
     if !settings.ignores_data_flags && flags > 1 {
@@ -67,7 +68,7 @@ fn find_source<S: PageStore>(
     page: u64,
     source: u64,
     flags: u64,
-) -> Result<Source, Refusal>
+) -> Result<Source, FailedCondition>
     ensures refusal { refusal_in result
         ≡ first_failing (command.source_checks granules.now page source flags) }
     ensures found { IfOk result (IsSource granules.now page source) }
@@ -82,7 +83,11 @@ fn find_source<S: PageStore>(
 }
 
 // Passes a walk that reached level 3, to an UNASSIGNED entry; its RIPAS is RAM, if the settings require it.
-fn check_vacant(settings: &Settings, found: &RttWalk, entry: Entry) -> Result<(), Refusal>
+fn check_vacant(
+    settings: &RmmSettings,
+    found: &RttWalk,
+    entry: RmmRttEntry,
+) -> Result<(), FailedCondition>
     ensures { refusal_in result ≡ first_failing (command.vacancy_checks settings.now found.now entry) }
 {
     check_entry(found, 3, entry.is_unassigned())?;
@@ -94,7 +99,11 @@ fn check_vacant(settings: &Settings, found: &RttWalk, entry: Entry) -> Result<()
 
 // The realm and the entry of a page of data, if they pass.
 #[tactic(auto, unfolding(rmm_model::specs::Command::DataCreate::target_checks))]
-fn find_target<S: PageStore>(granules: &Granules<S>, rd: u64, ipa: u64) -> Result<Target, Refusal>
+fn find_target<S: PageStore>(
+    granules: &Granules<S>,
+    rd: u64,
+    ipa: u64,
+) -> Result<Target, FailedCondition>
     ensures refusal { refusal_in result ≡ first_failing (command.target_checks granules.now rd ipa) }
     ensures found { IfOk result (IsTarget granules.now rd ipa) }
 {
@@ -114,7 +123,7 @@ fn find_page<S: PageStore>(
     ipa: u64,
     source: u64,
     flags: u64,
-) -> Result<NewPage, Refusal>
+) -> Result<NewPage, FailedCondition>
     ensures refusal { refusal_in result
         ≡ first_failing (command.data_create rd page ipa source flags granules.now).checks }
     ensures found { IfOk result (IsNewPage granules.now rd page ipa source) }
@@ -145,7 +154,7 @@ fn content_digest(hash: HashAlgorithm, flags: u64, page: &[u8]) -> [u8; 64]
 
 // The measurement of a realm after a page of data.
 #[tactic(auto, unfolding(rmm_model::specs::Command::DataCreate::rim_with_data))]
-fn rim_with_data(realm: &Realm, ipa: u64, flags: u64, page: &[u8]) -> [u8; 64]
+fn rim_with_data(realm: &RmmRealm, ipa: u64, flags: u64, page: &[u8]) -> [u8; 64]
     ensures { result ≡ command.rim_with_data realm.now ipa flags page.now }
 {
     let extension = Extension::Data {
@@ -167,8 +176,8 @@ fn write_page<S: PageStore>(granules: &mut Granules<S>, place: &NewPage, page: u
     ensures machine { granules.new ≡ with_data granules.old place.now page ipa }
     ensures count { granule_count granules.new ≡ granule_count granules.old }
 {
-    let kept = Granule {
-        state: GranuleState::Data,
+    let kept = RmmGranule {
+        state: RmmGranuleState::Data,
         owner: Some(place.owner.granule),
     };
     granules.set(place.granule, kept);
@@ -177,7 +186,7 @@ fn write_page<S: PageStore>(granules: &mut Granules<S>, place: &NewPage, page: u
         granules,
         &place.found,
         ipa,
-        Entry::Assigned(Ripas::Ram, page),
+        RmmRttEntry::Assigned(RmmRipas::Ram, page),
     );
 }
 
@@ -190,7 +199,7 @@ pub fn data_create<S: PageStore>(
     ipa: u64,
     source: u64,
     flags: u64,
-) -> Answer
+) -> SmcResult
     ensures answer { result
         ≡ (outcome (command.data_create rd page ipa source flags granules.old) granules.old).0 }
     ensures machine { granules.new
@@ -201,7 +210,7 @@ pub fn data_create<S: PageStore>(
             let rim = rim_with_data(&place.owner.realm, ipa, flags, granules.page(place.source));
             write_page(granules, &place, page, ipa);
             set_rim(granules, &place.owner, &rim);
-            Answer::only(Word::Success)
+            SmcResult::only(Word::Success)
         }
         Err(refusal) => refusal.answer,
     }

@@ -13,11 +13,11 @@ use crate::operand::{check_ipa, realm_of};
 use crate::walking::{read, table_below, walk, write};
 use granule_addr::Gran;
 use page_arena::{PageStore, word_in};
-use rmi_abi::{Answer, Settings, Word};
+use rmi_abi::{RmmSettings, SmcResult, Word};
 use rmm_granules::Granules;
 use rmm_model::{
-    Condition, Entry, GranuleState, Refusal, RttWalk, entry_from_word, entry_size, error_rtt,
-    has_parts,
+    Condition, FailedCondition, RmmGranuleState, RmmRttEntry, RttWalk, entry_from_word, entry_size,
+    error_rtt, has_parts,
 };
 
 // A table that can be folded, and the entry that leads to it.
@@ -25,12 +25,12 @@ use rmm_model::{
 pub struct Foldable {
     pub table: Gran,
     pub found: RttWalk,
-    pub parent: Entry,
+    pub parent: RmmRttEntry,
 }
 
 // The first entry of a table.
 #[tactic(auto, unfolding(rmm_model::specs::Table::entry_in_page))]
-fn first_entry(page: &[u8]) -> Entry
+fn first_entry(page: &[u8]) -> RmmRttEntry
     requires { length page.now ≡ 4096 }
     ensures value { result ≡ entry_in_page page.now 0 }
     ensures fits { descriptor_of result < 2 ^ 48 }
@@ -39,7 +39,7 @@ fn first_entry(page: &[u8]) -> Entry
 }
 
 // Whether an entry can be one a level higher.
-fn is_aligned_above(entry: Entry, level: u8) -> bool
+fn is_aligned_above(entry: RmmRttEntry, level: u8) -> bool
     requires { 1 ≤ level }
     ensures { result ≡ command.is_aligned_above entry level }
 {
@@ -58,7 +58,7 @@ fn is_homogeneous(page: &[u8], level: u8) -> bool
 }
 
 // Whether a table would become a block of a level at which there is none.
-fn is_block_too_high(settings: &Settings, page: &[u8], level: u8) -> bool
+fn is_block_too_high(settings: &RmmSettings, page: &[u8], level: u8) -> bool
     requires { length page.now ≡ 4096 }
     ensures { result ≡ command.is_block_too_high settings.now page.now level }
 {
@@ -69,9 +69,9 @@ fn is_block_too_high(settings: &Settings, page: &[u8], level: u8) -> bool
 fn check_fold<S: PageStore>(
     granules: &Granules<S>,
     found: &RttWalk,
-    parent: Entry,
+    parent: RmmRttEntry,
     level: u8,
-) -> Result<Gran, Refusal>
+) -> Result<Gran, FailedCondition>
     requires { 1 ≤ level }
     ensures refusal { refusal_in result
         ≡ first_failing (command.fold_checks granules.now found.now parent level) }
@@ -103,7 +103,7 @@ fn find_foldable<S: PageStore>(
     rd: u64,
     ipa: u64,
     level: u64,
-) -> Result<Foldable, Refusal>
+) -> Result<Foldable, FailedCondition>
     ensures refusal { refusal_in result
         ≡ first_failing (command.rtt_fold rd ipa level granules.now).checks }
     ensures foldable { IfOk result (IsFoldable granules.now rd ipa level) }
@@ -122,7 +122,12 @@ fn find_foldable<S: PageStore>(
 
 // RMI_RTT_FOLD
 #[tactic(auto, unfolding(rmm_model::specs::Command::RttFold::rtt_fold))]
-pub fn rtt_fold<S: PageStore>(granules: &mut Granules<S>, rd: u64, ipa: u64, level: u64) -> Answer
+pub fn rtt_fold<S: PageStore>(
+    granules: &mut Granules<S>,
+    rd: u64,
+    ipa: u64,
+    level: u64,
+) -> SmcResult
     ensures answer { result
         ≡ (outcome (command.rtt_fold rd ipa level granules.old) granules.old).0 }
     ensures machine { granules.new
@@ -132,10 +137,10 @@ pub fn rtt_fold<S: PageStore>(granules: &mut Granules<S>, rd: u64, ipa: u64, lev
         Ok(foldable) => {
             let first = first_entry(granules.page(foldable.table));
             write(granules, &foldable.found, ipa, first);
-            blank(granules, foldable.table, GranuleState::Delegated);
-            Answer {
+            blank(granules, foldable.table, RmmGranuleState::Delegated);
+            SmcResult {
                 x1: foldable.parent.descriptor(),
-                ..Answer::only(Word::Success)
+                ..SmcResult::only(Word::Success)
             }
         }
         Err(refusal) => refusal.answer,

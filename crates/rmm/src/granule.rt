@@ -9,9 +9,9 @@ ghost use Rattle.rmm_model.specs.Command.GranuleUndelegate.{granule_undelegate a
 use crate::operand::{Names, delegated, named};
 use granule_addr::Gran;
 use page_arena::PageStore;
-use rmi_abi::{Answer, Word};
+use rmi_abi::{SmcResult, Word};
 use rmm_granules::Granules;
-use rmm_model::{Condition, Granule, GranuleState, Refusal, error_input};
+use rmm_model::{Condition, FailedCondition, RmmGranule, RmmGranuleState, error_input};
 
 const GRANULE: Names = Names {
     align: Condition::GranAlign,
@@ -20,18 +20,21 @@ const GRANULE: Names = Names {
 };
 
 // A granule becomes one of no realm, and its page is zero.
-pub fn blank<S: PageStore>(granules: &mut Granules<S>, granule: Gran, state: GranuleState)
+pub fn blank<S: PageStore>(granules: &mut Granules<S>, granule: Gran, state: RmmGranuleState)
     requires inside { granule < granule_count granules.old }
     requires plain { realm_of state ≡ None }
     ensures { granules.new ≡ with_blank granules.old granule state }
 {
-    granules.set(granule, Granule { state, owner: None });
+    granules.set(granule, RmmGranule { state, owner: None });
     granules.fill(granule, 0);
 }
 
 // The granule that RMI_GRANULE_DELEGATE delegates, if it passes.
 #[tactic(auto, unfolding(rmm_model::specs::Command::GranuleDelegate::granule_delegate))]
-fn find_undelegated<S: PageStore>(granules: &Granules<S>, address: u64) -> Result<Gran, Refusal>
+fn find_undelegated<S: PageStore>(
+    granules: &Granules<S>,
+    address: u64,
+) -> Result<Gran, FailedCondition>
     ensures refusal { refusal_in result
         ≡ first_failing (delegating address granules.now).checks }
     ensures number { IfOk result (λ granule. granule ≡ number_of granules.now address) }
@@ -49,14 +52,14 @@ fn find_undelegated<S: PageStore>(granules: &Granules<S>, address: u64) -> Resul
 
 // RMI_GRANULE_DELEGATE
 #[tactic(auto, unfolding(rmm_model::specs::Command::GranuleDelegate::granule_delegate))]
-pub fn granule_delegate<S: PageStore>(granules: &mut Granules<S>, address: u64) -> Answer
+pub fn granule_delegate<S: PageStore>(granules: &mut Granules<S>, address: u64) -> SmcResult
     ensures answer { result ≡ (outcome (delegating address granules.old) granules.old).0 }
     ensures machine { granules.new ≡ (outcome (delegating address granules.old) granules.old).1 }
 {
     match find_undelegated(granules, address) {
         Ok(granule) => {
-            blank(granules, granule, GranuleState::Delegated);
-            Answer::only(Word::Success)
+            blank(granules, granule, RmmGranuleState::Delegated);
+            SmcResult::only(Word::Success)
         }
         Err(refusal) => refusal.answer,
     }
@@ -64,14 +67,14 @@ pub fn granule_delegate<S: PageStore>(granules: &mut Granules<S>, address: u64) 
 
 // RMI_GRANULE_UNDELEGATE
 #[tactic(auto, unfolding(rmm_model::specs::Command::GranuleUndelegate::granule_undelegate))]
-pub fn granule_undelegate<S: PageStore>(granules: &mut Granules<S>, address: u64) -> Answer
+pub fn granule_undelegate<S: PageStore>(granules: &mut Granules<S>, address: u64) -> SmcResult
     ensures answer { result ≡ (outcome (undelegating address granules.old) granules.old).0 }
     ensures machine { granules.new ≡ (outcome (undelegating address granules.old) granules.old).1 }
 {
     match delegated(granules, address, GRANULE) {
         Ok(granule) => {
-            blank(granules, granule, GranuleState::Undelegated);
-            Answer::only(Word::Success)
+            blank(granules, granule, RmmGranuleState::Undelegated);
+            SmcResult::only(Word::Success)
         }
         Err(refusal) => refusal.answer,
     }

@@ -10,21 +10,21 @@ use crate::rec_destroy::realm_in;
 use granule_addr::Gran;
 use page_arena::PageStore;
 use rmm_granules::Granules;
-use rmm_model::{Queued, Realm, Rec, Step, StepResult, StepWords};
+use rmm_model::{GuestStep, Queued, RmmRealm, RmmRec, StepResult, StepWords};
 
 // The attributes of a REC; a granule that is none has those of a new one.
-pub fn rec_in<S: PageStore>(granules: &Granules<S>, g: Gran) -> Rec
+pub fn rec_in<S: PageStore>(granules: &Granules<S>, g: Gran) -> RmmRec
     requires { g < granule_count granules.now }
     ensures { result ≡ guests.rec_in granules.now g }
 {
     match granules.rec(g) {
         Some(rec) => rec,
-        None => Rec::new(false, 0),
+        None => RmmRec::new(false, 0),
     }
 }
 
 // The realm that owns a granule.
-pub fn owner_realm<S: PageStore>(granules: &Granules<S>, g: Gran) -> Option<Realm>
+pub fn owner_realm<S: PageStore>(granules: &Granules<S>, g: Gran) -> Option<RmmRealm>
     requires { g < granule_count granules.now }
     ensures value { result ≡ entering.owner_realm granules.now g }
     ensures served { IfSome result (IsServed (granule_count granules.now)) }
@@ -36,7 +36,7 @@ pub fn owner_realm<S: PageStore>(granules: &Granules<S>, g: Gran) -> Option<Real
 }
 
 // The first step of a guest.
-pub fn first_step<S: PageStore>(granules: &Granules<S>, g: Gran) -> Step
+pub fn first_step<S: PageStore>(granules: &Granules<S>, g: Gran) -> GuestStep
     requires { g < granule_count granules.now }
     ensures { result ≡ guests.first_step granules.now g }
 {
@@ -52,7 +52,7 @@ pub fn past_step<S: PageStore>(granules: &mut Granules<S>, g: Gran)
     ensures count { granule_count granules.new ≡ granule_count granules.old }
 {
     let rec = rec_in(granules, g);
-    let past = Rec {
+    let past = RmmRec {
         first_step: (rec.first_step % 16 + 1) % 16,
         step_count: rec.step_count.saturating_sub(1),
         ..rec
@@ -72,7 +72,7 @@ pub fn push_result<S: PageStore>(granules: &mut Granules<S>, g: Gran, r: &StepRe
     let first = 128 + 2 * place as u16;
     granules.set_word(g, first, r.code());
     granules.set_word(g, first + 1, r.value());
-    let more = Rec {
+    let more = RmmRec {
         result_count: (place + 1) % 32,
         ..rec
     };
@@ -129,7 +129,7 @@ pub fn queue<S: PageStore>(granules: &mut Granules<S>, address: u64, words: &Ste
                 (rec.first_step % 16 + rec.step_count % 16) % 16,
                 words,
             );
-            let more = Rec {
+            let more = RmmRec {
                 step_count: rec.step_count + 1,
                 ..rec
             };

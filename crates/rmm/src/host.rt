@@ -7,7 +7,7 @@ ghost use Rattle.rmm.specs.Reading.{word_shown};
 use granule_addr::Gran;
 use page_arena::{PageStore, word_in};
 use rmm_granules::Granules;
-use rmm_model::GranuleState;
+use rmm_model::RmmGranuleState;
 
 // The granule of a page of the host that an address lies in.
 pub fn host_granule<S: PageStore>(granules: &Granules<S>, address: u64) -> Option<Gran>
@@ -40,7 +40,7 @@ pub fn load<S: PageStore>(granules: &Granules<S>, address: u64) -> Option<u64>
 }
 
 // The state of the granule that begins at an address; `None` comes if there is none.
-pub fn state<S: PageStore>(granules: &Granules<S>, address: u64) -> Option<GranuleState>
+pub fn state<S: PageStore>(granules: &Granules<S>, address: u64) -> Option<RmmGranuleState>
     ensures { result ≡ hosts.state_shown granules.now address }
 {
     if address % 4096 == 0 && granules.is_inside(address) {

@@ -7,7 +7,7 @@ ghost use Rattle.rmm_model.specs.Command.RecAuxCount.{rec_aux_count as counting}
 
 use crate::operand::realm_of;
 use page_arena::PageStore;
-use rmi_abi::{Answer, Word, feature_register};
+use rmi_abi::{SmcResult, Word, feature_register};
 use rmm_granules::Granules;
 
 // The version 1.0, the only one that there is.
@@ -15,7 +15,7 @@ const VERSION: u64 = 0x1_0000;
 
 // RMI_VERSION
 #[tactic(auto, unfolding(rmm_model::specs::Command::Version::version))]
-pub fn version<S: PageStore>(granules: &Granules<S>, requested: u64) -> Answer
+pub fn version<S: PageStore>(granules: &Granules<S>, requested: u64) -> SmcResult
     ensures answer { result ≡ (outcome (versions requested granules.now) granules.now).0 }
     ensures machine { (outcome (versions requested granules.now) granules.now).1 ≡ granules.now }
 {
@@ -24,35 +24,35 @@ pub fn version<S: PageStore>(granules: &Granules<S>, requested: u64) -> Answer
     } else {
         Word::ErrorInput
     };
-    Answer {
+    SmcResult {
         x1: VERSION,
         x2: VERSION,
-        ..Answer::only(word)
+        ..SmcResult::only(word)
     }
 }
 
 // RMI_FEATURES
 #[tactic(auto, unfolding(rmm_model::specs::Command::Features::features))]
-pub fn features<S: PageStore>(granules: &Granules<S>, index: u64) -> Answer
+pub fn features<S: PageStore>(granules: &Granules<S>, index: u64) -> SmcResult
     ensures answer { result ≡ (outcome (feature index granules.now) granules.now).0 }
     ensures machine { (outcome (feature index granules.now) granules.now).1 ≡ granules.now }
 {
-    Answer {
+    SmcResult {
         x1: feature_register(granules.platform(), index),
-        ..Answer::only(Word::Success)
+        ..SmcResult::only(Word::Success)
     }
 }
 
 // RMI_REC_AUX_COUNT
 #[tactic(auto, unfolding(rmm_model::specs::Command::RecAuxCount::rec_aux_count))]
-pub fn rec_aux_count<S: PageStore>(granules: &Granules<S>, rd: u64) -> Answer
+pub fn rec_aux_count<S: PageStore>(granules: &Granules<S>, rd: u64) -> SmcResult
     ensures answer { result ≡ (outcome (counting rd granules.now) granules.now).0 }
     ensures machine { (outcome (counting rd granules.now) granules.now).1 ≡ granules.now }
 {
     match realm_of(granules, rd) {
-        Ok(_) => Answer {
+        Ok(_) => SmcResult {
             x1: granules.settings().aux as u64,
-            ..Answer::only(Word::Success)
+            ..SmcResult::only(Word::Success)
         },
         Err(refusal) => refusal.answer,
     }

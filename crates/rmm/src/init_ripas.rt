@@ -9,11 +9,12 @@ use crate::realm::{error_realm, is_new, set_rim};
 use crate::ripas_range::{change_count, check_progress, check_size, write_ripas};
 use crate::walking::walk;
 use page_arena::PageStore;
-use rmi_abi::{Answer, Settings, Word};
+use rmi_abi::{RmmSettings, SmcResult, Word};
 use rmm_granules::Granules;
 use rmm_measurement::{Extension, extend};
 use rmm_model::{
-    Changeable, Condition, Realm, Refusal, Ripas, RttWalk, entry_index, entry_size, error_input,
+    Changeable, Condition, FailedCondition, RmmRealm, RmmRipas, RttWalk, entry_index, entry_size,
+    error_input,
 };
 
 // The RD of a range with its realm, and the table of its first entry.
@@ -26,7 +27,7 @@ pub struct RipasRange {
 // ---- operands
 
 // The entries that become RAM.
-fn changeable(settings: &Settings) -> Changeable
+fn changeable(settings: &RmmSettings) -> Changeable
     ensures { result ≡ command.init_changeable settings.now }
 {
     Changeable {
@@ -37,7 +38,7 @@ fn changeable(settings: &Settings) -> Changeable
 
 // Passes a range of pages in the protected half of a NEW realm.
 #[tactic(auto, unfolding(rmm_model::specs::Command::RttInitRipas::range_checks))]
-fn check_range(realm: &Realm, base: u64, top: u64) -> Result<(), Refusal>
+fn check_range(realm: &RmmRealm, base: u64, top: u64) -> Result<(), FailedCondition>
     requires { realm.now.s2sz ≤ 48 }
     ensures refusal { refusal_in result ≡ first_failing (command.range_checks realm.now base top) }
     ensures in_space { OnOk result (base < 2 ^ realm.now.s2sz) }
@@ -68,7 +69,7 @@ fn find_range<S: PageStore>(
     rd: u64,
     base: u64,
     top: u64,
-) -> Result<RipasRange, Refusal>
+) -> Result<RipasRange, FailedCondition>
     ensures refusal { refusal_in result
         ≡ first_failing (command.rtt_init_ripas rd base top granules.now).checks }
     ensures found { IfOk result (IsRipasRange granules.now rd base) }
@@ -85,7 +86,7 @@ fn find_range<S: PageStore>(
 // ---- the measurement
 
 // The measurement of a realm after that many entries of a size, from an address on, became RAM.
-fn rim_with_ripas(realm: &Realm, size: u64, base: u64, count: u16) -> [u8; 64]
+fn rim_with_ripas(realm: &RmmRealm, size: u64, base: u64, count: u16) -> [u8; 64]
     requires low { base < 2 ^ 48 }
     requires size { size ≤ 2 ^ 39 }
     requires count { count ≤ 512 }
@@ -111,7 +112,7 @@ pub fn rtt_init_ripas<S: PageStore>(
     rd: u64,
     base: u64,
     top: u64,
-) -> Answer
+) -> SmcResult
     ensures answer { result
         ≡ (outcome (command.rtt_init_ripas rd base top granules.old) granules.old).0 }
     ensures machine { granules.new
@@ -124,11 +125,11 @@ pub fn rtt_init_ripas<S: PageStore>(
             let size = entry_size(range.found.level);
             let rim = rim_with_ripas(&range.owner.realm, size, base, count);
             let first = entry_index(range.found.level, base);
-            write_ripas(granules, &range.found, first, Ripas::Ram, count);
+            write_ripas(granules, &range.found, first, RmmRipas::Ram, count);
             set_rim(granules, &range.owner, &rim);
-            Answer {
+            SmcResult {
                 x1: base + count as u64 * size,
-                ..Answer::only(Word::Success)
+                ..SmcResult::only(Word::Success)
             }
         }
         Err(refusal) => refusal.answer,

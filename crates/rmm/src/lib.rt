@@ -4,6 +4,7 @@
 //! something only if all of them pass. No call takes memory, and no call has a precondition.
 #![tactic(auto)]
 
+mod access;
 mod auxiliary;
 mod data;
 mod data_create;
@@ -27,6 +28,7 @@ mod rec_enter;
 mod ripas_range;
 mod rtt_create;
 mod rtt_destroy;
+mod run_page;
 mod set_ripas;
 mod step;
 mod unprotected;

@@ -28,10 +28,10 @@ use crate::set_ripas::rtt_set_ripas;
 use crate::unprotected::{rtt_map_unprotected, rtt_unmap_unprotected};
 use page_arena::PageStore;
 use rmi_abi::{
-    Answer, Call, Registers, Settings, answer_registers, decode_call, unknown_registers,
+    Call, Registers, RmmSettings, SmcResult, answer_registers, decode_call, unknown_registers,
 };
 use rmm_granules::Granules;
-use rmm_model::{GranuleState, Queued, StepWords};
+use rmm_model::{Queued, RmmGranuleState, StepWords};
 use std::marker::Model;
 
 /// A monitor of a platform over a store of pages. It is seen as its machine.
@@ -60,7 +60,7 @@ impl<S: PageStore> Rmm<S> {
     }
 
     /// The settings of the platform.
-    pub fn settings(&self) -> &Settings
+    pub fn settings(&self) -> &RmmSettings
         ensures { result.now ≡ self.now.settings }
     {
         self.granules.settings()
@@ -82,7 +82,7 @@ impl<S: PageStore> Rmm<S> {
 
     /// The state of the granule that begins at an address, with its realm or its REC; `None` comes if there is none. No
     /// host sees it.
-    pub fn state(&self, address: u64) -> Option<GranuleState>
+    pub fn state(&self, address: u64) -> Option<RmmGranuleState>
         ensures { result ≡ state_shown self.now address }
     {
         state(&self.granules, address)
@@ -141,7 +141,7 @@ impl<S: PageStore> Rmm<S> {
 
 // Does what a call asks, and returns its answer.
 #[tactic(auto, unfolding(rmm_model::specs::Call::performed))]
-fn perform<S: PageStore>(granules: &mut Granules<S>, call: Call) -> Answer
+fn perform<S: PageStore>(granules: &mut Granules<S>, call: Call) -> SmcResult
     ensures answer { result ≡ (performed call granules.old).0 }
     ensures machine { granules.new ≡ (performed call granules.old).1 }
 {

@@ -9,9 +9,11 @@ ghost use Rattle.rmm_model.specs.Command.Operand as operands;
 
 use granule_addr::{Gran, MOST_PAGES};
 use page_arena::PageStore;
-use rmi_abi::{Answer, Settings, Word};
+use rmi_abi::{RmmSettings, SmcResult, Word};
 use rmm_granules::Granules;
-use rmm_model::{Condition, Realm, Refusal, RttWalk, entry_size, error_input, error_rtt};
+use rmm_model::{
+    Condition, FailedCondition, RmmRealm, RttWalk, entry_size, error_input, error_rtt,
+};
 
 // The names of an operand's conditions: of its alignment, its bound and its state.
 #[derive(Clone, Copy)]
@@ -25,7 +27,7 @@ pub struct Names {
 #[derive(Clone, Copy)]
 pub struct Rd {
     pub granule: Gran,
-    pub realm: Realm,
+    pub realm: RmmRealm,
 }
 
 pub const RD: Names = Names {
@@ -41,7 +43,7 @@ pub fn named<S: PageStore>(
     granules: &Granules<S>,
     address: u64,
     names: Names,
-) -> Result<Gran, Refusal>
+) -> Result<Gran, FailedCondition>
     ensures refusal { refusal_in result
         ≡ first_failing (operands.address_checks names.align names.bound granules.now address) }
     ensures number { IfOk result (λ granule. granule ≡ number_of granules.now address) }
@@ -61,7 +63,7 @@ pub fn host_page<S: PageStore>(
     granules: &Granules<S>,
     address: u64,
     names: Names,
-) -> Result<Gran, Refusal>
+) -> Result<Gran, FailedCondition>
     ensures refusal { refusal_in result
         ≡ first_failing (operands.host_checks names.align names.bound names.state granules.now address) }
     ensures number { IfOk result (λ granule. granule ≡ number_of granules.now address) }
@@ -81,7 +83,7 @@ pub fn delegated<S: PageStore>(
     granules: &Granules<S>,
     address: u64,
     names: Names,
-) -> Result<Gran, Refusal>
+) -> Result<Gran, FailedCondition>
     ensures refusal { refusal_in result
         ≡ first_failing (operands.delegated_checks names.align names.bound names.state granules.now address) }
     ensures number { IfOk result (λ granule. granule ≡ number_of granules.now address) }
@@ -97,7 +99,7 @@ pub fn delegated<S: PageStore>(
 }
 
 // The RD that an address names, with its realm.
-pub fn realm_of<S: PageStore>(granules: &Granules<S>, address: u64) -> Result<Rd, Refusal>
+pub fn realm_of<S: PageStore>(granules: &Granules<S>, address: u64) -> Result<Rd, FailedCondition>
     ensures refusal { refusal_in result ≡ first_failing (operands.rd_checks granules.now address) }
     ensures number { IfOk result (λ rd. rd.granule ≡ number_of granules.now address) }
     ensures inside { IfOk result (λ rd. rd.granule < granule_count granules.now) }
@@ -120,7 +122,7 @@ pub fn granule_after(first: Gran, k: u16) -> Gran
 }
 
 // Starting table k of a realm.
-pub fn start_table<S: PageStore>(granules: &Granules<S>, realm: &Realm, k: u8) -> Gran
+pub fn start_table<S: PageStore>(granules: &Granules<S>, realm: &RmmRealm, k: u8) -> Gran
     requires served { IsServed (granule_count granules.now) realm.now }
     requires below { k < realm.now.table_count }
     ensures value { result ≡ realm.now.first_table + k }
@@ -132,7 +134,7 @@ pub fn start_table<S: PageStore>(granules: &Granules<S>, realm: &Realm, k: u8) -
 // ---- addresses of a realm
 
 // Whether an address is one of a realm.
-pub fn is_in_space(realm: &Realm, ipa: u64) -> bool
+pub fn is_in_space(realm: &RmmRealm, ipa: u64) -> bool
     requires { realm.now.s2sz ≤ 48 }
     ensures { result ≡ realms.is_in_space realm.now ipa }
 {
@@ -140,7 +142,7 @@ pub fn is_in_space(realm: &Realm, ipa: u64) -> bool
 }
 
 // Whether an address is in the lower half of the address space of a realm.
-pub fn is_protected(realm: &Realm, ipa: u64) -> bool
+pub fn is_protected(realm: &RmmRealm, ipa: u64) -> bool
     requires { realm.now.s2sz ≤ 48 }
     ensures { result ≡ realms.is_protected realm.now ipa }
 {
@@ -148,7 +150,13 @@ pub fn is_protected(realm: &Realm, ipa: u64) -> bool
 }
 
 // Passes a level that is at least `least`, and an address where an entry of the level that many above it begins.
-pub fn check_ipa(realm: &Realm, least: u8, level: u64, above: u8, ipa: u64) -> Result<u8, Refusal>
+pub fn check_ipa(
+    realm: &RmmRealm,
+    least: u8,
+    level: u64,
+    above: u8,
+    ipa: u64,
+) -> Result<u8, FailedCondition>
     requires above { above ≤ least }
     requires width { realm.now.s2sz ≤ 48 }
     ensures refusal { refusal_in result
@@ -173,7 +181,7 @@ pub fn check_ipa(realm: &Realm, least: u8, level: u64, above: u8, ipa: u64) -> R
 }
 
 // Passes an address of a realm's protected half where a page begins.
-pub fn check_page(realm: &Realm, ipa: u64) -> Result<(), Refusal>
+pub fn check_page(realm: &RmmRealm, ipa: u64) -> Result<(), FailedCondition>
     requires { realm.now.s2sz ≤ 48 }
     ensures refusal { refusal_in result ≡ first_failing (operands.page_checks realm.now ipa) }
     ensures in_space { OnOk result (ipa < 2 ^ realm.now.s2sz) }
@@ -189,7 +197,7 @@ pub fn check_page(realm: &Realm, ipa: u64) -> Result<(), Refusal>
 }
 
 // Whether an address is in the upper half of the address space of a realm.
-fn is_unprotected(realm: &Realm, ipa: u64) -> bool
+fn is_unprotected(realm: &RmmRealm, ipa: u64) -> bool
     requires { realm.now.s2sz ≤ 48 }
     ensures { result ≡ realms.is_unprotected realm.now ipa }
 {
@@ -199,11 +207,11 @@ fn is_unprotected(realm: &Realm, ipa: u64) -> bool
 // Passes a level at which there are pages or blocks, and an address of a realm's unprotected half where an entry of the
 // level begins.
 pub fn check_unprotected(
-    settings: &Settings,
-    realm: &Realm,
+    settings: &RmmSettings,
+    realm: &RmmRealm,
     level: u64,
     ipa: u64,
-) -> Result<u8, Refusal>
+) -> Result<u8, FailedCondition>
     requires { realm.now.s2sz ≤ 48 }
     ensures refusal { refusal_in result
         ≡ first_failing (operands.unprotected_checks settings.now realm.now level ipa) }
@@ -227,20 +235,20 @@ pub fn check_unprotected(
 // ---- walks
 
 // RMI_ERROR_RTT by a condition, with the level of a table and the next live entry.
-pub fn error_rtt_top(condition: Condition, level: u8, top: u64) -> Refusal
+pub fn error_rtt_top(condition: Condition, level: u8, top: u64) -> FailedCondition
     ensures { result ≡ record { condition = condition; answer = with_top top level } }
 {
-    Refusal {
+    FailedCondition {
         condition,
-        answer: Answer {
+        answer: SmcResult {
             x2: top,
-            ..Answer::only(Word::ErrorRtt(level))
+            ..SmcResult::only(Word::ErrorRtt(level))
         },
     }
 }
 
 // Passes a walk that reached a level, to an entry that is as it has to be.
-pub fn check_entry(found: &RttWalk, level: u8, fits: bool) -> Result<(), Refusal>
+pub fn check_entry(found: &RttWalk, level: u8, fits: bool) -> Result<(), FailedCondition>
     ensures { refusal_in result
         ≡ first_failing (operands.entry_checks [] found.now level fits error_rtt) }
 {

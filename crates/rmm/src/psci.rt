@@ -11,9 +11,9 @@ use crate::operand::Names;
 use crate::rec::{NamedRec, rec_of, set_rec};
 use granule_addr::Gran;
 use page_arena::PageStore;
-use rmi_abi::{Answer, Word};
+use rmi_abi::{SmcResult, Word};
 use rmm_granules::Granules;
-use rmm_model::{Condition, PsciRequest, Rec, Refusal, error_input};
+use rmm_model::{Condition, FailedCondition, PsciRequest, RmmRec, error_input};
 
 const PSCI_SUCCESS: u64 = 0;
 
@@ -40,9 +40,9 @@ const TARGET: Names = Names {
 #[derive(Clone, Copy)]
 pub struct Completion {
     pub calling: Gran,
-    pub caller: Rec,
+    pub caller: RmmRec,
     pub target: Gran,
-    pub named: Rec,
+    pub named: RmmRec,
 }
 
 // ---- requests
@@ -113,7 +113,7 @@ fn check_request<S: PageStore>(
     calling: &NamedRec,
     target: &NamedRec,
     status: u64,
-) -> Result<(), Refusal>
+) -> Result<(), FailedCondition>
     requires calling { calling.now.granule < granule_count granules.now }
     requires target { target.now.granule < granule_count granules.now }
     ensures { refusal_in result
@@ -144,7 +144,7 @@ fn check_request<S: PageStore>(
 fn begin_target<S: PageStore>(
     granules: &mut Granules<S>,
     granule: Gran,
-    rec: &Rec,
+    rec: &RmmRec,
     request: PsciRequest,
 )
     requires { granule < granule_count granules.old }
@@ -156,7 +156,7 @@ fn begin_target<S: PageStore>(
         ..
     } = request
     {
-        let begun = Rec {
+        let begun = RmmRec {
             is_runnable: true,
             ..*rec
         };
@@ -171,7 +171,7 @@ fn find_caller<S: PageStore>(
     granules: &Granules<S>,
     calling: u64,
     target: u64,
-) -> Result<NamedRec, Refusal>
+) -> Result<NamedRec, FailedCondition>
     ensures refusal { refusal_in result
         ≡ first_failing (check Alias [] (calling == target) error_input
         ∷ rec_checks CallingAlign CallingBound CallingState granules.now calling) }
@@ -192,7 +192,7 @@ fn find_request<S: PageStore>(
     calling: u64,
     target: u64,
     status: u64,
-) -> Result<Completion, Refusal>
+) -> Result<Completion, FailedCondition>
     ensures refusal { refusal_in result
         ≡ first_failing (command.psci_complete calling target status granules.now).checks }
     ensures found { IfOk result (IsCompletion granules.now calling target) }
@@ -215,7 +215,7 @@ pub fn psci_complete<S: PageStore>(
     calling: u64,
     target: u64,
     status: u64,
-) -> Answer
+) -> SmcResult
     ensures answer { result
         ≡ (outcome (command.psci_complete calling target status granules.old) granules.old).0 }
     ensures machine { granules.new
@@ -225,7 +225,7 @@ pub fn psci_complete<S: PageStore>(
         Ok(found) => {
             let on = found.named.is_on();
             let request = found.caller.psci;
-            let answered = Rec {
+            let answered = RmmRec {
                 psci: PsciRequest::Complete(psci_result(request, on, status)),
                 ..found.caller
             };
@@ -233,7 +233,7 @@ pub fn psci_complete<S: PageStore>(
             if !on && status == PSCI_SUCCESS {
                 begin_target(granules, found.target, &found.named, request);
             }
-            Answer::only(Word::Success)
+            SmcResult::only(Word::Success)
         }
         Err(refusal) => refusal.answer,
     }

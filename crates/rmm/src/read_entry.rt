@@ -6,9 +6,9 @@ ghost use Rattle.rmm_model.specs.Command.RttReadEntry.{rtt_read_entry as reading
 use crate::operand::{check_ipa, realm_of};
 use crate::walking::{read, walk};
 use page_arena::PageStore;
-use rmi_abi::{Answer, Word};
+use rmi_abi::{SmcResult, Word};
 use rmm_granules::Granules;
-use rmm_model::Refusal;
+use rmm_model::FailedCondition;
 
 // The answer of RMI_RTT_READ_ENTRY, if its operands pass.
 #[tactic(auto, unfolding(rmm_model::specs::Command::RttReadEntry::rtt_read_entry))]
@@ -17,7 +17,7 @@ fn find_entry<S: PageStore>(
     rd: u64,
     ipa: u64,
     level: u64,
-) -> Result<Answer, Refusal>
+) -> Result<SmcResult, FailedCondition>
     ensures refusal { refusal_in result ≡ first_failing (reading rd ipa level granules.now).checks }
     ensures answer { IfOk result (λ answer. answer ≡ (reading rd ipa level granules.now).answer) }
 {
@@ -25,7 +25,7 @@ fn find_entry<S: PageStore>(
     let level = check_ipa(&owner.realm, owner.realm.start_level, level, 0, ipa)?;
     let found = walk(granules, &owner.realm, ipa, level);
     let entry = read(granules, &found, ipa);
-    Ok(Answer {
+    Ok(SmcResult {
         word: Word::Success,
         x1: found.level as u64,
         x2: entry.state_code(),
@@ -36,7 +36,12 @@ fn find_entry<S: PageStore>(
 
 // RMI_RTT_READ_ENTRY
 #[tactic(auto, unfolding(rmm_model::specs::Command::RttReadEntry::rtt_read_entry))]
-pub fn rtt_read_entry<S: PageStore>(granules: &Granules<S>, rd: u64, ipa: u64, level: u64) -> Answer
+pub fn rtt_read_entry<S: PageStore>(
+    granules: &Granules<S>,
+    rd: u64,
+    ipa: u64,
+    level: u64,
+) -> SmcResult
     ensures answer { result ≡ (outcome (reading rd ipa level granules.now) granules.now).0 }
     ensures machine { (outcome (reading rd ipa level granules.now) granules.now).1 ≡ granules.now }
 {

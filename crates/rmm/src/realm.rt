@@ -8,29 +8,29 @@ ghost use Rattle.rmm_model.specs.Command.RealmActivate.{realm_activate as activa
 
 use crate::operand::{Rd, realm_of};
 use page_arena::PageStore;
-use rmi_abi::{Answer, Word};
+use rmi_abi::{SmcResult, Word};
 use rmm_granules::Granules;
-use rmm_model::{Condition, Granule, GranuleState, Realm, RealmState, Refusal};
+use rmm_model::{Condition, FailedCondition, RmmGranule, RmmGranuleState, RmmRealm, RmmRealmState};
 
 // Whether a realm is NEW.
-pub fn is_new(realm: &Realm) -> bool
+pub fn is_new(realm: &RmmRealm) -> bool
     ensures { result ≡ is_new realm.now.state }
 {
-    matches!(realm.state, RealmState::New)
+    matches!(realm.state, RmmRealmState::New)
 }
 
 // RMI_ERROR_REALM by a condition.
-pub fn error_realm(condition: Condition) -> Refusal
+pub fn error_realm(condition: Condition) -> FailedCondition
     ensures { result ≡ record { condition = condition; answer = error_realm } }
 {
-    Refusal {
+    FailedCondition {
         condition,
-        answer: Answer::only(Word::ErrorRealm(0)),
+        answer: SmcResult::only(Word::ErrorRealm(0)),
     }
 }
 
 // Passes a realm that is NEW.
-pub fn check_new(realm: &Realm) -> Result<(), Refusal>
+pub fn check_new(realm: &RmmRealm) -> Result<(), FailedCondition>
     ensures { refusal_in result ≡ first_failing (new_checks realm.now) }
 {
     if is_new(realm) {
@@ -47,12 +47,12 @@ pub fn set_rim<S: PageStore>(granules: &mut Granules<S>, owner: &Rd, rim: &[u8; 
     ensures { granules.new
         ≡ with_realm granules.old owner.now.granule (with_rim owner.now.realm rim.now) }
 {
-    let realm = Realm {
+    let realm = RmmRealm {
         rim: *rim,
         ..owner.realm
     };
-    let kept = Granule {
-        state: GranuleState::Rd(realm),
+    let kept = RmmGranule {
+        state: RmmGranuleState::Rd(realm),
         owner: None,
     };
     granules.set(owner.granule, kept);
@@ -60,7 +60,7 @@ pub fn set_rim<S: PageStore>(granules: &mut Granules<S>, owner: &Rd, rim: &[u8; 
 
 // The NEW realm that RMI_REALM_ACTIVATE activates, if it passes.
 #[tactic(auto, unfolding(rmm_model::specs::Command::RealmActivate::realm_activate))]
-fn find_new<S: PageStore>(granules: &Granules<S>, rd: u64) -> Result<Rd, Refusal>
+fn find_new<S: PageStore>(granules: &Granules<S>, rd: u64) -> Result<Rd, FailedCondition>
     ensures refusal { refusal_in result ≡ first_failing (activating rd granules.now).checks }
     ensures number { IfOk result (λ found. found.granule ≡ number_of granules.now rd) }
     ensures inside { IfOk result (λ found. found.granule < granule_count granules.now) }
@@ -74,22 +74,22 @@ fn find_new<S: PageStore>(granules: &Granules<S>, rd: u64) -> Result<Rd, Refusal
 
 // RMI_REALM_ACTIVATE
 #[tactic(auto, unfolding(rmm_model::specs::Command::RealmActivate::realm_activate))]
-pub fn realm_activate<S: PageStore>(granules: &mut Granules<S>, rd: u64) -> Answer
+pub fn realm_activate<S: PageStore>(granules: &mut Granules<S>, rd: u64) -> SmcResult
     ensures answer { result ≡ (outcome (activating rd granules.old) granules.old).0 }
     ensures machine { granules.new ≡ (outcome (activating rd granules.old) granules.old).1 }
 {
     match find_new(granules, rd) {
         Ok(found) => {
-            let realm = Realm {
-                state: RealmState::Active,
+            let realm = RmmRealm {
+                state: RmmRealmState::Active,
                 ..found.realm
             };
-            let kept = Granule {
-                state: GranuleState::Rd(realm),
+            let kept = RmmGranule {
+                state: RmmGranuleState::Rd(realm),
                 owner: None,
             };
             granules.set(found.granule, kept);
-            Answer::only(Word::Success)
+            SmcResult::only(Word::Success)
         }
         Err(refusal) => refusal.answer,
     }

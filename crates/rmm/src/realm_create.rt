@@ -11,12 +11,12 @@ ghost use Rattle.rmm.specs.Found.{IsNewRealm};
 use crate::operand::{Names, RD, delegated, granule_after, host_page, is_protected, start_table};
 use granule_addr::Gran;
 use page_arena::PageStore;
-use rmi_abi::{Answer, HashAlgorithm, RealmParams, Settings, Word};
+use rmi_abi::{HashAlgorithm, RealmParams, RmmSettings, SmcResult, Word};
 use rmm_granules::Granules;
 use rmm_measurement::initial;
 use rmm_model::{
-    Condition, Entry, Granule, GranuleState, Realm, RealmState, Refusal, Ripas, entry_size,
-    error_input, start_count,
+    Condition, FailedCondition, RmmGranule, RmmGranuleState, RmmRealm, RmmRealmState, RmmRipas,
+    RmmRttEntry, entry_size, error_input, start_count,
 };
 
 pub const PARAMS: Names = Names {
@@ -29,14 +29,17 @@ pub const PARAMS: Names = Names {
 #[derive(Clone, Copy)]
 pub struct NewRealm {
     pub rd: Gran,
-    pub realm: Realm,
+    pub realm: RmmRealm,
 }
 
 // ---- parameters
 
 // The parameters at an address, if their page is the host's.
 #[tactic(auto, unfolding(rmm_model::specs::Command::RealmCreate::params_at))]
-fn read_params<S: PageStore>(granules: &Granules<S>, params: u64) -> Result<RealmParams, Refusal>
+fn read_params<S: PageStore>(
+    granules: &Granules<S>,
+    params: u64,
+) -> Result<RealmParams, FailedCondition>
     ensures refusal { refusal_in result
         ≡ first_failing (host_checks ParamsAlign ParamsBound ParamsPas granules.now params) }
     ensures value { IfOk result (λ p. p ≡ command.params_at granules.now params) }
@@ -46,14 +49,14 @@ fn read_params<S: PageStore>(granules: &Granules<S>, params: u64) -> Result<Real
 }
 
 // Whether breakpoints, watchpoints and vectors are at most those of feature register 0.
-fn fits_features(settings: &Settings, p: &RealmParams) -> bool
+fn fits_features(settings: &RmmSettings, p: &RealmParams) -> bool
     ensures { result ≡ command.fits_features settings.now p.now }
 {
     p.num_bps <= settings.bps && p.num_wps <= settings.wps && p.sve_vl == 0
 }
 
 // Whether no flag is set, and the width is one that the monitor supports; the fields too, where they are checked.
-fn is_supported(settings: &Settings, p: &RealmParams) -> bool
+fn is_supported(settings: &RmmSettings, p: &RealmParams) -> bool
     ensures { result ≡ command.is_supported settings.now p.now }
 {
     p.flags == 0
@@ -87,7 +90,7 @@ fn is_start_table(p: &RealmParams, rd: u64) -> bool
 
 // Passes parameters of a realm that there can be, whose RD is none of its starting tables.
 #[tactic(auto, unfolding(rmm_model::specs::Command::RealmCreate::params_checks))]
-fn check_params(settings: &Settings, p: &RealmParams, rd: u64) -> Result<(), Refusal>
+fn check_params(settings: &RmmSettings, p: &RealmParams, rd: u64) -> Result<(), FailedCondition>
     requires { settings.now.s2sz ≤ 48 }
     ensures refusal { refusal_in result
         ≡ first_failing (command.params_checks settings.now p.now rd) }
@@ -160,7 +163,7 @@ fn is_vmid_valid<S: PageStore>(granules: &Granules<S>, vmid: u16) -> bool
 }
 
 // Passes starting tables that can be used, and a VMID that is free.
-fn check_free<S: PageStore>(granules: &Granules<S>, p: &RealmParams) -> Result<(), Refusal>
+fn check_free<S: PageStore>(granules: &Granules<S>, p: &RealmParams) -> Result<(), FailedCondition>
     ensures refusal { refusal_in result ≡ first_failing (command.free_checks granules.now p.now) }
     ensures start { OnOk result (command.can_start granules.now p.now ≡ true) }
     ensures few { granule_count granules.now ≤ 4096 }
@@ -188,7 +191,7 @@ fn hash_of(code: u8) -> HashAlgorithm
 
 // The realm that parameters ask for.
 #[tactic(auto, unfolding(rmm_model::specs::Command::RealmCreate::realm_for))]
-fn realm_for<S: PageStore>(granules: &Granules<S>, p: &RealmParams) -> Realm
+fn realm_for<S: PageStore>(granules: &Granules<S>, p: &RealmParams) -> RmmRealm
     requires width { p.now.s2sz ≤ 48 }
     requires start { is_start p.now.s2sz p.now.rtt_level_start p.now.rtt_num_start ≡ true }
     requires free { command.can_start granules.now p.now ≡ true }
@@ -197,8 +200,8 @@ fn realm_for<S: PageStore>(granules: &Granules<S>, p: &RealmParams) -> Realm
     ensures served { IsServed (granule_count granules.now) result }
 {
     let hash = hash_of(p.hash_algo);
-    Realm {
-        state: RealmState::New,
+    RmmRealm {
+        state: RmmRealmState::New,
         hash,
         rim: initial(hash, p),
         s2sz: p.s2sz,
@@ -212,20 +215,20 @@ fn realm_for<S: PageStore>(granules: &Granules<S>, p: &RealmParams) -> Realm
 }
 
 // Entry n of the starting tables of a new realm.
-fn start_entry(realm: &Realm, n: u16) -> Entry
+fn start_entry(realm: &RmmRealm, n: u16) -> RmmRttEntry
     requires width { realm.now.s2sz ≤ 48 }
     requires below { n < 8192 }
     ensures { result ≡ command.start_entry realm.now n }
 {
     if is_protected(realm, n as u64 * entry_size(realm.start_level)) {
-        Entry::Unassigned(Ripas::Empty)
+        RmmRttEntry::Unassigned(RmmRipas::Empty)
     } else {
-        Entry::UnassignedNs
+        RmmRttEntry::UnassignedNs
     }
 }
 
 // Writes starting table k of a realm.
-fn write_start_page<S: PageStore>(granules: &mut Granules<S>, table: Gran, realm: &Realm, k: u8)
+fn write_start_page<S: PageStore>(granules: &mut Granules<S>, table: Gran, realm: &RmmRealm, k: u8)
     requires inside { table < granule_count granules.old }
     requires width { realm.now.s2sz ≤ 48 }
     requires below { k < 16 }
@@ -242,7 +245,7 @@ fn write_start_page<S: PageStore>(granules: &mut Granules<S>, table: Gran, realm
 }
 
 // Makes the starting tables of a realm.
-fn write_tables<S: PageStore>(granules: &mut Granules<S>, rd: Gran, realm: &Realm)
+fn write_tables<S: PageStore>(granules: &mut Granules<S>, rd: Gran, realm: &RmmRealm)
     requires { IsServed (granule_count granules.old) realm.now }
     ensures tables { granules.new
         ≡ command.with_tables granules.old rd realm.now realm.now.table_count }
@@ -250,8 +253,8 @@ fn write_tables<S: PageStore>(granules: &mut Granules<S>, rd: Gran, realm: &Real
 {
     for k in 0..realm.table_count {
         let table = start_table(granules, realm, k);
-        let kept = Granule {
-            state: GranuleState::Rtt,
+        let kept = RmmGranule {
+            state: RmmGranuleState::Rtt,
             owner: Some(rd),
         };
         granules.set(table, kept);
@@ -266,7 +269,7 @@ fn find_realm<S: PageStore>(
     granules: &Granules<S>,
     rd: u64,
     params: u64,
-) -> Result<NewRealm, Refusal>
+) -> Result<NewRealm, FailedCondition>
     ensures refusal { refusal_in result
         ≡ first_failing (command.realm_create rd params granules.now).checks }
     ensures found { IfOk result (IsNewRealm granules.now rd params) }
@@ -283,7 +286,7 @@ fn find_realm<S: PageStore>(
 
 // RMI_REALM_CREATE
 #[tactic(auto, unfolding(rmm_model::specs::Command::RealmCreate::realm_create))]
-pub fn realm_create<S: PageStore>(granules: &mut Granules<S>, rd: u64, params: u64) -> Answer
+pub fn realm_create<S: PageStore>(granules: &mut Granules<S>, rd: u64, params: u64) -> SmcResult
     ensures answer { result
         ≡ (outcome (command.realm_create rd params granules.old) granules.old).0 }
     ensures machine { granules.new
@@ -292,13 +295,13 @@ pub fn realm_create<S: PageStore>(granules: &mut Granules<S>, rd: u64, params: u
     match find_realm(granules, rd, params) {
         Ok(found) => {
             write_tables(granules, found.rd, &found.realm);
-            let kept = Granule {
-                state: GranuleState::Rd(found.realm),
+            let kept = RmmGranule {
+                state: RmmGranuleState::Rd(found.realm),
                 owner: None,
             };
             granules.set(found.rd, kept);
             granules.set_vmid(found.realm.vmid, true);
-            Answer::only(Word::Success)
+            SmcResult::only(Word::Success)
         }
         Err(refusal) => refusal.answer,
     }

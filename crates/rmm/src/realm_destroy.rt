@@ -11,12 +11,12 @@ use crate::operand::{Rd, realm_of, start_table};
 use crate::realm::error_realm;
 use granule_addr::Gran;
 use page_arena::PageStore;
-use rmi_abi::{Answer, Word};
+use rmi_abi::{SmcResult, Word};
 use rmm_granules::Granules;
-use rmm_model::{Condition, GranuleState, Realm, Refusal, has_live};
+use rmm_model::{Condition, FailedCondition, RmmGranuleState, RmmRealm, has_live};
 
 // Whether a starting table of a realm has a live entry.
-fn has_live_table<S: PageStore>(granules: &Granules<S>, realm: &Realm) -> bool
+fn has_live_table<S: PageStore>(granules: &Granules<S>, realm: &RmmRealm) -> bool
     requires { IsServed (granule_count granules.now) realm.now }
     ensures { result ≡ command.has_live_table granules.now realm.now.first_table realm.now.table_count }
 {
@@ -30,7 +30,7 @@ fn has_live_table<S: PageStore>(granules: &Granules<S>, realm: &Realm) -> bool
 
 // Whether a realm has a REC, or a live entry in a starting table.
 #[tactic(auto, unfolding(rmm_model::specs::Command::RealmDestroy::is_realm_live))]
-fn is_realm_live<S: PageStore>(granules: &Granules<S>, realm: &Realm) -> bool
+fn is_realm_live<S: PageStore>(granules: &Granules<S>, realm: &RmmRealm) -> bool
     requires { IsServed (granule_count granules.now) realm.now }
     ensures { result ≡ command.is_realm_live granules.now realm.now }
 {
@@ -39,7 +39,7 @@ fn is_realm_live<S: PageStore>(granules: &Granules<S>, realm: &Realm) -> bool
 
 // The realm that RMI_REALM_DESTROY destroys, if it passes.
 #[tactic(auto, unfolding(rmm_model::specs::Command::RealmDestroy::realm_destroy))]
-fn find_unused<S: PageStore>(granules: &Granules<S>, rd: u64) -> Result<Rd, Refusal>
+fn find_unused<S: PageStore>(granules: &Granules<S>, rd: u64) -> Result<Rd, FailedCondition>
     ensures refusal { refusal_in result ≡ first_failing (command.realm_destroy rd granules.now).checks }
     ensures number { IfOk result (λ found. found.granule ≡ number_of granules.now rd) }
     ensures inside { IfOk result (λ found. found.granule < granule_count granules.now) }
@@ -55,29 +55,29 @@ fn find_unused<S: PageStore>(granules: &Granules<S>, rd: u64) -> Result<Rd, Refu
 }
 
 // The starting tables of a realm become DELEGATED.
-fn remove_tables<S: PageStore>(granules: &mut Granules<S>, realm: &Realm)
+fn remove_tables<S: PageStore>(granules: &mut Granules<S>, realm: &RmmRealm)
     requires { IsServed (granule_count granules.old) realm.now }
     ensures tables { granules.new ≡ command.without_tables granules.old realm.now realm.now.table_count }
     ensures count { granule_count granules.new ≡ granule_count granules.old }
 {
     for k in 0..realm.table_count {
         let table = start_table(granules, realm, k);
-        blank(granules, table, GranuleState::Delegated);
+        blank(granules, table, RmmGranuleState::Delegated);
     }
 }
 
 // RMI_REALM_DESTROY
 #[tactic(auto, unfolding(rmm_model::specs::Command::RealmDestroy::realm_destroy))]
-pub fn realm_destroy<S: PageStore>(granules: &mut Granules<S>, rd: u64) -> Answer
+pub fn realm_destroy<S: PageStore>(granules: &mut Granules<S>, rd: u64) -> SmcResult
     ensures answer { result ≡ (outcome (command.realm_destroy rd granules.old) granules.old).0 }
     ensures machine { granules.new ≡ (outcome (command.realm_destroy rd granules.old) granules.old).1 }
 {
     match find_unused(granules, rd) {
         Ok(found) => {
             remove_tables(granules, &found.realm);
-            blank(granules, found.granule, GranuleState::Delegated);
+            blank(granules, found.granule, RmmGranuleState::Delegated);
             granules.set_vmid(found.realm.vmid, false);
-            Answer::only(Word::Success)
+            SmcResult::only(Word::Success)
         }
         Err(refusal) => refusal.answer,
     }

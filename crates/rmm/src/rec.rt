@@ -8,15 +8,15 @@ ghost use Rattle.rmm_model.specs.Command.PsciComplete.{with_rec};
 use crate::operand::{Names, named};
 use granule_addr::Gran;
 use page_arena::PageStore;
-use rmi_abi::{Answer, Word};
+use rmi_abi::{SmcResult, Word};
 use rmm_granules::Granules;
-use rmm_model::{Condition, Granule, GranuleState, Rec, Refusal, error_input};
+use rmm_model::{Condition, FailedCondition, RmmGranule, RmmGranuleState, RmmRec, error_input};
 
 // A REC and its granule.
 #[derive(Clone, Copy)]
 pub struct NamedRec {
     pub granule: Gran,
-    pub rec: Rec,
+    pub rec: RmmRec,
 }
 
 pub const REC: Names = Names {
@@ -26,12 +26,12 @@ pub const REC: Names = Names {
 };
 
 // RMI_ERROR_REC by a condition.
-pub fn error_rec(condition: Condition) -> Refusal
+pub fn error_rec(condition: Condition) -> FailedCondition
     ensures { result ≡ record { condition = condition; answer = error_rec } }
 {
-    Refusal {
+    FailedCondition {
         condition,
-        answer: Answer::only(Word::ErrorRec),
+        answer: SmcResult::only(Word::ErrorRec),
     }
 }
 
@@ -40,7 +40,7 @@ pub fn rec_of<S: PageStore>(
     granules: &Granules<S>,
     address: u64,
     names: Names,
-) -> Result<NamedRec, Refusal>
+) -> Result<NamedRec, FailedCondition>
     ensures refusal { refusal_in result
         ≡ first_failing (operands.rec_checks names.align names.bound names.state granules.now address) }
     ensures number { IfOk result (λ found. found.granule ≡ number_of granules.now address) }
@@ -55,13 +55,13 @@ pub fn rec_of<S: PageStore>(
 }
 
 // Sets the attributes of a REC.
-pub fn set_rec<S: PageStore>(granules: &mut Granules<S>, granule: Gran, rec: Rec)
+pub fn set_rec<S: PageStore>(granules: &mut Granules<S>, granule: Gran, rec: RmmRec)
     requires { granule < granule_count granules.old }
     ensures machine { granules.new ≡ with_rec granules.old granule rec }
     ensures count { granule_count granules.new ≡ granule_count granules.old }
 {
-    let kept = Granule {
-        state: GranuleState::Rec(rec),
+    let kept = RmmGranule {
+        state: RmmGranuleState::Rec(rec),
         owner: granules.owner(granule),
     };
     granules.set(granule, kept);

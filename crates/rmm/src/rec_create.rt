@@ -14,10 +14,12 @@ use crate::realm::{error_realm, is_new};
 use crate::realm_create::PARAMS;
 use granule_addr::Gran;
 use page_arena::PageStore;
-use rmi_abi::{Answer, RecParams, Settings, Word, is_mpidr, rec_number};
+use rmi_abi::{RecParams, RmmSettings, SmcResult, Word, is_mpidr, rec_number};
 use rmm_granules::Granules;
 use rmm_measurement::{Extension, extend, rec_digest};
-use rmm_model::{Condition, Granule, GranuleState, Realm, Rec, Refusal, error_input};
+use rmm_model::{
+    Condition, FailedCondition, RmmGranule, RmmGranuleState, RmmRealm, RmmRec, error_input,
+};
 
 const NEW_REC: Names = Names {
     align: Condition::RecAlign,
@@ -31,7 +33,7 @@ pub struct NewRec {
     pub rec: Gran,
     pub source: Gran,
     pub rd: Gran,
-    pub realm: Realm,
+    pub realm: RmmRealm,
 }
 
 // ---- auxiliary granules
@@ -126,7 +128,11 @@ fn are_apart<S: PageStore>(granules: &Granules<S>, page: &[u8], rec: u64, count:
 
 // Passes as many auxiliary granules as a REC has, all of them DELEGATED, and no two of them and the REC one.
 #[tactic(auto, unfolding(rmm_model::specs::Command::RecCreate::aux_checks))]
-fn check_aux<S: PageStore>(granules: &Granules<S>, page: &[u8], rec: u64) -> Result<(), Refusal>
+fn check_aux<S: PageStore>(
+    granules: &Granules<S>,
+    page: &[u8],
+    rec: u64,
+) -> Result<(), FailedCondition>
     requires { length page.now ≡ 4096 }
     ensures { refusal_in result ≡ first_failing (command.aux_checks granules.now page.now rec) }
 {
@@ -152,7 +158,7 @@ fn check_aux<S: PageStore>(granules: &Granules<S>, page: &[u8], rec: u64) -> Res
 // ---- the new REC
 
 // Whether a realm has fewer RECs than it can have.
-fn can_have_more(settings: &Settings, realm: &Realm) -> bool
+fn can_have_more(settings: &RmmSettings, realm: &RmmRealm) -> bool
     requires { settings.now.max_recs_order ≤ 15 }
     ensures { result ≡ nat_lt realm.now.rec_count (2 ^ settings.now.max_recs_order) }
 {
@@ -161,7 +167,11 @@ fn can_have_more(settings: &Settings, realm: &Realm) -> bool
 
 // Passes the MPIDR of the next REC of a NEW realm that can have one more.
 #[tactic(auto, unfolding(rmm_model::specs::Command::RecCreate::number_checks))]
-fn check_number(settings: &Settings, page: &[u8], realm: &Realm) -> Result<(), Refusal>
+fn check_number(
+    settings: &RmmSettings,
+    page: &[u8],
+    realm: &RmmRealm,
+) -> Result<(), FailedCondition>
     requires page { length page.now ≡ 4096 }
     requires order { settings.now.max_recs_order ≤ 15 }
     ensures refusal { refusal_in result
@@ -225,9 +235,9 @@ fn write_rec<S: PageStore>(granules: &mut Granules<S>, rd: Gran, rec: Gran, sour
     ensures { granules.new ≡ command.with_created_rec granules.old rd rec (page_in granules.old source) }
 {
     let page = granules.page(source);
-    let attributes = Rec::new(RecParams::is_runnable(page), RecParams::mpidr(page));
-    let kept = Granule {
-        state: GranuleState::Rec(attributes),
+    let attributes = RmmRec::new(RecParams::is_runnable(page), RecParams::mpidr(page));
+    let kept = RmmGranule {
+        state: RmmGranuleState::Rec(attributes),
         owner: Some(rd),
     };
     granules.set(rec, kept);
@@ -238,7 +248,7 @@ fn write_rec<S: PageStore>(granules: &mut Granules<S>, rd: Gran, rec: Gran, sour
 
 // The measurement of a realm after a REC with the parameters of a page.
 #[tactic(auto, unfolding(rmm_model::specs::Command::RecMeasurement::rim_with_rec))]
-fn rim_with_rec(settings: &Settings, realm: &Realm, page: &[u8]) -> [u8; 64]
+fn rim_with_rec(settings: &RmmSettings, realm: &RmmRealm, page: &[u8]) -> [u8; 64]
     requires { length page.now ≡ 4096 }
     ensures { result ≡ measuring.rim_with_rec settings.now realm.now page.now }
 {
@@ -273,7 +283,7 @@ fn find_new<S: PageStore>(
     rd: u64,
     rec: u64,
     params: u64,
-) -> Result<NewRec, Refusal>
+) -> Result<NewRec, FailedCondition>
     ensures refusal { refusal_in result
         ≡ first_failing (command.rec_create rd rec params granules.now).checks }
     ensures found { IfOk result (IsNewRec granules.now rd rec params) }
@@ -299,7 +309,7 @@ pub fn rec_create<S: PageStore>(
     rd: u64,
     rec: u64,
     params: u64,
-) -> Answer
+) -> SmcResult
     ensures answer { result
         ≡ (outcome (command.rec_create rd rec params granules.old) granules.old).0 }
     ensures machine { granules.new
@@ -310,23 +320,23 @@ pub fn rec_create<S: PageStore>(
             let count = granules.settings().aux;
             let rim = measured_rim(granules, &found);
             write_rec(granules, found.rd, found.rec, found.source);
-            let aux = Granule {
-                state: GranuleState::RecAux,
+            let aux = RmmGranule {
+                state: RmmGranuleState::RecAux,
                 owner: Some(found.rd),
             };
             set_aux(granules, found.rec, &aux, count);
-            let realm = Realm {
+            let realm = RmmRealm {
                 rim,
                 next_rec: found.realm.next_rec + 1,
                 rec_count: found.realm.rec_count + 1,
                 ..found.realm
             };
-            let kept = Granule {
-                state: GranuleState::Rd(realm),
+            let kept = RmmGranule {
+                state: RmmGranuleState::Rd(realm),
                 owner: None,
             };
             granules.set(found.rd, kept);
-            Answer::only(Word::Success)
+            SmcResult::only(Word::Success)
         }
         Err(refusal) => refusal.answer,
     }

@@ -11,12 +11,12 @@ use crate::granule::blank;
 use crate::rec::{REC, error_rec, rec_of};
 use granule_addr::Gran;
 use page_arena::PageStore;
-use rmi_abi::{Answer, Word};
+use rmi_abi::{SmcResult, Word};
 use rmm_granules::Granules;
-use rmm_model::{Condition, Granule, GranuleState, Realm, Refusal};
+use rmm_model::{Condition, FailedCondition, RmmGranule, RmmGranuleState, RmmRealm};
 
 // The realm of an RD, if the granule is one of the machine and an RD.
-pub fn realm_in<S: PageStore>(granules: &Granules<S>, rd: Gran) -> Option<Realm>
+pub fn realm_in<S: PageStore>(granules: &Granules<S>, rd: Gran) -> Option<RmmRealm>
     ensures value { result ≡ realm_of (granule_at granules.now rd).state }
     ensures inside { IfSome result (λ _. rd < granule_count granules.now) }
     ensures served { IfSome result (IsServed (granule_count granules.now)) }
@@ -35,12 +35,12 @@ fn remove_rec<S: PageStore>(granules: &mut Granules<S>, rd: Gran)
     ensures count { granule_count granules.new ≡ granule_count granules.old }
 {
     if let Some(found) = realm_in(granules, rd) {
-        let realm = Realm {
+        let realm = RmmRealm {
             rec_count: found.rec_count.saturating_sub(1),
             ..found
         };
-        let kept = Granule {
-            state: GranuleState::Rd(realm),
+        let kept = RmmGranule {
+            state: RmmGranuleState::Rd(realm),
             owner: None,
         };
         granules.set(rd, kept);
@@ -59,7 +59,7 @@ fn leave_realm<S: PageStore>(granules: &mut Granules<S>, owner: Option<Gran>)
 
 // The granule of the REC that RMI_REC_DESTROY destroys, if it passes.
 #[tactic(auto, unfolding(rmm_model::specs::Command::RecDestroy::rec_destroy))]
-fn find_ready<S: PageStore>(granules: &Granules<S>, rec: u64) -> Result<Gran, Refusal>
+fn find_ready<S: PageStore>(granules: &Granules<S>, rec: u64) -> Result<Gran, FailedCondition>
     ensures refusal { refusal_in result ≡ first_failing (command.rec_destroy rec granules.now).checks }
     ensures number { IfOk result (λ granule. granule ≡ number_of granules.now rec) }
     ensures inside { IfOk result (λ granule. granule < granule_count granules.now) }
@@ -74,7 +74,7 @@ fn find_ready<S: PageStore>(granules: &Granules<S>, rec: u64) -> Result<Gran, Re
 
 // RMI_REC_DESTROY
 #[tactic(auto, unfolding(rmm_model::specs::Command::RecDestroy::rec_destroy))]
-pub fn rec_destroy<S: PageStore>(granules: &mut Granules<S>, rec: u64) -> Answer
+pub fn rec_destroy<S: PageStore>(granules: &mut Granules<S>, rec: u64) -> SmcResult
     ensures answer { result ≡ (outcome (command.rec_destroy rec granules.old) granules.old).0 }
     ensures machine { granules.new ≡ (outcome (command.rec_destroy rec granules.old) granules.old).1 }
 {
@@ -83,13 +83,13 @@ pub fn rec_destroy<S: PageStore>(granules: &mut Granules<S>, rec: u64) -> Answer
             let count = granules.settings().aux;
             let owner = granules.owner(granule);
             leave_realm(granules, owner);
-            let free = Granule {
-                state: GranuleState::Delegated,
+            let free = RmmGranule {
+                state: RmmGranuleState::Delegated,
                 owner: None,
             };
             set_aux(granules, granule, &free, count);
-            blank(granules, granule, GranuleState::Delegated);
-            Answer::only(Word::Success)
+            blank(granules, granule, RmmGranuleState::Delegated);
+            SmcResult::only(Word::Success)
         }
         Err(refusal) => refusal.answer,
     }

@@ -10,6 +10,7 @@ ghost use Rattle.rmm_model.specs.Step as steps;
 ghost use Rattle.rmm_model.specs.Command.RecEnter as command;
 ghost use Rattle.rmm.specs.Found.{IsEntry};
 
+use crate::access::{read, write};
 use crate::guest::{first_step, owner_realm, past_step, push_result, rec_in, rec_named};
 use crate::host::host_granule;
 use crate::operand::{Names, host_page};
@@ -17,14 +18,15 @@ use crate::psci::is_pending;
 use crate::realm::error_realm;
 use crate::rec::{REC, error_rec, rec_of, set_rec};
 use crate::rec_destroy::realm_in;
-use crate::step::{access, came_of_call, fetched, rec_after_exit, tried};
+use crate::run_page::{copy_gic, copy_gprs, is_gic_wrong, write_run};
+use crate::step::{came_of_call, fetched, rec_after_exit, tried};
 use granule_addr::Gran;
 use page_arena::PageStore;
-use rmi_abi::{Answer, EnterFlags, ExitReason, RecExit, Word, entry_gpr};
+use rmi_abi::{EnterFlags, ExitReason, RecExit, SmcResult, Word, entry_gpr};
 use rmm_granules::Granules;
 use rmm_model::{
-    Came, Condition, Granule, GranuleState, LastExit, PsciRequest, Realm, RealmState, Rec,
-    RecState, Refusal, RipasRequest, Step, StepResult,
+    Came, Condition, FailedCondition, GuestStep, LastExit, PsciRequest, RipasRequest, RmmGranule,
+    RmmGranuleState, RmmRealm, RmmRealmState, RmmRec, RmmRecState, StepResult,
 };
 
 const RUN: Names = Names {
@@ -42,27 +44,6 @@ pub struct Entering {
 
 // ---- exits
 
-// Writes an exit into a page.
-fn write_exit<S: PageStore>(granules: &mut Granules<S>, page: Gran, exit: &RecExit)
-    requires { page < granule_count granules.old }
-    ensures machine { granules.new ≡ command.with_exit_words granules.old page exit.now 256 }
-    ensures count { granule_count granules.new ≡ granule_count granules.old }
-{
-    for k in 0..256u16 {
-        granules.set_word(page, 256 + k, exit.word(256 + k));
-    }
-}
-
-// Writes an exit into the run page at an address, if that is a page of the host.
-fn write_run<S: PageStore>(granules: &mut Granules<S>, run: u64, exit: &RecExit)
-    ensures machine { granules.new ≡ command.with_exit granules.old run exit.now }
-    ensures count { granule_count granules.new ≡ granule_count granules.old }
-{
-    if let Some(page) = host_granule(granules, run) {
-        write_exit(granules, page, exit);
-    }
-}
-
 // A REC leaves.
 #[tactic(auto, unfolding(rmm_model::specs::Command::RecEnter::left))]
 pub fn leave<S: PageStore>(granules: &mut Granules<S>, g: Gran, exit: &RecExit, last: LastExit)
@@ -71,29 +52,16 @@ pub fn leave<S: PageStore>(granules: &mut Granules<S>, g: Gran, exit: &RecExit, 
     ensures count { granule_count granules.new ≡ granule_count granules.old }
 {
     let rec = rec_in(granules, g);
-    let ready = Rec {
-        state: RecState::Ready,
+    let ready = RmmRec {
+        state: RmmRecState::Ready,
         exit: last,
         ..rec
     };
     set_rec(granules, g, ready);
-    write_run(granules, rec.run, exit);
+    write_run(granules, g, rec.run, exit);
 }
 
 // ---- entries
-
-// The general-purpose registers of a REC are those that the host gives.
-fn copy_gprs<S: PageStore>(granules: &mut Granules<S>, g: Gran, run: Gran)
-    requires inside { g < granule_count granules.old }
-    requires run { run < granule_count granules.old }
-    ensures machine { granules.new ≡ command.with_gprs granules.old g run 31 }
-    ensures count { granule_count granules.new ≡ granule_count granules.old }
-{
-    for k in 0..31u8 {
-        let word = entry_gpr(granules.page(run), k);
-        granules.set_word(g, k as u16, word);
-    }
-}
 
 // The result of a change of RIPAS.
 fn ripas_result(asked: &RipasRequest, flags: u64) -> StepResult
@@ -107,11 +75,11 @@ fn ripas_result(asked: &RipasRequest, flags: u64) -> StepResult
 }
 
 // The result of an access that the host emulated.
-fn emulated(step: Step, gpr0: u64) -> StepResult
+fn emulated(step: GuestStep, gpr0: u64) -> StepResult
     ensures { result ≡ command.emulated step gpr0 }
 {
     match step {
-        Step::Read { .. } => StepResult::Read(gpr0 % 256),
+        GuestStep::Read { size, .. } => StepResult::Read(size.low(gpr0)),
         _ => StepResult::Done,
     }
 }
@@ -134,7 +102,7 @@ fn push_psci<S: PageStore>(granules: &mut Granules<S>, g: Gran, request: PsciReq
 {
     if let PsciRequest::Complete(value) = request {
         let rec = rec_in(granules, g);
-        let idle = Rec {
+        let idle = RmmRec {
             psci: PsciRequest::None,
             ..rec
         };
@@ -151,7 +119,7 @@ fn push_ripas<S: PageStore>(granules: &mut Granules<S>, g: Gran, flags: u64)
 {
     let rec = rec_in(granules, g);
     let result = ripas_result(&rec.ripas, flags);
-    let idle = Rec {
+    let idle = RmmRec {
         ripas: RipasRequest::NONE,
         ..rec
     };
@@ -227,50 +195,19 @@ fn enter<S: PageStore>(granules: &mut Granules<S>, g: Gran, address: u64, run: G
     ensures count { granule_count granules.new ≡ granule_count granules.old }
 {
     let rec = rec_in(granules, g);
-    let begun = Rec {
-        state: RecState::Running,
+    let begun = RmmRec {
+        state: RmmRecState::Running,
         run: address,
         exit: LastExit::Other,
         result_count: 0,
         ..rec
     };
     set_rec(granules, g, begun);
+    copy_gic(granules, g, run);
     answer_exit(granules, g, rec.exit, run, flags);
 }
 
 // ---- steps
-
-// A guest writes a byte.
-fn write_byte<S: PageStore>(granules: &mut Granules<S>, realm: &Realm, ipa: u64, value: u64) -> Came
-    requires { IsServed (granule_count granules.old) realm.now }
-    ensures came { result ≡ steps.tried (steps.access granules.old realm.now ipa true (value % 256)) }
-    ensures machine { granules.new
-        ≡ steps.after_write granules.old ipa value (steps.access granules.old realm.now ipa true (value % 256)) }
-    ensures count { granule_count granules.new ≡ granule_count granules.old }
-{
-    let byte = value % 256;
-    match access(granules, realm, ipa, true, byte) {
-        Ok(granule) => {
-            granules.set_byte(granule, (ipa % 4096) as u16, byte as u8);
-            Came::Result(StepResult::Done)
-        }
-        Err(came) => came,
-    }
-}
-
-// A guest reads a byte.
-fn read_byte<S: PageStore>(granules: &Granules<S>, realm: &Realm, ipa: u64) -> Came
-    requires { IsServed (granule_count granules.now) realm.now }
-    ensures { result ≡ steps.came_of_read granules.now ipa (steps.access granules.now realm.now ipa false 0) }
-{
-    match access(granules, realm, ipa, false, 0) {
-        Ok(granule) => {
-            let byte = granules.page(granule)[(ipa % 4096) as usize];
-            Came::Result(StepResult::Read(byte as u64))
-        }
-        Err(came) => came,
-    }
-}
 
 // The realm of an RD is off.
 fn switch_off<S: PageStore>(granules: &mut Granules<S>, rd: Gran)
@@ -279,12 +216,12 @@ fn switch_off<S: PageStore>(granules: &mut Granules<S>, rd: Gran)
     ensures count { granule_count granules.new ≡ granule_count granules.old }
 {
     if let Some(found) = realm_in(granules, rd) {
-        let realm = Realm {
-            state: RealmState::SystemOff,
+        let realm = RmmRealm {
+            state: RmmRealmState::SystemOff,
             ..found
         };
-        let kept = Granule {
-            state: GranuleState::Rd(realm),
+        let kept = RmmGranule {
+            state: RmmGranuleState::Rd(realm),
             owner: None,
         };
         granules.set(rd, kept);
@@ -305,10 +242,10 @@ fn system_off<S: PageStore>(granules: &mut Granules<S>, g: Gran)
 // A guest calls, and its REC has what it asked for.
 fn call<S: PageStore>(
     granules: &mut Granules<S>,
-    realm: &Realm,
+    realm: &RmmRealm,
     g: Gran,
     flags: u64,
-    step: Step,
+    step: GuestStep,
 ) -> Came
     requires inside { g < granule_count granules.old }
     requires width { realm.now.s2sz ≤ 48 }
@@ -328,10 +265,10 @@ fn call<S: PageStore>(
 // A guest calls to turn its realm off.
 fn turn_off<S: PageStore>(
     granules: &mut Granules<S>,
-    realm: &Realm,
+    realm: &RmmRealm,
     g: Gran,
     flags: u64,
-    step: Step,
+    step: GuestStep,
 ) -> Came
     requires inside { g < granule_count granules.old }
     requires width { realm.now.s2sz ≤ 48 }
@@ -351,10 +288,10 @@ fn turn_off<S: PageStore>(
 #[tactic(auto, unfolding(rmm_model::specs::Command::RecEnter::came_of, rmm_model::specs::Command::RecEnter::after_step))]
 fn perform<S: PageStore>(
     granules: &mut Granules<S>,
-    realm: &Realm,
+    realm: &RmmRealm,
     g: Gran,
     flags: u64,
-    step: Step,
+    step: GuestStep,
 ) -> Came
     requires inside { g < granule_count granules.old }
     requires served { IsServed (granule_count granules.old) realm.now }
@@ -363,11 +300,11 @@ fn perform<S: PageStore>(
     ensures count { granule_count granules.new ≡ granule_count granules.old }
 {
     match step {
-        Step::Write { ipa, value } => write_byte(granules, realm, ipa, value),
-        Step::Read { ipa } => read_byte(granules, realm, ipa),
-        Step::Fetch { ipa } => tried(fetched(granules, realm, ipa)),
-        Step::SystemOff => turn_off(granules, realm, g, flags, step),
-        Step::SystemReset => turn_off(granules, realm, g, flags, step),
+        GuestStep::Write { ipa, value, size } => write(granules, realm, ipa, size, value),
+        GuestStep::Read { ipa, size } => read(granules, realm, ipa, size),
+        GuestStep::Fetch { ipa } => tried(fetched(granules, realm, ipa)),
+        GuestStep::SystemOff => turn_off(granules, realm, g, flags, step),
+        GuestStep::SystemReset => turn_off(granules, realm, g, flags, step),
         _ => call(granules, realm, g, flags, step),
     }
 }
@@ -452,34 +389,39 @@ fn ran<S: PageStore>(granules: &mut Granules<S>, g: Gran, flags: u64) -> bool
 // ---- the command
 
 // Whether the host emulates an access, and the last exit was none that can be emulated.
-fn is_no_mmio(rec: &Rec, flags: u64) -> bool
+fn is_no_mmio(rec: &RmmRec, flags: u64) -> bool
     ensures { result ≡ command.is_no_mmio rec.now flags }
 {
     EnterFlags::emulates_mmio(flags) && !matches!(rec.exit, LastExit::EmulatableAbort)
 }
 
 // The state of a realm; if there is none it counts as NEW.
-fn state_of(realm: Option<Realm>) -> RealmState
+fn state_of(realm: Option<RmmRealm>) -> RmmRealmState
     ensures { result ≡ command.state_of realm }
 {
     match realm {
         Some(realm) => realm.state,
-        None => RealmState::New,
+        None => RmmRealmState::New,
     }
 }
 
-// Passes a REC of an ACTIVE realm that is READY and runnable, and has nothing pending.
+// Passes a REC of an ACTIVE realm that is READY and runnable, and has nothing pending, with GIC fields that are right.
 #[tactic(auto, unfolding(rmm_model::specs::Command::RecEnter::enter_checks))]
-fn check_enter(state: RealmState, rec: &Rec, flags: u64) -> Result<(), Refusal>
-    ensures { refusal_in result ≡ first_failing (command.enter_checks state rec.now flags) }
+fn check_enter(
+    state: RmmRealmState,
+    rec: &RmmRec,
+    flags: u64,
+    is_wrong: bool,
+) -> Result<(), FailedCondition>
+    ensures { refusal_in result ≡ first_failing (command.enter_checks state rec.now flags is_wrong) }
 {
-    if matches!(state, RealmState::New) {
+    if matches!(state, RmmRealmState::New) {
         return Err(error_realm(Condition::RealmNew));
     }
-    if matches!(state, RealmState::SystemOff) {
-        return Err(Refusal {
+    if matches!(state, RmmRealmState::SystemOff) {
+        return Err(FailedCondition {
             condition: Condition::SystemOff,
-            answer: Answer::only(Word::ErrorRealm(1)),
+            answer: SmcResult::only(Word::ErrorRealm(1)),
         });
     }
     if rec.is_running() {
@@ -490,6 +432,9 @@ fn check_enter(state: RealmState, rec: &Rec, flags: u64) -> Result<(), Refusal>
     }
     if is_no_mmio(rec, flags) {
         return Err(error_rec(Condition::RecMmio));
+    }
+    if is_wrong {
+        return Err(error_rec(Condition::RecGicv3));
     }
     if is_pending(rec.psci) {
         return Err(error_rec(Condition::RecPsci));
@@ -503,14 +448,15 @@ fn find_entry<S: PageStore>(
     granules: &Granules<S>,
     rec: u64,
     address: u64,
-) -> Result<Entering, Refusal>
+) -> Result<Entering, FailedCondition>
     ensures refusal { refusal_in result ≡ first_failing (command.rec_enter rec address granules.now).checks }
     ensures found { IfOk result (IsEntry granules.now rec address) }
 {
     let run = host_page(granules, address, RUN)?;
     let found = rec_of(granules, rec, REC)?;
     let state = state_of(owner_realm(granules, found.granule));
-    check_enter(state, &found.rec, EnterFlags::read(granules.page(run)))?;
+    let flags = EnterFlags::read(granules.page(run));
+    check_enter(state, &found.rec, flags, is_gic_wrong(granules, run))?;
     Ok(Entering {
         rec: found.granule,
         run,
@@ -519,7 +465,7 @@ fn find_entry<S: PageStore>(
 
 // RMI_REC_ENTER
 #[tactic(auto, unfolding(rmm_model::specs::Command::RecEnter::rec_enter))]
-pub fn rec_enter<S: PageStore>(granules: &mut Granules<S>, rec: u64, address: u64) -> Answer
+pub fn rec_enter<S: PageStore>(granules: &mut Granules<S>, rec: u64, address: u64) -> SmcResult
     ensures answer { result ≡ (outcome (command.rec_enter rec address granules.old) granules.old).0 }
     ensures machine { granules.new ≡ (outcome (command.rec_enter rec address granules.old) granules.old).1 }
 {
@@ -528,9 +474,9 @@ pub fn rec_enter<S: PageStore>(granules: &mut Granules<S>, rec: u64, address: u6
             let flags = EnterFlags::read(granules.page(found.run));
             enter(granules, found.rec, address, found.run, flags);
             if ran(granules, found.rec, flags) {
-                Answer::only(Word::Success)
+                SmcResult::only(Word::Success)
             } else {
-                Answer::only(Word::Running)
+                SmcResult::only(Word::Running)
             }
         }
         Err(refusal) => refusal.answer,

@@ -9,12 +9,12 @@ use crate::walking::read;
 use page_arena::{PageStore, word_in};
 use rmm_granules::Granules;
 use rmm_model::{
-    Changeable, Condition, Refusal, Ripas, RttWalk, entry_from_word, entry_index, entry_size,
-    error_input, error_rtt, first_fixed,
+    Changeable, Condition, FailedCondition, RmmRipas, RttWalk, entry_from_word, entry_index,
+    entry_size, error_input, error_rtt, first_fixed,
 };
 
 // Passes a range that has addresses.
-pub fn check_size(base: u64, top: u64) -> Result<(), Refusal>
+pub fn check_size(base: u64, top: u64) -> Result<(), FailedCondition>
     ensures refusal { refusal_in result ≡ first_failing (ranges.size_checks base top) }
     ensures size { OnOk result (base < top) }
 {
@@ -31,7 +31,7 @@ pub fn check_progress<S: PageStore>(
     found: &RttWalk,
     base: u64,
     top: u64,
-) -> Result<(), Refusal>
+) -> Result<(), FailedCondition>
     requires inside { found.now.table < granule_count granules.now }
     requires low { base < 2 ^ 48 }
     ensures { refusal_in result
@@ -89,7 +89,7 @@ pub fn write_ripas<S: PageStore>(
     granules: &mut Granules<S>,
     found: &RttWalk,
     first: u16,
-    ripas: Ripas,
+    ripas: RmmRipas,
     count: u16,
 )
     requires inside { found.now.table < granule_count granules.old }

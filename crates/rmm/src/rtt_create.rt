@@ -11,9 +11,9 @@ use crate::operand::{Names, check_entry, check_ipa, delegated, realm_of};
 use crate::walking::{read, walk, write};
 use granule_addr::Gran;
 use page_arena::PageStore;
-use rmi_abi::{Answer, Word};
+use rmi_abi::{SmcResult, Word};
 use rmm_granules::Granules;
-use rmm_model::{Condition, Entry, Granule, GranuleState, Refusal, RttWalk};
+use rmm_model::{Condition, FailedCondition, RmmGranule, RmmGranuleState, RmmRttEntry, RttWalk};
 
 const RTT: Names = Names {
     align: Condition::RttAlign,
@@ -28,11 +28,16 @@ pub struct Vacancy {
     pub table: Gran,
     pub level: u8,
     pub found: RttWalk,
-    pub parent: Entry,
+    pub parent: RmmRttEntry,
 }
 
 // Writes the children of a mapping to a table.
-fn write_mappings<S: PageStore>(granules: &mut Granules<S>, table: Gran, parent: Entry, level: u8)
+fn write_mappings<S: PageStore>(
+    granules: &mut Granules<S>,
+    table: Gran,
+    parent: RmmRttEntry,
+    level: u8,
+)
     requires inside { table < granule_count granules.old }
     requires parent { descriptor_of parent < 2 ^ 48 }
     requires mapping { repeated_byte parent ≡ None }
@@ -46,7 +51,12 @@ fn write_mappings<S: PageStore>(granules: &mut Granules<S>, table: Gran, parent:
 
 // Writes the children of an entry to a table. Those of one that is not mapped are one byte throughout.
 #[tactic(auto, unfolding(rmm_model::specs::Table::children_page))]
-fn write_children<S: PageStore>(granules: &mut Granules<S>, table: Gran, parent: Entry, level: u8)
+fn write_children<S: PageStore>(
+    granules: &mut Granules<S>,
+    table: Gran,
+    parent: RmmRttEntry,
+    level: u8,
+)
     requires inside { table < granule_count granules.old }
     requires parent { descriptor_of parent < 2 ^ 48 }
     ensures { granules.new ≡ with_page granules.old table (children_page parent level) }
@@ -65,7 +75,7 @@ fn find_vacancy<S: PageStore>(
     rtt: u64,
     ipa: u64,
     level: u64,
-) -> Result<Vacancy, Refusal>
+) -> Result<Vacancy, FailedCondition>
     ensures refusal { refusal_in result
         ≡ first_failing (creating rd rtt ipa level granules.now).checks }
     ensures vacancy { IfOk result (IsVacancy granules.now rd rtt ipa level) }
@@ -93,7 +103,7 @@ pub fn rtt_create<S: PageStore>(
     rtt: u64,
     ipa: u64,
     level: u64,
-) -> Answer
+) -> SmcResult
     ensures answer { result
         ≡ (outcome (creating rd rtt ipa level granules.old) granules.old).0 }
     ensures machine { granules.new
@@ -101,14 +111,14 @@ pub fn rtt_create<S: PageStore>(
 {
     match find_vacancy(granules, rd, rtt, ipa, level) {
         Ok(vacancy) => {
-            let kept = Granule {
-                state: GranuleState::Rtt,
+            let kept = RmmGranule {
+                state: RmmGranuleState::Rtt,
                 owner: Some(vacancy.rd),
             };
             granules.set(vacancy.table, kept);
             write_children(granules, vacancy.table, vacancy.parent, vacancy.level);
-            write(granules, &vacancy.found, ipa, Entry::Table(rtt));
-            Answer::only(Word::Success)
+            write(granules, &vacancy.found, ipa, RmmRttEntry::Table(rtt));
+            SmcResult::only(Word::Success)
         }
         Err(refusal) => refusal.answer,
     }

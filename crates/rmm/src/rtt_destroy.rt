@@ -11,27 +11,29 @@ use crate::operand::{check_ipa, error_rtt_top, is_protected, realm_of};
 use crate::walking::{read, table_below, top, walk, write};
 use granule_addr::Gran;
 use page_arena::PageStore;
-use rmi_abi::{Answer, Word};
+use rmi_abi::{SmcResult, Word};
 use rmm_granules::Granules;
-use rmm_model::{Condition, Entry, GranuleState, Realm, Refusal, Ripas, RttWalk, has_live};
+use rmm_model::{
+    Condition, FailedCondition, RmmGranuleState, RmmRealm, RmmRipas, RmmRttEntry, RttWalk, has_live,
+};
 
 // A table without live entries, and the entry that leads to it.
 #[derive(Clone, Copy)]
 pub struct Unused {
-    pub realm: Realm,
+    pub realm: RmmRealm,
     pub table: Gran,
     pub found: RttWalk,
-    pub parent: Entry,
+    pub parent: RmmRttEntry,
 }
 
 // Passes a walk that reaches the level above a table, to an entry that leads to a table without live entries.
 fn check_unused<S: PageStore>(
     granules: &Granules<S>,
     found: &RttWalk,
-    parent: Entry,
+    parent: RmmRttEntry,
     ipa: u64,
     level: u8,
-) -> Result<Gran, Refusal>
+) -> Result<Gran, FailedCondition>
     requires inside { found.now.table < granule_count granules.now }
     requires low { ipa < 2 ^ 48 }
     requires level { 1 ≤ level }
@@ -61,7 +63,7 @@ fn find_unused<S: PageStore>(
     rd: u64,
     ipa: u64,
     level: u64,
-) -> Result<Unused, Refusal>
+) -> Result<Unused, FailedCondition>
     ensures refusal { refusal_in result
         ≡ first_failing (destroying rd ipa level granules.now).checks }
     ensures unused { IfOk result (IsUnused granules.now rd ipa level) }
@@ -86,23 +88,23 @@ pub fn rtt_destroy<S: PageStore>(
     rd: u64,
     ipa: u64,
     level: u64,
-) -> Answer
+) -> SmcResult
     ensures answer { result ≡ (outcome (destroying rd ipa level granules.old) granules.old).0 }
     ensures machine { granules.new ≡ (outcome (destroying rd ipa level granules.old) granules.old).1 }
 {
     match find_unused(granules, rd, ipa, level) {
         Ok(unused) => {
             let left = if is_protected(&unused.realm, ipa) {
-                Entry::Unassigned(Ripas::Destroyed)
+                RmmRttEntry::Unassigned(RmmRipas::Destroyed)
             } else {
-                Entry::UnassignedNs
+                RmmRttEntry::UnassignedNs
             };
             write(granules, &unused.found, ipa, left);
-            blank(granules, unused.table, GranuleState::Delegated);
-            Answer {
+            blank(granules, unused.table, RmmGranuleState::Delegated);
+            SmcResult {
                 x1: unused.parent.descriptor(),
                 x2: top(granules, &unused.found, ipa),
-                ..Answer::only(Word::Success)
+                ..SmcResult::only(Word::Success)
             }
         }
         Err(refusal) => refusal.answer,

@@ -13,18 +13,18 @@ use crate::ripas_range::{change_count, check_progress, check_size, write_ripas};
 use crate::walking::walk;
 use granule_addr::Gran;
 use page_arena::PageStore;
-use rmi_abi::{Answer, Word};
+use rmi_abi::{SmcResult, Word};
 use rmm_granules::Granules;
 use rmm_model::{
-    Changeable, Condition, Realm, Rec, Refusal, RipasRequest, RttWalk, entry_index, entry_size,
-    error_input,
+    Changeable, Condition, FailedCondition, RipasRequest, RmmRealm, RmmRec, RttWalk, entry_index,
+    entry_size, error_input,
 };
 
 // A range that a REC asked for, and the table of its first entry.
 #[derive(Clone, Copy)]
 pub struct RequestedRange {
     pub granule: Gran,
-    pub rec: Rec,
+    pub rec: RmmRec,
     pub found: RttWalk,
 }
 
@@ -39,7 +39,7 @@ fn changeable(request: &RipasRequest) -> Changeable
 }
 
 // Whether an address is the one that a REC asked for.
-fn is_asked(realm: &Realm, asking: &Rec, base: u64) -> bool
+fn is_asked(realm: &RmmRealm, asking: &RmmRec, base: u64) -> bool
     requires { realm.now.s2sz ≤ 48 }
     ensures { result ≡ command.is_asked realm.now asking.now base }
 {
@@ -65,12 +65,12 @@ fn is_rec_of<S: PageStore>(
 // Passes a REC of the realm that does not run, and the range that it asked for.
 #[tactic(auto, unfolding(rmm_model::specs::Command::RttSetRipas::ripas_request_checks))]
 fn check_request(
-    realm: &Realm,
-    asking: &Rec,
+    realm: &RmmRealm,
+    asking: &RmmRec,
     is_owner: bool,
     base: u64,
     top: u64,
-) -> Result<(), Refusal>
+) -> Result<(), FailedCondition>
     requires { realm.now.s2sz ≤ 48 }
     ensures refusal { refusal_in result
         ≡ first_failing (command.ripas_request_checks realm.now asking.now is_owner base top) }
@@ -102,7 +102,7 @@ fn find_range<S: PageStore>(
     rec: u64,
     base: u64,
     top: u64,
-) -> Result<RequestedRange, Refusal>
+) -> Result<RequestedRange, FailedCondition>
     ensures refusal { refusal_in result
         ≡ first_failing (command.rtt_set_ripas rd rec base top granules.now).checks }
     ensures found { IfOk result (IsRequestedRange granules.now rd rec base) }
@@ -130,7 +130,7 @@ pub fn rtt_set_ripas<S: PageStore>(
     rec: u64,
     base: u64,
     top: u64,
-) -> Answer
+) -> SmcResult
     ensures answer { result
         ≡ (outcome (command.rtt_set_ripas rd rec base top granules.old) granules.old).0 }
     ensures machine { granules.new
@@ -143,7 +143,7 @@ pub fn rtt_set_ripas<S: PageStore>(
             let stop = base + count as u64 * entry_size(range.found.level);
             let first = entry_index(range.found.level, base);
             write_ripas(granules, &range.found, first, request.ripas, count);
-            let rest = Rec {
+            let rest = RmmRec {
                 ripas: RipasRequest {
                     base: stop,
                     ..request
@@ -151,9 +151,9 @@ pub fn rtt_set_ripas<S: PageStore>(
                 ..range.rec
             };
             set_rec(granules, range.granule, rest);
-            Answer {
+            SmcResult {
                 x1: stop,
-                ..Answer::only(Word::Success)
+                ..SmcResult::only(Word::Success)
             }
         }
         Err(refusal) => refusal.answer,

@@ -10,11 +10,11 @@ use crate::operand::{is_in_space, is_protected};
 use crate::walking::{granule_named, read, walk};
 use granule_addr::Gran;
 use page_arena::PageStore;
-use rmi_abi::{EnterFlags, ExitReason, RecExit, Settings, is_mpidr, rec_number};
+use rmi_abi::{EnterFlags, ExitReason, RecExit, RmmSettings, is_mpidr, rec_number};
 use rmm_granules::Granules;
 use rmm_model::{
-    Came, Entry, LastExit, PsciRequest, Realm, Rec, Ripas, RipasRequest, Step, StepResult,
-    entry_size,
+    AccessSize, Came, GuestStep, LastExit, PsciRequest, RipasRequest, RmmRealm, RmmRec, RmmRipas,
+    RmmRttEntry, StepResult, entry_size,
 };
 
 // ---- accesses to memory
@@ -44,19 +44,19 @@ fn emulatable(esr: u64, ipa: u64, value: u64) -> RecExit
 }
 
 // Whether an entry leads to memory of the guest.
-fn is_memory(entry: Entry) -> bool
+fn is_memory(entry: RmmRttEntry) -> bool
     ensures { result ≡ steps.is_memory entry }
 {
     match entry {
-        Entry::Assigned(ripas, _) => ripas.is_ram(),
+        RmmRttEntry::Assigned(ripas, _) => ripas.is_ram(),
         _ => false,
     }
 }
 
-fn is_empty(ripas: Ripas) -> bool
+fn is_empty(ripas: RmmRipas) -> bool
     ensures { result ≡ steps.is_empty ripas }
 {
-    matches!(ripas, Ripas::Empty)
+    matches!(ripas, RmmRipas::Empty)
 }
 
 // A granule, if it is one of the machine.
@@ -73,7 +73,7 @@ fn found_or_sea(found: Option<Gran>) -> Result<Gran, Came>
 fn protected_access<S: PageStore>(
     granules: &Granules<S>,
     class: u64,
-    entry: Entry,
+    entry: RmmRttEntry,
     level: u8,
     ipa: u64,
 ) -> Result<Gran, Came>
@@ -123,21 +123,30 @@ fn host_access<S: PageStore>(granules: &Granules<S>, address: u64, ipa: u64) -> 
     }
 }
 
+// What ESR_EL2 says of a data abort that can be emulated.
+fn of_access(writes: bool, size: AccessSize, level: u8) -> u64
+    ensures value { result ≡ steps.of_access writes size level }
+    ensures below { result ≤ 0xC0_0140 }
+{
+    size.syndrome() + (wnr(writes) + level as u64)
+}
+
 // The granule of an unprotected address, or what comes of an access there.
 fn unprotected_access<S: PageStore>(
     granules: &Granules<S>,
-    entry: Entry,
+    entry: RmmRttEntry,
     level: u8,
     ipa: u64,
     writes: bool,
+    size: AccessSize,
     value: u64,
 ) -> Result<Gran, Came>
     requires { descriptor_of entry < 2 ^ 48 }
     ensures value { result
-        ≡ steps.unprotected_access granules.now entry level ipa writes value }
+        ≡ steps.unprotected_access granules.now entry level ipa writes size value }
     ensures inside { IfOk result (λ granule. granule < granule_count granules.now) }
 {
-    let esr = wnr(writes) + level as u64;
+    let esr = of_access(writes, size, level);
     if !entry.is_assigned_ns() {
         let exit = emulatable(0x9100_0004 + esr, ipa, value);
         return Err(Came::Exit(exit, LastExit::EmulatableAbort));
@@ -155,13 +164,14 @@ fn unprotected_access<S: PageStore>(
 #[tactic(auto, unfolding(rmm_model::specs::Step::access))]
 pub fn access<S: PageStore>(
     granules: &Granules<S>,
-    realm: &Realm,
+    realm: &RmmRealm,
     ipa: u64,
     writes: bool,
+    size: AccessSize,
     value: u64,
 ) -> Result<Gran, Came>
     requires { IsServed (granule_count granules.now) realm.now }
-    ensures value { result ≡ steps.access granules.now realm.now ipa writes value }
+    ensures value { result ≡ steps.access granules.now realm.now ipa writes size value }
     ensures inside { IfOk result (λ granule. granule < granule_count granules.now) }
 {
     if !is_in_space(realm, ipa) {
@@ -172,13 +182,17 @@ pub fn access<S: PageStore>(
     if is_protected(realm, ipa) {
         protected_access(granules, 0x9000_0000, entry, found.level, ipa)
     } else {
-        unprotected_access(granules, entry, found.level, ipa, writes, value)
+        unprotected_access(granules, entry, found.level, ipa, writes, size, value)
     }
 }
 
 // The granule that a guest fetches an instruction from, or what comes of it.
 #[tactic(auto, unfolding(rmm_model::specs::Step::fetched))]
-pub fn fetched<S: PageStore>(granules: &Granules<S>, realm: &Realm, ipa: u64) -> Result<Gran, Came>
+pub fn fetched<S: PageStore>(
+    granules: &Granules<S>,
+    realm: &RmmRealm,
+    ipa: u64,
+) -> Result<Gran, Came>
     requires { IsServed (granule_count granules.now) realm.now }
     ensures { result ≡ steps.fetched granules.now realm.now ipa }
 {
@@ -217,19 +231,19 @@ fn host_call(imm: u64, gpr0: u64, gpr1: u64, gpr2: u64) -> Came
 }
 
 // Whether RSI_IPA_STATE_SET takes a range and a RIPAS.
-fn is_ripas_range(realm: &Realm, base: u64, top: u64, ripas: u64) -> bool
+fn is_ripas_range(realm: &RmmRealm, base: u64, top: u64, ripas: u64) -> bool
     requires { realm.now.s2sz ≤ 48 }
     ensures { result ≡ steps.is_ripas_range realm.now base top ripas }
 {
     base % 4096 == 0 && top % 4096 == 0 && base < top && is_protected(realm, top - 1) && ripas < 2
 }
 
-fn ripas_of(code: u64) -> Ripas
+fn ripas_of(code: u64) -> RmmRipas
     ensures { result ≡ steps.ripas_of code }
 {
     match code {
-        1 => Ripas::Ram,
-        _ => Ripas::Empty,
+        1 => RmmRipas::Ram,
+        _ => RmmRipas::Empty,
     }
 }
 
@@ -246,7 +260,7 @@ fn ripas_exit(base: u64, top: u64, ripas: u64) -> Came
 }
 
 // What a PSCI exit shows of its second or third operand.
-fn shown(settings: &Settings, operand: u64) -> u64
+fn shown(settings: &RmmSettings, operand: u64) -> u64
     ensures { result ≡ steps.shown settings.now operand }
 {
     if settings.shows_target_alone {
@@ -257,7 +271,7 @@ fn shown(settings: &Settings, operand: u64) -> u64
 }
 
 // The exit of a PSCI call.
-fn psci_exit(settings: &Settings, function: u64, target: u64, b: u64, c: u64) -> Came
+fn psci_exit(settings: &RmmSettings, function: u64, target: u64, b: u64, c: u64) -> Came
     ensures { result ≡ steps.psci_exit settings.now function target b c }
 {
     let exit = RecExit {
@@ -277,7 +291,7 @@ fn psci_gives(value: u64) -> Came
 }
 
 // Whether a REC of the realm was given that MPIDR.
-fn was_given(realm: &Realm, mpidr: u64) -> bool
+fn was_given(realm: &RmmRealm, mpidr: u64) -> bool
     ensures { result ≡ steps.was_given realm.now mpidr }
 {
     is_mpidr(mpidr) && rec_number(mpidr) < realm.next_rec as u64
@@ -285,9 +299,9 @@ fn was_given(realm: &Realm, mpidr: u64) -> bool
 
 // PSCI_CPU_ON
 fn cpu_on(
-    settings: &Settings,
-    realm: &Realm,
-    rec: &Rec,
+    settings: &RmmSettings,
+    realm: &RmmRealm,
+    rec: &RmmRec,
     target: u64,
     entry_point: u64,
     context: u64,
@@ -307,7 +321,13 @@ fn cpu_on(
 }
 
 // PSCI_AFFINITY_INFO
-fn affinity_info(settings: &Settings, realm: &Realm, rec: &Rec, target: u64, level: u64) -> Came
+fn affinity_info(
+    settings: &RmmSettings,
+    realm: &RmmRealm,
+    rec: &RmmRec,
+    target: u64,
+    level: u64,
+) -> Came
     ensures { result ≡ steps.affinity_info settings.now realm.now rec.now target level }
 {
     if !(level == 0 && was_given(realm, target)) {
@@ -347,18 +367,24 @@ fn system_register(iss: u64, value: u64) -> Came
 }
 
 // What comes of a step that accesses no memory.
-pub fn came_of_call(settings: &Settings, realm: &Realm, rec: &Rec, flags: u64, step: Step) -> Came
+pub fn came_of_call(
+    settings: &RmmSettings,
+    realm: &RmmRealm,
+    rec: &RmmRec,
+    flags: u64,
+    step: GuestStep,
+) -> Came
     requires { realm.now.s2sz ≤ 48 }
     ensures { result ≡ steps.came_of_call settings.now realm.now rec.now flags step }
 {
     match step {
-        Step::HostCall {
+        GuestStep::HostCall {
             imm,
             gpr0,
             gpr1,
             gpr2,
         } => host_call(imm, gpr0, gpr1, gpr2),
-        Step::SetRipas {
+        GuestStep::SetRipas {
             base,
             top,
             ripas,
@@ -370,34 +396,36 @@ pub fn came_of_call(settings: &Settings, realm: &Realm, rec: &Rec, flags: u64, s
                 Came::Result(StepResult::RsiErrorInput)
             }
         }
-        Step::CpuOn {
+        GuestStep::CpuOn {
             target,
             entry_point,
             context,
         } => cpu_on(settings, realm, rec, target, entry_point, context),
-        Step::AffinityInfo { target, level } => affinity_info(settings, realm, rec, target, level),
-        Step::CpuOff => psci_exit(settings, 0x8400_0002, 0, 0, 0),
-        Step::CpuSuspend => psci_exit(settings, 0xC400_0001, 0, 0, 0),
-        Step::SystemOff => psci_exit(settings, 0x8400_0008, 0, 0, 0),
-        Step::SystemReset => psci_exit(settings, 0x8400_0009, 0, 0, 0),
-        Step::Wfi => wait(EnterFlags::traps_wfi(flags), 0x0400_0000),
-        Step::Wfe => wait(EnterFlags::traps_wfe(flags), 0x0400_0001),
-        Step::SystemRegister { iss, value } => system_register(iss, value),
+        GuestStep::AffinityInfo { target, level } => affinity_info(
+            settings, realm, rec, target, level,
+        ),
+        GuestStep::CpuOff => psci_exit(settings, 0x8400_0002, 0, 0, 0),
+        GuestStep::CpuSuspend => psci_exit(settings, 0xC400_0001, 0, 0, 0),
+        GuestStep::SystemOff => psci_exit(settings, 0x8400_0008, 0, 0, 0),
+        GuestStep::SystemReset => psci_exit(settings, 0x8400_0009, 0, 0, 0),
+        GuestStep::Wfi => wait(EnterFlags::traps_wfi(flags), 0x0400_0000),
+        GuestStep::Wfe => wait(EnterFlags::traps_wfe(flags), 0x0400_0001),
+        GuestStep::SystemRegister { iss, value } => system_register(iss, value),
         _ => Came::Spin,
     }
 }
 
 // The attributes of a REC after a step of its guest that makes an exit.
-pub fn rec_after_exit(rec: &Rec, step: Step) -> Rec
+pub fn rec_after_exit(rec: &RmmRec, step: GuestStep) -> RmmRec
     ensures { result ≡ steps.rec_after_exit rec.now step }
 {
     match step {
-        Step::SetRipas {
+        GuestStep::SetRipas {
             base,
             top,
             ripas,
             flags,
-        } => Rec {
+        } => RmmRec {
             ripas: RipasRequest {
                 base,
                 top,
@@ -406,11 +434,11 @@ pub fn rec_after_exit(rec: &Rec, step: Step) -> Rec
             },
             ..*rec
         },
-        Step::CpuOn {
+        GuestStep::CpuOn {
             target,
             entry_point,
             context,
-        } => Rec {
+        } => RmmRec {
             psci: PsciRequest::CpuOn {
                 target,
                 entry_point,
@@ -418,15 +446,15 @@ pub fn rec_after_exit(rec: &Rec, step: Step) -> Rec
             },
             ..*rec
         },
-        Step::AffinityInfo { target, .. } => Rec {
+        GuestStep::AffinityInfo { target, .. } => RmmRec {
             psci: PsciRequest::AffinityInfo { target },
             ..*rec
         },
-        Step::CpuOff => Rec {
+        GuestStep::CpuOff => RmmRec {
             is_runnable: false,
             ..*rec
         },
-        Step::CpuSuspend => Rec {
+        GuestStep::CpuSuspend => RmmRec {
             psci: PsciRequest::Complete(0),
             ..*rec
         },

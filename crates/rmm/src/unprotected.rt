@@ -11,14 +11,14 @@ ghost use Rattle.rmm.specs.Found.{IsUnprotected};
 use crate::operand::{check_entry, check_unprotected, realm_of};
 use crate::walking::{read, top, walk, write};
 use page_arena::PageStore;
-use rmi_abi::{Answer, Settings, Word};
+use rmi_abi::{RmmSettings, SmcResult, Word};
 use rmm_granules::Granules;
-use rmm_model::{Condition, Entry, Refusal, RttWalk, entry_size, error_input};
+use rmm_model::{Condition, FailedCondition, RmmRttEntry, RttWalk, entry_size, error_input};
 
 // ---- descriptors
 
 // Whether bits 9:8 of a descriptor are a shareability that the host may choose.
-fn is_shareability(settings: &Settings, desc: u64) -> bool
+fn is_shareability(settings: &RmmSettings, desc: u64) -> bool
     ensures { result ≡ mapping.is_shareability settings.now desc }
 {
     let sh = desc / 0x100 % 4;
@@ -26,7 +26,7 @@ fn is_shareability(settings: &Settings, desc: u64) -> bool
 }
 
 // Whether the bits of a descriptor but those of its address are ones that the host may choose.
-fn has_attributes(settings: &Settings, desc: u64) -> bool
+fn has_attributes(settings: &RmmSettings, desc: u64) -> bool
     ensures { result ≡ mapping.has_attributes settings.now desc }
 {
     desc < 0x1_0000_0000_0000
@@ -39,7 +39,7 @@ fn has_attributes(settings: &Settings, desc: u64) -> bool
 
 // Whether a number is a descriptor of a level.
 #[tactic(auto, unfolding(rmm_model::specs::Command::RttMapUnprotected::is_descriptor))]
-fn is_descriptor(settings: &Settings, level: u8, desc: u64) -> bool
+fn is_descriptor(settings: &RmmSettings, level: u8, desc: u64) -> bool
     ensures { result ≡ mapping.is_descriptor settings.now level desc }
 {
     has_attributes(settings, desc) && desc / 4096 * 4096 % entry_size(level) == 0
@@ -55,7 +55,7 @@ fn find_vacancy<S: PageStore>(
     ipa: u64,
     level: u64,
     desc: u64,
-) -> Result<RttWalk, Refusal>
+) -> Result<RttWalk, FailedCondition>
     ensures refusal { refusal_in result
         ≡ first_failing (mapping.rtt_map_unprotected rd ipa level desc granules.now).checks }
     ensures found { IfOk result (λ found. found
@@ -81,7 +81,7 @@ pub fn rtt_map_unprotected<S: PageStore>(
     ipa: u64,
     level: u64,
     desc: u64,
-) -> Answer
+) -> SmcResult
     ensures answer { result
         ≡ (outcome (mapping.rtt_map_unprotected rd ipa level desc granules.old) granules.old).0 }
     ensures machine { granules.new
@@ -89,8 +89,8 @@ pub fn rtt_map_unprotected<S: PageStore>(
 {
     match find_vacancy(granules, rd, ipa, level, desc) {
         Ok(found) => {
-            write(granules, &found, ipa, Entry::AssignedNs(desc));
-            Answer::only(Word::Success)
+            write(granules, &found, ipa, RmmRttEntry::AssignedNs(desc));
+            SmcResult::only(Word::Success)
         }
         Err(refusal) => refusal.answer,
     }
@@ -99,14 +99,14 @@ pub fn rtt_map_unprotected<S: PageStore>(
 // ---- unmapping
 
 // RMI_ERROR_RTT by a condition, with the level of a table and the next live entry in X1.
-fn error_rtt_next(condition: Condition, level: u8, top: u64) -> Refusal
+fn error_rtt_next(condition: Condition, level: u8, top: u64) -> FailedCondition
     ensures { result ≡ record { condition = condition; answer = unmapping.error_rtt_next top level } }
 {
-    Refusal {
+    FailedCondition {
         condition,
-        answer: Answer {
+        answer: SmcResult {
             x1: top,
-            ..Answer::only(Word::ErrorRtt(level))
+            ..SmcResult::only(Word::ErrorRtt(level))
         },
     }
 }
@@ -117,7 +117,7 @@ fn check_mapped<S: PageStore>(
     found: &RttWalk,
     ipa: u64,
     level: u8,
-) -> Result<(), Refusal>
+) -> Result<(), FailedCondition>
     requires inside { found.now.table < granule_count granules.now }
     requires low { ipa < 2 ^ 48 }
     ensures { refusal_in result
@@ -140,7 +140,7 @@ fn find_mapped<S: PageStore>(
     rd: u64,
     ipa: u64,
     level: u64,
-) -> Result<RttWalk, Refusal>
+) -> Result<RttWalk, FailedCondition>
     ensures refusal { refusal_in result
         ≡ first_failing (unmapping.rtt_unmap_unprotected rd ipa level granules.now).checks }
     ensures found { IfOk result (IsUnprotected granules.now rd ipa level) }
@@ -159,7 +159,7 @@ pub fn rtt_unmap_unprotected<S: PageStore>(
     rd: u64,
     ipa: u64,
     level: u64,
-) -> Answer
+) -> SmcResult
     ensures answer { result
         ≡ (outcome (unmapping.rtt_unmap_unprotected rd ipa level granules.old) granules.old).0 }
     ensures machine { granules.new
@@ -167,10 +167,10 @@ pub fn rtt_unmap_unprotected<S: PageStore>(
 {
     match find_mapped(granules, rd, ipa, level) {
         Ok(found) => {
-            write(granules, &found, ipa, Entry::UnassignedNs);
-            Answer {
+            write(granules, &found, ipa, RmmRttEntry::UnassignedNs);
+            SmcResult {
                 x1: top(granules, &found, ipa),
-                ..Answer::only(Word::Success)
+                ..SmcResult::only(Word::Success)
             }
         }
         Err(refusal) => refusal.answer,

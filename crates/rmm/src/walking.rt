@@ -9,12 +9,13 @@ use granule_addr::{Gran, MOST_PAGES};
 use page_arena::{PageStore, word_in};
 use rmm_granules::Granules;
 use rmm_model::{
-    Entry, Realm, RttWalk, entry_from_word, entry_index, entry_size, first_live, start_offset,
+    RmmRealm, RmmRttEntry, RttWalk, entry_from_word, entry_index, entry_size, first_live,
+    start_offset,
 };
 
 // The entry of a table that covers an address.
 #[tactic(auto, unfolding(rmm_model::specs::Walk::entry_at, rmm_model::specs::Table::entry_in_page))]
-pub fn read<S: PageStore>(granules: &Granules<S>, found: &RttWalk, ipa: u64) -> Entry
+pub fn read<S: PageStore>(granules: &Granules<S>, found: &RttWalk, ipa: u64) -> RmmRttEntry
     requires { found.now.table < granule_count granules.now }
     ensures value { result ≡ walks.entry_at granules.now found.now ipa }
     ensures fits { descriptor_of result < 2 ^ 48 }
@@ -24,7 +25,12 @@ pub fn read<S: PageStore>(granules: &Granules<S>, found: &RttWalk, ipa: u64) -> 
 }
 
 // Writes the entry of a table that covers an address.
-pub fn write<S: PageStore>(granules: &mut Granules<S>, found: &RttWalk, ipa: u64, entry: Entry)
+pub fn write<S: PageStore>(
+    granules: &mut Granules<S>,
+    found: &RttWalk,
+    ipa: u64,
+    entry: RmmRttEntry,
+)
     requires { found.now.table < granule_count granules.old }
     ensures { granules.new ≡ walks.with_entry granules.old found.now ipa entry }
 {
@@ -45,30 +51,30 @@ pub fn granule_named<S: PageStore>(granules: &Granules<S>, address: u64) -> Opti
 }
 
 // The table that an entry leads to.
-pub fn table_below<S: PageStore>(granules: &Granules<S>, entry: Entry) -> Option<Gran>
+pub fn table_below<S: PageStore>(granules: &Granules<S>, entry: RmmRttEntry) -> Option<Gran>
     ensures value { result ≡ walks.table_below granules.now entry }
     ensures inside { IfSome result (λ table. table < granule_count granules.now) }
 {
     match entry {
-        Entry::Table(address) => granule_named(granules, address),
+        RmmRttEntry::Table(address) => granule_named(granules, address),
         _ => None,
     }
 }
 
 // The page that an ASSIGNED entry leads to.
-pub fn memory_below<S: PageStore>(granules: &Granules<S>, entry: Entry) -> Option<Gran>
+pub fn memory_below<S: PageStore>(granules: &Granules<S>, entry: RmmRttEntry) -> Option<Gran>
     ensures value { result ≡ walks.memory_below granules.now entry }
     ensures inside { IfSome result (λ page. page < granule_count granules.now) }
 {
     match entry {
-        Entry::Assigned(_, address) => granule_named(granules, address),
+        RmmRttEntry::Assigned(_, address) => granule_named(granules, address),
         _ => None,
     }
 }
 
 // The starting table that serves an address.
 #[tactic(auto, unfolding(rmm_model::specs::Walk::start_of))]
-fn start_of(realm: &Realm, ipa: u64, count: u16) -> RttWalk
+fn start_of(realm: &RmmRealm, ipa: u64, count: u16) -> RttWalk
     requires served { IsServed count realm.now }
     requires few { count ≤ 4096 }
     requires in_space { ipa < 2 ^ realm.now.s2sz }
@@ -83,7 +89,7 @@ fn start_of(realm: &Realm, ipa: u64, count: u16) -> RttWalk
 }
 
 // The end of the walk of an address towards a level.
-pub fn walk<S: PageStore>(granules: &Granules<S>, realm: &Realm, ipa: u64, to: u8) -> RttWalk
+pub fn walk<S: PageStore>(granules: &Granules<S>, realm: &RmmRealm, ipa: u64, to: u8) -> RttWalk
     requires served { IsServed (granule_count granules.now) realm.now }
     requires in_space { ipa < 2 ^ realm.now.s2sz }
     ensures value { result ≡ walks.walk granules.now realm.now ipa to }

@@ -2,17 +2,17 @@
 use Rattle.std.proofs.Common.{◌≡◌, ◌≢◌, ℕ, ◌<◌, ◌≤◌, List, length, set, get_or, replicate, IfSome, sym, ◌∙◌, subst, ⊎_elim, arith}
 use Rattle.std.proofs.lemmas.Bool.{cases_eq, cases_lt}
 use Rattle.std.proofs.lemmas.List.{length-set, length-replicate, get_or-replicate, get_or_past, get_or-set_same, get_or-set_other}
-use Rattle.rmm_model.specs.declared.granule.Granule.{Granule}
-use Rattle.rmm_model.specs.declared.granule.GranuleState.TheVariants.{Undelegated}
+use Rattle.rmm_model.specs.declared.granule.RmmGranule.{RmmGranule}
+use Rattle.rmm_model.specs.declared.granule.RmmGranuleState.TheVariants.{Undelegated}
 use Rattle.rmm_model.specs.Granule.{realm_of, of_no_realm}
 use Rattle.rmm_model.specs.Machine.{HasTables}
 use Rattle.rmm_model.specs.Realm.{IsServed}
 
-abbrev Served : ℕ → Granule → Type 0
+abbrev Served : ℕ → RmmGranule → Type 0
 Served count granule = IfSome (realm_of granule.state) (IsServed count)
 
 -- starting tables stay in the machine where a granule gets a realm that is served, or none
-pub HasTables-set : (granules : List Granule) (g : ℕ) (kept : Granule) → g < length granules → HasTables granules → IfSome (realm_of kept.state) (IsServed (length granules)) → HasTables (set granules g kept)
+pub HasTables-set : (granules : List RmmGranule) (g : ℕ) (kept : RmmGranule) → g < length granules → HasTables granules → IfSome (realm_of kept.state) (IsServed (length granules)) → HasTables (set granules g kept)
 HasTables-set granules g kept inside roots served = record {
   each = λ h.
       subst (λ (n : ℕ). Served n (get_or (set granules g kept) h (of_no_realm Undelegated))) (sym (length-set granules g kept))
@@ -35,5 +35,5 @@ undelegated count g =
 -- there are no realms at the start
 pub HasTables-replicate : (count : ℕ) → HasTables (replicate count (of_no_realm Undelegated))
 HasTables-replicate count = record {
-  each = λ g. subst (λ (granule : Granule). Served (length (replicate count (of_no_realm Undelegated))) granule) (sym (undelegated count g)) tt;
+  each = λ g. subst (λ (granule : RmmGranule). Served (length (replicate count (of_no_realm Undelegated))) granule) (sym (undelegated count g)) tt;
 }

@@ -1,14 +1,14 @@
 -- The fields of granules, and the machine that they are.
 use Rattle.std.specs.Prelude.{◌≡◌, ℕ, ◌^◌, ◌<◌, ◌≤◌, Bool, false, List, length, replicate}
 use Rattle.page_arena.specs.Page.{is_free}
-use Rattle.rmi_abi.specs.declared.settings.Settings.{Settings}
+use Rattle.rmi_abi.specs.declared.settings.RmmSettings.{RmmSettings}
 use Rattle.rmi_abi.specs.Settings.{IsPlatform}
-use Rattle.rmm_model.specs.declared.granule.Granule.{Granule}
-use Rattle.rmm_model.specs.declared.granule.GranuleState.TheVariants.{Undelegated}
+use Rattle.rmm_model.specs.declared.granule.RmmGranule.{RmmGranule}
+use Rattle.rmm_model.specs.declared.granule.RmmGranuleState.TheVariants.{Undelegated}
 use Rattle.rmm_model.specs.Granule.{of_no_realm}
 use Rattle.rmm_model.specs.Machine.{Machine, HasTables}
 
-abbrev pub machine_of : Settings → List Granule → List Bool → List (List ℕ) → Machine
+abbrev pub machine_of : RmmSettings → List RmmGranule → List Bool → List (List ℕ) → Machine
 machine_of settings granules vmids pages = record { settings = settings; granules = granules; vmids = vmids; pages = pages }
 
 -- the set of VMIDs of 16 bits that has none
@@ -16,11 +16,11 @@ unfoldable pub no_vmids : List Bool
 no_vmids = replicate 65536 false
 
 -- the machine of a platform whose granules are all UNDELEGATED, and without realms
-abbrev pub platform_machine : Settings → List (List ℕ) → Machine
+abbrev pub platform_machine : RmmSettings → List (List ℕ) → Machine
 platform_machine settings pages = machine_of settings (replicate (length pages) (of_no_realm Undelegated)) no_vmids pages
 
 -- There is a page for each granule, and each page is taken; each realm has its starting tables in the machine.
-pub record IsWhole (settings : Settings) (granules : List Granule) (vmids : List Bool) (pages : List (List ℕ)) (free : List Bool) : Type 0 where
+pub record IsWhole (settings : RmmSettings) (granules : List RmmGranule) (vmids : List Bool) (pages : List (List ℕ)) (free : List Bool) : Type 0 where
   pub as_many : length granules ≡ length pages
   pub few : length granules ≤ 4096
   pub taken : (page : ℕ) → page < length pages → is_free free page ≡ false

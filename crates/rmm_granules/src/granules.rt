@@ -2,7 +2,7 @@
 ghost use Rattle.std.specs.Prelude.{◌≡◌, ◌≢◌, ◌+◌, ◌%◌, ◌^◌, ◌<◌, ◌≤◌, ◌*◌, false, length, replicate, slice_set, IfOk, IfSome, IsTrue};
 ghost use Rattle.granule_addr.specs.Page.{page_of};
 ghost use Rattle.rmi_abi.specs.Settings.{IsPlatform};
-ghost use Rattle.rmm_model.specs.declared.granule.GranuleState.TheVariants.{Undelegated};
+ghost use Rattle.rmm_model.specs.declared.granule.RmmGranuleState.TheVariants.{Undelegated};
 ghost use Rattle.rmm_model.specs.Granule.{of_no_realm, realm_of, rec_of, is_undelegated, is_delegated};
 ghost use Rattle.rmm_model.specs.Machine as machine;
 ghost use Rattle.rmm_model.specs.Machine.{granule_count, granule_at, page_in};
@@ -12,8 +12,8 @@ ghost use Rattle.rmm_granules.specs.Inside.{platform_machine};
 use crate::taking::take_all;
 use granule_addr::{Gran, MOST_PAGES, PageOff};
 use page_arena::PageStore;
-use rmi_abi::{Platform, Settings};
-use rmm_model::{Granule, GranuleState, Realm, Rec};
+use rmi_abi::{Platform, RmmSettings};
+use rmm_model::{RmmGranule, RmmGranuleState, RmmRealm, RmmRec};
 use std::alloc::{AllocError, Global};
 use std::marker::Model;
 
@@ -24,7 +24,7 @@ const VMIDS: u32 = 0x1_0000;
 #[derive(Drop)]
 pub struct Granules<S: PageStore> {
     platform: Platform,
-    granules: Vec<Granule>,
+    granules: Vec<RmmGranule>,
     vmids: Vec<bool>,
     store: S,
 }
@@ -44,10 +44,10 @@ impl<S: PageStore> Model for Granules<S> {
 }
 
 // The attributes of UNDELEGATED granules.
-fn undelegated(alloc: Global, count: u16) -> Result<Vec<Granule>, AllocError>
+fn undelegated(alloc: Global, count: u16) -> Result<Vec<RmmGranule>, AllocError>
     ensures { IfOk result (λ v. v.items ≡ replicate count (of_no_realm Undelegated)) }
 {
-    vec![in alloc; Granule::UNDELEGATED; count as usize]
+    vec![in alloc; RmmGranule::UNDELEGATED; count as usize]
 }
 
 // A set of that many VMIDs that has none.
@@ -58,7 +58,7 @@ fn no_vmids(alloc: Global, count: u32) -> Result<Vec<bool>, AllocError>
 }
 
 // The attributes of UNDELEGATED granules, and the set of VMIDs that has none.
-fn rows(alloc: Global, count: u16, vmids: u32) -> Result<(Vec<Granule>, Vec<bool>), AllocError>
+fn rows(alloc: Global, count: u16, vmids: u32) -> Result<(Vec<RmmGranule>, Vec<bool>), AllocError>
     ensures granules { IfOk result (λ r. r.0.items ≡ replicate count (of_no_realm Undelegated)) }
     ensures set { IfOk result (λ r. r.1.items ≡ replicate vmids false) }
 {
@@ -91,7 +91,7 @@ impl<S: PageStore> Granules<S> {
     }
 
     /// The settings of the platform.
-    pub fn settings(&self) -> &Settings
+    pub fn settings(&self) -> &RmmSettings
         ensures value { result.now ≡ self.now.settings }
         ensures ranges { IsPlatform result.now }
     {
@@ -165,7 +165,7 @@ impl<S: PageStore> Granules<S> {
     }
 
     /// The state of a granule.
-    pub fn state(&self, granule: Gran) -> GranuleState
+    pub fn state(&self, granule: Gran) -> RmmGranuleState
         requires { granule < granule_count self.now }
         ensures { result ≡ (granule_at self.now granule).state }
     {
@@ -174,7 +174,7 @@ impl<S: PageStore> Granules<S> {
     }
 
     /// The realm of an RD. Its starting tables lie in the machine.
-    pub fn realm(&self, granule: Gran) -> Option<Realm>
+    pub fn realm(&self, granule: Gran) -> Option<RmmRealm>
         requires { granule < granule_count self.now }
         ensures value { result ≡ realm_of (granule_at self.now granule).state }
         ensures served { IfSome result (IsServed (granule_count self.now)) }
@@ -183,7 +183,7 @@ impl<S: PageStore> Granules<S> {
     }
 
     /// The attributes of a REC.
-    pub fn rec(&self, granule: Gran) -> Option<Rec>
+    pub fn rec(&self, granule: Gran) -> Option<RmmRec>
         requires { granule < granule_count self.now }
         ensures { result ≡ rec_of (granule_at self.now granule).state }
     {
@@ -199,7 +199,7 @@ impl<S: PageStore> Granules<S> {
     }
 
     /// Sets the attributes of a granule.
-    pub fn set(&mut self, granule: Gran, kept: Granule)
+    pub fn set(&mut self, granule: Gran, kept: RmmGranule)
         requires inside { granule < granule_count self.old }
         requires served { IfSome (realm_of kept.state) (IsServed (granule_count self.old)) }
         ensures { self.new ≡ machine.with_granule self.old granule kept }

@@ -2,11 +2,11 @@
 use Rattle.std.proofs.Common.{◌≡◌, ◌≢◌, ℕ, suc, ◌+◌, ◌-◌, ◌<◌, ◌&&◌, List, Bool, true, false, nat_eq, ap, ◌∙◌, arith}
 use Rattle.std.proofs.lemmas.Bool.{eq-eqb, ne_eqb}
 use Rattle.page_arena.specs.Word.{word_of_page}
-use Rattle.rmm_model.specs.declared.entry.Entry.{Entry}
+use Rattle.rmm_model.specs.declared.entry.RmmRttEntry.{RmmRttEntry}
 use Rattle.rmm_model.specs.Entry.{entry_word, child_entry}
 use Rattle.rmm_model.specs.Table.{has_parts}
 
-module _ (page : List ℕ) (whole : Entry) (level i : ℕ) where
+module _ (page : List ℕ) (whole : RmmRttEntry) (level i : ℕ) where
   -- what the test of entry i decides
   by_test : (is : Bool) → i < 512 → nat_eq (word_of_page page i) (entry_word (child_entry whole level i)) ≡ is
       → has_parts page whole level (512 - i) i ≡ (is && has_parts page whole level (512 - (i + 1)) (i + 1))

@@ -2,7 +2,7 @@
 use Rattle.std.specs.Prelude.{Option, Some, None}
 use Rattle.rmi_abi.specs.declared.call.Call.{Call}
 use Rattle.rmi_abi.specs.declared.call.Call.TheVariants.{Version, GranuleDelegate, GranuleUndelegate, DataCreateUnknown, DataDestroy, RealmActivate, RealmCreate, RealmDestroy, RecCreate, RecDestroy, RecEnter, PsciComplete, RttCreate, RttDestroy, RttMapUnprotected, RttReadEntry, RttUnmapUnprotected, Features, RttFold, RecAuxCount, DataCreate, RttInitRipas, RttSetRipas}
-use Rattle.rmi_abi.specs.declared.registers.Answer.{Answer}
+use Rattle.rmi_abi.specs.declared.registers.SmcResult.{SmcResult}
 use Rattle.rmi_abi.specs.declared.registers.Registers.{Registers}
 use Rattle.rmi_abi.specs.Answer.{with_answer, not_supported}
 use Rattle.rmi_abi.specs.Call.{call_in}
@@ -59,7 +59,7 @@ command_of (RecEnter rec run) m = rec_enter rec run m
 command_of (PsciComplete calling target status) m = psci_complete calling target status m
 
 -- the answer of a call, and the machine after it
-unfoldable pub performed : Call → Machine → Answer × Machine
+unfoldable pub performed : Call → Machine → SmcResult × Machine
 performed call m = outcome (command_of call m) m
 
 abbrev pub rmi_at : Option Call → Registers → Machine → Registers × Machine

@@ -1,31 +1,31 @@
 -- Checks of commands, and what comes of them. RMM 1.0, failure conditions of RMI commands.
 use Rattle.std.specs.Prelude.{ℕ, Bool, cond, List, [], ◌∷◌, Option, Some, None, Result, Ok, Err}
-use Rattle.rmi_abi.specs.declared.registers.Answer.{Answer}
+use Rattle.rmi_abi.specs.declared.registers.SmcResult.{SmcResult}
 use Rattle.rmi_abi.specs.declared.word.Word.TheVariants.{Success, ErrorInput, ErrorRealm, ErrorRec, ErrorRtt}
 use Rattle.rmi_abi.specs.Answer.{only}
-use Rattle.rmm_model.specs.declared.answer.Refusal.{Refusal}
+use Rattle.rmm_model.specs.declared.answer.FailedCondition.{FailedCondition}
 use Rattle.rmm_model.specs.declared.condition.Condition.{Condition}
 use Rattle.rmm_model.specs.Machine.{Machine}
 
 -- ---- answers without outputs
 
-abbrev pub success : Answer
+abbrev pub success : SmcResult
 success = only Success
 
-abbrev pub error_input : Answer
+abbrev pub error_input : SmcResult
 error_input = only ErrorInput
 
-abbrev pub error_realm : Answer
+abbrev pub error_realm : SmcResult
 error_realm = only (ErrorRealm 0)
 
-abbrev pub error_rec : Answer
+abbrev pub error_rec : SmcResult
 error_rec = only ErrorRec
 
-abbrev pub error_rtt : ℕ → Answer
+abbrev pub error_rtt : ℕ → SmcResult
 error_rtt level = only (ErrorRtt level)
 
 -- RMI_ERROR_RTT with the level of a table, and the next live entry in X2
-abbrev pub error_rtt_top : ℕ → ℕ → Answer
+abbrev pub error_rtt_top : ℕ → ℕ → SmcResult
 error_rtt_top top level = record { word = ErrorRtt level; x1 = 0; x2 = top; x3 = 0; x4 = 0 }
 
 -- ---- checks
@@ -34,13 +34,13 @@ error_rtt_top top level = record { word = ErrorRtt level; x1 = 0; x2 = top; x3 =
 pub record Check : Type 0 where
   pub after : List Condition
   pub fails : Bool
-  pub refusal : Refusal
+  pub refusal : FailedCondition
 
-abbrev pub check : Condition → List Condition → Bool → Answer → Check
+abbrev pub check : Condition → List Condition → Bool → SmcResult → Check
 check condition after fails answer = record { after = after; fails = fails; refusal = record { condition = condition; answer = answer } }
 
 -- the refusal by the first check that fails
-abbrev pub first_failing : List Check → Option Refusal
+abbrev pub first_failing : List Check → Option FailedCondition
 first_failing [] = None
 first_failing (c ∷ cs) = cond c.fails (Some c.refusal) (first_failing cs)
 
@@ -49,18 +49,18 @@ first_failing (c ∷ cs) = cond c.fails (Some c.refusal) (first_failing cs)
 -- A command: its checks, and where none fails its answer and the machine after it.
 pub record Command : Type 0 where
   pub checks : List Check
-  pub answer : Answer
+  pub answer : SmcResult
   pub machine : Machine
 
 -- the answer of a command and the machine after it: a refusal changes nothing
-abbrev pub decided : Option Refusal → Command → Machine → Answer × Machine
+abbrev pub decided : Option FailedCondition → Command → Machine → SmcResult × Machine
 decided (Some refusal) command m = (refusal.answer, m)
 decided None command m = (command.answer, command.machine)
 
-abbrev pub outcome : Command → Machine → Answer × Machine
+abbrev pub outcome : Command → Machine → SmcResult × Machine
 outcome command m = decided (first_failing command.checks) command m
 
 -- the refusal of a result
-abbrev pub refusal_in : {X : Type 0} → Result X Refusal → Option Refusal
+abbrev pub refusal_in : {X : Type 0} → Result X FailedCondition → Option FailedCondition
 refusal_in (Ok x) = None
 refusal_in (Err refusal) = Some refusal

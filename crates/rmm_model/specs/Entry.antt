@@ -2,19 +2,19 @@
 use Rattle.std.specs.Prelude.{ℕ, ◌+◌, ◌*◌, ◌/◌, ◌%◌, ◌^◌, ◌==◌, ◌&&◌, ◌||◌, Bool, true, false, not, Option, Some, None, if◌then◌else◌}
 use Rattle.rmm_model.specs.Level.{entry_size}
 use Rattle.rmm_model.specs.declared.entry.Changeable.{Changeable}
-use Rattle.rmm_model.specs.declared.entry.Entry.{Entry}
-use Rattle.rmm_model.specs.declared.entry.Entry.TheVariants.{Unassigned, Assigned, Table, UnassignedNs, AssignedNs}
-use Rattle.rmm_model.specs.declared.entry.Ripas.{Ripas}
-use Rattle.rmm_model.specs.declared.entry.Ripas.TheVariants.{Empty, Ram, Destroyed}
+use Rattle.rmm_model.specs.declared.entry.RmmRttEntry.{RmmRttEntry}
+use Rattle.rmm_model.specs.declared.entry.RmmRttEntry.TheVariants.{Unassigned, Assigned, Table, UnassignedNs, AssignedNs}
+use Rattle.rmm_model.specs.declared.entry.RmmRipas.{RmmRipas}
+use Rattle.rmm_model.specs.declared.entry.RmmRipas.TheVariants.{Empty, Ram, Destroyed}
 
 -- RmiRipas
-abbrev pub ripas_code : Ripas → ℕ
+abbrev pub ripas_code : RmmRipas → ℕ
 ripas_code Empty = 0
 ripas_code Ram = 1
 ripas_code Destroyed = 2
 
 -- the address or descriptor of a live entry, and 0 of any other
-abbrev pub descriptor_of : Entry → ℕ
+abbrev pub descriptor_of : RmmRttEntry → ℕ
 descriptor_of (Assigned ripas address) = address
 descriptor_of (Table address) = address
 descriptor_of (AssignedNs descriptor) = descriptor
@@ -28,7 +28,7 @@ abbrev pub repeated : ℕ → ℕ
 repeated byte = byte * 0x0101010101010101
 
 -- The word of an entry: bits 63:56 have its kind and RIPAS; a live one has its descriptor in bits 47:0.
-unfoldable pub entry_word : Entry → ℕ
+unfoldable pub entry_word : RmmRttEntry → ℕ
 entry_word (Unassigned ripas) = repeated (ripas_code ripas)
 entry_word UnassignedNs = repeated 3
 entry_word (Table address) = 4 * 2 ^ 56 + address % 2 ^ 48
@@ -36,7 +36,7 @@ entry_word (AssignedNs descriptor) = 5 * 2 ^ 56 + descriptor % 2 ^ 48
 entry_word (Assigned ripas address) = (6 + ripas_code ripas) * 2 ^ 56 + address % 2 ^ 48
 
 -- the entry of a kind, with a descriptor where it has one
-abbrev pub entry_at_kind : ℕ → ℕ → Entry
+abbrev pub entry_at_kind : ℕ → ℕ → RmmRttEntry
 entry_at_kind kind descriptor =
     if kind == 1 then Unassigned Ram else
     (if kind == 2 then Unassigned Destroyed else
@@ -48,57 +48,57 @@ entry_at_kind kind descriptor =
     (if kind == 8 then Assigned Destroyed descriptor else Unassigned Empty)))))))
 
 -- The entry that a word is read as, whatever the word.
-unfoldable pub entry_of : ℕ → Entry
+unfoldable pub entry_of : ℕ → RmmRttEntry
 entry_of word = entry_at_kind (word / 2 ^ 56) (word % 2 ^ 48)
 
 -- ---- kinds
 
 -- the entry leads to a page, a block or a table
-abbrev pub is_live : Entry → Bool
+abbrev pub is_live : RmmRttEntry → Bool
 is_live (Unassigned ripas) = false
 is_live UnassignedNs = false
 is_live _ = true
 
-abbrev pub is_unassigned : Entry → Bool
+abbrev pub is_unassigned : RmmRttEntry → Bool
 is_unassigned (Unassigned ripas) = true
 is_unassigned _ = false
 
-abbrev pub is_unassigned_ns : Entry → Bool
+abbrev pub is_unassigned_ns : RmmRttEntry → Bool
 is_unassigned_ns UnassignedNs = true
 is_unassigned_ns _ = false
 
-abbrev pub is_assigned_ns : Entry → Bool
+abbrev pub is_assigned_ns : RmmRttEntry → Bool
 is_assigned_ns (AssignedNs descriptor) = true
 is_assigned_ns _ = false
 
-abbrev pub is_table : Entry → Bool
+abbrev pub is_table : RmmRttEntry → Bool
 is_table (Table address) = true
 is_table _ = false
 
 -- the entry leads to a page or a block
-abbrev pub is_mapping : Entry → Bool
+abbrev pub is_mapping : RmmRttEntry → Bool
 is_mapping (Assigned ripas address) = true
 is_mapping (AssignedNs descriptor) = true
 is_mapping _ = false
 
 -- ---- RIPAS
 
-abbrev pub is_ram : Ripas → Bool
+abbrev pub is_ram : RmmRipas → Bool
 is_ram Ram = true
 is_ram _ = false
 
-abbrev pub is_destroyed : Ripas → Bool
+abbrev pub is_destroyed : RmmRipas → Bool
 is_destroyed Destroyed = true
 is_destroyed _ = false
 
 -- an entry is one whose RIPAS a command changes
-abbrev pub can_change : Changeable → Entry → Bool
+abbrev pub can_change : Changeable → RmmRttEntry → Bool
 can_change changeable (Unassigned ripas) = changeable.destroyed || not (is_destroyed ripas)
 can_change changeable (Assigned ripas address) = changeable.assigned && (changeable.destroyed || not (is_destroyed ripas))
 can_change changeable _ = false
 
 -- an UNASSIGNED or ASSIGNED entry with another RIPAS
-abbrev pub entry_with_ripas : Ripas → Entry → Entry
+abbrev pub entry_with_ripas : RmmRipas → RmmRttEntry → RmmRttEntry
 entry_with_ripas ripas (Unassigned old) = Unassigned ripas
 entry_with_ripas ripas (Assigned old address) = Assigned ripas address
 entry_with_ripas ripas entry = entry
@@ -106,7 +106,7 @@ entry_with_ripas ripas entry = entry
 -- ---- outputs of RMI_RTT_READ_ENTRY
 
 -- RmiRttEntryState
-abbrev pub state_code : Entry → ℕ
+abbrev pub state_code : RmmRttEntry → ℕ
 state_code (Unassigned ripas) = 0
 state_code UnassignedNs = 0
 state_code (Assigned ripas address) = 1
@@ -114,7 +114,7 @@ state_code (AssignedNs descriptor) = 1
 state_code (Table address) = 2
 
 -- RmiRipas of a protected page or block, and 0 of any other entry
-abbrev pub shown_ripas : Entry → ℕ
+abbrev pub shown_ripas : RmmRttEntry → ℕ
 shown_ripas (Unassigned ripas) = ripas_code ripas
 shown_ripas (Assigned ripas address) = ripas_code ripas
 shown_ripas _ = 0
@@ -122,19 +122,19 @@ shown_ripas _ = 0
 -- ---- children
 
 -- Entry k of a table of a level that says the same as an entry above it: the memory of a mapping rises.
-abbrev pub child_entry : Entry → ℕ → ℕ → Entry
+abbrev pub child_entry : RmmRttEntry → ℕ → ℕ → RmmRttEntry
 child_entry (Assigned ripas address) level k = Assigned ripas (address + k * entry_size level)
 child_entry (AssignedNs descriptor) level k = AssignedNs (descriptor + k * entry_size level)
 child_entry entry level k = entry
 
 -- the byte that a page of children of an entry has throughout; one of a mapping has none
-abbrev pub repeated_byte : Entry → Option ℕ
+abbrev pub repeated_byte : RmmRttEntry → Option ℕ
 repeated_byte (Unassigned ripas) = Some (ripas_code ripas)
 repeated_byte UnassignedNs = Some 3
 repeated_byte _ = None
 
 -- the RIPAS of an UNASSIGNED or ASSIGNED entry
-abbrev pub ripas_in : Entry → Ripas
+abbrev pub ripas_in : RmmRttEntry → RmmRipas
 ripas_in (Unassigned ripas) = ripas
 ripas_in (Assigned ripas address) = ripas
 ripas_in _ = Empty

@@ -1,16 +1,18 @@
 -- Guests of RECs. This monitor's own: a guest is simulated by a list of at most 16 steps, a ring in words 48 to 127 of the page of its
--- REC, five words each. The results of its steps since its last entry are in words 128 to 191, two words each.
+-- REC, five words each. The results of its steps since its last entry are in words 128 to 191, two words each. Words 192 to 208 are
+-- gicv3_hcr and the list registers of its last entry.
 use Rattle.std.specs.Prelude.{ℕ, ◌+◌, ◌-◌, ◌*◌, ◌%◌, ◌==◌, ◌&&◌, Bool, nat_lt, List, is_some, unwrap_or, if◌then◌else◌}
 use Rattle.page_arena.specs.Word.{word_of_page}
-use Rattle.rmm_model.specs.declared.rec.Rec.{Rec as Attributes}
+use Rattle.rmm_model.specs.declared.rec.RmmRec.{RmmRec as Attributes}
 use Rattle.rmm_model.specs.declared.step.Queued.{Queued}
 use Rattle.rmm_model.specs.declared.step.Queued.TheVariants.{Queued as IsQueued, Full, NoRec}
-use Rattle.rmm_model.specs.declared.step.Step.{Step}
-use Rattle.rmm_model.specs.declared.step.Step.TheVariants.{Write, Read, Fetch, HostCall, SetRipas, CpuOn, AffinityInfo, CpuOff, CpuSuspend, SystemOff, SystemReset}
-use Rattle.rmm_model.specs.declared.step.Step.TheVariants.{Wfi, Wfe, SystemRegister, Spin}
+use Rattle.rmm_model.specs.declared.step.GuestStep.{GuestStep}
+use Rattle.rmm_model.specs.declared.step.GuestStep.TheVariants.{Write, Read, Fetch, HostCall, SetRipas, CpuOn, AffinityInfo, CpuOff, CpuSuspend, SystemOff, SystemReset}
+use Rattle.rmm_model.specs.declared.step.GuestStep.TheVariants.{Wfi, Wfe, SystemRegister, Spin}
 use Rattle.rmm_model.specs.declared.step.StepResult.{StepResult}
 use Rattle.rmm_model.specs.declared.step.StepResult.TheVariants.{Done, Read as IsRead, Sea, Psci, RsiErrorInput, Accepted, Rejected, Returned}
 use Rattle.rmm_model.specs.declared.step.StepWords.{StepWords}
+use Rattle.rmm_model.specs.Access.{access_size}
 use Rattle.rmm_model.specs.Granule.{rec_of}
 use Rattle.rmm_model.specs.Machine.{Machine, granule_at, page_in, is_aligned, is_inside, number_of, state_at, with_word}
 use Rattle.rmm_model.specs.Rec.{no_rec}
@@ -19,10 +21,10 @@ use Rattle.rmm_model.specs.Command.PsciComplete.{with_rec}
 -- ---- steps
 
 -- the step that words are
-abbrev pub step_of : StepWords → Step
+abbrev pub step_of : StepWords → GuestStep
 step_of w =
-    if w.kind == 0 then Write w.a w.b else
-    (if w.kind == 1 then Read w.a else
+    if w.kind == 0 then Write w.a w.b (access_size w.c) else
+    (if w.kind == 1 then Read w.a (access_size w.b) else
     (if w.kind == 2 then HostCall w.a w.b w.c w.d else
     (if w.kind == 3 then SetRipas w.a w.b w.c w.d else
     (if w.kind == 4 then CpuOn w.a w.b w.c else
@@ -79,7 +81,7 @@ with_step_at m g place w =
     g (48 + 5 * place + 3) w.c) g (48 + 5 * place + 4) w.d
 
 -- the first step of a guest
-abbrev pub first_step : Machine → ℕ → Step
+abbrev pub first_step : Machine → ℕ → GuestStep
 first_step m g = step_of (words_at (page_in m g) ((rec_in m g).first_step % 16))
 
 -- the guest of a REC is past its first step

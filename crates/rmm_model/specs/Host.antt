@@ -2,7 +2,7 @@
 use Rattle.std.specs.Prelude.{ℕ, ◌/◌, ◌%◌, ◌==◌, ◌&&◌, Bool, Option, Some, None, if◌then◌else◌}
 use Rattle.granule_addr.specs.Page.{page_of}
 use Rattle.page_arena.specs.Word.{word_of_page}
-use Rattle.rmm_model.specs.declared.granule.GranuleState.{GranuleState}
+use Rattle.rmm_model.specs.declared.granule.RmmGranuleState.{RmmGranuleState}
 use Rattle.rmm_model.specs.Machine.{Machine, page_in, is_aligned, is_inside, number_of, state_at, with_page, with_word}
 use Rattle.rmm_model.specs.Command.Operand.{is_host_s}
 
@@ -27,7 +27,7 @@ abbrev pub can_fill : Machine → ℕ → Bool
 can_fill m address = is_aligned address && is_host_page m address
 
 -- the state of the granule that begins at an address; none comes where there is none
-abbrev pub state_shown : Machine → ℕ → Option GranuleState
+abbrev pub state_shown : Machine → ℕ → Option RmmGranuleState
 state_shown m address = if is_aligned address && is_inside m address then Some (state_at m address) else None
 
 -- the machine after all bytes of a page are one

@@ -1,3 +1,4 @@
+pub mod Access
 pub mod Allowed
 pub mod Call
 pub mod Check

@@ -3,18 +3,18 @@ use Rattle.std.specs.Prelude.{ℕ, ◌+◌, ◌-◌, ◌*◌, ◌/◌, ◌%◌, 
 use Rattle.granule_addr.specs.Page.{page_of, zero_page}
 use Rattle.page_arena.specs.Page.{page_at}
 use Rattle.page_arena.specs.Word.{word_of_page, page_with_word}
-use Rattle.rmi_abi.specs.declared.settings.Settings.{Settings}
-use Rattle.rmm_model.specs.declared.granule.Granule.{Granule}
-use Rattle.rmm_model.specs.declared.granule.GranuleState.{GranuleState}
-use Rattle.rmm_model.specs.declared.granule.GranuleState.TheVariants.{Undelegated, Rd}
-use Rattle.rmm_model.specs.declared.realm.Realm.{Realm}
+use Rattle.rmi_abi.specs.declared.settings.RmmSettings.{RmmSettings}
+use Rattle.rmm_model.specs.declared.granule.RmmGranule.{RmmGranule}
+use Rattle.rmm_model.specs.declared.granule.RmmGranuleState.{RmmGranuleState}
+use Rattle.rmm_model.specs.declared.granule.RmmGranuleState.TheVariants.{Undelegated, Rd}
+use Rattle.rmm_model.specs.declared.realm.RmmRealm.{RmmRealm}
 use Rattle.rmm_model.specs.Granule.{of_no_realm, realm_of}
 use Rattle.rmm_model.specs.Realm.{IsServed}
 
 -- A machine, with a flag for each VMID that a realm has.
 pub record Machine : Type 0 where
-  pub settings : Settings
-  pub granules : List Granule
+  pub settings : RmmSettings
+  pub granules : List RmmGranule
   pub vmids : List Bool
   pub pages : List (List ℕ)
 
@@ -24,14 +24,14 @@ abbrev pub granule_count : Machine → ℕ
 granule_count m = length m.granules
 
 -- a granule outside the machine counts as UNDELEGATED
-abbrev pub granule_at : Machine → ℕ → Granule
+abbrev pub granule_at : Machine → ℕ → RmmGranule
 granule_at m granule = slice_index_or m.granules granule (of_no_realm Undelegated)
 
 -- the page of a granule
 abbrev pub page_in : Machine → ℕ → List ℕ
 page_in m granule = page_at m.pages granule
 
-abbrev pub with_granule : Machine → ℕ → Granule → Machine
+abbrev pub with_granule : Machine → ℕ → RmmGranule → Machine
 with_granule m granule kept = record m { granules = slice_set m.granules granule kept }
 
 abbrev pub with_page : Machine → ℕ → List ℕ → Machine
@@ -41,7 +41,7 @@ abbrev pub with_word : Machine → ℕ → ℕ → ℕ → Machine
 with_word m granule i word = with_page m granule (page_with_word (page_in m granule) i word)
 
 -- a granule becomes one of no realm with a zero page
-abbrev pub with_blank : Machine → ℕ → GranuleState → Machine
+abbrev pub with_blank : Machine → ℕ → RmmGranuleState → Machine
 with_blank m granule state = with_page (with_granule m granule (of_no_realm state)) granule zero_page
 
 -- ---- granules by address
@@ -58,7 +58,7 @@ unfoldable pub number_of : Machine → ℕ → ℕ
 number_of m address = (address - m.settings.base) / 4096
 
 -- the state of the granule that an address lies in
-abbrev pub state_at : Machine → ℕ → GranuleState
+abbrev pub state_at : Machine → ℕ → RmmGranuleState
 state_at m address = (granule_at m (number_of m address)).state
 
 -- the memory at an address is the host's or the monitor's, and not of the secure world
@@ -68,11 +68,11 @@ is_secure m address = nat_le m.settings.secure_base address && nat_lt ((address 
 -- ---- realms
 
 -- the granule of an RD has another realm
-abbrev pub with_realm : Machine → ℕ → Realm → Machine
+abbrev pub with_realm : Machine → ℕ → RmmRealm → Machine
 with_realm m rd realm = with_granule m rd (of_no_realm (Rd realm))
 
 -- each RD has a realm whose starting tables lie in the machine
-pub record HasTables (granules : List Granule) : Type 0 where
+pub record HasTables (granules : List RmmGranule) : Type 0 where
   pub each : (granule : ℕ) → IfSome (realm_of (slice_index_or granules granule (of_no_realm Undelegated)).state) (IsServed (length granules))
 
 -- some realm has that VMID

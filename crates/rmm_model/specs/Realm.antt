@@ -1,33 +1,33 @@
 -- Realms. RMM 1.0, Realm attributes.
 use Rattle.std.specs.Prelude.{true, false, ℕ, [], ◌+◌, ◌-◌, ◌*◌, ◌/◌, ◌^◌, ◌<◌, ◌≤◌, ◌==◌, ◌&&◌, Bool, not, nat_le, nat_lt, List}
 use Rattle.rmi_abi.specs.declared.hash.HashAlgorithm.TheVariants.{Sha256}
-use Rattle.rmm_model.specs.declared.realm.Realm.{Realm}
-use Rattle.rmm_model.specs.declared.realm.RealmState.{RealmState}
-use Rattle.rmm_model.specs.declared.realm.RealmState.TheVariants.{New}
+use Rattle.rmm_model.specs.declared.realm.RmmRealm.{RmmRealm}
+use Rattle.rmm_model.specs.declared.realm.RmmRealmState.{RmmRealmState}
+use Rattle.rmm_model.specs.declared.realm.RmmRealmState.TheVariants.{New}
 use Rattle.rmm_model.specs.Level.{entry_size}
 
 -- the realm that a granule which is no RD counts as, after a check that has failed
-abbrev pub no_realm : Realm
+abbrev pub no_realm : RmmRealm
 no_realm = record { state = New; hash = Sha256; rim = []; s2sz = 0; start_level = 0; first_table = 0; table_count = 0; vmid = 0; next_rec = 0; rec_count = 0 }
 
-abbrev pub is_new : RealmState → Bool
+abbrev pub is_new : RmmRealmState → Bool
 is_new New = true
 is_new _ = false
 
 -- the realm with another measurement
-abbrev pub with_rim : Realm → List ℕ → Realm
+abbrev pub with_rim : RmmRealm → List ℕ → RmmRealm
 with_rim realm rim = record realm { rim = rim }
 
 -- the address is one of the realm's
-abbrev pub is_in_space : Realm → ℕ → Bool
+abbrev pub is_in_space : RmmRealm → ℕ → Bool
 is_in_space realm ipa = nat_lt ipa (2 ^ realm.s2sz)
 
 -- the address is in the lower half of the realm's address space
-abbrev pub is_protected : Realm → ℕ → Bool
+abbrev pub is_protected : RmmRealm → ℕ → Bool
 is_protected realm ipa = nat_lt ipa (2 ^ (realm.s2sz - 1))
 
 -- the address is in the upper half of the realm's address space
-abbrev pub is_unprotected : Realm → ℕ → Bool
+abbrev pub is_unprotected : RmmRealm → ℕ → Bool
 is_unprotected realm ipa = not (is_protected realm ipa) && is_in_space realm ipa
 
 -- ---- starting tables
@@ -41,7 +41,7 @@ unfoldable pub is_start : ℕ → ℕ → ℕ → Bool
 is_start s2sz level count = nat_le level 3 && nat_lt (entry_size level) (2 ^ s2sz) && nat_le count 16 && count == start_count s2sz level
 
 -- The starting tables of a realm lie in a machine of that many granules, and serve each address of its width.
-pub record IsServed (count : ℕ) (realm : Realm) : Type 0 where
+pub record IsServed (count : ℕ) (realm : RmmRealm) : Type 0 where
   pub few : count ≤ 4096
   pub inside : realm.first_table + realm.table_count ≤ count
   pub most : realm.table_count ≤ 16

@@ -2,19 +2,19 @@
 -- pc, 32 to 47 are the addresses of its auxiliary granules.
 use Rattle.std.specs.Prelude.{ℕ, ◌+◌, ◌||◌, Bool, true, false, List}
 use Rattle.page_arena.specs.Word.{word_of_page}
-use Rattle.rmm_model.specs.declared.entry.Ripas.TheVariants.{Empty}
+use Rattle.rmm_model.specs.declared.entry.RmmRipas.TheVariants.{Empty}
 use Rattle.rmm_model.specs.declared.rec.LastExit.TheVariants.{Other}
 use Rattle.rmm_model.specs.declared.rec.PsciRequest.TheVariants.{None as NoRequest}
-use Rattle.rmm_model.specs.declared.rec.Rec.{Rec}
-use Rattle.rmm_model.specs.declared.rec.RecState.{RecState}
-use Rattle.rmm_model.specs.declared.rec.RecState.TheVariants.{Ready, Running}
+use Rattle.rmm_model.specs.declared.rec.RmmRec.{RmmRec}
+use Rattle.rmm_model.specs.declared.rec.RmmRecState.{RmmRecState}
+use Rattle.rmm_model.specs.declared.rec.RmmRecState.TheVariants.{Ready, Running}
 use Rattle.rmm_model.specs.declared.rec.RipasRequest.{RipasRequest}
 
 abbrev pub no_request : RipasRequest
 no_request = record { base = 0; top = 0; ripas = Empty; changes_destroyed = false }
 
 -- A new REC: it is READY, and nothing is asked or pending.
-abbrev pub new_rec : Bool → ℕ → Rec
+abbrev pub new_rec : Bool → ℕ → RmmRec
 new_rec is_runnable mpidr = record {
   state = Ready;
   is_runnable = is_runnable;
@@ -29,15 +29,15 @@ new_rec is_runnable mpidr = record {
 }
 
 -- the REC that a granule which is none counts as, after a check that has failed
-abbrev pub no_rec : Rec
+abbrev pub no_rec : RmmRec
 no_rec = new_rec false 0
 
-abbrev pub is_running : RecState → Bool
+abbrev pub is_running : RmmRecState → Bool
 is_running Running = true
 is_running Ready = false
 
 -- the REC is on, as PSCI has it
-abbrev pub is_on : Rec → Bool
+abbrev pub is_on : RmmRec → Bool
 is_on rec = rec.is_runnable || is_running rec.state
 
 -- the address of auxiliary granule k that the page of a REC has

@@ -1,29 +1,31 @@
 -- What comes of a guest's step. RMM 1.0, Realm exits, RSI_HOST_CALL, RSI_IPA_STATE_SET and PSCI; Arm Architecture Reference Manual, ESR_EL2.
-use Rattle.std.specs.Prelude.{ℕ, ◌+◌, ◌-◌, ◌*◌, ◌/◌, ◌%◌, ◌^◌, ◌==◌, ◌&&◌, Bool, true, false, not, nat_lt, Option, Some, None, Result, Ok, Err, slice_index_or, slice_set, if◌then◌else◌}
+use Rattle.std.specs.Prelude.{ℕ, ◌+◌, ◌-◌, ◌*◌, ◌/◌, ◌%◌, ◌^◌, ◌==◌, ◌&&◌, Bool, true, false, not, nat_lt, Option, Some, None, Result, Ok, Err, if◌then◌else◌}
 use Rattle.rmi_abi.specs.declared.rec_run.ExitReason.{ExitReason}
 use Rattle.rmi_abi.specs.declared.rec_run.ExitReason.TheVariants.{Sync, Psci as PsciExit, RipasChange as RipasExit, HostCall as HostExit}
 use Rattle.rmi_abi.specs.declared.rec_run.RecExit.{RecExit}
-use Rattle.rmi_abi.specs.declared.settings.Settings.{Settings}
+use Rattle.rmi_abi.specs.declared.settings.RmmSettings.{RmmSettings}
 use Rattle.rmi_abi.specs.Mpidr.{is_mpidr, rec_number}
 use Rattle.rmi_abi.specs.RecRun.{traps_wfi, traps_wfe, only_reason}
-use Rattle.rmm_model.specs.declared.entry.Entry.{Entry}
-use Rattle.rmm_model.specs.declared.entry.Entry.TheVariants.{Assigned}
-use Rattle.rmm_model.specs.declared.entry.Ripas.{Ripas}
-use Rattle.rmm_model.specs.declared.entry.Ripas.TheVariants.{Empty, Ram, Destroyed}
-use Rattle.rmm_model.specs.declared.realm.Realm.{Realm}
+use Rattle.rmm_model.specs.declared.access.AccessSize.{AccessSize}
+use Rattle.rmm_model.specs.declared.entry.RmmRttEntry.{RmmRttEntry}
+use Rattle.rmm_model.specs.declared.entry.RmmRttEntry.TheVariants.{Assigned}
+use Rattle.rmm_model.specs.declared.entry.RmmRipas.{RmmRipas}
+use Rattle.rmm_model.specs.declared.entry.RmmRipas.TheVariants.{Empty, Ram, Destroyed}
+use Rattle.rmm_model.specs.declared.realm.RmmRealm.{RmmRealm}
 use Rattle.rmm_model.specs.declared.rec.LastExit.TheVariants.{Other, HostCall as LastHostCall, RipasChange as LastRipasChange, EmulatableAbort, UnprotectedAbort, SystemRegister as LastSystemRegister}
 use Rattle.rmm_model.specs.declared.rec.PsciRequest.TheVariants.{CpuOn as CpuOnRequest, AffinityInfo as AffinityInfoRequest, Complete}
-use Rattle.rmm_model.specs.declared.rec.Rec.{Rec as Attributes}
+use Rattle.rmm_model.specs.declared.rec.RmmRec.{RmmRec as Attributes}
 use Rattle.rmm_model.specs.declared.step.Came.{Came}
 use Rattle.rmm_model.specs.declared.step.Came.TheVariants.{Result as IsResult, Exit as IsExit, Spin as Spins}
-use Rattle.rmm_model.specs.declared.step.Step.{Step}
-use Rattle.rmm_model.specs.declared.step.Step.TheVariants.{Write, Read, Fetch, HostCall, SetRipas, CpuOn, AffinityInfo, CpuOff, CpuSuspend, SystemOff, SystemReset}
-use Rattle.rmm_model.specs.declared.step.Step.TheVariants.{Wfi, Wfe, SystemRegister, Spin}
+use Rattle.rmm_model.specs.declared.step.GuestStep.{GuestStep}
+use Rattle.rmm_model.specs.declared.step.GuestStep.TheVariants.{Write, Read, Fetch, HostCall, SetRipas, CpuOn, AffinityInfo, CpuOff, CpuSuspend, SystemOff, SystemReset}
+use Rattle.rmm_model.specs.declared.step.GuestStep.TheVariants.{Wfi, Wfe, SystemRegister, Spin}
 use Rattle.rmm_model.specs.declared.step.StepResult.TheVariants.{Done, Read as IsRead, Sea, Psci, RsiErrorInput}
+use Rattle.rmm_model.specs.Access.{syndrome, value_in, with_value}
 use Rattle.rmm_model.specs.Entry.{descriptor_of, is_assigned_ns, is_ram, ripas_in}
 use Rattle.rmm_model.specs.Host.{is_host_page}
 use Rattle.rmm_model.specs.Level.{entry_size}
-use Rattle.rmm_model.specs.Machine.{Machine, page_in, number_of, with_page}
+use Rattle.rmm_model.specs.Machine.{Machine, page_in, number_of}
 use Rattle.rmm_model.specs.Realm.{is_in_space, is_protected}
 use Rattle.rmm_model.specs.Walk.{entry_at, granule_named, walk}
 
@@ -37,12 +39,12 @@ abort esr ipa = record (only_reason Sync) { esr = esr; hpfar = ipa / 4096 * 16 }
 abbrev pub emulatable : ℕ → ℕ → ℕ → RecExit
 emulatable esr ipa value = record (only_reason Sync) { esr = esr; far = ipa % 4096; hpfar = ipa / 4096 * 16; gpr0 = value }
 
-abbrev pub is_empty : Ripas → Bool
+abbrev pub is_empty : RmmRipas → Bool
 is_empty Empty = true
 is_empty _ = false
 
 -- the entry leads to memory of the guest
-abbrev pub is_memory : Entry → Bool
+abbrev pub is_memory : RmmRttEntry → Bool
 is_memory (Assigned ripas address) = is_ram ripas
 is_memory _ = false
 
@@ -52,7 +54,7 @@ found_or_sea (Some granule) = Ok granule
 found_or_sea None = Err (IsResult Sea)
 
 -- the granule of a protected address, or what comes of an access there, by an exception class
-abbrev pub protected_access : Machine → ℕ → Entry → ℕ → ℕ → Result ℕ Came
+abbrev pub protected_access : Machine → ℕ → RmmRttEntry → ℕ → ℕ → Result ℕ Came
 protected_access m class entry level ipa =
     if is_memory entry then found_or_sea (granule_named m (descriptor_of entry + ipa % entry_size level)) else
     Err (if is_empty (ripas_in entry) then IsResult Sea else IsExit (abort (class + 4 + level) ipa) Other)
@@ -65,27 +67,31 @@ may_access desc writes = if writes then desc / 2 ^ 7 % 2 == 1 else desc / 2 ^ 6 
 abbrev pub wnr : Bool → ℕ
 wnr writes = if writes then 0x40 else 0
 
+-- what ESR_EL2 says of a data abort that can be emulated: SAS, WnR and the level
+abbrev pub of_access : Bool → AccessSize → ℕ → ℕ
+of_access writes size level = syndrome size + (wnr writes + level)
+
 -- the granule of the host at a physical address
 abbrev pub host_access : Machine → ℕ → ℕ → Result ℕ Came
 host_access m address ipa = if is_host_page m address then Ok (number_of m address) else Err (IsExit (abort 0x90000028 ipa) UnprotectedAbort)
 
 -- the granule of an unprotected address, or what comes of an access there
-abbrev pub unprotected_access : Machine → Entry → ℕ → ℕ → Bool → ℕ → Result ℕ Came
-unprotected_access m entry level ipa writes value =
-    if not (is_assigned_ns entry) then Err (IsExit (emulatable (0x91000004 + (wnr writes + level)) ipa value) EmulatableAbort) else
+abbrev pub unprotected_access : Machine → RmmRttEntry → ℕ → ℕ → Bool → AccessSize → ℕ → Result ℕ Came
+unprotected_access m entry level ipa writes size value =
+    if not (is_assigned_ns entry) then Err (IsExit (emulatable (0x91000004 + of_access writes size level) ipa value) EmulatableAbort) else
     (if may_access (descriptor_of entry) writes then host_access m (descriptor_of entry / 4096 * 4096 + ipa % entry_size level) ipa else
-    Err (IsExit (emulatable (0x9100000C + (wnr writes + level)) ipa value) EmulatableAbort))
+    Err (IsExit (emulatable (0x9100000C + of_access writes size level) ipa value) EmulatableAbort))
 
 -- The granule that an address of a guest is in, or what comes of an access there.
-unfoldable pub access : Machine → Realm → ℕ → Bool → ℕ → Result ℕ Came
-access m realm ipa writes value =
+unfoldable pub access : Machine → RmmRealm → ℕ → Bool → AccessSize → ℕ → Result ℕ Came
+access m realm ipa writes size value =
     let found = walk m realm ipa 3 in
     if not (is_in_space realm ipa) then Err (IsResult Sea) else
     (if is_protected realm ipa then protected_access m 0x90000000 (entry_at m found ipa) found.level ipa else
-    unprotected_access m (entry_at m found ipa) found.level ipa writes value)
+    unprotected_access m (entry_at m found ipa) found.level ipa writes size value)
 
 -- the granule that a guest fetches an instruction from, or what comes of it
-unfoldable pub fetched : Machine → Realm → ℕ → Result ℕ Came
+unfoldable pub fetched : Machine → RmmRealm → ℕ → Result ℕ Came
 fetched m realm ipa =
     let found = walk m realm ipa 3 in
     if is_protected realm ipa then protected_access m 0x80000000 (entry_at m found ipa) found.level ipa else Err (IsResult Sea)
@@ -95,15 +101,15 @@ abbrev pub tried : Result ℕ Came → Came
 tried (Ok granule) = IsResult Done
 tried (Err came) = came
 
--- what comes of reading a byte
-abbrev pub came_of_read : Machine → ℕ → Result ℕ Came → Came
-came_of_read m ipa (Ok granule) = IsResult (IsRead (slice_index_or (page_in m granule) (ipa % 4096) 0))
-came_of_read m ipa (Err came) = came
+-- what comes of a read
+abbrev pub came_of_read : Machine → ℕ → AccessSize → Result ℕ Came → Came
+came_of_read m ipa size (Ok granule) = IsResult (IsRead (value_in (page_in m granule) size ipa))
+came_of_read m ipa size (Err came) = came
 
--- the machine after a byte is written
-abbrev pub after_write : Machine → ℕ → ℕ → Result ℕ Came → Machine
-after_write m ipa value (Ok granule) = with_page m granule (slice_set (page_in m granule) (ipa % 4096) (value % 256))
-after_write m ipa value (Err came) = m
+-- the machine after a write
+abbrev pub after_write : Machine → ℕ → AccessSize → ℕ → Result ℕ Came → Machine
+after_write m ipa size value (Ok granule) = with_value m granule size ipa value
+after_write m ipa size value (Err came) = m
 
 -- ---- calls
 
@@ -112,22 +118,22 @@ abbrev pub host_call : ℕ → ℕ → ℕ → ℕ → Came
 host_call imm gpr0 gpr1 gpr2 = IsExit (record (only_reason HostExit) { gpr0 = gpr0; gpr1 = gpr1; gpr2 = gpr2; imm = imm % 2 ^ 16 }) LastHostCall
 
 -- RSI_IPA_STATE_SET takes a range of pages of the protected half, and EMPTY or RAM
-abbrev pub is_ripas_range : Realm → ℕ → ℕ → ℕ → Bool
+abbrev pub is_ripas_range : RmmRealm → ℕ → ℕ → ℕ → Bool
 is_ripas_range realm base top ripas =
     base % 4096 == 0 && top % 4096 == 0 && nat_lt base top && is_protected realm (top - 1) && nat_lt ripas 2
 
-abbrev pub ripas_of : ℕ → Ripas
+abbrev pub ripas_of : ℕ → RmmRipas
 ripas_of code = if code == 1 then Ram else Empty
 
 abbrev pub ripas_exit : ℕ → ℕ → ℕ → Came
 ripas_exit base top ripas = IsExit (record (only_reason RipasExit) { ripas_base = base; ripas_top = top; ripas = ripas }) LastRipasChange
 
 -- what a PSCI exit shows of its second and third operand is a setting
-abbrev pub shown : Settings → ℕ → ℕ
+abbrev pub shown : RmmSettings → ℕ → ℕ
 shown s operand = if s.shows_target_alone then 0 else operand
 
 -- the exit of a PSCI call
-abbrev pub psci_exit : Settings → ℕ → ℕ → ℕ → ℕ → Came
+abbrev pub psci_exit : RmmSettings → ℕ → ℕ → ℕ → ℕ → Came
 psci_exit s function target b c =
     IsExit (record (only_reason PsciExit) { gpr0 = function; gpr1 = target; gpr2 = shown s b; gpr3 = shown s c }) Other
 
@@ -135,18 +141,18 @@ abbrev pub psci_gives : ℕ → Came
 psci_gives value = IsResult (Psci value)
 
 -- a REC of the realm was given that MPIDR
-abbrev pub was_given : Realm → ℕ → Bool
+abbrev pub was_given : RmmRealm → ℕ → Bool
 was_given realm mpidr = is_mpidr mpidr && nat_lt (rec_number mpidr) realm.next_rec
 
 -- PSCI_CPU_ON
-abbrev pub cpu_on : Settings → Realm → Attributes → ℕ → ℕ → ℕ → Came
+abbrev pub cpu_on : RmmSettings → RmmRealm → Attributes → ℕ → ℕ → ℕ → Came
 cpu_on s realm rec target entry_point context =
     if not (is_protected realm entry_point) then psci_gives (2 ^ 64 - 9) else
     (if not (was_given realm target) then psci_gives (2 ^ 64 - 2) else
     (if target == rec.mpidr then psci_gives (2 ^ 64 - 4) else psci_exit s 0xC4000003 target entry_point context))
 
 -- PSCI_AFFINITY_INFO
-abbrev pub affinity_info : Settings → Realm → Attributes → ℕ → ℕ → Came
+abbrev pub affinity_info : RmmSettings → RmmRealm → Attributes → ℕ → ℕ → Came
 affinity_info s realm rec target level =
     if not (level == 0 && was_given realm target) then psci_gives (2 ^ 64 - 2) else
     (if target == rec.mpidr then psci_gives 0 else psci_exit s 0xC4000004 target level 0)
@@ -160,7 +166,7 @@ abbrev pub system_register : ℕ → ℕ → Came
 system_register iss value = IsExit (record (only_reason Sync) { esr = 0x60000000 + iss % 2 ^ 25; gpr0 = value }) LastSystemRegister
 
 -- What comes of a step that accesses no memory.
-abbrev pub came_of_call : Settings → Realm → Attributes → ℕ → Step → Came
+abbrev pub came_of_call : RmmSettings → RmmRealm → Attributes → ℕ → GuestStep → Came
 came_of_call s realm rec flags (HostCall imm gpr0 gpr1 gpr2) = host_call imm gpr0 gpr1 gpr2
 came_of_call s realm rec flags (SetRipas base top ripas more) = if is_ripas_range realm base top ripas then ripas_exit base top ripas else IsResult RsiErrorInput
 came_of_call s realm rec flags (CpuOn target entry_point context) = cpu_on s realm rec target entry_point context
@@ -179,7 +185,7 @@ is_exit (IsExit exit last) = true
 is_exit _ = false
 
 -- the attributes of a REC after a step of its guest that makes an exit
-abbrev pub rec_after_exit : Attributes → Step → Attributes
+abbrev pub rec_after_exit : Attributes → GuestStep → Attributes
 rec_after_exit rec (SetRipas base top ripas more) = record rec { ripas = record { base = base; top = top; ripas = ripas_of ripas; changes_destroyed = more % 2 == 1 } }
 rec_after_exit rec (CpuOn target entry_point context) = record rec { psci = CpuOnRequest target entry_point context }
 rec_after_exit rec (AffinityInfo target level) = record rec { psci = AffinityInfoRequest target }

@@ -3,11 +3,11 @@ use Rattle.std.specs.Prelude.{ℕ, zero, suc, ◌+◌, ◌-◌, ◌*◌, ◌/◌
 use Rattle.granule_addr.specs.Page.{page_of, zero_page}
 use Rattle.page_arena.specs.Word.{word_of_page, page_with_word}
 use Rattle.rmm_model.specs.declared.entry.Changeable.{Changeable}
-use Rattle.rmm_model.specs.declared.entry.Entry.{Entry}
+use Rattle.rmm_model.specs.declared.entry.RmmRttEntry.{RmmRttEntry}
 use Rattle.rmm_model.specs.Entry.{entry_of, entry_word, is_live, can_change, child_entry, repeated_byte}
 
 -- entry i of a table's page
-unfoldable pub entry_in_page : List ℕ → ℕ → Entry
+unfoldable pub entry_in_page : List ℕ → ℕ → RmmRttEntry
 entry_in_page page i = entry_of (word_of_page page i)
 
 -- ---- live entries
@@ -35,7 +35,7 @@ first_fixed changeable page (suc count) i = cond (can_change changeable (entry_i
 -- ---- children
 
 -- that many entries, from one on, are the children of an entry above the table
-unfoldable pub has_parts : List ℕ → Entry → ℕ → ℕ → ℕ → Bool
+unfoldable pub has_parts : List ℕ → RmmRttEntry → ℕ → ℕ → ℕ → Bool
 has_parts page whole level zero i = true
 has_parts page whole level (suc count) i = word_of_page page i == entry_word (child_entry whole level i) && has_parts page whole level count (i + 1)
 
@@ -44,10 +44,10 @@ unfoldable pub with_words : ℕ → (ℕ → ℕ) → List ℕ → List ℕ
 with_words zero f page = page
 with_words (suc count) f page = page_with_word (with_words count f page) count (f count)
 
-abbrev pub children_page_at : Option ℕ → Entry → ℕ → List ℕ
+abbrev pub children_page_at : Option ℕ → RmmRttEntry → ℕ → List ℕ
 children_page_at (Some byte) whole level = page_of byte
 children_page_at None whole level = with_words 512 (λ k. entry_word (child_entry whole level k)) zero_page
 
 -- The page of a table of a level whose entries are the children of an entry above it.
-unfoldable pub children_page : Entry → ℕ → List ℕ
+unfoldable pub children_page : RmmRttEntry → ℕ → List ℕ
 children_page whole level = children_page_at (repeated_byte whole) whole level

@@ -1,9 +1,9 @@
 -- Walks down the tables of a realm, and the next live entry after one. RMM 1.0, RttWalk and RttSkipNonLiveEntries.
 use Rattle.std.specs.Prelude.{ℕ, zero, suc, ◌+◌, ◌-◌, ◌*◌, ◌/◌, ◌==◌, Bool, cond, Option, Some, None, if◌then◌else◌}
 use Rattle.std.specs.Option.{option_map_or}
-use Rattle.rmm_model.specs.declared.entry.Entry.{Entry}
-use Rattle.rmm_model.specs.declared.entry.Entry.TheVariants.{Assigned, Table}
-use Rattle.rmm_model.specs.declared.realm.Realm.{Realm}
+use Rattle.rmm_model.specs.declared.entry.RmmRttEntry.{RmmRttEntry}
+use Rattle.rmm_model.specs.declared.entry.RmmRttEntry.TheVariants.{Assigned, Table}
+use Rattle.rmm_model.specs.declared.realm.RmmRealm.{RmmRealm}
 use Rattle.rmm_model.specs.declared.realm.RttWalk.{RttWalk}
 use Rattle.rmm_model.specs.Entry.{entry_word}
 use Rattle.rmm_model.specs.Level.{entry_size, entry_index, start_offset}
@@ -11,11 +11,11 @@ use Rattle.rmm_model.specs.Machine.{Machine, page_in, is_inside, number_of, with
 use Rattle.rmm_model.specs.Table.{entry_in_page, first_live_from}
 
 -- the entry of a table that covers an address
-unfoldable pub entry_at : Machine → RttWalk → ℕ → Entry
+unfoldable pub entry_at : Machine → RttWalk → ℕ → RmmRttEntry
 entry_at m found ipa = entry_in_page (page_in m found.table) (entry_index found.level ipa)
 
 -- the machine with another entry there
-abbrev pub with_entry : Machine → RttWalk → ℕ → Entry → Machine
+abbrev pub with_entry : Machine → RttWalk → ℕ → RmmRttEntry → Machine
 with_entry m found ipa entry = with_word m found.table (entry_index found.level ipa) (entry_word entry)
 
 -- the granule that an address names, where that is one of the machine
@@ -23,12 +23,12 @@ unfoldable pub granule_named : Machine → ℕ → Option ℕ
 granule_named m address = cond (is_inside m address) (Some (number_of m address)) None
 
 -- the table that an entry leads to
-abbrev pub table_below : Machine → Entry → Option ℕ
+abbrev pub table_below : Machine → RmmRttEntry → Option ℕ
 table_below m (Table address) = granule_named m address
 table_below m _ = None
 
 -- the page that an ASSIGNED entry leads to
-abbrev pub memory_below : Machine → Entry → Option ℕ
+abbrev pub memory_below : Machine → RmmRttEntry → Option ℕ
 memory_below m (Assigned ripas address) = granule_named m address
 memory_below m _ = None
 
@@ -41,11 +41,11 @@ walk_from m ipa (suc levels) found =
     option_map_or (λ table. walk_from m ipa levels (record { table = table; level = found.level + 1 })) (table_below m (entry_at m found ipa)) found
 
 -- the starting table that serves an address
-unfoldable pub start_of : Realm → ℕ → RttWalk
+unfoldable pub start_of : RmmRealm → ℕ → RttWalk
 start_of realm ipa = record { table = realm.first_table + start_offset realm.start_level ipa; level = realm.start_level }
 
 -- The end of the walk of an address towards a level.
-unfoldable pub walk : Machine → Realm → ℕ → ℕ → RttWalk
+unfoldable pub walk : Machine → RmmRealm → ℕ → ℕ → RttWalk
 walk m realm ipa level = walk_from m ipa (level - realm.start_level) (start_of realm ipa)
 
 -- ---- tops

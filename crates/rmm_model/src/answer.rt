@@ -3,31 +3,31 @@ ghost use Rattle.std.specs.Prelude.{◌≡◌};
 ghost use Rattle.rmm_model.specs.Check as checks;
 
 use crate::Condition;
-use rmi_abi::{Answer, Word};
+use rmi_abi::{SmcResult, Word};
 
 /// The condition that a command is refused by, and the answer.
 #[derive(Clone, Copy, PartialEq, Eq, Drop)]
-pub struct Refusal {
+pub struct FailedCondition {
     pub condition: Condition,
-    pub answer: Answer,
+    pub answer: SmcResult,
 }
 
 /// RMI_ERROR_INPUT by a condition.
-pub fn error_input(condition: Condition) -> Refusal
+pub fn error_input(condition: Condition) -> FailedCondition
     ensures { result ≡ record { condition = condition; answer = checks.error_input } }
 {
-    Refusal {
+    FailedCondition {
         condition,
-        answer: Answer::only(Word::ErrorInput),
+        answer: SmcResult::only(Word::ErrorInput),
     }
 }
 
 /// RMI_ERROR_RTT by a condition, with the level of a table.
-pub fn error_rtt(condition: Condition, level: u8) -> Refusal
+pub fn error_rtt(condition: Condition, level: u8) -> FailedCondition
     ensures { result ≡ record { condition = condition; answer = checks.error_rtt level } }
 {
-    Refusal {
+    FailedCondition {
         condition,
-        answer: Answer::only(Word::ErrorRtt(level)),
+        answer: SmcResult::only(Word::ErrorRtt(level)),
     }
 }

@@ -6,7 +6,7 @@ use crate::entry_size;
 
 /// The RIPAS of an address. RMM 1.0, RmmRipas.
 #[derive(Clone, Copy, Debug, PartialEq, Eq)]
-pub enum Ripas {
+pub enum RmmRipas {
     Empty,
     Ram,
     Destroyed,
@@ -17,9 +17,9 @@ pub enum Ripas {
 /// An ASSIGNED entry has the address of a page or block, a TABLE that of a table, an ASSIGNED_NS the descriptor that
 /// the host gave.
 #[derive(Clone, Copy, Debug, PartialEq, Eq)]
-pub enum Entry {
-    Unassigned(Ripas),
-    Assigned(Ripas, u64),
+pub enum RmmRttEntry {
+    Unassigned(RmmRipas),
+    Assigned(RmmRipas, u64),
     Table(u64),
     UnassignedNs,
     AssignedNs(u64),
@@ -43,51 +43,51 @@ const ADDRESSES: u64 = 0x1_0000_0000_0000;
 
 /// The entry that a word is read as, whatever the word.
 #[tactic(auto, unfolding(crate::specs::Entry::entry_of))]
-pub fn entry_from_word(word: u64) -> Entry
+pub fn entry_from_word(word: u64) -> RmmRttEntry
     ensures value { result ≡ entries.entry_of word }
     ensures fits { entries.descriptor_of result < 2 ^ 48 }
 {
     let descriptor = word % ADDRESSES;
     match word / KIND {
-        1 => Entry::Unassigned(Ripas::Ram),
-        2 => Entry::Unassigned(Ripas::Destroyed),
-        3 => Entry::UnassignedNs,
-        4 => Entry::Table(descriptor),
-        5 => Entry::AssignedNs(descriptor),
-        6 => Entry::Assigned(Ripas::Empty, descriptor),
-        7 => Entry::Assigned(Ripas::Ram, descriptor),
-        8 => Entry::Assigned(Ripas::Destroyed, descriptor),
-        _ => Entry::Unassigned(Ripas::Empty),
+        1 => RmmRttEntry::Unassigned(RmmRipas::Ram),
+        2 => RmmRttEntry::Unassigned(RmmRipas::Destroyed),
+        3 => RmmRttEntry::UnassignedNs,
+        4 => RmmRttEntry::Table(descriptor),
+        5 => RmmRttEntry::AssignedNs(descriptor),
+        6 => RmmRttEntry::Assigned(RmmRipas::Empty, descriptor),
+        7 => RmmRttEntry::Assigned(RmmRipas::Ram, descriptor),
+        8 => RmmRttEntry::Assigned(RmmRipas::Destroyed, descriptor),
+        _ => RmmRttEntry::Unassigned(RmmRipas::Empty),
     }
 }
 
-impl Ripas {
+impl RmmRipas {
     /// RmiRipas
     pub fn code(self) -> u8
         ensures value { result ≡ entries.ripas_code self }
         ensures below { result ≤ 2 }
     {
         match self {
-            Ripas::Empty => 0,
-            Ripas::Ram => 1,
-            Ripas::Destroyed => 2,
+            RmmRipas::Empty => 0,
+            RmmRipas::Ram => 1,
+            RmmRipas::Destroyed => 2,
         }
     }
 
     pub fn is_ram(self) -> bool
         ensures { result ≡ entries.is_ram self }
     {
-        matches!(self, Ripas::Ram)
+        matches!(self, RmmRipas::Ram)
     }
 
     pub fn is_destroyed(self) -> bool
         ensures { result ≡ entries.is_destroyed self }
     {
-        matches!(self, Ripas::Destroyed)
+        matches!(self, RmmRipas::Destroyed)
     }
 }
 
-impl Entry {
+impl RmmRttEntry {
     /// The word of the entry: bits 63:56 have its kind and RIPAS. A live one has its descriptor in bits 47:0; the bytes
     /// of any other are all the same, so that a page of such entries is written as one byte.
     #[tactic(auto, unfolding(crate::specs::Entry::entry_word))]
@@ -95,11 +95,11 @@ impl Entry {
         ensures { result ≡ entries.entry_word self }
     {
         match self {
-            Entry::Unassigned(ripas) => ripas.code() as u64 * REPEATED,
-            Entry::UnassignedNs => 3 * REPEATED,
-            Entry::Table(address) => 4 * KIND + address % ADDRESSES,
-            Entry::AssignedNs(descriptor) => 5 * KIND + descriptor % ADDRESSES,
-            Entry::Assigned(ripas, address) => (6 + ripas.code() as u64) * KIND
+            RmmRttEntry::Unassigned(ripas) => ripas.code() as u64 * REPEATED,
+            RmmRttEntry::UnassignedNs => 3 * REPEATED,
+            RmmRttEntry::Table(address) => 4 * KIND + address % ADDRESSES,
+            RmmRttEntry::AssignedNs(descriptor) => 5 * KIND + descriptor % ADDRESSES,
+            RmmRttEntry::Assigned(ripas, address) => (6 + ripas.code() as u64) * KIND
                 + address % ADDRESSES,
         }
     }
@@ -109,8 +109,8 @@ impl Entry {
         ensures { result ≡ entries.is_live self }
     {
         match self {
-            Entry::Unassigned(_) => false,
-            Entry::UnassignedNs => false,
+            RmmRttEntry::Unassigned(_) => false,
+            RmmRttEntry::UnassignedNs => false,
             _ => true,
         }
     }
@@ -118,25 +118,25 @@ impl Entry {
     pub fn is_unassigned(self) -> bool
         ensures { result ≡ entries.is_unassigned self }
     {
-        matches!(self, Entry::Unassigned(_))
+        matches!(self, RmmRttEntry::Unassigned(_))
     }
 
     pub fn is_unassigned_ns(self) -> bool
         ensures { result ≡ entries.is_unassigned_ns self }
     {
-        matches!(self, Entry::UnassignedNs)
+        matches!(self, RmmRttEntry::UnassignedNs)
     }
 
     pub fn is_assigned_ns(self) -> bool
         ensures { result ≡ entries.is_assigned_ns self }
     {
-        matches!(self, Entry::AssignedNs(_))
+        matches!(self, RmmRttEntry::AssignedNs(_))
     }
 
     pub fn is_table(self) -> bool
         ensures { result ≡ entries.is_table self }
     {
-        matches!(self, Entry::Table(_))
+        matches!(self, RmmRttEntry::Table(_))
     }
 
     /// Whether the entry is a mapping: it leads to a page or a block.
@@ -144,8 +144,8 @@ impl Entry {
         ensures { result ≡ entries.is_mapping self }
     {
         match self {
-            Entry::Assigned(_, _) => true,
-            Entry::AssignedNs(_) => true,
+            RmmRttEntry::Assigned(_, _) => true,
+            RmmRttEntry::AssignedNs(_) => true,
             _ => false,
         }
     }
@@ -155,21 +155,21 @@ impl Entry {
         ensures { result ≡ entries.descriptor_of self }
     {
         match self {
-            Entry::Assigned(_, address) => address,
-            Entry::Table(address) => address,
-            Entry::AssignedNs(descriptor) => descriptor,
+            RmmRttEntry::Assigned(_, address) => address,
+            RmmRttEntry::Table(address) => address,
+            RmmRttEntry::AssignedNs(descriptor) => descriptor,
             _ => 0,
         }
     }
 
     /// The RIPAS of an UNASSIGNED or ASSIGNED entry, and EMPTY of any other.
-    pub fn ripas(self) -> Ripas
+    pub fn ripas(self) -> RmmRipas
         ensures { result ≡ entries.ripas_in self }
     {
         match self {
-            Entry::Unassigned(ripas) => ripas,
-            Entry::Assigned(ripas, _) => ripas,
-            _ => Ripas::Empty,
+            RmmRttEntry::Unassigned(ripas) => ripas,
+            RmmRttEntry::Assigned(ripas, _) => ripas,
+            _ => RmmRipas::Empty,
         }
     }
 
@@ -178,8 +178,8 @@ impl Entry {
         ensures { result ≡ entries.can_change changeable self }
     {
         match self {
-            Entry::Unassigned(ripas) => changeable.destroyed || !ripas.is_destroyed(),
-            Entry::Assigned(ripas, _) => {
+            RmmRttEntry::Unassigned(ripas) => changeable.destroyed || !ripas.is_destroyed(),
+            RmmRttEntry::Assigned(ripas, _) => {
                 changeable.assigned && (changeable.destroyed || !ripas.is_destroyed())
             }
             _ => false,
@@ -187,12 +187,12 @@ impl Entry {
     }
 
     /// An UNASSIGNED or ASSIGNED entry with another RIPAS.
-    pub fn with_ripas(self, ripas: Ripas) -> Entry
+    pub fn with_ripas(self, ripas: RmmRipas) -> RmmRttEntry
         ensures { result ≡ entries.entry_with_ripas ripas self }
     {
         match self {
-            Entry::Unassigned(_) => Entry::Unassigned(ripas),
-            Entry::Assigned(_, address) => Entry::Assigned(ripas, address),
+            RmmRttEntry::Unassigned(_) => RmmRttEntry::Unassigned(ripas),
+            RmmRttEntry::Assigned(_, address) => RmmRttEntry::Assigned(ripas, address),
             _ => self,
         }
     }
@@ -202,11 +202,11 @@ impl Entry {
         ensures { result ≡ entries.state_code self }
     {
         match self {
-            Entry::Unassigned(_) => 0,
-            Entry::UnassignedNs => 0,
-            Entry::Assigned(_, _) => 1,
-            Entry::AssignedNs(_) => 1,
-            Entry::Table(_) => 2,
+            RmmRttEntry::Unassigned(_) => 0,
+            RmmRttEntry::UnassignedNs => 0,
+            RmmRttEntry::Assigned(_, _) => 1,
+            RmmRttEntry::AssignedNs(_) => 1,
+            RmmRttEntry::Table(_) => 2,
         }
     }
 
@@ -215,22 +215,22 @@ impl Entry {
         ensures { result ≡ entries.shown_ripas self }
     {
         match self {
-            Entry::Unassigned(ripas) => ripas.code() as u64,
-            Entry::Assigned(ripas, _) => ripas.code() as u64,
+            RmmRttEntry::Unassigned(ripas) => ripas.code() as u64,
+            RmmRttEntry::Assigned(ripas, _) => ripas.code() as u64,
             _ => 0,
         }
     }
 
     /// Entry `index` of a table of a level that says the same as this entry above it.
-    pub fn child(self, level: u8, index: u16) -> Entry
+    pub fn child(self, level: u8, index: u16) -> RmmRttEntry
         requires descriptor { entries.descriptor_of self < 2 ^ 48 }
         requires index { index < 512 }
         ensures { result ≡ entries.child_entry self level index }
     {
         let offset = index as u64 * entry_size(level);
         match self {
-            Entry::Assigned(ripas, address) => Entry::Assigned(ripas, address + offset),
-            Entry::AssignedNs(descriptor) => Entry::AssignedNs(descriptor + offset),
+            RmmRttEntry::Assigned(ripas, address) => RmmRttEntry::Assigned(ripas, address + offset),
+            RmmRttEntry::AssignedNs(descriptor) => RmmRttEntry::AssignedNs(descriptor + offset),
             _ => self,
         }
     }
@@ -240,8 +240,8 @@ impl Entry {
         ensures { result ≡ entries.repeated_byte self }
     {
         match self {
-            Entry::Unassigned(ripas) => Some(ripas.code()),
-            Entry::UnassignedNs => Some(3),
+            RmmRttEntry::Unassigned(ripas) => Some(ripas.code()),
+            RmmRttEntry::UnassignedNs => Some(3),
             _ => None,
         }
     }

@@ -1,16 +1,16 @@
 //! Granules.
 ghost use Rattle.std.specs.Prelude.{◌≡◌};
 
-use crate::{Realm, Rec};
+use crate::{RmmRealm, RmmRec};
 use granule_addr::Gran;
 
 /// The state of a granule; an RD has its realm, a REC its attributes. RMM 1.0, RmmGranuleState.
 #[derive(Clone, Copy, Debug, PartialEq, Eq)]
-pub enum GranuleState {
+pub enum RmmGranuleState {
     Undelegated,
     Delegated,
-    Rd(Realm),
-    Rec(Rec),
+    Rd(RmmRealm),
+    Rec(RmmRec),
     RecAux,
     Data,
     Rtt,
@@ -18,50 +18,50 @@ pub enum GranuleState {
 
 /// The attributes of a granule beside its page: its state, and the RD of the realm that owns it.
 #[derive(Clone, Copy, Debug, PartialEq, Eq)]
-pub struct Granule {
-    pub state: GranuleState,
+pub struct RmmGranule {
+    pub state: RmmGranuleState,
     pub owner: Option<Gran>,
 }
 
-impl Granule {
+impl RmmGranule {
     /// A granule of the host's, as each one is at the start.
-    pub const UNDELEGATED: Granule = Granule {
-        state: GranuleState::Undelegated,
+    pub const UNDELEGATED: RmmGranule = RmmGranule {
+        state: RmmGranuleState::Undelegated,
         owner: None,
     };
 }
 
-impl GranuleState {
+impl RmmGranuleState {
     ghost use Rattle.rmm_model.specs.Granule.{is_undelegated, is_delegated, realm_of, rec_of};
 
     pub fn is_undelegated(&self) -> bool
         ensures { result ≡ is_undelegated self.now }
     {
-        matches!(self, GranuleState::Undelegated)
+        matches!(self, RmmGranuleState::Undelegated)
     }
 
     pub fn is_delegated(&self) -> bool
         ensures { result ≡ is_delegated self.now }
     {
-        matches!(self, GranuleState::Delegated)
+        matches!(self, RmmGranuleState::Delegated)
     }
 
     /// The realm of an RD.
-    pub fn realm(&self) -> Option<Realm>
+    pub fn realm(&self) -> Option<RmmRealm>
         ensures { result ≡ realm_of self.now }
     {
         match self {
-            GranuleState::Rd(realm) => Some(*realm),
+            RmmGranuleState::Rd(realm) => Some(*realm),
             _ => None,
         }
     }
 
     /// The attributes of a REC.
-    pub fn rec(&self) -> Option<Rec>
+    pub fn rec(&self) -> Option<RmmRec>
         ensures { result ≡ rec_of self.now }
     {
         match self {
-            GranuleState::Rec(rec) => Some(*rec),
+            RmmGranuleState::Rec(rec) => Some(*rec),
             _ => None,
         }
     }

@@ -4,6 +4,7 @@
 //! each command is a list of checks and an effect, and `specs/Call` has what a call by registers does.
 #![tactic(auto)]
 
+mod access;
 mod answer;
 mod condition;
 mod entry;
@@ -14,12 +15,13 @@ mod rec;
 mod step;
 mod table;
 
-pub use answer::{Refusal, error_input, error_rtt};
+pub use access::AccessSize;
+pub use answer::{FailedCondition, error_input, error_rtt};
 pub use condition::Condition;
-pub use entry::{Changeable, Entry, Ripas, entry_from_word};
-pub use granule::{Granule, GranuleState};
+pub use entry::{Changeable, RmmRipas, RmmRttEntry, entry_from_word};
+pub use granule::{RmmGranule, RmmGranuleState};
 pub use level::{entry_index, entry_size, start_offset};
-pub use realm::{Realm, RealmState, RttWalk, start_count};
-pub use rec::{LastExit, PsciRequest, Rec, RecState, RipasRequest, aux_address};
-pub use step::{Came, Queued, Step, StepResult, StepWords};
+pub use realm::{RmmRealm, RmmRealmState, RttWalk, start_count};
+pub use rec::{LastExit, PsciRequest, RipasRequest, RmmRec, RmmRecState, aux_address};
+pub use step::{Came, GuestStep, Queued, StepResult, StepWords};
 pub use table::{first_fixed, first_live, has_live, has_parts};

@@ -8,7 +8,7 @@ use rmi_abi::HashAlgorithm;
 
 /// The state of a realm. RMM 1.0, RmmRealmState.
 #[derive(Clone, Copy, Debug, PartialEq, Eq)]
-pub enum RealmState {
+pub enum RmmRealmState {
     New,
     Active,
     SystemOff,
@@ -19,8 +19,8 @@ pub enum RealmState {
 /// `rim` is the initial measurement, the digest of `hash` with zeros up to 64 bytes. The starting tables are
 /// `table_count` adjacent granules. `next_rec` counts the RECs that the realm was given, `rec_count` those that it has.
 #[derive(Clone, Copy, Debug, PartialEq, Eq)]
-pub struct Realm {
-    pub state: RealmState,
+pub struct RmmRealm {
+    pub state: RmmRealmState,
     pub hash: HashAlgorithm,
     pub rim: [u8; 64],
     pub s2sz: u8,

@@ -2,12 +2,12 @@
 ghost use Rattle.std.specs.Prelude.{◌≡◌, ◌<◌, length};
 ghost use Rattle.rmm_model.specs.Rec as recs;
 
-use crate::Ripas;
+use crate::RmmRipas;
 use page_arena::word_in;
 
 /// The state of a REC. RMM 1.0, RmmRecState.
 #[derive(Clone, Copy, Debug, PartialEq, Eq)]
-pub enum RecState {
+pub enum RmmRecState {
     Ready,
     Running,
 }
@@ -19,7 +19,7 @@ pub enum RecState {
 pub struct RipasRequest {
     pub base: u64,
     pub top: u64,
-    pub ripas: Ripas,
+    pub ripas: RmmRipas,
     pub changes_destroyed: bool,
 }
 
@@ -59,8 +59,8 @@ pub enum LastExit {
 /// Its registers and the addresses of its auxiliary granules are words of its page. While it is RUNNING, `run` is the
 /// address of its run page. The steps that its guest has yet to perform are a ring in its page.
 #[derive(Clone, Copy, Debug, PartialEq, Eq)]
-pub struct Rec {
-    pub state: RecState,
+pub struct RmmRec {
+    pub state: RmmRecState,
     pub is_runnable: bool,
     pub mpidr: u64,
     pub ripas: RipasRequest,
@@ -77,18 +77,18 @@ impl RipasRequest {
     pub const NONE: RipasRequest = RipasRequest {
         base: 0,
         top: 0,
-        ripas: Ripas::Empty,
+        ripas: RmmRipas::Empty,
         changes_destroyed: false,
     };
 }
 
-impl Rec {
+impl RmmRec {
     /// A new REC.
-    pub fn new(is_runnable: bool, mpidr: u64) -> Rec
+    pub fn new(is_runnable: bool, mpidr: u64) -> RmmRec
         ensures { result ≡ recs.new_rec is_runnable mpidr }
     {
-        Rec {
-            state: RecState::Ready,
+        RmmRec {
+            state: RmmRecState::Ready,
             is_runnable,
             mpidr,
             ripas: RipasRequest::NONE,
@@ -104,7 +104,7 @@ impl Rec {
     pub fn is_running(&self) -> bool
         ensures { result ≡ recs.is_running self.now.state }
     {
-        matches!(self.state, RecState::Running)
+        matches!(self.state, RmmRecState::Running)
     }
 
     /// Whether the REC is on, as PSCI has it: it is runnable or RUNNING.

@@ -2,19 +2,21 @@
 ghost use Rattle.std.specs.Prelude.{◌≡◌, ◌<◌, length};
 ghost use Rattle.rmm_model.specs.Guest as guests;
 
-use crate::LastExit;
+use crate::{AccessSize, LastExit};
 use page_arena::word_in;
 use rmi_abi::RecExit;
 
-/// A step of a guest: an access of a byte, an RSI or PSCI call, or a wait. This monitor's own: a guest is simulated.
+/// A step of a guest: an access, an RSI or PSCI call, or a wait. This monitor's own: a guest is simulated.
 #[derive(Clone, Copy)]
-pub enum Step {
+pub enum GuestStep {
     Write {
         ipa: u64,
         value: u64,
+        size: AccessSize,
     },
     Read {
         ipa: u64,
+        size: AccessSize,
     },
     Fetch {
         ipa: u64,
@@ -97,43 +99,50 @@ pub struct StepWords {
 
 impl StepWords {
     /// The step that words are; words of no other kind are a guest that spins.
-    pub fn step(&self) -> Step
+    pub fn step(&self) -> GuestStep
         ensures { result ≡ guests.step_of self.now }
     {
         let (a, b, c, d) = (self.a, self.b, self.c, self.d);
         match self.kind {
-            0 => Step::Write { ipa: a, value: b },
-            1 => Step::Read { ipa: a },
-            2 => Step::HostCall {
+            0 => GuestStep::Write {
+                ipa: a,
+                value: b,
+                size: AccessSize::of(c),
+            },
+            1 => GuestStep::Read {
+                ipa: a,
+                size: AccessSize::of(b),
+            },
+            2 => GuestStep::HostCall {
                 imm: a,
                 gpr0: b,
                 gpr1: c,
                 gpr2: d,
             },
-            3 => Step::SetRipas {
+            3 => GuestStep::SetRipas {
                 base: a,
                 top: b,
                 ripas: c,
                 flags: d,
             },
-            4 => Step::CpuOn {
+            4 => GuestStep::CpuOn {
                 target: a,
                 entry_point: b,
                 context: c,
             },
-            5 => Step::AffinityInfo {
+            5 => GuestStep::AffinityInfo {
                 target: a,
                 level: b,
             },
-            6 => Step::CpuOff,
-            7 => Step::CpuSuspend,
-            8 => Step::SystemOff,
-            9 => Step::SystemReset,
-            10 => Step::Wfi,
-            11 => Step::Wfe,
-            13 => Step::Fetch { ipa: a },
-            14 => Step::SystemRegister { iss: a, value: b },
-            _ => Step::Spin,
+            6 => GuestStep::CpuOff,
+            7 => GuestStep::CpuSuspend,
+            8 => GuestStep::SystemOff,
+            9 => GuestStep::SystemReset,
+            10 => GuestStep::Wfi,
+            11 => GuestStep::Wfe,
+            13 => GuestStep::Fetch { ipa: a },
+            14 => GuestStep::SystemRegister { iss: a, value: b },
+            _ => GuestStep::Spin,
         }
     }
 

@@ -3,7 +3,7 @@ ghost use Rattle.std.specs.Prelude.{◌≡◌, ◌-◌, ◌^◌, ◌<◌, ◌≤
 ghost use Rattle.rmm_model.specs.Table as tables;
 ghost use Rattle.rmm_model.specs.Entry.{descriptor_of};
 
-use crate::{Changeable, Entry, entry_from_word};
+use crate::{Changeable, RmmRttEntry, entry_from_word};
 use page_arena::word_in;
 
 /// The first live entry of a table from one on, or 512.
@@ -50,7 +50,7 @@ pub fn first_fixed(page: &[u8], changeable: Changeable, from: u16, end: u16) -> 
 }
 
 /// Whether the entries of a table of a level are the children of an entry above it.
-pub fn has_parts(page: &[u8], whole: Entry, level: u8) -> bool
+pub fn has_parts(page: &[u8], whole: RmmRttEntry, level: u8) -> bool
     requires page { length page.now ≡ 4096 }
     requires whole { descriptor_of whole < 2 ^ 48 }
     ensures { result ≡ tables.has_parts page.now whole level 512 0 }

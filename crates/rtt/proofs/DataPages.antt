@@ -14,7 +14,7 @@ use Rattle.page_arena.specs.Words.{page_at-with_word_other}
 use Rattle.realm_model.specs.declared.states.GranuleState.TheVariants.{Delegated, Data as InData, Rtt as InRtt}
 use Rattle.realm_model.specs.declared.states.Ripas.{Ripas}
 use Rattle.realm_model.specs.Rows.{Row, row_at, unassigned, assigned, is_table, is_unassigned, put_row, unmapped_ripas, data_of}
-use Rattle.realm_model.specs.Sound.{look, IsSoundRows}
+use Rattle.realm_model.specs.Sound.{mapping_at, IsSoundRows}
 use Rattle.rtt.specs.Word.{entry_word, IsEntry}
 use Rattle.rtt.specs.Tables.{entries_of, table_at, rows}
 use Rattle.rtt.specs.Realm.{IsBacked, IsInside, HasTables, AreWords, LeavesOthers}
@@ -111,7 +111,7 @@ mapped pages new_pages flags granules new_granules rd root level ipa table index
             (kept pages pages flags sized granules rd root ipa table entry tables below at_last within is (λ _ _. refl))
             moved ripas page None refl delegated (Moves-set granules page InData (Some rd) delegated.inside);
         words = leaf_words pages pages flags sized granules rd root ipa table entry tables below at_last within is (λ _ _. refl);
-        sound = subst (λ r. IsSoundRows root.width (look r)) (sym rows_are) (mapped_sound (rows pages root) ipa old tables.sound row_is (unassigned_plain old free) ripas page);
+        sound = subst (λ r. IsSoundRows root.width (mapping_at r)) (sym rows_are) (mapped_sound (rows pages root) ipa old tables.sound row_is (unassigned_plain old free) ripas page);
       };
       others = λ granule no_table. beside granule (λ q. no_table (record { level = 3; ipa = ipa; inside = inside_last; at = at_last ∙ ap (λ (k : ℕ). Some k) (sym q) }));
       other_realms = others_left pages after granules moved rd page Delegated InData None (Some rd) delegated (λ _ _ e. cc) (Moves-set granules page InData (Some rd) delegated.inside)
@@ -188,7 +188,7 @@ module _ (pages mid : List (List ℕ)) (flags : List Bool) (sized : IsSized mid 
           (kept pages mid flags sized granules rd root ipa table row tables inside.below at within refl same)
           (set granules page (record { state = Delegated; realm = None })) page Delegated None refl (ap data_of (sym is) ∙ sym leads) (Moves-set granules page Delegated None lies.inside);
       words = leaf_words pages mid flags sized granules rd root ipa table row tables inside.below at within refl same;
-      sound = subst (λ r. IsSoundRows root.width (look r)) (sym rows_after) (unmapped_sound (rows pages root) ipa entry tables.sound row_is (ap is_table (data_of-leads entry page (sym leads))) ripas);
+      sound = subst (λ r. IsSoundRows root.width (mapping_at r)) (sym rows_after) (unmapped_sound (rows pages root) ipa entry tables.sound row_is (ap is_table (data_of-leads entry page (sym leads))) ripas);
     };
     others = λ granule not_page no_table.
         beside granule (λ q. no_table (record { level = 3; ipa = ipa; inside = inside; at = at ∙ ap (λ (k : ℕ). Some k) (sym q) })) (λ q. not_page (page_at_is granule q));

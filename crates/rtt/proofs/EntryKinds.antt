@@ -5,7 +5,7 @@ use Rattle.realm_model.specs.declared.states.EntryState.TheVariants.{Unassigned,
 use Rattle.realm_model.specs.declared.states.Ripas.{Ripas}
 use Rattle.realm_model.specs.declared.states.Ripas.TheVariants.{Ram}
 use Rattle.realm_model.specs.Rows.{Row, is_unassigned, is_assigned, is_table, unassigned, assigned, as_ram, table_of, data_of}
-use Rattle.rtt.specs.Word.{IsSaid, IsEntry}
+use Rattle.rtt.specs.Word.{IsEncodable, IsEntry}
 
 -- an UNASSIGNED entry is of no other kind
 pub unassigned_kind : (row : Row) → is_unassigned row ≡ true → row.state ≡ Unassigned
@@ -50,7 +50,7 @@ table_of-leads row granule e = leads (is_table row) row.granule granule e
 pub table_of-none : (row : Row) → IsEntry row → table_of row ≡ None → is_table row ≡ false
 table_of-none row is e = by_kind row.state row.ripas row.granule is e
   where
-    by_kind : (h : EntryState) (r : Ripas) (o : Option ℕ) → IsSaid h r o → cond (elim h [ Unassigned ↦ false | Assigned ↦ false | Table ↦ true ]) o None ≡ None
+    by_kind : (h : EntryState) (r : Ripas) (o : Option ℕ) → IsEncodable h r o → cond (elim h [ Unassigned ↦ false | Assigned ↦ false | Table ↦ true ]) o None ≡ None
         → elim h [ Unassigned ↦ false | Assigned ↦ false | Table ↦ true ] ≡ false
     by_kind Unassigned r o is e = refl
     by_kind Assigned r o is e = refl
@@ -62,7 +62,7 @@ table_of-none row is e = by_kind row.state row.ripas row.granule is e
 pub data_of-none : (row : Row) → IsEntry row → data_of row ≡ None → is_assigned row ≡ false
 data_of-none row is e = by_kind row.state row.ripas row.granule is e
   where
-    by_kind : (h : EntryState) (r : Ripas) (o : Option ℕ) → IsSaid h r o → cond (elim h [ Unassigned ↦ false | Assigned ↦ true | Table ↦ false ]) o None ≡ None
+    by_kind : (h : EntryState) (r : Ripas) (o : Option ℕ) → IsEncodable h r o → cond (elim h [ Unassigned ↦ false | Assigned ↦ true | Table ↦ false ]) o None ≡ None
         → elim h [ Unassigned ↦ false | Assigned ↦ true | Table ↦ false ] ≡ false
     by_kind Unassigned r o is e = refl
     by_kind Assigned r None is e = absurd is

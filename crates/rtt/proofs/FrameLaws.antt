@@ -9,7 +9,7 @@ use Rattle.granule_table.specs.declared.granule.Granule.{Granule}
 use Rattle.page_arena.specs.Word.{word_of_page}
 use Rattle.realm_model.specs.Rows.{table_of, data_of}
 use Rattle.realm_model.specs.declared.states.GranuleState.TheVariants.{Data as InData, Rtt as InRtt}
-use Rattle.realm_model.specs.Sound.{look, IsSoundRows}
+use Rattle.realm_model.specs.Sound.{mapping_at, IsSoundRows}
 use Rattle.rtt.specs.FiniteRows.{rows_by}
 use Rattle.rtt.specs.Word.{entry_of, entry_word}
 use Rattle.rtt.specs.Tables.{Entries, entries_of, table_at, entry_at, data_at, is_place, row_in, rows_in, rows}
@@ -17,9 +17,9 @@ use Rattle.rtt.specs.Realm.{IsInside, HasGranules, HasTables, LeavesAlone}
 use Rattle.rtt.proofs.PlaceLaws.{index_below, inside_place}
 
 -- what is found in a table that is there, for both
-option_and_then-same : {A : Type 0} (look new_look : ℕ → Option A) (o : Option ℕ) → ((table : ℕ) → o ≡ Some table → new_look table ≡ look table) → option_and_then new_look o ≡ option_and_then look o
-option_and_then-same look new_look None same = refl
-option_and_then-same look new_look (Some table) same = same table refl
+option_and_then-same : {A : Type 0} (mapping_at new_look : ℕ → Option A) (o : Option ℕ) → ((table : ℕ) → o ≡ Some table → new_look table ≡ mapping_at table) → option_and_then new_look o ≡ option_and_then mapping_at o
+option_and_then-same mapping_at new_look None same = refl
+option_and_then-same mapping_at new_look (Some table) same = same table refl
 
 -- entries that lead to the same tables
 module _ (entries new : Entries) (root : Root)
@@ -108,5 +108,5 @@ module _ (pages : List (List ℕ)) (granules : List Granule) (new_pages : List (
         ap (λ page. word_of_page page index) (alone.page table (there.own.tables level ipa table inside was))
         ∙ there.words level ipa table index inside was few
         ∙ ap entry_word (sym (same_entry level ipa table index inside was few));
-    sound = subst (λ r. IsSoundRows root.width (look r)) (sym rows-alone) there.sound;
+    sound = subst (λ r. IsSoundRows root.width (mapping_at r)) (sym rows-alone) there.sound;
   }

@@ -12,7 +12,7 @@ use Rattle.page_arena.specs.Words.{page_at-with_word_other}
 use Rattle.realm_model.specs.declared.states.GranuleState.TheVariants.{Delegated, Rtt as InRtt}
 use Rattle.realm_model.specs.declared.states.Ripas.{Ripas}
 use Rattle.realm_model.specs.Rows.{Row, row_at, unassigned, table as table_row, is_table, with_table, is_table_place, table_of}
-use Rattle.realm_model.specs.Sound.{look, IsSoundRows}
+use Rattle.realm_model.specs.Sound.{mapping_at, IsSoundRows}
 use Rattle.realm_model.proofs.SoundRows.{with_table_sound}
 use Rattle.realm_model.proofs.TablePlaces.{table_place}
 use Rattle.rtt.specs.Word.{entry_word, IsEntry}
@@ -47,25 +47,25 @@ module _ (pages mid : List (List ℕ)) (flags : List Bool) (sized : IsSized mid 
   few : entry_index above ipa < 512
   few = index_below above ipa
 
-  said : IsEntry (table_row granule)
-  said = (small, refl)
+  decoded : IsEntry (table_row granule)
+  decoded = (small, refl)
 
   apart : (other : ℕ) → IsIn granules other InRtt (Some rd) → other ≢ granule
   apart other rtt = apart_states granules other granule InRtt Delegated (Some rd) None rtt delegated (λ e. cc)
 
   wrote : entries_of after table (entry_index above ipa) ≡ table_row granule
-  wrote = entry_written mid flags sized table (entry_index above ipa) (table_row granule) within few said
+  wrote = entry_written mid flags sized table (entry_index above ipa) (table_row granule) within few decoded
 
   fresh_word : (index : ℕ) → index < 512 → word_at after granule index ≡ entry_word (unassigned old.ripas)
   fresh_word index lt =
-      word_kept mid flags sized table (entry_index above ipa) (table_row granule) within few said granule index lt (λ s. apart table (tables.own.tables above ipa table inside at) (sym s.0))
+      word_kept mid flags sized table (entry_index above ipa) (table_row granule) within few decoded granule index lt (λ s. apart table (tables.own.tables above ipa table inside at) (sym s.0))
       ∙ written index lt
 
   fresh : (index : ℕ) → index < 512 → entries_of after granule index ≡ unassigned old.ripas
   fresh index lt = entry_read after granule index (unassigned old.ripas) refl (fresh_word index lt)
 
   far_word : (other index : ℕ) → other ≢ granule → index < 512 → ((other ≡ table) × (index ≡ entry_index above ipa) → ⊥) → word_at after other index ≡ word_at pages other index
-  far_word other index ne lt out = word_as mid flags sized table (entry_index above ipa) (table_row granule) within few said pages other index (others other ne) lt out
+  far_word other index ne lt out = word_as mid flags sized table (entry_index above ipa) (table_row granule) within few decoded pages other index (others other ne) lt out
 
   kept : (other index : ℕ) → IsIn granules other InRtt (Some rd) → other ≢ granule → index < 512 → ((other ≡ table) × (index ≡ entry_index above ipa) → ⊥)
       → entries_of after other index ≡ entries_of pages other index
@@ -106,10 +106,10 @@ module _ (pages mid : List (List ℕ)) (flags : List Bool) (sized : IsSized mid 
               moved (Moves-set granules granule InRtt (Some rd) delegated.inside);
           words = created_each (entries_of pages) (entries_of after) granules rd root level above ipa table granule old.ripas None tables.own next place inside.below at none delegated wrote fresh kept
               (IsExact after)
-              (exact_written mid flags sized table (entry_index above ipa) (table_row granule) within few said)
+              (exact_written mid flags sized table (entry_index above ipa) (table_row granule) within few decoded)
               (λ index lt. exact_read after granule index (unassigned old.ripas) refl (fresh_word index lt))
               (λ l i t index there t_at lt ne out. same_exact pages after t index (far_word t index ne lt out) (tables.words l i t index there t_at lt));
-          sound = subst (λ r. IsSoundRows root.width (look r)) (sym rows_after) (with_table_sound (rows pages root) level ipa old tables.sound
+          sound = subst (λ r. IsSoundRows root.width (mapping_at r)) (sym rows_after) (with_table_sound (rows pages root) level ipa old tables.sound
               (table_place ipa level place) row_there granule old.ripas plain);
         };
         others = λ other ne no_table. beside other (λ q. no_table (record { level = above; ipa = ipa; inside = inside; at = at ∙ ap (λ (k : ℕ). Some k) (sym q) })) ne;

@@ -14,7 +14,7 @@ use Rattle.page_arena.specs.Words.{page_at-with_word_other}
 use Rattle.realm_model.specs.declared.states.GranuleState.TheVariants.{Delegated, Rtt as InRtt}
 use Rattle.realm_model.specs.declared.states.Ripas.TheVariants.{Destroyed}
 use Rattle.realm_model.specs.Rows.{Row, row_at, unassigned, is_unassigned, without_table, is_table_place, is_table_unused, table_of}
-use Rattle.realm_model.specs.Sound.{look, IsSoundRows}
+use Rattle.realm_model.specs.Sound.{mapping_at, IsSoundRows}
 use Rattle.realm_model.proofs.SoundRows.{without_table_sound}
 use Rattle.realm_model.proofs.TablePlaces.{table_place}
 use Rattle.rtt.specs.Word.{entry_word}
@@ -156,7 +156,7 @@ module _ (pages mid : List (List ℕ)) (flags : List Bool) (sized : IsSized mid 
       words = destroyed_each (entries_of pages) (entries_of after) granules rd root level above ipa table granule tables.own next place inside.below at was unused wrote kept (IsExact after)
           (exact_written mid flags sized table (entry_index above ipa) row within few refl)
           (λ l i t index there t_at lt ne out. same_exact pages after t index (far_word t index ne lt out) (tables.words l i t index there t_at lt));
-      sound = subst (λ r. IsSoundRows root.width (look r)) (sym rows_after) (without_table_sound (rows pages root) level ipa entry tables.sound (table_place ipa level place) row_there all_unused);
+      sound = subst (λ r. IsSoundRows root.width (mapping_at r)) (sym rows_after) (without_table_sound (rows pages root) level ipa entry tables.sound (table_place ipa level place) row_there all_unused);
     };
     others = λ other no_table.
         beside other (λ q. no_table (record { level = above; ipa = ipa; inside = inside; at = at ∙ ap (λ (k : ℕ). Some k) (sym q) }))

@@ -13,9 +13,9 @@ use Rattle.realm_model.specs.declared.states.GranuleState.TheVariants.{Rtt as In
 use Rattle.realm_model.specs.declared.states.EntryState.TheVariants.{Unassigned}
 use Rattle.realm_model.specs.declared.states.Ripas.TheVariants.{Ram}
 use Rattle.realm_model.specs.Rows.{Row, is_page_run, unassigned, is_unassigned, all_rows, as_ram, with_ram}
-use Rattle.realm_model.specs.Sound.{look, IsSoundRows}
+use Rattle.realm_model.specs.Sound.{mapping_at, IsSoundRows}
 use Rattle.realm_model.proofs.SoundRows.{with_ram_sound}
-use Rattle.rtt.specs.Word.{entry_word, IsSaid, IsEntry}
+use Rattle.rtt.specs.Word.{entry_word, IsEncodable, IsEntry}
 use Rattle.rtt.specs.Tables.{entries_of, table_at, rows}
 use Rattle.rtt.specs.Realm.{IsInside, HasTables, LeavesOthers}
 use Rattle.rtt.specs.Calls.{ChangesTablesOnly}
@@ -69,7 +69,7 @@ pages_unused pages root level ipa table first count answer inside last at first_
 
 -- an UNASSIGNED entry leads to no granule
 granule_none : (row : Row) → IsEntry row → row.state ≡ Unassigned → row.granule ≡ None
-granule_none row is kind = let said : IsSaid Unassigned row.ripas row.granule = subst (λ h. IsSaid h row.ripas row.granule) kind is in said
+granule_none row is kind = let decoded : IsEncodable Unassigned row.ripas row.granule = subst (λ h. IsEncodable h row.ripas row.granule) kind is in decoded
 
 pub record RamGiven (pages new_pages : List (List ℕ)) (granules : List Granule) (rd : ℕ) (root : Root) (ipa count : ℕ) : Type 0 where
   pub rows_are : rows new_pages root ≡ with_ram (rows pages root) ipa count
@@ -125,7 +125,7 @@ module _ (pages new_pages : List (List ℕ)) (granules : List Granule) (rd : ℕ
           exact_after pages new_pages table first count (unassigned Ram) refl written left others t index few
           (tables.words l i t index inside
           (sym (ram_tables (entries_of pages) root ipa table count below at fits (entries_of new_pages) granules rd tables.own was wrote kept l i inside) ∙ there) few);
-      sound = subst (λ r. IsSoundRows root.width (look r)) (sym rows_after) (with_ram_sound (rows pages root) ipa count tables.sound all_unused);
+      sound = subst (λ r. IsSoundRows root.width (mapping_at r)) (sym rows_after) (with_ram_sound (rows pages root) ipa count tables.sound all_unused);
     };
     others = λ granule no_table. others granule (λ q. no_table (record { level = 3; ipa = ipa; inside = inside; at = at ∙ ap (λ (k : ℕ). Some k) (sym q) }));
     other_realms = others_kept pages new_pages granules rd (λ granule no_rtt. others granule (λ q. no_rtt (subst (λ (k : ℕ). IsIn granules k InRtt (Some rd)) (sym q) table_there)));

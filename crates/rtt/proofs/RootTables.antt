@@ -15,7 +15,7 @@ use Rattle.realm_model.specs.declared.states.GranuleState.{GranuleState}
 use Rattle.realm_model.specs.declared.states.GranuleState.TheVariants.{Undelegated, Delegated, Data as InData, Rtt as InRtt}
 use Rattle.realm_model.specs.declared.states.Ripas.TheVariants.{Empty}
 use Rattle.realm_model.specs.Rows.{unassigned, is_table, root_rows, has_root_table}
-use Rattle.realm_model.specs.Sound.{look, IsSoundRows}
+use Rattle.realm_model.specs.Sound.{mapping_at, IsSoundRows}
 use Rattle.realm_model.specs.StepLaw.{set_each}
 use Rattle.realm_model.proofs.SetEach.{length-set_each}
 use Rattle.realm_model.proofs.SoundRows.{root_sound}
@@ -158,7 +158,7 @@ opened pages new_pages flags granules new_granules rd root backed was pages_are 
             (all_moved pages new_pages flags granules new_granules root Delegated InRtt None (Some rd) backed was used pages_are granules_are);
         words = root_each (entries_of new_pages) root blank (IsExact new_pages)
             (λ number index few within. exact_read new_pages (root.first + number) index (unassigned Empty) refl (word number index few within));
-        sound = subst (λ r. IsSoundRows root.width (look r)) (sym rows_are) (root_sound root.width);
+        sound = subst (λ r. IsSoundRows root.width (mapping_at r)) (sym rows_are) (root_sound root.width);
       };
       backed = backed_after pages new_pages flags granules new_granules root Delegated InRtt None (Some rd) backed was used pages_are granules_are;
       other_realms = others_after pages new_pages flags granules new_granules root Delegated InRtt None (Some rd) backed was used pages_are granules_are rd (λ other apart e. cc);

@@ -6,7 +6,7 @@ use Rattle.realm_model.specs.declared.states.EntryState.TheVariants.{Unassigned,
 use Rattle.realm_model.specs.declared.states.Ripas.{Ripas}
 use Rattle.realm_model.specs.declared.states.Ripas.TheVariants.{Empty, Ram, Destroyed}
 use Rattle.realm_model.specs.Rows.{Row}
-use Rattle.rtt.specs.Word.{kind_bits, ripas_bits, address_bits, entry_word, kind_of, ripas_of, said, entry_of, IsSaid, IsEntry}
+use Rattle.rtt.specs.Word.{kind_bits, ripas_bits, address_bits, entry_word, kind_of, ripas_of, decoded, entry_of, IsEncodable, IsEntry}
 
 -- the three parts of a word
 parts : (kind ripas granule : ℕ) → kind < 4 → ripas < 4 → granule < 4096
@@ -25,12 +25,12 @@ ripas_back Ram = refl
 ripas_back Destroyed = refl
 
 by_parts : (kind granule : ℕ) (ripas : Ripas) → kind < 4 → granule < 4096
-    → entry_of (kind + ripas_bits ripas * 4 + granule * 4096) ≡ said (kind_of kind) ripas granule
+    → entry_of (kind + ripas_bits ripas * 4 + granule * 4096) ≡ decoded (kind_of kind) ripas granule
 by_parts kind granule ripas few few_granules =
     let p = parts kind (ripas_bits ripas) granule few (ripas_small ripas) few_granules in
-    (λ i. said (kind_of (p.0 i)) (ripas_of (p.1 i)) (p.2 i)) ∙ ap (λ r. said (kind_of kind) r granule) (ripas_back ripas)
+    (λ i. decoded (kind_of (p.0 i)) (ripas_of (p.1 i)) (p.2 i)) ∙ ap (λ r. decoded (kind_of kind) r granule) (ripas_back ripas)
 
-back : (state : EntryState) (ripas : Ripas) (granule : Option ℕ) → IsSaid state ripas granule
+back : (state : EntryState) (ripas : Ripas) (granule : Option ℕ) → IsEncodable state ripas granule
     → entry_of (kind_bits state + ripas_bits ripas * 4 + address_bits granule) ≡ record { state = state; ripas = ripas; granule = granule }
 back Unassigned ripas None is = by_parts 0 0 ripas (omega arith) (omega arith)
 back Unassigned ripas (Some granule) is = cc
@@ -44,7 +44,7 @@ back Table ripas (Some granule) is =
 pub entry_of-entry_word : (row : Row) → IsEntry row → entry_of (entry_word row) ≡ row
 entry_of-entry_word row is = back row.state row.ripas row.granule is
 
-small : (state : EntryState) (ripas : Ripas) (granule : Option ℕ) → IsSaid state ripas granule
+small : (state : EntryState) (ripas : Ripas) (granule : Option ℕ) → IsEncodable state ripas granule
     → kind_bits state + ripas_bits ripas * 4 + address_bits granule < 2 ^ 64
 small Unassigned ripas None is = let few = ripas_small ripas in omega arith
 small Unassigned ripas (Some granule) is = cc
@@ -58,7 +58,7 @@ pub entry_word_fits : (row : Row) → IsEntry row → entry_word row < 2 ^ 64
 entry_word_fits row is = small row.state row.ripas row.granule is
 
 -- what is read from a word is an entry, whatever the word
-said_is : (state : EntryState) (ripas : Ripas) (granule : ℕ) → granule < 4096 → IsEntry (said state ripas granule)
+said_is : (state : EntryState) (ripas : Ripas) (granule : ℕ) → granule < 4096 → IsEntry (decoded state ripas granule)
 said_is Unassigned ripas granule below = refl
 said_is Assigned ripas granule below = below
 said_is Table ripas granule below = (below, refl)

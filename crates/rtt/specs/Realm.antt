@@ -9,7 +9,7 @@ use Rattle.page_arena.specs.Page.{page_at, is_free}
 use Rattle.page_arena.specs.Word.{word_at}
 use Rattle.realm_model.specs.declared.states.GranuleState.TheVariants.{Undelegated, Data, Rtt}
 use Rattle.rtt.specs.Word.{entry_word}
-use Rattle.realm_model.specs.Sound.{look, IsSoundRows}
+use Rattle.realm_model.specs.Sound.{mapping_at, IsSoundRows}
 use Rattle.rtt.specs.Tables.{Entries, entries_of, table_at, data_at, rows}
 
 -- There is a granule for each page, and each that is not UNDELEGATED has a taken page.
@@ -44,7 +44,7 @@ AreWords pages root = (level ipa table index : ℕ) → IsInside root.width leve
 pub record HasTables (pages : List (List ℕ)) (granules : List Granule) (rd : ℕ) (root : Root) : Type 0 where
   pub own : HasGranules (entries_of pages) granules rd root
   pub words : AreWords pages root
-  pub sound : IsSoundRows root.width (look (rows pages root))
+  pub sound : IsSoundRows root.width (mapping_at (rows pages root))
 
 -- a granule is one of the tables
 pub record IsTableOf (pages : List (List ℕ)) (root : Root) (granule : ℕ) : Type 0 where

@@ -27,15 +27,15 @@ abbrev pub entry_word : Row → ℕ
 entry_word row = kind_bits row.state + ripas_bits row.ripas * 4 + address_bits row.granule
 
 -- What an entry can say: one that is not UNASSIGNED leads to a granule of the machine, and a TABLE entry has no RIPAS.
-abbrev pub IsSaid : EntryState → Ripas → Option ℕ → Type 0
-IsSaid Unassigned ripas granule = granule ≡ None
-IsSaid Assigned ripas None = ⊥
-IsSaid Assigned ripas (Some granule) = granule < 4096
-IsSaid Table ripas None = ⊥
-IsSaid Table ripas (Some granule) = (granule < 4096) × (ripas ≡ Empty)
+abbrev pub IsEncodable : EntryState → Ripas → Option ℕ → Type 0
+IsEncodable Unassigned ripas granule = granule ≡ None
+IsEncodable Assigned ripas None = ⊥
+IsEncodable Assigned ripas (Some granule) = granule < 4096
+IsEncodable Table ripas None = ⊥
+IsEncodable Table ripas (Some granule) = (granule < 4096) × (ripas ≡ Empty)
 
 abbrev pub IsEntry : Row → Type 0
-IsEntry row = IsSaid row.state row.ripas row.granule
+IsEntry row = IsEncodable row.state row.ripas row.granule
 
 -- ---- and back
 
@@ -46,11 +46,11 @@ abbrev pub ripas_of : ℕ → Ripas
 ripas_of bits = if bits == 1 then Ram else (if bits == 2 then Destroyed else Empty)
 
 -- the entry of a kind, with that RIPAS and that granule where the kind has them
-abbrev pub said : EntryState → Ripas → ℕ → Row
-said Unassigned ripas granule = unassigned ripas
-said Assigned ripas granule = assigned ripas granule
-said Table ripas granule = table granule
+abbrev pub decoded : EntryState → Ripas → ℕ → Row
+decoded Unassigned ripas granule = unassigned ripas
+decoded Assigned ripas granule = assigned ripas granule
+decoded Table ripas granule = table granule
 
 -- The entry that a word is read as, whatever the word.
 abbrev pub entry_of : ℕ → Row
-entry_of word = said (kind_of (word % 4)) (ripas_of (word / 4 % 4)) (word / 4096 % 4096)
+entry_of word = decoded (kind_of (word % 4)) (ripas_of (word / 4 % 4)) (word / 4096 % 4096)

@@ -20,7 +20,7 @@ pub struct Entry {
 impl Model for Entry {
     ghost use Rattle.realm_model.specs.Rows.{Row};
     ghost use Rattle.realm_model.specs.Codes.{row_code};
-    ghost use Rattle.rtt.specs.Word.{IsSaid};
+    ghost use Rattle.rtt.specs.Word.{IsEncodable};
 
     ghost Value = { Row };
 
@@ -28,7 +28,7 @@ impl Model for Entry {
 
     ghost view = { λ e. record { state = e.state; ripas = e.ripas; granule = e.granule } };
 
-    ghost invariant = { λ e. IsSaid e.state e.ripas e.granule };
+    ghost invariant = { λ e. IsEncodable e.state e.ripas e.granule };
 
     ghost inverse = { λ row. record { state = row.state; ripas = row.ripas; granule = row.granule } };
 }

@@ -12,7 +12,7 @@ ghost use Rattle.rtt.specs.Answer.{Answers};
 ghost use Rattle.rtt.specs.Calls.{with_state, LeadsTo, ChangesTablesOnly, ChangesTablesAnd, GainsPage, LosesPage, Keeps};
 
 use crate::pages::{all_unassigned, fill_entries, write};
-use crate::tables::{Place, find};
+use crate::tables::{EntryAddress, find};
 use crate::{Entry, Rtt, Tables};
 use granule_addr::{Gran, IpaGran, Level, index_at};
 use granule_table::GranuleTable;
@@ -51,7 +51,7 @@ impl Tables {
             (S.page_bytes store.new) (S.free_flags store.new) granules.new }
     {
         let realm = Some(self.rd);
-        let Place {
+        let EntryAddress {
             table,
             level,
             entry,
@@ -100,7 +100,7 @@ impl Tables {
             (S.page_bytes store.old) (S.free_flags store.old) granules.old
             (S.page_bytes store.new) (S.free_flags store.new) granules.new }
     {
-        let Place {
+        let EntryAddress {
             table,
             level,
             entry,

@@ -12,7 +12,7 @@ ghost use Rattle.rtt.specs.Answer.{Answers};
 ghost use Rattle.rtt.specs.Calls.{with_state, LeadsTo, ChangesTablesOnly, ChangesTablesAnd, GainsTable, Keeps};
 
 use crate::pages::{all_unassigned, fill_entries, write};
-use crate::tables::{Place, find};
+use crate::tables::{EntryAddress, find};
 use crate::{Entry, Rtt, Tables};
 use granule_addr::{Gran, IpaGran, Level, index_at};
 use granule_table::GranuleTable;
@@ -52,7 +52,7 @@ impl Tables {
     {
         let realm = Some(self.rd);
         let wanted = level.above();
-        let Place {
+        let EntryAddress {
             table: upper,
             level: ended,
             entry,
@@ -100,7 +100,7 @@ impl Tables {
             (S.page_bytes store.new) (S.free_flags store.new) granules.new }
     {
         let wanted = level.above();
-        let Place {
+        let EntryAddress {
             table: upper,
             level: ended,
             entry,

@@ -26,7 +26,7 @@ pub struct Tables {
 
 // Where a walk ends, and in which table.
 #[derive(Clone, Copy)]
-pub struct Place {
+pub struct EntryAddress {
     pub table: Gran,
     pub level: Level,
     pub entry: Entry,
@@ -63,7 +63,7 @@ pub fn find<S: PageStore>(
     granules: &GranuleTable,
     ipa: IpaGran,
     to: Level,
-) -> Place
+) -> EntryAddress
     requires as_many { length granules.now ≡ length (S.page_bytes store.now) }
     requires tables { HasTables (S.page_bytes store.now) granules.now tables.rd tables.root }
     requires inside { ipa < served_space tables.root.width }
@@ -96,7 +96,7 @@ pub fn find<S: PageStore>(
             None => break,
         }
     }
-    Place {
+    EntryAddress {
         table,
         level,
         entry,

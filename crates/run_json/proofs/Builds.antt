@@ -1,7 +1,7 @@
 -- Builds that get one more, and items of an array that get one more.
 use Rattle.std.proofs.Common.{ℕ, ◌+◌, List, [], ◌∷◌, ◌++◌, refl, subst, sym, arith}
 use Rattle.std.specs.List.{range_with_len}
-use Rattle.build_books.specs.View.{HostView}
+use Rattle.host_ledger.specs.View.{HostView}
 use Rattle.granule_addr.proofs.Runs.{range_with_len_more}
 use Rattle.run_json.specs.Worlds.{IsBuildText, AreBuilds}
 

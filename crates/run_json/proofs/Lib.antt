@@ -6,4 +6,4 @@ mod RowRuns
 mod OneText
 mod SameRows
 mod RowWalks
-mod ToldRows
+mod ReportedRows

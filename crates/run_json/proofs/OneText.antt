@@ -4,12 +4,12 @@ use Rattle.std.specs.Prelude.{option_map}
 use Rattle.std.specs.List.{flat_map, range_with_len}
 use Rattle.std.proofs.lemmas.Bool.{cases_lt}
 use Rattle.realm_model.specs.World.{World}
-use Rattle.realm_acts.specs.Mirror.{rd_of}
+use Rattle.realm_model.specs.Places.{rd_of}
 use Rattle.rmi_monitor.specs.View.{attributes_of}
-use Rattle.build_books.specs.View.{HostView, world_of}
+use Rattle.host_ledger.specs.View.{HostView, world_of}
 use Rattle.realm_host.specs.Readings.{row_of}
 use Rattle.realm_host.specs.declared.reading.RowView.{RowView}
-use Rattle.run_json.specs.Rows.{RowRun, first_behind, IsRowRun, AreRowRuns, run_items, items_text, IsRowsText}
+use Rattle.run_json.specs.Rows.{RowRun, first_after, IsRowRun, AreRowRuns, run_items, items_text, IsRowsText}
 use Rattle.run_json.specs.Worlds.{realm_member, IsRealmText, build_head, IsBuildText, AreBuilds, world_head, IsWorldText}
 
 module _ (world : World) (build : ℕ) where
@@ -36,10 +36,10 @@ module _ (world : World) (build : ℕ) where
       one_count run.row run.count other.count one.1 (subst (λ (row : RowView). IsRowRun world build row other.count) (sym row_is) two.1)
       in
       let run_is : run ≡ other = λ i. record { row = row_is i; count = count_is i } in
-      let rest : AreRowRuns world build (first_behind run.row run.count) others =
-      subst (λ (r : RowRun). AreRowRuns world build (first_behind r.row r.count) others) (sym run_is) two.2
+      let rest : AreRowRuns world build (first_after run.row run.count) others =
+      subst (λ (r : RowRun). AreRowRuns world build (first_after r.row r.count) others) (sym run_is) two.2
       in
-      ap₂ (λ (r : RowRun) (rs : List RowRun). r ∷ rs) run_is (one_list runs others (first_behind run.row run.count) one.2 rest)
+      ap₂ (λ (r : RowRun) (rs : List RowRun). r ∷ rs) run_is (one_list runs others (first_after run.row run.count) one.2 rest)
 
   one_rows : (text other : List ℕ) → IsRowsText world build text → IsRowsText world build other → text ≡ other
   one_rows text other one two =

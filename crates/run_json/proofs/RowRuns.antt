@@ -6,7 +6,7 @@ use Rattle.granule_addr.specs.Ipa.{covered_count}
 use Rattle.realm_model.specs.World.{World}
 use Rattle.realm_host.specs.Readings.{row_at}
 use Rattle.realm_host.specs.declared.reading.RowView.{RowView}
-use Rattle.run_json.specs.Rows.{RowRun, first_behind, RunGoesOn, IsRowRun, AreRowRuns, rows_above, run_items, items_text, IsRowsText}
+use Rattle.run_json.specs.Rows.{RowRun, first_after, RunGoesOn, IsRowRun, AreRowRuns, rows_above, run_items, items_text, IsRowsText}
 use Rattle.run_json.specs.RowTexts.{AddsItems}
 use Rattle.run_json.proofs.RowTexts.{AddsItems-then}
 
@@ -23,7 +23,7 @@ module _ (world : World) (build : ℕ) where
 
   -- ---- a run that goes on
 
-  pub behind_more : (row : RowView) (count next after : ℕ) → next ≡ first_behind row count → after ≡ next + covered_count row.level → after ≡ first_behind row (count + 1)
+  pub behind_more : (row : RowView) (count next after : ℕ) → next ≡ first_after row count → after ≡ next + covered_count row.level → after ≡ first_after row (count + 1)
   behind_more row count next after so_far more = by (covered_count row.level) so_far more
     where
       by : (covered : ℕ) → next ≡ row.first + count * covered → after ≡ next + covered → after ≡ row.first + (count + 1) * covered
@@ -31,12 +31,12 @@ module _ (world : World) (build : ℕ) where
 
   pub same_more :
       (row : RowView) (count next : ℕ)
-      → next ≡ first_behind row count
-      → ((k : ℕ) → 0 < k → k < count → RunGoesOn world build row (first_behind row k))
+      → next ≡ first_after row count
+      → ((k : ℕ) → 0 < k → k < count → RunGoesOn world build row (first_after row k))
       → RunGoesOn world build row next
-      → (k : ℕ) → 0 < k → k < count + 1 → RunGoesOn world build row (first_behind row k)
+      → (k : ℕ) → 0 < k → k < count + 1 → RunGoesOn world build row (first_after row k)
   same_more row count next so_far same more k some below =
-      below_more (λ n. 0 < n → RunGoesOn world build row (first_behind row n)) count (λ n less positive. same n positive less)
+      below_more (λ n. 0 < n → RunGoesOn world build row (first_after row n)) count (λ n less positive. same n positive less)
       (λ _. subst (RunGoesOn world build row) so_far more) k below some
 
   -- ---- the runs so far
@@ -44,22 +44,22 @@ module _ (world : World) (build : ℕ) where
   -- the runs from one IPA granule to another
   pub RunsTo : ℕ → List RowRun → ℕ → Type 0
   RunsTo from [] to = to ≡ from
-  RunsTo from (run ∷ runs) to = (row_at world build from 3 ≡ Some run.row) × IsRowRun world build run.row run.count × RunsTo (first_behind run.row run.count) runs to
+  RunsTo from (run ∷ runs) to = (row_at world build from 3 ≡ Some run.row) × IsRowRun world build run.row run.count × RunsTo (first_after run.row run.count) runs to
 
   RunsTo-then :
       (runs : List RowRun) (from ipa : ℕ) (run : RowRun)
       → RunsTo from runs ipa
       → row_at world build ipa 3 ≡ Some run.row
       → IsRowRun world build run.row run.count
-      → RunsTo from (runs ++ run ∷ []) (first_behind run.row run.count)
+      → RunsTo from (runs ++ run ∷ []) (first_after run.row run.count)
   unfolding RunsTo
   RunsTo-then [] from ipa run lead there is = (ap (λ n. row_at world build n 3) (sym lead) ∙ there, is, refl)
-  RunsTo-then (first ∷ runs) from ipa run lead there is = (lead.0, lead.1, RunsTo-then runs (first_behind first.row first.count) ipa run lead.2 there is)
+  RunsTo-then (first ∷ runs) from ipa run lead there is = (lead.0, lead.1, RunsTo-then runs (first_after first.row first.count) ipa run lead.2 there is)
 
   RunsTo-all : (runs : List RowRun) (from ipa : ℕ) → RunsTo from runs ipa → row_at world build ipa 3 ≡ None → AreRowRuns world build from runs
   unfolding RunsTo
   RunsTo-all [] from ipa lead ends = ap (λ n. row_at world build n 3) (sym lead) ∙ ends
-  RunsTo-all (first ∷ runs) from ipa lead ends = (lead.0, lead.1, RunsTo-all runs (first_behind first.row first.count) ipa lead.2 ends)
+  RunsTo-all (first ∷ runs) from ipa lead ends = (lead.0, lead.1, RunsTo-all runs (first_after first.row first.count) ipa lead.2 ends)
 
   -- the text of all rows before an IPA granule
   pub record IsSoFar (ipa : ℕ) (text : List ℕ) : Type 0 where
@@ -78,7 +78,7 @@ module _ (world : World) (build : ℕ) where
       → IsRowRun world build run.row run.count
       → AddsItems old mid (rows_above world build run.row)
       → AddsItems mid new (run ∷ [])
-      → IsSoFar (first_behind run.row run.count) new
+      → IsSoFar (first_after run.row run.count) new
   so_far_more ipa old mid new run so_far there is above itself = record {
     runs = so_far.runs ++ run ∷ [];
     lead = RunsTo-then so_far.runs 0 ipa run so_far.lead there is;

@@ -4,18 +4,18 @@ use Rattle.std.specs.List.{flat_map, range_with_len}
 use Rattle.std.proofs.lemmas.List.{flat_map_more}
 use Rattle.granule_addr.proofs.Runs.{range_with_len_more}
 use Rattle.run_json.specs.Rows.{RowRun, item_line, items_text}
-use Rattle.run_json.specs.RowTexts.{comma_behind, AddsItems}
+use Rattle.run_json.specs.RowTexts.{comma_after, AddsItems}
 
 -- one more item, behind a comma where there are some
-items_text-more : (items : List RowRun) (item : RowRun) → (items_text items ++ comma_behind (items_text items)) ++ item_line item ≡ items_text (items ++ item ∷ [])
+items_text-more : (items : List RowRun) (item : RowRun) → (items_text items ++ comma_after (items_text items)) ++ item_line item ≡ items_text (items ++ item ∷ [])
 items_text-more [] item = sym (append-nil (item_line item))
 items_text-more (first ∷ items) item =
     append_assoc (items_text (first ∷ items)) (codes ",") (item_line item)
     ∙ flat_map_more (λ next. codes "," ++ item_line next) (item_line first) items item
 
-pub AddsItems-one : (old mid new : List ℕ) (item : RowRun) → mid ≡ old ++ comma_behind old → new ≡ mid ++ item_line item → AddsItems old new (item ∷ [])
+pub AddsItems-one : (old mid new : List ℕ) (item : RowRun) → mid ≡ old ++ comma_after old → new ≡ mid ++ item_line item → AddsItems old new (item ∷ [])
 AddsItems-one old mid new item with_comma is =
-    record { added = λ items was. is ∙ ap (λ t. t ++ item_line item) (with_comma ∙ ap (λ t. t ++ comma_behind t) was) ∙ items_text-more items item }
+    record { added = λ items was. is ∙ ap (λ t. t ++ item_line item) (with_comma ∙ ap (λ t. t ++ comma_after t) was) ∙ items_text-more items item }
 
 pub AddsItems-none : (text : List ℕ) → AddsItems text text []
 AddsItems-none text = record { added = λ items was. was ∙ ap items_text (sym (append-nil items)) }

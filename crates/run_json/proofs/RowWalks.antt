@@ -9,7 +9,7 @@ use Rattle.granule_addr.proofs.Spaces.{served_is}
 use Rattle.realm_model.specs.declared.states.EntryState.{EntryState}
 use Rattle.realm_model.specs.declared.states.EntryState.TheVariants.{Unassigned, Assigned, Table}
 use Rattle.realm_model.specs.Rows.{Row, Rows, Walk, walk, row_at, is_table, is_table_state, is_table_place}
-use Rattle.realm_model.specs.Sound.{look, is_table_kind, IsKind, IsSoundRows, IsFull}
+use Rattle.realm_model.specs.Sound.{mapping_at, is_table_kind, IsKind, IsSoundRows, IsFull}
 use Rattle.realm_model.specs.Ownership.{mapping_of_row}
 use Rattle.realm_model.proofs.RowKinds.{shape_of}
 use Rattle.realm_model.proofs.Walks.{walk_end, walk_above, walk_there}
@@ -70,7 +70,7 @@ begins_deeper level deeper ipa least less most begins = elim (cases_lt deeper 3)
       subst (BeginsToo ipa) (sym three) (first, eq-eqb (ipa % 512) 0 (whole_512 level ipa least low begins))
 ]
 
-module _ (width : ℕ) (rows : Rows) (sound : IsSoundRows width (look rows)) (full : IsFull width (look rows)) where
+module _ (width : ℕ) (rows : Rows) (sound : IsSoundRows width (mapping_at rows)) (full : IsFull width (mapping_at rows)) where
   no_some : (o : Option Row) → (is_some (option_map mapping_of_row o) ≡ true → ⊥) → o ≡ None
   no_some None never = refl
   no_some (Some row) never = absurd (never refl)
@@ -79,17 +79,17 @@ module _ (width : ℕ) (rows : Rows) (sound : IsSoundRows width (look rows)) (fu
   contrary t is is_not = cc
 
   -- below a row that is not TABLE, or is missing, there is none
-  none_at_2 : (ipa : ℕ) → is_table_kind (look rows (1, first_covered 1 ipa)) ≡ false → row_at rows 2 ipa ≡ None
+  none_at_2 : (ipa : ℕ) → is_table_kind (mapping_at rows (1, first_covered 1 ipa)) ≡ false → row_at rows 2 ipa ≡ None
   none_at_2 ipa plain = no_some (row_at rows 2 ipa) (λ some.
       let same : first_covered 1 (first_covered 2 ipa) ≡ first_covered 1 ipa = omega arith in
-      contrary (is_table_kind (look rows (1, first_covered 1 ipa)))
-      (ap (λ n. is_table_kind (look rows (1, n))) (sym same) ∙ sound.below (2, first_covered 2 ipa) some) plain)
+      contrary (is_table_kind (mapping_at rows (1, first_covered 1 ipa)))
+      (ap (λ n. is_table_kind (mapping_at rows (1, n))) (sym same) ∙ sound.below (2, first_covered 2 ipa) some) plain)
 
-  none_at_3 : (ipa : ℕ) → is_table_kind (look rows (2, first_covered 2 ipa)) ≡ false → row_at rows 3 ipa ≡ None
+  none_at_3 : (ipa : ℕ) → is_table_kind (mapping_at rows (2, first_covered 2 ipa)) ≡ false → row_at rows 3 ipa ≡ None
   none_at_3 ipa plain = no_some (row_at rows 3 ipa) (λ some.
       let same : first_covered 2 (first_covered 3 ipa) ≡ first_covered 2 ipa = omega arith in
-      contrary (is_table_kind (look rows (2, first_covered 2 ipa)))
-      (ap (λ n. is_table_kind (look rows (2, n))) (sym same) ∙ sound.below (3, first_covered 3 ipa) some) plain)
+      contrary (is_table_kind (mapping_at rows (2, first_covered 2 ipa)))
+      (ap (λ n. is_table_kind (mapping_at rows (2, n))) (sym same) ∙ sound.below (3, first_covered 3 ipa) some) plain)
 
   -- so a walk to level 3 ends at a row that is not TABLE
   pub plain_end : (level ipa : ℕ) (row : Row) → 1 ≤ level → level ≤ 3 → row_at rows level ipa ≡ Some row → is_table row ≡ false

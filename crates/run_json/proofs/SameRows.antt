@@ -16,7 +16,7 @@ use Rattle.realm_model.specs.Machine.{Limits, Cell, RealmRow, Seen, cell_at, see
 use Rattle.realm_model.specs.declared.states.Ripas.{Ripas}
 use Rattle.realm_model.specs.declared.states.Ripas.TheVariants.{Empty, Ram}
 use Rattle.realm_model.specs.Rows.{Row, Rows, walk, is_table_place, is_page_run, unassigned, is_unassigned, as_ram, all_rows, with_ram, with_table, root_rows}
-use Rattle.realm_model.specs.Sound.{look, IsKind, IsShaped, IsSoundRows, IsPlace}
+use Rattle.realm_model.specs.Sound.{mapping_at, IsKind, IsShaped, IsSoundRows, IsPlace}
 use Rattle.realm_model.specs.Ownership.{mapping_of_row}
 use Rattle.realm_model.specs.Measurement.{measurement_after, ripas_event}
 use Rattle.realm_model.specs.Command.Check.{is_protected}
@@ -44,7 +44,7 @@ use Rattle.realm_model.proofs.NewRealms.{seen-creation, put_at-creation_rd, can_
 use Rattle.realm_model.proofs.ZeroPages.{kept_reached}
 use Rattle.rmi_monitor.specs.Walked.{walk_of}
 use Rattle.realm_host.specs.Readings.{row_view, row_of, row_at}
-use Rattle.build_books.specs.View.{HostView, world_of}
+use Rattle.host_ledger.specs.View.{HostView, world_of}
 use Rattle.run_json.proofs.RowWalks.{in_space}
 use Rattle.run_json.specs.SameRows.{SayTheSame, ItemsSayTheSame}
 
@@ -84,7 +84,7 @@ record IsMade (b : ℕ) (v : World) (F : RealmRow → Type 0) : Type 0 where
   facts : F realm
   found : row_of v b ≡ Some realm
   width : is_width realm.root.width ≡ true
-  rows : IsSoundRows realm.root.width (look realm.rows)
+  rows : IsSoundRows realm.root.width (mapping_at realm.rows)
 
 module _ (limits : Limits) (before : List Event) (b : ℕ) (act : Act) (w v : World)
     (at_w : replay limits before ≡ Some w) (s : step limits w (by b act) ≡ Some v) (at_v : replay limits (before ++ by b act ∷ []) ≡ Some v) where
@@ -144,7 +144,7 @@ ram_row row kind free =
     let e = free_unassigned 3 row.state row.granule kind free in
     λ i. record { state = (e i).state; ripas = Ram; granule = (e i).granule }
 
-ram_found : (ipa count : ℕ) (realm : RealmRow) → HasRam ipa count realm → IsSoundRows realm.root.width (look realm.rows) → (k : ℕ) → k < count
+ram_found : (ipa count : ℕ) (realm : RealmRow) → HasRam ipa count realm → IsSoundRows realm.root.width (mapping_at realm.rows) → (k : ℕ) → k < count
     → get realm.rows (3, ipa + k * 1) ≡ Some (unassigned Ram)
 unfolding with_ram
 ram_found ipa count realm ram sound k few =

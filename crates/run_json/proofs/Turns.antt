@@ -1,25 +1,25 @@
 -- Turns that get one more.
 use Rattle.std.proofs.Common.{◌≡◌, ℕ, List, [], ◌∷◌, ◌++◌, length, refl, subst, ◌≤◌, take, Option, ap₂, ◌∙◌}
-use Rattle.plan_steps.specs.declared.step.PlanStep.{PlanStep}
-use Rattle.plan_runs.specs.declared.answer.TurnAnswer.{TurnAnswer}
-use Rattle.plan_runs.specs.declared.place.Place.{Place}
-use Rattle.run_json.specs.Turns.{told_members}
+use Rattle.realm_plan.specs.declared.step.PlanStep.{PlanStep}
+use Rattle.plan_replay.specs.declared.answer.TurnAnswer.{TurnAnswer}
+use Rattle.plan_replay.specs.declared.place.PlanCursor.{PlanCursor}
+use Rattle.run_json.specs.Turns.{reported_members}
 use Rattle.std.proofs.lemmas.List.{take_all}
-use Rattle.build_books.specs.View.{HostView}
+use Rattle.host_ledger.specs.View.{HostView}
 use Rattle.realm_plan.specs.Plan.{Plan}
 use Rattle.std.specs.List.{flat_map}
-use Rattle.plan_runs.specs.Run.{Position, Turn, start, AreTurns, turn_text}
+use Rattle.plan_replay.specs.Run.{Position, Turn, start, AreTurns, turn_text}
 use Rattle.run_json.specs.Document.{IsTurnItem, AreTurnItems, HasTurnItems, IsLed}
 
 -- what is told of a step, by the place and the answer that were read
 pub told_from :
-    (opened text : List ℕ) (read at : Place) (found told : Option (PlanStep × TurnAnswer))
-    → text ≡ opened ++ told_members read.done found
+    (opened text : List ℕ) (read at : PlanCursor) (found told : Option (PlanStep × TurnAnswer))
+    → text ≡ opened ++ reported_members read.done found
     → read ≡ at
     → found ≡ told
-    → text ≡ opened ++ told_members at.done told
+    → text ≡ opened ++ reported_members at.done told
 told_from opened text read at found told is same_place same_told =
-    is ∙ ap₂ (λ (p : Place) (t : Option (PlanStep × TurnAnswer)). opened ++ told_members p.done t) same_place same_told
+    is ∙ ap₂ (λ (p : PlanCursor) (t : Option (PlanStep × TurnAnswer)). opened ++ reported_members p.done t) same_place same_told
 
 pub AreTurnItems-more :
     (plan : Plan) (order : List ℕ) (from at : Position) (build : ℕ) (to : Position) (old mid new : List ℕ)
@@ -53,8 +53,8 @@ run_of plan (b ∷ order) from to old new is =
     let rest = run_of plan order is.0 to is.1 new is.3 in
     (is.2.turn ∷ rest.0, (is.2.of_build, is.0, is.2.is_turn, rest.1))
 
-pub told_run : (plan : Plan) (from to : HostView) (old new : List ℕ) → HasTurnItems plan from to old new → IsLed plan from to
-told_run plan from to old new is =
+pub reported_run : (plan : Plan) (from to : HostView) (old new : List ℕ) → HasTurnItems plan from to old new → IsLed plan from to
+reported_run plan from to old new is =
     let run = run_of plan plan.order (start from) is.end old new is.turns in
     record {
       lines = flat_map turn_text run.0;

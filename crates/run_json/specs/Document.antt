@@ -1,10 +1,10 @@
 -- The document of a run.
 use Rattle.std.specs.Prelude.{◌≡◌, ℕ, List, [], ◌∷◌, ◌++◌, codes, length}
 use Rattle.std.specs.Fmt.{decimal}
-use Rattle.build_books.specs.View.{HostView}
+use Rattle.host_ledger.specs.View.{HostView}
 use Rattle.realm_plan.specs.Plan.{Plan}
-use Rattle.plan_runs.specs.Run.{Position, Turn, start, place_of, IsTurn, IsToldRun}
-use Rattle.run_json.specs.Turns.{told_members, behind_members}
+use Rattle.plan_replay.specs.Run.{Position, Turn, start, place_of, IsTurn, IsReportedRun}
+use Rattle.run_json.specs.Turns.{reported_members, members_after}
 use Rattle.run_json.specs.Worlds.{IsWorldText}
 
 abbrev pub machine_text : Plan → List ℕ
@@ -34,8 +34,8 @@ whose_member build = codes "{\"build\":" ++ (decimal build ++ codes ",")
 abbrev pub turn_item : Position → Turn → Position → List ℕ
 turn_item from turn to =
     whose_member turn.build
-    ++ (told_members (place_of from.places turn.build).done turn.told
-    ++ behind_members to.host turn.build (length from.host.history))
+    ++ (reported_members (place_of from.places turn.build).done turn.told
+    ++ members_after to.host turn.build (length from.host.history))
 
 -- a turn of the build, whose object was appended
 pub record IsTurnItem (plan : Plan) (from : Position) (build : ℕ) (to : Position) (old new : List ℕ) : Type 0 where
@@ -67,4 +67,4 @@ pub record IsDocument (plan : Plan) (from to : HostView) (text : List ℕ) : Typ
 -- some run of the plan leads from one host to another, with these lines
 pub record IsLed (plan : Plan) (from to : HostView) : Type 0 where
   pub lines : List ℕ
-  pub run : IsToldRun plan from to [] lines
+  pub run : IsReportedRun plan from to [] lines

@@ -4,12 +4,12 @@ use Rattle.std.specs.Fmt.{decimal}
 use Rattle.std.specs.List.{flat_map}
 use Rattle.granule_addr.specs.Root.{start_count}
 use Rattle.hex.specs.Hex.{encode_lower}
-use Rattle.build_commands.specs.declared.refusal.Refusal.{Refusal}
-use Rattle.build_commands.specs.declared.refusal.Refusal.TheVariants as refusal
-use Rattle.plan_steps.specs.Answers.{reply_numbers, refusal_numbers}
-use Rattle.plan_steps.specs.Lines.{state_word, realm_word}
-use Rattle.plan_runs.specs.declared.answer.TurnAnswer.{TurnAnswer}
-use Rattle.plan_runs.specs.declared.answer.TurnAnswer.TheVariants.{Replied, Marked, Undone, Ended, Nothing, Refused}
+use Rattle.host_commands.specs.declared.refusal.Refusal.{Refusal}
+use Rattle.host_commands.specs.declared.refusal.Refusal.TheVariants as refusal
+use Rattle.realm_plan.specs.Answers.{reply_numbers, refusal_numbers}
+use Rattle.realm_plan.specs.Lines.{state_word, realm_word}
+use Rattle.plan_replay.specs.declared.answer.TurnAnswer.{TurnAnswer}
+use Rattle.plan_replay.specs.declared.answer.TurnAnswer.TheVariants.{Replied, Marked, Undone, Ended, Nothing, Refused}
 use Rattle.realm_model.specs.Rows.{Row}
 use Rattle.realm_host.specs.declared.reading.GranuleView.{GranuleView}
 use Rattle.realm_host.specs.declared.reading.RowView.{RowView}

@@ -5,7 +5,7 @@ pub mod Turns
 pub mod Rows
 pub mod RowTexts
 pub mod SameRows
-pub mod ToldRows
+pub mod ReportedRows
 pub mod Worlds
 pub mod Document
 pub mod Page

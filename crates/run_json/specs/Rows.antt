@@ -16,8 +16,8 @@ pub record RowRun : Type 0 where
   pub count : ℕ
 
 -- the first IPA granule behind so many rows, from this one on
-abbrev pub first_behind : RowView → ℕ → ℕ
-first_behind row count = row.first + count * covered_count row.level
+abbrev pub first_after : RowView → ℕ → ℕ
+first_after row count = row.first + count * covered_count row.level
 
 -- The run of a row goes on at an IPA granule: a row of its level begins there and says what it says, and no table begins there.
 -- The starting tables count as one.
@@ -28,14 +28,14 @@ pub record RunGoesOn (world : World) (build : ℕ) (row : RowView) (ipa : ℕ) :
 -- so many rows, from this one on: no fewer, and no more
 pub record IsRowRun (world : World) (build : ℕ) (row : RowView) (count : ℕ) : Type 0 where
   pub some : 0 < count
-  pub same : (k : ℕ) → 0 < k → k < count → RunGoesOn world build row (first_behind row k)
-  pub longest : ¬ RunGoesOn world build row (first_behind row count)
+  pub same : (k : ℕ) → 0 < k → k < count → RunGoesOn world build row (first_after row k)
+  pub longest : ¬ RunGoesOn world build row (first_after row count)
 
 -- all runs from an IPA granule on, one behind another
 abbrev pub AreRowRuns : World → ℕ → ℕ → List RowRun → Type 0
 AreRowRuns world build ipa [] = row_at world build ipa 3 ≡ None
 AreRowRuns world build ipa (run ∷ runs) =
-    (row_at world build ipa 3 ≡ Some run.row) × IsRowRun world build run.row run.count × AreRowRuns world build (first_behind run.row run.count) runs
+    (row_at world build ipa 3 ≡ Some run.row) × IsRowRun world build run.row run.count × AreRowRuns world build (first_after run.row run.count) runs
 
 -- ---- items
 

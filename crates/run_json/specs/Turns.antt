@@ -6,17 +6,17 @@ use Rattle.granule_addr.specs.Root.{start_count}
 use Rattle.realm_model.specs.declared.act.Act.{Act}
 use Rattle.realm_model.specs.declared.act.Act.TheVariants.{Realm, Rtt, UnRtt, Ripas, Data, Unknown, UnData}
 use Rattle.realm_model.specs.declared.act.Event.{Event}
-use Rattle.realm_acts.specs.Mirror.{rd_of}
+use Rattle.realm_model.specs.Places.{rd_of}
 use Rattle.realm_objects.specs.Attributes.{RealmAttributes}
 use Rattle.rmi_monitor.specs.View.{attributes_of}
-use Rattle.build_books.specs.View.{HostView, world_of, open_of, is_aborting, mark_of}
-use Rattle.build_books.specs.declared.mark.Mark.{Mark}
+use Rattle.host_ledger.specs.View.{HostView, world_of, open_of, is_aborting, mark_of}
+use Rattle.host_ledger.specs.declared.mark.Mark.{Mark}
 use Rattle.realm_host.specs.Readings.{granule_at, rec_at, row_at, row_of}
 use Rattle.history_text.specs.Events.{event_text}
-use Rattle.plan_runs.specs.Text.{answer_text}
-use Rattle.plan_runs.specs.declared.answer.TurnAnswer.{TurnAnswer}
-use Rattle.plan_steps.specs.Written.{spelling}
-use Rattle.plan_steps.specs.declared.step.PlanStep.{PlanStep}
+use Rattle.plan_replay.specs.Text.{answer_text}
+use Rattle.plan_replay.specs.declared.answer.TurnAnswer.{TurnAnswer}
+use Rattle.realm_plan.specs.StepsWritten.{spelling}
+use Rattle.realm_plan.specs.declared.step.PlanStep.{PlanStep}
 use Rattle.run_json.specs.Changes.{ChangedGranules, granules_of, rec_named_by, changes_realm, level_above}
 use Rattle.run_json.specs.Items.{or_null, array_text, bool_text, granule_item, row_item, rec_item, realm_fields, answer_numbers, is_accepted_answer}
 
@@ -105,9 +105,9 @@ answer_members answer =
     codes "\"accepted\":" ++ (bool_text (is_accepted_answer answer)
     ++ (codes ",\"numbers\":" ++ (array_text (answer_numbers answer) ++ codes ",")))
 
-abbrev pub told_members : ℕ → Option (PlanStep × TurnAnswer) → List ℕ
-told_members place None = codes "\"place\":null,\"step\":null,\"answer\":null,\"accepted\":null,\"numbers\":[],"
-told_members place (Some told) = step_members place told.0 told.1 ++ answer_members told.1
+abbrev pub reported_members : ℕ → Option (PlanStep × TurnAnswer) → List ℕ
+reported_members place None = codes "\"place\":null,\"step\":null,\"answer\":null,\"accepted\":null,\"numbers\":[],"
+reported_members place (Some told) = step_members place told.0 told.1 ++ answer_members told.1
 
 abbrev pub mark_length : Option Mark → Option ℕ
 mark_length mark = option_map (λ (m : Mark). m.length) mark
@@ -119,5 +119,5 @@ build_members host build =
     ++ (codes ",\"aborting\":" ++ (bool_text (is_aborting host build) ++ codes "}")))))
 
 -- the event that stands at that place of the history, what it changed, and what the host keeps of the build
-abbrev pub behind_members : HostView → ℕ → ℕ → List ℕ
-behind_members host build place = event_members host build (slice_get host.history place) ++ build_members host build
+abbrev pub members_after : HostView → ℕ → ℕ → List ℕ
+members_after host build place = event_members host build (slice_get host.history place) ++ build_members host build

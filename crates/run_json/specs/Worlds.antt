@@ -5,10 +5,10 @@ use Rattle.std.specs.List.{flat_map, range_with_len}
 use Rattle.realm_model.specs.Machine.{cell_at}
 use Rattle.realm_model.specs.World.{free_set}
 use Rattle.realm_model.specs.declared.act.Act.{Act}
-use Rattle.realm_acts.specs.Mirror.{rd_of}
+use Rattle.realm_model.specs.Places.{rd_of}
 use Rattle.realm_objects.specs.Attributes.{RealmAttributes}
 use Rattle.rmi_monitor.specs.View.{attributes_of}
-use Rattle.build_books.specs.View.{HostView, world_of, pages_of_build, granule_of_page, open_of, is_aborting, mark_of}
+use Rattle.host_ledger.specs.View.{HostView, world_of, pages_of_build, granule_of_page, open_of, is_aborting, mark_of}
 use Rattle.realm_host.specs.Readings.{rec_at, row_of}
 use Rattle.history_text.specs.Events.{event_text}
 use Rattle.run_json.specs.Items.{or_null, comma, bool_text, rec_item, realm_fields}

@@ -1,11 +1,11 @@
 //! Answers in numbers.
 ghost use Rattle.std.specs.Prelude.{◌≡◌, [], ◌∷◌};
-ghost use Rattle.plan_steps.specs.Answers.{reply_numbers, refusal_numbers};
+ghost use Rattle.realm_plan.specs.Answers.{reply_numbers, refusal_numbers};
 ghost use Rattle.run_json.specs.Items.{refusal_number, answer_numbers, is_accepted_answer};
 
 use arrayvec::ArrayVec;
-use build_commands::{Refusal, Reply};
-use plan_runs::TurnAnswer;
+use host_commands::{Refusal, Reply};
+use plan_replay::TurnAnswer;
 
 /// As many numbers as an answer can have: those of a refusal by the monitor.
 const MOST_NUMBERS: usize = 3;

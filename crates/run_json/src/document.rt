@@ -8,7 +8,7 @@ use crate::pushed::Pushed;
 use crate::turn::{push_answered, push_behind, push_idle};
 use crate::world::push_world;
 use page_arena::PageStore;
-use plan_runs::{Place, take_turn};
+use plan_replay::{PlanCursor, take_turn};
 use realm_host::Host;
 use realm_plan::Plan;
 use std::alloc::{AllocError, Global};
@@ -61,7 +61,7 @@ fn push_turn<S: PageStore>(
     text: &mut String,
     host: &mut Host<S>,
     plan: &Plan,
-    places: &mut [Place; 8],
+    places: &mut [PlanCursor; 8],
     build: usize,
 ) -> Pushed
     requires { build < vec_len plan.now.builds }
@@ -87,7 +87,7 @@ fn push_turns<S: PageStore>(
 ) -> Pushed
     ensures { OnOk result (HasTurnItems (plan_view plan.now) host.old host.new (string_bytes text.old) (string_bytes text.new)) }
 {
-    let mut places = [Place::first(); 8];
+    let mut places = [PlanCursor::first(); 8];
     for build in &plan.order {
         push_turn(
             alloc,

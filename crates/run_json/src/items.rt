@@ -1,10 +1,10 @@
 //! A granule, a row of a translation and a REC, each as an object.
-use crate::numbers::{Numbers, build_number, granule_number, granule_numbers};
+use crate::numbers::{NumberArray, build_number, granule_number, granule_numbers};
 use crate::words::{entry_state_word, rec_state_word, ripas_word};
 use granule_addr::{Gran, IpaGran, Level, RecNo};
-use plan_steps::state_word;
 use realm_host::{Entry, GranuleView, RowView};
 use realm_objects::Rec;
+use realm_plan::state_word;
 use std::fmt;
 
 /// A granule, and what the host says of it.
@@ -106,7 +106,7 @@ impl fmt::Display for RecItem<'_> {
         };
         let (granule, state) = (granule.number(), rec_state_word(rec.state()));
         let numbers = granule_numbers(rec.auxiliaries());
-        let auxiliaries = Numbers(numbers.as_slice());
+        let auxiliaries = NumberArray(numbers.as_slice());
         write!(
             f,
             "{{\"number\":{number},\"state\":\"{state}\",\"granule\":{granule},\"auxiliaries\":{auxiliaries}}}"

@@ -1,6 +1,6 @@
 //! What is kept of a build.
 ghost use Rattle.std.specs.Prelude.{◌≡◌};
-ghost use Rattle.build_books.specs.View.{mark_of};
+ghost use Rattle.host_ledger.specs.View.{mark_of};
 ghost use Rattle.run_json.specs.Turns.{mark_length};
 
 use crate::numbers::NumberOrNull;

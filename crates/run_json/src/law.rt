@@ -3,13 +3,13 @@ ghost use Rattle.std.specs.Prelude.{◌≡◌, ℕ, List, [], ◌∷◌, ◌++�
 ghost use Rattle.realm_model.specs.declared.act.Event.{Event};
 ghost use Rattle.realm_model.specs.History.{replay};
 ghost use Rattle.realm_model.specs.Machine.{RealmRow};
-ghost use Rattle.build_books.specs.View.{HostView, world_of};
+ghost use Rattle.host_ledger.specs.View.{HostView, world_of};
 ghost use Rattle.realm_host.specs.Readings.{row_of};
 ghost use Rattle.realm_plan.specs.Plan.{Plan};
 ghost use Rattle.run_json.specs.Document.{IsDocument, IsLed};
 ghost use Rattle.run_json.specs.Rows.{IsRowsText};
 ghost use Rattle.run_json.specs.SameRows.{ItemsSayTheSame};
-ghost use Rattle.run_json.specs.ToldRows.{TellsRows};
+ghost use Rattle.run_json.specs.ReportedRows.{ReportsRows};
 ghost use Rattle.run_json.specs.Worlds.{IsWorldText};
 
 /// The turns of a document are a run of the plan, such as is printed line by line.
@@ -23,10 +23,10 @@ pub fn worlds_have_one_text()
 {}
 
 /// The text of a realm's rows, in the world that a history leads to, tells each of its rows and no other.
-pub fn all_rows_are_told()
+pub fn all_rows_are_reported()
     ensures { (host : HostView) (build : ℕ) (realm : RealmRow) (text : List ℕ)
         → IsSome (replay host.limits host.history) → row_of (world_of host) build ≡ Some realm
-        → IsRowsText (world_of host) build text → TellsRows realm.rows text }
+        → IsRowsText (world_of host) build text → ReportsRows realm.rows text }
 {}
 
 /// The rows that are told as one item of the last event of a history say the same.

@@ -25,7 +25,8 @@ mod world;
 
 pub use document::run_document;
 pub use law::{
-    all_rows_are_told, documents_are_of_runs, rows_of_an_item_say_the_same, worlds_have_one_text,
+    all_rows_are_reported, documents_are_of_runs, rows_of_an_item_say_the_same,
+    worlds_have_one_text,
 };
 pub use numbers::Comma;
 pub use page::page_of;

@@ -64,9 +64,9 @@ impl fmt::Display for MoreNumbers<'_> {
 
 /// An array of numbers.
 #[derive(Clone, Copy)]
-pub struct Numbers<'a>(pub &'a [u32]);
+pub struct NumberArray<'a>(pub &'a [u32]);
 
-impl fmt::Display for Numbers<'_> {
+impl fmt::Display for NumberArray<'_> {
     ghost use Rattle.std.specs.Prelude.{Some};
     ghost use Rattle.run_json.specs.Items.{array_text};
 

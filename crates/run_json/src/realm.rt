@@ -7,9 +7,9 @@ ghost use Rattle.run_json.specs.Turns.{realm_value};
 use crate::pushed::Pushed;
 use granule_addr::{BuildId, Gran};
 use page_arena::PageStore;
-use plan_steps::realm_word;
 use realm_host::Host;
 use realm_objects::RealmDesc;
+use realm_plan::realm_word;
 use std::alloc::{AllocError, Global};
 
 fn push_front(text: &mut String, rd: Gran, realm: &RealmDesc) -> Pushed

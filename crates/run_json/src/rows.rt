@@ -5,9 +5,9 @@
 ghost use Rattle.std.specs.Prelude.{◌≡◌, ◌+◌, ◌↔◌, false, IsTrue, IfOk, OnOk, IfSome, IfNone, Some, [], ◌∷◌, ◌++◌, string_bytes};
 ghost use Rattle.granule_addr.specs.Ipa.{covered_count, first_covered};
 ghost use Rattle.realm_model.specs.Rows.{is_table_place};
-ghost use Rattle.build_books.specs.View.{world_of};
-ghost use Rattle.run_json.specs.Rows.{first_behind, RunGoesOn, IsRowRun, beginning_at, rows_above, IsRowsText};
-ghost use Rattle.run_json.specs.RowTexts.{comma_behind, AddsItems};
+ghost use Rattle.host_ledger.specs.View.{world_of};
+ghost use Rattle.run_json.specs.Rows.{first_after, RunGoesOn, IsRowRun, beginning_at, rows_above, IsRowsText};
+ghost use Rattle.run_json.specs.RowTexts.{comma_after, AddsItems};
 
 use crate::items::RowItem;
 use crate::pushed::Pushed;
@@ -37,7 +37,7 @@ fn says_the_same(row: &RowView, before: &RowView) -> bool
 
 // Appends a comma, unless the text is empty.
 fn push_comma(text: &mut String) -> Pushed
-    ensures { OnOk result (string_bytes text.new ≡ string_bytes text.old ++ comma_behind (string_bytes text.old)) }
+    ensures { OnOk result (string_bytes text.new ≡ string_bytes text.old ++ comma_after (string_bytes text.old)) }
 {
     if text.is_empty() {
         Ok(())
@@ -100,7 +100,7 @@ fn goes_on<S: PageStore>(host: &Host<S>, build: BuildId, row: &RowView, ipa: u32
 fn count_same<S: PageStore>(host: &Host<S>, build: BuildId, row: &RowView) -> (u32, u32)
     requires { first_covered row.now.level row.now.first ≡ row.now.first }
     ensures run { IsRowRun (world_of host.now) build row.now result.0 }
-    ensures next { result.1 ≡ first_behind row.now result.0 }
+    ensures next { result.1 ≡ first_after row.now result.0 }
 {
     let mut count = 1;
     let mut next = row.next();

@@ -1,24 +1,24 @@
 //! The object of a turn.
 ghost use Rattle.std.specs.Prelude.{◌≡◌, ◌+◌, ◌≤◌, ◌++◌, OnOk, Some, None, option_map, string_bytes};
-ghost use Rattle.build_books.specs.View.{world_of};
+ghost use Rattle.host_ledger.specs.View.{world_of};
 ghost use Rattle.realm_host.specs.Readings.{row_at};
 ghost use Rattle.run_json.specs.Turns.{another_granule, more_granules_after, each_granule_after, granules_after, rows_after, changed_recs};
-ghost use Rattle.run_json.specs.Turns.{realm_after, event_members, step_members, answer_members, told_members, build_members, behind_members};
+ghost use Rattle.run_json.specs.Turns.{realm_after, event_members, step_members, answer_members, reported_members, build_members, members_after};
 
 use crate::answer::{is_accepted_answer, numbers_of};
 use crate::changed::{changes_realm, granules_of, level_above, rec_named_by};
 use crate::items::{GranuleItem, RecItem, RowItem};
 use crate::kept::mark_of;
-use crate::numbers::Numbers;
+use crate::numbers::NumberArray;
 use crate::pushed::Pushed;
 use crate::realm::push_realm_value;
 use granule_addr::{BuildId, Gran, Level};
 use history_text::EventText;
 use page_arena::PageStore;
-use plan_runs::TurnAnswer;
-use plan_steps::{PlanStep, StepText};
+use plan_replay::TurnAnswer;
 use realm_host::Host;
 use realm_model::{Act, Event};
+use realm_plan::{PlanStep, StepText};
 use std::alloc::Global;
 
 // Appends the granule of that number behind a comma, where there can be one.
@@ -195,7 +195,7 @@ fn push_answer(text: &mut String, answer: &TurnAnswer) -> Pushed
 {
     let accepted = is_accepted_answer(answer);
     let values = numbers_of(answer);
-    let numbers = Numbers(values.as_slice());
+    let numbers = NumberArray(values.as_slice());
     write!(text, "\"accepted\":{accepted},\"numbers\":{numbers},")
 }
 
@@ -206,7 +206,7 @@ pub fn push_answered(
     step: &PlanStep,
     answer: &TurnAnswer,
 ) -> Pushed
-    ensures { OnOk result (string_bytes text.new ≡ string_bytes text.old ++ told_members place (Some (step.now, answer.now))) }
+    ensures { OnOk result (string_bytes text.new ≡ string_bytes text.old ++ reported_members place (Some (step.now, answer.now))) }
 {
     push_step(text, place, step, answer)?;
     push_answer(text, answer)
@@ -214,7 +214,7 @@ pub fn push_answered(
 
 /// Appends that the build has no step left.
 pub fn push_idle(text: &mut String, place: usize) -> Pushed
-    ensures { OnOk result (string_bytes text.new ≡ string_bytes text.old ++ told_members place None) }
+    ensures { OnOk result (string_bytes text.new ≡ string_bytes text.old ++ reported_members place None) }
 {
     text.push_str("\"place\":null,\"step\":null,\"answer\":null,\"accepted\":null,\"numbers\":[],")
 }
@@ -256,7 +256,7 @@ pub fn push_behind<S: PageStore>(
     build: BuildId,
     before: usize,
 ) -> Pushed
-    ensures { OnOk result (string_bytes text.new ≡ string_bytes text.old ++ behind_members host.now build before) }
+    ensures { OnOk result (string_bytes text.new ≡ string_bytes text.old ++ members_after host.now build before) }
 {
     push_added(alloc, text, host, build, host.history().get(before))?;
     push_build_members(text, host, build)

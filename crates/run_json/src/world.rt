@@ -73,7 +73,7 @@ fn push_act(text: &mut String, separator: &str, build: BuildId, act: &Act) -> Pu
 {
     let event = Event {
         build,
-        act: act.again(),
+        act: act.clone(),
     };
     write!(text, "{separator}\"{}\"", EventText(&event))
 }

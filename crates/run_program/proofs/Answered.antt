@@ -4,19 +4,19 @@ use Rattle.std.specs.Prelude.{slice_get, nat_lt, is_none, option_and_then, if◌
 use Rattle.std.specs.List.{All, filter_map, cons_option}
 use Rattle.std.proofs.lemmas.Bool.{lt-ltb}
 use Rattle.std.proofs.lemmas.Option.{slice_get_within, get_or_from_slice_get}
-use Rattle.build_books.proofs.Worlds.{world_is}
-use Rattle.build_books.specs.View.{HostView, world_of, granule_of_page}
-use Rattle.build_books.specs.Desk.{desk_of}
-use Rattle.build_commands.specs.Checks.{Check, build_checks, order_checks, page_checks, state_checks, checks_of, first_that_holds}
-use Rattle.build_commands.specs.Needs.{operands, needs_of}
-use Rattle.build_commands.specs.declared.cmd.Cmd.{Cmd}
-use Rattle.build_commands.specs.declared.cmd.Cmd.TheVariants.{Take}
-use Rattle.build_commands.specs.declared.refusal.Refusal.TheVariants.{NotLeased}
-use Rattle.build_commands.specs.declared.reply.Reply.{Reply}
-use Rattle.build_commands.proofs.Refused.{first_passes, first_stops}
+use Rattle.host_ledger.proofs.Worlds.{world_is}
+use Rattle.host_ledger.specs.View.{HostView, world_of, granule_of_page}
+use Rattle.host_ledger.specs.Summary.{summary_of}
+use Rattle.host_commands.specs.Checks.{Check, build_checks, order_checks, page_checks, state_checks, checks_of, first_that_holds}
+use Rattle.host_commands.specs.Needs.{operands, needs_of}
+use Rattle.host_commands.specs.declared.cmd.Cmd.{Cmd}
+use Rattle.host_commands.specs.declared.cmd.Cmd.TheVariants.{Take}
+use Rattle.host_commands.specs.declared.refusal.Refusal.TheVariants.{NotLeased}
+use Rattle.host_commands.specs.declared.reply.Reply.{Reply}
+use Rattle.host_commands.proofs.Refused.{first_passes, first_stops}
 use Rattle.realm_host.specs.Answer.{IsActOf as IsHostActOf}
 use Rattle.realm_host.specs.Call.{Ask}
-use Rattle.realm_host.specs.Picks.{granules_named, picked_for}
+use Rattle.realm_host.specs.Allocation.{granules_named, allocated_for}
 use Rattle.realm_host.specs.Refusals.{refusal_of, last_checks}
 use Rattle.realm_model.specs.History.{pages_of, IsLegal}
 use Rattle.realm_model.specs.declared.act.Act.{Act}
@@ -37,13 +37,13 @@ module _ (xs ys : List Check) (none : first_that_holds (xs ++ ys) ≡ None) wher
   none_right = sym (first_passes xs ys none_left) ∙ none
 
 -- so none does of the pages of a command
-no_page_missing : (host : HostView) (build : ℕ) (cmd : Cmd) → refusal_of host build (Ask cmd) ≡ None → first_that_holds (page_checks (desk_of host) build (operands cmd)) ≡ None
+no_page_missing : (host : HostView) (build : ℕ) (cmd : Cmd) → refusal_of host build (Ask cmd) ≡ None → first_that_holds (page_checks (summary_of host) build (operands cmd)) ≡ None
 unfolding refusal_of checks_of
 no_page_missing host build cmd none =
-    none_left (page_checks (desk_of host) build (operands cmd)) (state_checks (desk_of host) build (needs_of cmd))
-    (none_right (order_checks cmd) (page_checks (desk_of host) build (operands cmd) ++ state_checks (desk_of host) build (needs_of cmd))
-    (none_right (build_checks (desk_of host) build) (order_checks cmd ++ (page_checks (desk_of host) build (operands cmd) ++ state_checks (desk_of host) build (needs_of cmd)))
-    (none_left (checks_of (desk_of host) build cmd) (last_checks host build cmd) none)))
+    none_left (page_checks (summary_of host) build (operands cmd)) (state_checks (summary_of host) build (needs_of cmd))
+    (none_right (order_checks cmd) (page_checks (summary_of host) build (operands cmd) ++ state_checks (summary_of host) build (needs_of cmd))
+    (none_right (build_checks (summary_of host) build) (order_checks cmd ++ (page_checks (summary_of host) build (operands cmd) ++ state_checks (summary_of host) build (needs_of cmd)))
+    (none_left (checks_of (summary_of host) build cmd) (last_checks host build cmd) none)))
 
 -- ---- the granules that are named
 
@@ -57,14 +57,14 @@ module _ (pages : List ℕ) (few : All (λ page. page < 4096) pages) where
 
 module _ (host : HostView) (build : ℕ) (few : All (λ page. page < 4096) (pages_of build host.history)) where
   -- the granules that are named are those of the pages, each of them there
-  are_granules : (numbers : List ℕ) → first_that_holds (page_checks (desk_of host) build numbers) ≡ None
+  are_granules : (numbers : List ℕ) → first_that_holds (page_checks (summary_of host) build numbers) ≡ None
       → AreGranules (pages_of build host.history) numbers (filter_map (λ page. granule_of_page host build page) numbers)
   are_granules [] none = refl
   are_granules (n ∷ ns) none = at (slice_get (pages_of build host.history) n) refl none (are_granules ns)
     where
       at : (o : Option ℕ) → slice_get (pages_of build host.history) n ≡ o
-          → cond (is_none o) (Some (NotLeased n)) (first_that_holds (page_checks (desk_of host) build ns)) ≡ None
-          → (first_that_holds (page_checks (desk_of host) build ns) ≡ None → AreGranules (pages_of build host.history) ns (filter_map (λ page. granule_of_page host build page) ns))
+          → cond (is_none o) (Some (NotLeased n)) (first_that_holds (page_checks (summary_of host) build ns)) ≡ None
+          → (first_that_holds (page_checks (summary_of host) build ns) ≡ None → AreGranules (pages_of build host.history) ns (filter_map (λ page. granule_of_page host build page) ns))
           → option_and_then (λ number. if nat_lt number 4096 then Some number else None) o ∷ map (granule_of_number (pages_of build host.history)) ns
           ≡ map (λ granule. Some granule) (cons_option o (filter_map (λ page. granule_of_page host build page) ns))
       at None is missing more = cc
@@ -82,7 +82,7 @@ act_fits : (host : HostView) (build : ℕ) (cmd : Cmd) (act : Act) → All (λ p
 act_fits host build (Take order) act few none is = is
 act_fits host build cmd act few none is = record {
   granules = granules_named host build cmd;
-  picked = picked_for host build cmd (granules_named host build cmd);
+  allocated = allocated_for host build cmd (granules_named host build cmd);
   are_granules = are_granules host build few (operands cmd) (no_page_missing host build cmd none);
   act_is = is;
 }

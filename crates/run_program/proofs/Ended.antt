@@ -6,18 +6,18 @@ use Rattle.std.specs.Prelude.{All, ◌⊎◌, Result, Ok, Err, IfOk, IfErr}
 use Rattle.std.proofs.lemmas.List.{map-append}
 use Rattle.std.proofs.lemmas.List.Elements.{length_all_zip}
 use Rattle.std.proofs.lemmas.Slice.Zip.{all_zipped_more}
-use Rattle.build_books.specs.View.{HostView}
-use Rattle.build_commands.specs.declared.cmd.Step.{Step}
+use Rattle.host_ledger.specs.View.{HostView}
+use Rattle.host_commands.specs.declared.cmd.Step.{Step}
 use Rattle.builders.specs.Close.{IsClosed, IsHostGivenBack}
 use Rattle.builders.specs.Fault.{IsFault}
 use Rattle.builders.specs.Runs.{AreRun, IsLowestWaiting}
 use Rattle.builders.specs.Seats.{SeatView}
 use Rattle.builders.specs.Workers.{WorkerView, IsWorkerRun}
 use Rattle.builders.specs.declared.close.CloseFault.{CloseFault}
-use Rattle.plan_runs.specs.Run.{map_text}
+use Rattle.plan_replay.specs.Run.{map_text}
 use Rattle.realm_plan.specs.Plan.{Plan}
 use Rattle.run_program.specs.Fitting.{ReportFits}
-use Rattle.workers.specs.declared.report.Report.{Report}
+use Rattle.builders.specs.declared.report.Report.{Report}
 use Rattle.run_program.specs.Text.{report_lines, audit_line}
 use Rattle.run_program.specs.Workers.{new_workers, worker_seats, IsReportOf, AreLeft, IsEndedRun, IsWorkersText, IsStuck, IsMismatch, IsWithoutWorkersText}
 use Rattle.run_program.specs.declared.fault.RunFault.{RunFault}

@@ -1,13 +1,13 @@
 -- Two runs after which each build's seat has the same events.
 use Rattle.std.proofs.Common.{◌≡◌, ℕ, List, ◌++◌, sym, ap, ◌∙◌, subst}
 use Rattle.std.specs.List.{flat_map}
-use Rattle.build_books.specs.View.{HostView}
+use Rattle.host_ledger.specs.View.{HostView}
 use Rattle.builders.specs.Close.{IsHostGivenBack, IsClosed}
 use Rattle.builders.proofs.Orders.{did_the_same}
-use Rattle.plan_runs.specs.Run.{map_text}
-use Rattle.plan_runs.proofs.Maps.{same_map}
+use Rattle.plan_replay.specs.Run.{map_text}
+use Rattle.plan_replay.proofs.Maps.{same_map}
 use Rattle.realm_plan.specs.Plan.{Plan}
-use Rattle.run_program.specs.Order.{OrderIsNotTold}
+use Rattle.run_program.specs.Order.{ScheduleIsNotRevealed}
 use Rattle.run_program.specs.Text.{audit_line}
 use Rattle.run_program.specs.Workers.{worker_seats, worker_text, IsWorkersText}
 
@@ -25,6 +25,6 @@ module _ (plan : Plan) (passes stops : ℕ → ℕ → Type 0) (opened : HostVie
       ∙ (λ i. flat_map (worker_text plan) (same i) ++ (same_maps (ap worker_seats same) i ++ audit_line))
       ∙ sym run.whole
 
-pub order_is_not_told : (plan : Plan) (passes stops : ℕ → ℕ → Type 0) (opened : HostView) → OrderIsNotTold plan passes stops opened
-order_is_not_told plan passes stops opened text other run again =
+pub schedule_is_not_revealed : (plan : Plan) (passes stops : ℕ → ℕ → Type 0) (opened : HostView) → ScheduleIsNotRevealed plan passes stops opened
+schedule_is_not_revealed plan passes stops opened text other run again =
     (same_maps plan passes stops opened text other run again, same_texts plan passes stops opened text other run again)

@@ -7,27 +7,27 @@ use Rattle.std.proofs.lemmas.Bool.{eqb-true, eq-eqb}
 use Rattle.std.proofs.lemmas.List.{drop_more, drop_all, drop-drop, take_more, take_all}
 use Rattle.std.proofs.lemmas.List.Filters.{length-filter_more}
 use Rattle.std.proofs.lemmas.Option.{slice_get_past, slice_get_within, slice_get_read, slice_get_cases, get_or_from_slice_get, same_Some}
-use Rattle.build_commands.specs.declared.cmd.Step.{Step}
+use Rattle.host_commands.specs.declared.cmd.Step.{Step}
 use Rattle.realm_model.specs.History.{open_entries, pages_held, events_of}
 use Rattle.realm_model.specs.Stack.{pushed}
 use Rattle.realm_model.specs.declared.act.Act.{Act}
 use Rattle.realm_model.specs.declared.act.Event.{Event}
 use Rattle.realm_model.proofs.Booleans.{true_false}
 use Rattle.realm_model.proofs.Growth.{open_entries-own}
-use Rattle.workers.specs.Events.{is_accepted, is_done, question_at}
-use Rattle.workers.specs.declared.ask.Question.{Question}
-use Rattle.workers.specs.declared.ask.Question.TheVariants as question
-use Rattle.workers.specs.declared.report.Answer.{Answer}
-use Rattle.workers.specs.declared.report.Answer.TheVariants.{Replied, Undone, Marked, Nothing, Refused}
-use Rattle.workers.specs.declared.report.Line.{Line}
+use Rattle.builders.specs.Events.{is_accepted, is_done, question_at}
+use Rattle.builders.specs.declared.ask.Question.{Question}
+use Rattle.builders.specs.declared.ask.Question.TheVariants as question
+use Rattle.builders.specs.declared.report.Answer.{Answer}
+use Rattle.builders.specs.declared.report.Answer.TheVariants.{Replied, Undone, Marked, Nothing, Refused}
+use Rattle.builders.specs.declared.report.ReportLine.{ReportLine}
 use Rattle.run_program.specs.Fitting.{AnswerFits, LineFits, DoesFit, accepted_count}
 
 -- a line fits what is open and the build's next event
-abbrev pub FitsHere : List Step → List Act → Option Event → Line → Type 0
+abbrev pub FitsHere : List Step → List Act → Option Event → ReportLine → Type 0
 FitsHere steps opened next line = IsSomeAnd (question_at steps line.asked) (λ asked. AnswerFits (flat_map pages_held opened) opened next asked line.answer)
 
 -- so with the same acts in a slice
-pub fits_here_of : (steps : List Step) (acts opened : List Act) (next : Option Event) (line : Line) (r : Bool) → acts ≡ opened → IsTrue r
+pub fits_here_of : (steps : List Step) (acts opened : List Act) (next : Option Event) (line : ReportLine) (r : Bool) → acts ≡ opened → IsTrue r
     ↔ FitsHere steps acts next line → IsTrue r ↔ FitsHere steps opened next line
 fits_here_of steps acts opened next line r same says = subst (λ (xs : List Act). IsTrue r ↔ FitsHere steps xs next line) same says
 
@@ -40,9 +40,9 @@ pub record IsAt (build : ℕ) (history : List Event) (count next : ℕ) (opened 
   pub opened_is : opened ≡ open_entries build (take count (events_of build history))
 
 -- `count` lines are read, each of them fits, and the events that they tell are followed.
-pub record IsReadTo (build : ℕ) (steps : List Step) (lines : List Line) (history : List Event) (count next : ℕ) (opened : List Act) : Type 0 where
+pub record IsReadTo (build : ℕ) (steps : List Step) (lines : List ReportLine) (history : List Event) (count next : ℕ) (opened : List Act) : Type 0 where
   pub at : IsAt build history (accepted_count (take count lines)) next opened
-  pub fit : (place : ℕ) → place < count → (line : Line) → slice_get lines place ≡ Some line → LineFits build steps history (accepted_count (take place lines)) line
+  pub fit : (place : ℕ) → place < count → (line : ReportLine) → slice_get lines place ≡ Some line → LineFits build steps history (accepted_count (take place lines)) line
 
 -- ---- the build's next event
 
@@ -69,12 +69,12 @@ module _ {build : ℕ} {history : List Event} {count next : ℕ} {opened : List 
       ∙ sym (slice_get-drop history next)
 
   -- a line fits there where it fits what is open and the next event
-  pub fits_from : (steps : List Step) (line : Line) → FitsHere steps opened (slice_get history next) line → LineFits build steps history count line
+  pub fits_from : (steps : List Step) (line : ReportLine) → FitsHere steps opened (slice_get history next) line → LineFits build steps history count line
   fits_from steps line here =
       subst (λ acts. FitsHere steps acts (slice_get (events_of build history) count) line) at.opened_is
       (subst (λ event. FitsHere steps opened event line) (sym next_is) here)
 
-  pub fits_here : (steps : List Step) (line : Line) → LineFits build steps history count line → FitsHere steps opened (slice_get history next) line
+  pub fits_here : (steps : List Step) (line : ReportLine) → LineFits build steps history count line → FitsHere steps opened (slice_get history next) line
   fits_here steps line fits =
       subst (λ event. FitsHere steps opened event line) next_is
       (subst (λ acts. FitsHere steps acts (slice_get (events_of build history) count) line) (sym at.opened_is) fits)
@@ -142,22 +142,22 @@ asked_has : (pages : List ℕ) (opened : List Act) (next : Option Event) (asked 
 asked_has pages opened next None answer fits done = absurd fits
 asked_has pages opened next (Some asked) answer fits done = answer_has pages opened next asked answer fits done
 
-pub next_there : (steps : List Step) (opened : List Act) (history : List Event) (next : ℕ) (line : Line) → FitsHere steps opened (slice_get history next) line
+pub next_there : (steps : List Step) (opened : List Act) (history : List Event) (next : ℕ) (line : ReportLine) → FitsHere steps opened (slice_get history next) line
     → is_done line.answer ≡ true → next < length history
 next_there steps opened history next line fits done =
     let has = asked_has (flat_map pages_held opened) opened (slice_get history next) (question_at steps line.asked) line.answer fits done in
     slice_get_within history next has.0 has.1
 
 -- one more line is accepted, or not
-accepted_more : (lines : List Line) (count : ℕ) (line : Line) (done : Bool) → count < length lines → line ≡ get_or lines count line → is_done line.answer ≡ done
+accepted_more : (lines : List ReportLine) (count : ℕ) (line : ReportLine) (done : Bool) → count < length lines → line ≡ get_or lines count line → is_done line.answer ≡ done
     → accepted_count (take (count + 1) lines) ≡ accepted_count (take count lines) + cond done 1 0
 accepted_more lines count line done inside is done_is =
     length-filter_more is_accepted lines count line inside
-    ∙ ap (λ (one : Line). accepted_count (take count lines) + cond (is_accepted one) 1 0) (sym is)
+    ∙ ap (λ (one : ReportLine). accepted_count (take count lines) + cond (is_accepted one) 1 0) (sym is)
     ∙ ap (λ t. accepted_count (take count lines) + cond t 1 0) done_is
 
 -- before the first line
-pub read_none : (build : ℕ) (steps : List Step) (lines : List Line) (history : List Event) (next : ℕ) (opened : List Act) → next ≤ length history
+pub read_none : (build : ℕ) (steps : List Step) (lines : List ReportLine) (history : List Event) (next : ℕ) (opened : List Act) → next ≤ length history
     → events_of build (drop next history) ≡ events_of build (drop 0 history) → IfSome (slice_get history next) (λ event. event.build ≡ build) → opened ≡ []
     → IsReadTo build steps lines history 0 next opened
 unfolding open_entries
@@ -166,30 +166,30 @@ read_none build steps lines history next opened within same own none = record {
   fit = λ place below. absurd (omega arith);
 }
 
-module _ {build : ℕ} {steps : List Step} {lines : List Line} {history : List Event} {count next : ℕ} {opened : List Act} (read : IsReadTo build steps lines history count next opened) where
+module _ {build : ℕ} {steps : List Step} {lines : List ReportLine} {history : List Event} {count next : ℕ} {opened : List Act} (read : IsReadTo build steps lines history count next opened) where
   -- a line that does not fit
-  pub read_stop : (line : Line) (r : Bool) → count < length lines → line ≡ get_or lines count line → IsTrue r ↔ FitsHere steps opened (slice_get history next) line → r ≡ false
+  pub read_stop : (line : ReportLine) (r : Bool) → count < length lines → line ≡ get_or lines count line → IsTrue r ↔ FitsHere steps opened (slice_get history next) line → r ≡ false
       → DoesFit build steps lines history → ⊥
   read_stop line r inside is says fails does =
       true_false r (says.1 (fits_here read.at steps line (does.each count line (slice_get_read lines (length lines) count line refl inside is)))) fails
 
   -- one more line that fits
-  fit_more : (line : Line) → count < length lines → line ≡ get_or lines count line → FitsHere steps opened (slice_get history next) line
-      → (place : ℕ) → place < count + 1 → (one : Line) → slice_get lines place ≡ Some one → LineFits build steps history (accepted_count (take place lines)) one
+  fit_more : (line : ReportLine) → count < length lines → line ≡ get_or lines count line → FitsHere steps opened (slice_get history next) line
+      → (place : ℕ) → place < count + 1 → (one : ReportLine) → slice_get lines place ≡ Some one → LineFits build steps history (accepted_count (take place lines)) one
   fit_more line inside is fits =
-      below_more (λ place. (one : Line) → slice_get lines place ≡ Some one → LineFits build steps history (accepted_count (take place lines)) one) count read.fit
+      below_more (λ place. (one : ReportLine) → slice_get lines place ≡ Some one → LineFits build steps history (accepted_count (take place lines)) one) count read.fit
       (λ one at. subst (λ l. LineFits build steps history (accepted_count (take count lines)) l)
       (same_Some line one (sym (slice_get_read lines (length lines) count line refl inside is) ∙ at))
       (fits_from read.at steps line fits))
 
-  pub read_other : (line : Line) → count < length lines → line ≡ get_or lines count line → FitsHere steps opened (slice_get history next) line → is_done line.answer ≡ false
+  pub read_other : (line : ReportLine) → count < length lines → line ≡ get_or lines count line → FitsHere steps opened (slice_get history next) line → is_done line.answer ≡ false
       → IsReadTo build steps lines history (count + 1) next opened
   read_other line inside is fits done = record {
     at = subst (λ n. IsAt build history n next opened) (sym (accepted_more lines count line false inside is done ∙ add-zero _)) read.at;
     fit = fit_more line inside is fits;
   }
 
-  pub read_done : (line : Line) (event : Event) (later : ℕ) (more : List Act) → count < length lines → line ≡ get_or lines count line → FitsHere steps opened (slice_get history next) line
+  pub read_done : (line : ReportLine) (event : Event) (later : ℕ) (more : List Act) → count < length lines → line ≡ get_or lines count line → FitsHere steps opened (slice_get history next) line
       → is_done line.answer ≡ true → event ≡ get_or history next event → more ≡ pushed opened event.act → later ≤ length history
       → events_of build (drop later history) ≡ events_of build (drop (next + 1) history) → IfSome (slice_get history later) (λ after. after.build ≡ build)
       → IsReadTo build steps lines history (count + 1) later more

@@ -4,14 +4,14 @@ use Rattle.std.specs.Global.{Vec}
 use Rattle.std.specs.List.{AllZip, flat_map}
 use Rattle.std.proofs.lemmas.List.Elements.{All-nil, All-cons, All-head, All-tail}
 use Rattle.std.specs.Prelude.{All}
-use Rattle.build_commands.specs.declared.cmd.Step.{Step}
+use Rattle.host_commands.specs.declared.cmd.Step.{Step}
 use Rattle.builders.specs.Workers.{WorkerView}
 use Rattle.run_program.specs.Report.{report_text}
 use Rattle.realm_model.specs.declared.act.Event.{Event}
 use Rattle.realm_plan.specs.Plan.{Plan}
 use Rattle.run_program.specs.Fitting.{DoesFit, ReportFits}
-use Rattle.workers.specs.declared.report.Report.{Report}
-use Rattle.workers.specs.declared.report.Line.{Line}
+use Rattle.builders.specs.declared.report.Report.{Report}
+use Rattle.builders.specs.declared.report.ReportLine.{ReportLine}
 use Rattle.run_program.specs.Text.{steps_of_build, report_lines}
 use Rattle.run_program.specs.Workers.{IsReportOf, WorkerFits, worker_text}
 
@@ -20,17 +20,17 @@ use Rattle.run_program.specs.Workers.{IsReportOf, WorkerFits, worker_text}
 fits_one : (history : List Event) (worker : WorkerView) (report : Report × Vec Step) → IsReportOf worker report → ReportFits history report → WorkerFits history worker
 fits_one history worker (report, asks) is fits =
     subst (λ (b : ℕ). DoesFit b worker.steps worker.lines history) is.0
-    (subst (λ (ls : List Line). DoesFit report.build worker.steps ls history) is.1
+    (subst (λ (ls : List ReportLine). DoesFit report.build worker.steps ls history) is.1
     (subst (λ (ss : List Step). DoesFit report.build ss report.lines.items history) is.2 fits))
 
 fits_back : (history : List Event) (worker : WorkerView) (report : Report × Vec Step) → IsReportOf worker report → WorkerFits history worker → ReportFits history report
 fits_back history worker (report, asks) is fits =
     subst (λ (b : ℕ). DoesFit b asks.items report.lines.items history) (sym is.0)
-    (subst (λ (ls : List Line). DoesFit worker.seat.build asks.items ls history) (sym is.1)
+    (subst (λ (ls : List ReportLine). DoesFit worker.seat.build asks.items ls history) (sym is.1)
     (subst (λ (ss : List Step). DoesFit worker.seat.build ss worker.lines history) (sym is.2) fits))
 
 text_one : (plan : Plan) (worker : WorkerView) (report : Report × Vec Step) → IsReportOf worker report → report_lines plan report ≡ worker_text plan worker
-text_one plan worker (report, asks) is = ap₂ (λ (b : ℕ) (ls : List Line). report_text b (steps_of_build plan b) ls) is.0 is.1
+text_one plan worker (report, asks) is = ap₂ (λ (b : ℕ) (ls : List ReportLine). report_text b (steps_of_build plan b) ls) is.0 is.1
 
 -- ---- all
 

@@ -2,28 +2,28 @@
 use Rattle.std.specs.Prelude.{◌≡◌, ℕ, ◌-◌, ◌++◌, nat_lt, List, filter, map, length, take, Option, Some, None, slice_get, option_and_then, IsSomeAnd, if◌then◌else◌}
 use Rattle.std.specs.Global.{Vec}
 use Rattle.std.specs.List.{last_or}
-use Rattle.build_commands.specs.Acts.{act_of}
-use Rattle.build_commands.specs.Needs.{operands}
-use Rattle.build_commands.specs.Replies.{reply_of}
-use Rattle.build_commands.specs.declared.cmd.Cmd.{Cmd}
-use Rattle.build_commands.specs.declared.cmd.Cmd.TheVariants.{Take}
-use Rattle.build_commands.specs.declared.cmd.Step.{Step}
-use Rattle.build_commands.specs.declared.picked.Picked.{Picked}
-use Rattle.build_commands.specs.declared.reply.Reply.{Reply}
+use Rattle.host_commands.specs.Acts.{act_of}
+use Rattle.host_commands.specs.Needs.{operands}
+use Rattle.host_commands.specs.Replies.{reply_of}
+use Rattle.host_commands.specs.declared.cmd.Cmd.{Cmd}
+use Rattle.host_commands.specs.declared.cmd.Cmd.TheVariants.{Take}
+use Rattle.host_commands.specs.declared.cmd.Step.{Step}
+use Rattle.host_commands.specs.declared.allocated.Allocated.{Allocated}
+use Rattle.host_commands.specs.declared.reply.Reply.{Reply}
 use Rattle.realm_model.specs.Kind.{act_kind}
 use Rattle.realm_model.specs.History.{events_of, open_entries, pages_of}
-use Rattle.build_commands.specs.declared.undone.Undone.{Undone}
+use Rattle.host_commands.specs.declared.undo_reply.Undone.{Undone}
 use Rattle.realm_model.specs.Act.{reverse_of}
 use Rattle.realm_model.specs.declared.act.Act.{Act}
 use Rattle.realm_model.specs.declared.act.Act.TheVariants as acts
 use Rattle.realm_model.specs.declared.act.Event.{Event}
-use Rattle.workers.specs.Events.{is_accepted, question_at}
-use Rattle.workers.specs.declared.ask.Question.{Question}
-use Rattle.workers.specs.declared.ask.Question.TheVariants as question
-use Rattle.workers.specs.declared.report.Answer.{Answer}
-use Rattle.workers.specs.declared.report.Answer.TheVariants.{Replied, Undone as WasUndone, Marked, Nothing, Refused}
-use Rattle.workers.specs.declared.report.Line.{Line}
-use Rattle.workers.specs.declared.report.Report.{Report}
+use Rattle.builders.specs.Events.{is_accepted, question_at}
+use Rattle.builders.specs.declared.ask.Question.{Question}
+use Rattle.builders.specs.declared.ask.Question.TheVariants as question
+use Rattle.builders.specs.declared.report.Answer.{Answer}
+use Rattle.builders.specs.declared.report.Answer.TheVariants.{Replied, Undone as WasUndone, Marked, Nothing, Refused}
+use Rattle.builders.specs.declared.report.ReportLine.{ReportLine}
+use Rattle.builders.specs.declared.report.Report.{Report}
 
 -- ---- commands
 
@@ -46,9 +46,9 @@ ArePushed pages numbers before after = (granules : List ℕ) × (AreGranules pag
 -- The act is that of the command with the granules of its pages, whatever was picked for it.
 pub record IsMadeOf (pages : List ℕ) (cmd : Cmd) (act : Act) : Type 0 where
   pub granules : List ℕ
-  pub picked : Picked
+  pub allocated : Allocated
   pub are_granules : AreGranules pages (operands cmd) granules
-  pub act_is : act_of cmd granules picked ≡ Some act
+  pub act_is : act_of cmd granules allocated ≡ Some act
 
 -- The act is that of the command of a build with these pages. The block of a Take may be any.
 abbrev pub IsFittingAct : List ℕ → Cmd → Act → Type 0
@@ -81,20 +81,20 @@ AnswerFits pages opened next asked (Refused refusal) = Unit {0}
 AnswerFits pages opened next asked answer = ⊥
 
 -- A line fits after `count` events of its build: it asks for something, and its answer fits there.
-abbrev pub LineFits : ℕ → List Step → List Event → ℕ → Line → Type 0
+abbrev pub LineFits : ℕ → List Step → List Event → ℕ → ReportLine → Type 0
 LineFits build steps history count line =
     let before = take count (events_of build history) in
     let next = slice_get (events_of build history) count in
     IsSomeAnd (question_at steps line.asked) (λ asked. AnswerFits (pages_of build before) (open_entries build before) next asked line.answer)
 
 -- how many of the lines are accepted
-abbrev pub accepted_count : List Line → ℕ
+abbrev pub accepted_count : List ReportLine → ℕ
 accepted_count lines = length (filter is_accepted lines)
 
 -- The lines of a report fit the history: each fits after as many events of the build as accepted lines stand before it, and
 -- there are as many of these events as of accepted lines.
-pub record DoesFit (build : ℕ) (steps : List Step) (lines : List Line) (history : List Event) : Type 0 where
-  pub each : (place : ℕ) (line : Line) → slice_get lines place ≡ Some line → LineFits build steps history (accepted_count (take place lines)) line
+pub record DoesFit (build : ℕ) (steps : List Step) (lines : List ReportLine) (history : List Event) : Type 0 where
+  pub each : (place : ℕ) (line : ReportLine) → slice_get lines place ≡ Some line → LineFits build steps history (accepted_count (take place lines)) line
   pub as_many : accepted_count lines ≡ length (events_of build history)
 
 -- a report fits, beside the steps of its build's plan

@@ -1,19 +1,19 @@
 -- What a host answers fits the history that it has then.
 use Rattle.std.specs.Prelude.{◌≡◌, ℕ, ◌≤◌, [], ◌∷◌, ◌++◌, Some, None}
-use Rattle.build_books.specs.View.{HostView}
-use Rattle.build_books.specs.declared.mark.Mark.{Mark}
-use Rattle.build_commands.specs.declared.cmd.Cmd.{Cmd}
-use Rattle.build_commands.specs.declared.reply.Reply.{Reply}
+use Rattle.host_ledger.specs.View.{HostView}
+use Rattle.host_ledger.specs.declared.mark.Mark.{Mark}
+use Rattle.host_commands.specs.declared.cmd.Cmd.{Cmd}
+use Rattle.host_commands.specs.declared.reply.Reply.{Reply}
 use Rattle.realm_host.specs.Answer.{IsReplied, IsUndone}
 use Rattle.realm_host.specs.Marked.{IsMarkedAs}
-use Rattle.build_commands.specs.declared.undone.Undone.{Undone}
+use Rattle.host_commands.specs.declared.undo_reply.Undone.{Undone}
 use Rattle.realm_model.specs.History.{open_entries, pages_of, IsLegal}
 use Rattle.realm_model.specs.Undoing.{by}
 use Rattle.realm_model.specs.declared.act.Act.{Act}
-use Rattle.workers.specs.declared.ask.Question.{Question}
-use Rattle.workers.specs.declared.ask.Question.TheVariants as question
-use Rattle.workers.specs.declared.report.Answer.{Answer}
-use Rattle.workers.specs.declared.report.Answer.TheVariants as answer
+use Rattle.builders.specs.declared.ask.Question.{Question}
+use Rattle.builders.specs.declared.ask.Question.TheVariants as question
+use Rattle.builders.specs.declared.report.Answer.{Answer}
+use Rattle.builders.specs.declared.report.Answer.TheVariants as answer
 use Rattle.run_program.specs.Fitting.{AnswerFits}
 
 -- One event of the build ends the history, and the answer fits there.

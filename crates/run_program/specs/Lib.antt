@@ -1,7 +1,7 @@
 pub mod Fault
 pub mod Threads
 pub mod Fitting
-pub mod Picks
+pub mod Allocation
 pub mod Report
 pub mod Hosts
 pub mod Text

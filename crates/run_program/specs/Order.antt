@@ -1,14 +1,14 @@
 -- That the order in which the builds of a run came through the lock is not told.
 use Rattle.std.specs.Prelude.{◌≡◌, ℕ, List}
-use Rattle.build_books.specs.View.{HostView}
-use Rattle.plan_runs.specs.Run.{map_text}
+use Rattle.host_ledger.specs.View.{HostView}
+use Rattle.plan_replay.specs.Run.{map_text}
 use Rattle.realm_plan.specs.Plan.{Plan}
 use Rattle.run_program.specs.Workers.{worker_seats, IsWorkersText}
 
 -- Two runs after which each build's seat has the same events have the same map; and they have the same text where the workers
 -- show the same lines too.
-abbrev pub OrderIsNotTold : Plan → (ℕ → ℕ → Type 0) → (ℕ → ℕ → Type 0) → HostView → Type 0
-OrderIsNotTold plan passes stops opened =
+abbrev pub ScheduleIsNotRevealed : Plan → (ℕ → ℕ → Type 0) → (ℕ → ℕ → Type 0) → HostView → Type 0
+ScheduleIsNotRevealed plan passes stops opened =
     (text other : List ℕ) (run : IsWorkersText plan passes stops opened text) (again : IsWorkersText plan passes stops opened other)
     → (worker_seats again.workers ≡ worker_seats run.workers → map_text again.host ≡ map_text run.host)
     × (again.workers ≡ run.workers → other ≡ text)

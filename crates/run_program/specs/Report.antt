@@ -1,18 +1,18 @@
 -- The text of a report: each of its lines is told as that of a turn.
 use Rattle.std.specs.Prelude.{ℕ, ◌==◌, Bool, true, false, not, ◌&&◌, if◌then◌else◌, List, [], ◌∷◌, ◌++◌, Option, Some, None, slice_get}
-use Rattle.build_commands.specs.declared.cmd.Cmd.TheVariants.{Exit}
-use Rattle.build_commands.specs.declared.cmd.Step.TheVariants.{Ask, Undo}
-use Rattle.plan_steps.specs.declared.step.PlanStep.{PlanStep}
-use Rattle.plan_steps.specs.declared.step.PlanStep.TheVariants.{Whole}
-use Rattle.workers.specs.declared.report.Asked.{Asked}
-use Rattle.workers.specs.declared.report.Asked.TheVariants as asked
-use Rattle.workers.specs.declared.report.Answer.{Answer}
-use Rattle.workers.specs.declared.report.Answer.TheVariants as answer
-use Rattle.workers.specs.declared.report.Line.{Line}
-use Rattle.plan_runs.specs.Text.{turn_line}
-use Rattle.plan_runs.specs.Turn.{undoes_many}
-use Rattle.plan_runs.specs.declared.answer.TurnAnswer.{TurnAnswer}
-use Rattle.plan_runs.specs.declared.answer.TurnAnswer.TheVariants as tells
+use Rattle.host_commands.specs.declared.cmd.Cmd.TheVariants.{Exit}
+use Rattle.host_commands.specs.declared.cmd.Step.TheVariants.{Ask, Undo}
+use Rattle.realm_plan.specs.declared.step.PlanStep.{PlanStep}
+use Rattle.realm_plan.specs.declared.step.PlanStep.TheVariants.{Whole}
+use Rattle.builders.specs.declared.report.Asked.{Asked}
+use Rattle.builders.specs.declared.report.Asked.TheVariants as asked
+use Rattle.builders.specs.declared.report.Answer.{Answer}
+use Rattle.builders.specs.declared.report.Answer.TheVariants as answer
+use Rattle.builders.specs.declared.report.ReportLine.{ReportLine}
+use Rattle.plan_replay.specs.Text.{turn_line}
+use Rattle.plan_replay.specs.Turn.{undoes_many}
+use Rattle.plan_replay.specs.declared.answer.TurnAnswer.{TurnAnswer}
+use Rattle.plan_replay.specs.declared.answer.TurnAnswer.TheVariants as tells
 
 -- The step that a line is of: the plan's at that place, as it stands there. What is asked after a refusal is told as the
 -- step that would ask for it.
@@ -27,26 +27,26 @@ is_same_step (asked.Step place) (asked.Step other) = place == other
 is_same_step _ _ = false
 
 -- A line ends its step where the next line is of something else, or there is none.
-abbrev pub ends_step : Asked → Option Line → Bool
+abbrev pub ends_step : Asked → Option ReportLine → Bool
 ends_step this None = true
 ends_step this (Some next) = not (is_same_step this next.asked)
 
 -- What a line tells of its answer: of an undo, whether an abort or a step back ends with it.
-abbrev pub told_of_line : Answer → Bool → TurnAnswer
-told_of_line (answer.Replied reply) ends = tells.Replied reply
-told_of_line (answer.Undone undone) ends = if ends then tells.Ended undone.kind else tells.Undone undone.kind
-told_of_line (answer.Marked length) ends = tells.Marked length
-told_of_line answer.Nothing ends = tells.Nothing
-told_of_line (answer.Refused refusal) ends = tells.Refused refusal
+abbrev pub answer_of_line : Answer → Bool → TurnAnswer
+answer_of_line (answer.Replied reply) ends = tells.Replied reply
+answer_of_line (answer.Undone undone) ends = if ends then tells.Ended undone.kind else tells.Undone undone.kind
+answer_of_line (answer.Marked length) ends = tells.Marked length
+answer_of_line answer.Nothing ends = tells.Nothing
+answer_of_line (answer.Refused refusal) ends = tells.Refused refusal
 
 -- A line of this step, and the one that comes next. A line of no step has no text.
-abbrev pub line_text : ℕ → Option PlanStep → Line → Option Line → List ℕ
+abbrev pub line_text : ℕ → Option PlanStep → ReportLine → Option ReportLine → List ℕ
 line_text build None line next = []
 line_text build (Some step) line next =
-    turn_line build step (told_of_line line.answer (undoes_many step && ends_step line.asked next))
+    turn_line build step (answer_of_line line.answer (undoes_many step && ends_step line.asked next))
 
 -- the lines of a build's report, one after the other
-abbrev pub report_text : ℕ → List PlanStep → List Line → List ℕ
+abbrev pub report_text : ℕ → List PlanStep → List ReportLine → List ℕ
 report_text build steps [] = []
 report_text build steps (line ∷ more) =
     line_text build (step_of_line steps line.asked) line (slice_get more 0) ++ report_text build steps more

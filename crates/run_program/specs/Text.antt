@@ -1,11 +1,11 @@
 -- What is printed of reports.
 use Rattle.std.specs.Prelude.{ℕ, List, [], codes, slice_index_or}
 use Rattle.std.specs.Global.{Vec}
-use Rattle.build_commands.specs.declared.cmd.Step.{Step}
-use Rattle.plan_steps.specs.declared.step.PlanStep.{PlanStep}
+use Rattle.host_commands.specs.declared.cmd.Step.{Step}
+use Rattle.realm_plan.specs.declared.step.PlanStep.{PlanStep}
 use Rattle.run_program.specs.Report.{report_text}
 use Rattle.realm_plan.specs.Plan.{Plan}
-use Rattle.workers.specs.declared.report.Report.{Report}
+use Rattle.builders.specs.declared.report.Report.{Report}
 
 -- the steps of a build
 abbrev pub steps_of_build : Plan → ℕ → List PlanStep

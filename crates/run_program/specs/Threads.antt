@@ -1,7 +1,7 @@
 -- What a run in threads prints.
 use Rattle.std.specs.Prelude.{ℕ, List}
 use Rattle.realm_plan.specs.Plan.{Plan}
-use Rattle.run_program.specs.Order.{OrderIsNotTold}
+use Rattle.run_program.specs.Order.{ScheduleIsNotRevealed}
 use Rattle.run_program.specs.Workers as threads
 use Rattle.run_program.specs.declared.fault.RunFault.TheVariants as why
 use Rattle.realm_program.specs.Replay.{opening_host}
@@ -21,5 +21,5 @@ IsWithoutThreadsText passes stops plan Mismatch = threads.IsWithoutWorkersText p
 IsWithoutThreadsText passes stops plan fault = ⊥
 
 -- The order in which the builds of a run came through the lock is not printed, whatever the plan.
-abbrev pub OrderIsNotPrinted : (ℕ → ℕ → Type 0) → (ℕ → ℕ → Type 0) → Type 0
-OrderIsNotPrinted passes stops = (plan : Plan) → OrderIsNotTold plan passes stops (opening_host plan)
+abbrev pub ScheduleIsNotPrinted : (ℕ → ℕ → Type 0) → (ℕ → ℕ → Type 0) → Type 0
+ScheduleIsNotPrinted passes stops = (plan : Plan) → ScheduleIsNotRevealed plan passes stops (opening_host plan)

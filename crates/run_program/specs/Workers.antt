@@ -2,8 +2,8 @@
 use Rattle.std.specs.Prelude.{◌≡◌, ◌⊎◌, ℕ, true, false, List, [], ◌++◌, map, length, All}
 use Rattle.std.specs.Global.{Vec}
 use Rattle.std.specs.List.{AllZip, flat_map, range_with_len}
-use Rattle.build_books.specs.View.{HostView}
-use Rattle.build_commands.specs.declared.cmd.Step.{Step}
+use Rattle.host_ledger.specs.View.{HostView}
+use Rattle.host_commands.specs.declared.cmd.Step.{Step}
 use Rattle.builders.specs.Close.{IsClosed, IsHostGivenBack}
 use Rattle.builders.specs.Fault.{IsFault}
 use Rattle.builders.specs.Runs.{AreRun, IsLowestWaiting}
@@ -11,12 +11,12 @@ use Rattle.builders.specs.Seats.{SeatView, new_seat}
 use Rattle.builders.specs.Workers.{WorkerView}
 use Rattle.builders.specs.declared.close.CloseFault.{CloseFault}
 use Rattle.run_program.specs.Report.{report_text}
-use Rattle.plan_runs.specs.Run.{map_text}
-use Rattle.plan_steps.specs.Asked.{asked}
+use Rattle.plan_replay.specs.Run.{map_text}
+use Rattle.realm_plan.specs.Asked.{asked}
 use Rattle.realm_model.specs.declared.act.Event.{Event}
 use Rattle.realm_plan.specs.Plan.{Plan}
 use Rattle.run_program.specs.Fitting.{DoesFit}
-use Rattle.workers.specs.declared.report.Report.{Report}
+use Rattle.builders.specs.declared.report.Report.{Report}
 use Rattle.run_program.specs.Text.{steps_of_build, audit_line}
 use Rattle.run_program.specs.declared.fault.RunFault.{RunFault}
 use Rattle.run_program.specs.declared.fault.RunFault.TheVariants.{Memory, Stuck, Mismatch}

@@ -6,11 +6,11 @@ ghost use Rattle.realm_model.specs.History.{events_of};
 ghost use Rattle.run_program.specs.Fitting.{DoesFit, ReportFits};
 
 use crate::line::{is_done, line_fits};
-use build_commands::Step;
+use builders::Report;
 use granule_addr::BuildId;
+use host_commands::Step;
 use realm_model::{Act, Event};
 use std::alloc::{AllocError, Global};
-use workers::Report;
 
 // The place of a build's next event from `from` on, or the end of the history.
 fn next_of(history: &[Event], build: BuildId, from: usize) -> usize
@@ -32,7 +32,7 @@ fn follow(opened: &mut Vec<Act>, act: &Act) -> Result<(), AllocError>
     ensures { OnOk result (opened.new.items ≡ pushed opened.old.items act.now) }
 {
     if act.is_paired() {
-        opened.push(act.again())?;
+        opened.push(act.clone())?;
     } else if act.is_reverse() {
         opened.pop();
     }

@@ -1,32 +1,32 @@
 //! What a command did, and what was told of it.
 ghost use Rattle.std.specs.Prelude.{◌≡◌, ◌↔◌, length, IsTrue};
 ghost use Rattle.std.specs.List.{flat_map};
-ghost use Rattle.build_commands.specs.Replies.{reply_of};
+ghost use Rattle.host_commands.specs.Replies.{reply_of};
 ghost use Rattle.realm_model.specs.History.{pages_held};
 ghost use Rattle.run_program.specs.Fitting.{IsMadeOf, IsFittingAct, IsFittingReply};
-ghost use Rattle.run_program.specs.Picks.{picked_in};
+ghost use Rattle.run_program.specs.Allocation.{allocated_in};
 
 use crate::pages::{granules_of, has_pages};
-use build_commands::{Cmd, Picked, Reply, act_of, reply_of};
 use granule_addr::{RecNo, Vmid};
+use host_commands::{Allocated, Cmd, Reply, act_of, reply_of};
 use realm_model::Act;
 
 // What was picked for an act, as far as the act holds it.
-fn picked_for(act: &Act) -> Picked
-    ensures { result ≡ picked_in act.now }
+fn allocated_for(act: &Act) -> Allocated
+    ensures { result ≡ allocated_in act.now }
 {
-    let mut picked = Picked {
+    let mut allocated = Allocated {
         vmid: Vmid::new(1).unwrap(),
         number: RecNo::new(0),
         byte: 0,
     };
     match act {
-        Act::Realm { vmid, .. } => picked.vmid = *vmid,
-        Act::Rec { number, .. } => picked.number = *number,
-        Act::Peek { byte, .. } => picked.byte = *byte,
+        Act::Realm { vmid, .. } => allocated.vmid = *vmid,
+        Act::Rec { number, .. } => allocated.number = *number,
+        Act::Peek { byte, .. } => allocated.byte = *byte,
         _ => {}
     }
-    picked
+    allocated
 }
 
 // Whether an act is a command's, of the granules of its pages.
@@ -36,7 +36,7 @@ fn is_made_of(opened: &[Act], cmd: &Cmd, act: &Act) -> bool
     let Some(granules) = granules_of(opened, cmd) else {
         return false;
     };
-    match act_of(cmd, &granules, picked_for(act)) {
+    match act_of(cmd, &granules, allocated_for(act)) {
         Some(made) => made.is_same(act),
         None => false,
     }

@@ -1,10 +1,10 @@
 //! Laws of what fits.
 ghost use Rattle.std.specs.Prelude.{ℕ};
-ghost use Rattle.build_books.specs.View.{HostView};
-ghost use Rattle.build_books.specs.declared.mark.Mark.{Mark};
-ghost use Rattle.build_commands.specs.declared.cmd.Cmd.{Cmd};
-ghost use Rattle.build_commands.specs.declared.reply.Reply.{Reply};
-ghost use Rattle.build_commands.specs.declared.undone.Undone.{Undone};
+ghost use Rattle.host_ledger.specs.View.{HostView};
+ghost use Rattle.host_ledger.specs.declared.mark.Mark.{Mark};
+ghost use Rattle.host_commands.specs.declared.cmd.Cmd.{Cmd};
+ghost use Rattle.host_commands.specs.declared.reply.Reply.{Reply};
+ghost use Rattle.host_commands.specs.declared.undo_reply.Undone.{Undone};
 ghost use Rattle.run_program.specs.Hosts.{HostReplyFits, HostUndoFits, HostMarkFits};
 
 /// What a host answers to an accepted command or undo fits the one event that ends its history then, by what the build had

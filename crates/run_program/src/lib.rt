@@ -6,7 +6,6 @@
 
 mod audit;
 mod command;
-mod ends;
 mod fault;
 pub mod law;
 mod line;
@@ -16,6 +15,7 @@ mod report;
 mod running;
 mod text;
 mod undo;
+mod worker_ends;
 mod working;
 
 pub use audit::{fit_all, fits};

@@ -3,15 +3,15 @@ ghost use Rattle.std.specs.Prelude.{◌≡◌, ◌↔◌, Option, slice_get, IsT
 ghost use Rattle.std.specs.List.{flat_map};
 ghost use Rattle.realm_model.specs.History.{pages_held};
 ghost use Rattle.realm_model.specs.declared.act.Event.{Event};
-ghost use Rattle.workers.specs.Events.{is_done, question_of_step, question_at};
-ghost use Rattle.workers.specs.declared.ask.Question.TheVariants as question;
+ghost use Rattle.builders.specs.Events.{is_done, question_of_step, question_at};
+ghost use Rattle.builders.specs.declared.ask.Question.TheVariants as question;
 ghost use Rattle.run_program.specs.Fitting.{AnswerFits};
 
 use crate::command::is_replied;
 use crate::undo::is_undone;
-use build_commands::{Cmd, Step};
+use builders::{Answer, Asked, ReportLine};
+use host_commands::{Cmd, Step};
 use realm_model::{Act, Event};
-use workers::{Answer, Asked, Line};
 
 /// Whether a line with this answer has an event.
 pub(crate) fn is_done(answer: &Answer) -> bool
@@ -77,7 +77,7 @@ pub(crate) fn line_fits(
     history: &[Event],
     next: usize,
     steps: &[Step],
-    line: &Line,
+    line: &ReportLine,
 ) -> bool
     ensures { IsTrue result ↔ IsSomeAnd (question_at steps.now line.now.asked)
         (λ asked. AnswerFits (flat_map pages_held opened.now) opened.now (slice_get history.now next) asked line.now.answer) }

@@ -1,15 +1,14 @@
 //! A worker for each build of a plan.
 ghost use Rattle.std.specs.Prelude.{◌≡◌, ◌<◌, map, vec_len, IfOk};
 ghost use Rattle.std.specs.List.{range_with_len};
-ghost use Rattle.plan_steps.specs.Asked.{asked};
+ghost use Rattle.realm_plan.specs.Asked.{asked};
 ghost use Rattle.realm_plan.specs.PlanView.{plan_view};
 ghost use Rattle.builders.specs.Seats.{new_seat};
 ghost use Rattle.run_program.specs.Workers.{new_worker, new_workers};
 
-use build_commands::Step;
 use builders::{Ledgers, Seat, Worker};
-use plan_steps::PlanStep;
-use realm_plan::Plan;
+use host_commands::Step;
+use realm_plan::{Plan, PlanStep};
 use std::alloc::{AllocError, Global};
 
 // What steps of a plan ask.

@@ -1,13 +1,13 @@
 //! The granules of a command's pages, by what a build has open.
 ghost use Rattle.std.specs.Prelude.{◌≡◌, ◌↔◌, ◌+◌, ◌<◌, ◌≤◌, length, IsTrue, IfSome, IfNone};
 ghost use Rattle.std.specs.List.{flat_map, range_with_len};
-ghost use Rattle.build_commands.specs.Needs.{operands};
+ghost use Rattle.host_commands.specs.Needs.{operands};
 ghost use Rattle.realm_model.specs.History.{pages_held};
 ghost use Rattle.run_program.specs.Fitting.{granule_of_number, AreGranules, ArePushed, HaveNoGranules};
 
 use arrayvec::ArrayVec;
-use build_commands::{Cmd, tables_named};
 use granule_addr::{Gran, MOST_PAGES};
+use host_commands::{Cmd, tables_named};
 use realm_model::Act;
 
 // How many pages an open act holds.
@@ -89,7 +89,7 @@ fn push_run(granules: &mut ArrayVec<Gran, 17>, opened: &[Act], first: u16, count
 
 /// The granules of the pages that a command names, for a build that has these acts open. None where one of the pages is
 /// not there, or is no granule of a machine.
-#[tactic(auto, unfolding(build_commands::specs::Needs::operands))]
+#[tactic(auto, unfolding(host_commands::specs::Needs::operands))]
 pub(crate) fn granules_of(opened: &[Act], cmd: &Cmd) -> Option<ArrayVec<Gran, 17>>
     ensures some { IfSome result (λ granules. AreGranules (flat_map pages_held opened.now) (operands cmd.now) granules.items) }
     ensures none { IfNone result (HaveNoGranules (flat_map pages_held opened.now) (operands cmd.now)) }

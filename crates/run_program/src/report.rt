@@ -1,14 +1,14 @@
 //! The lines of a report.
 ghost use Rattle.std.specs.Prelude.{◌≡◌, ◌++◌, OnOk, Some, string_bytes};
-ghost use Rattle.plan_runs.specs.Turn.{undoes_many};
-ghost use Rattle.run_program.specs.Report.{step_of_line, ends_step, told_of_line, line_text, report_text};
+ghost use Rattle.plan_replay.specs.Turn.{undoes_many};
+ghost use Rattle.run_program.specs.Report.{step_of_line, ends_step, answer_of_line, line_text, report_text};
 
-use build_commands::{Cmd, Step};
+use builders::{Answer, Asked, Report, ReportLine};
 use granule_addr::BuildId;
-use plan_runs::{TurnAnswer, push_turn};
-use plan_steps::PlanStep;
+use host_commands::{Cmd, Step};
+use plan_replay::{TurnAnswer, push_turn};
+use realm_plan::PlanStep;
 use std::alloc::AllocError;
-use workers::{Answer, Asked, Line, Report};
 
 // Whether a step undoes any number of acts, with a line for each.
 fn undoes_many(step: &PlanStep) -> bool
@@ -18,7 +18,7 @@ fn undoes_many(step: &PlanStep) -> bool
 }
 
 // Whether a line is the last of its step.
-fn ends_step(asked: Asked, next: Option<Line>) -> bool
+fn ends_step(asked: Asked, next: Option<ReportLine>) -> bool
     ensures { result ≡ ends_step asked next }
 {
     let Some(next) = next else {
@@ -31,8 +31,8 @@ fn ends_step(asked: Asked, next: Option<Line>) -> bool
 }
 
 // What a line tells of its answer: of an undo, whether an abort or a step back ends with it.
-fn told_of_line(answer: Answer, ends: bool) -> TurnAnswer
-    ensures { result ≡ told_of_line answer ends }
+fn answer_of_line(answer: Answer, ends: bool) -> TurnAnswer
+    ensures { result ≡ answer_of_line answer ends }
 {
     match answer {
         Answer::Replied(reply) => TurnAnswer::Replied(reply),
@@ -49,13 +49,13 @@ fn push_step_line(
     text: &mut String,
     build: BuildId,
     step: &PlanStep,
-    line: Line,
-    next: Option<Line>,
+    line: ReportLine,
+    next: Option<ReportLine>,
 ) -> Result<(), AllocError>
     ensures { OnOk result (string_bytes text.new ≡ string_bytes text.old ++ line_text build (Some step.now) line next) }
 {
     let ends = undoes_many(step) && ends_step(line.asked, next);
-    push_turn(text, build, step, told_of_line(line.answer, ends))
+    push_turn(text, build, step, answer_of_line(line.answer, ends))
 }
 
 // Appends a line, if its step is in the plan. The next line is looked at only to see whether it is of the same step.
@@ -63,8 +63,8 @@ fn push_line(
     text: &mut String,
     build: BuildId,
     steps: &[PlanStep],
-    line: &Line,
-    next: Option<Line>,
+    line: &ReportLine,
+    next: Option<ReportLine>,
 ) -> Result<(), AllocError>
     ensures { OnOk result (string_bytes text.new ≡ string_bytes text.old ++ line_text build (step_of_line steps.now line.now.asked) line.now next) }
 {

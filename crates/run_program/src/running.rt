@@ -2,12 +2,14 @@
 ghost use Rattle.std.specs.Prelude.{◌≡◌, ◌+◌, ◌≤◌, ◌↔◌, ◌⊎◌, false, true, Err, IfOk, IfErr, string_bytes};
 ghost use Rattle.realm_plan.specs.PlanView.{plan_view};
 ghost use Rattle.realm_program.specs.Printed.{IsEnd};
-ghost use Rattle.run_program.specs.Threads.{IsThreadsText, IsWithoutThreadsText, OrderIsNotPrinted};
+ghost use Rattle.run_program.specs.Threads.{IsThreadsText, IsWithoutThreadsText, ScheduleIsNotPrinted};
 ghost use Rattle.run_program.specs.Fault.{fault_of_run};
 ghost use Rattle.realm_program.specs.declared.fault.Fault.TheVariants.{Device};
 
 use crate::{RunFault, run_text};
 use buddy::BuddyArena;
+use builders::Gate;
+use checked_io::Told;
 use realm_plan::Plan;
 use realm_program::{Fault, boot, plan_in};
 use std::alloc::Global;
@@ -15,8 +17,6 @@ use std::io::{Read, Write};
 use std::marker::Sync;
 use std::sync::Wait;
 use std::thread::Threads;
-use told_device::Told;
-use workers::Gate;
 
 // The program's word for why there is no text.
 fn fault_of(fault: RunFault) -> Fault
@@ -64,7 +64,7 @@ pub fn run<H: Threads + Wait + Sync, R: Read, W: Write, G: Gate + Sync>(
         (R.remaining input.old.device) (W.contents output.old.device) (W.contents output.new.device) result }
     ensures device { ((input.new.failed ≡ true) ⊎ (output.new.failed ≡ true)) ↔ (result ≡ Err Device) }
     ensures asked { input.new.reads ≤ input.old.reads + 1048578 }
-    ensures order { OrderIsNotPrinted (G.passes gate.now) (G.stops gate.now) }
+    ensures order { ScheduleIsNotPrinted (G.passes gate.now) (G.stops gate.now) }
 {
     let plan = plan_in(alloc, input)?;
     let text = threads_text_of(rt, alloc, &plan, gate)?;

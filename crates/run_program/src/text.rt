@@ -1,7 +1,7 @@
 //! The text of a run.
 ghost use Rattle.std.specs.Prelude.{◌≡◌, ◌++◌, ◌⊎◌, OnOk, IfOk, IfErr, All, string_bytes};
 ghost use Rattle.std.specs.List.{flat_map};
-ghost use Rattle.plan_runs.specs.Run.{map_text};
+ghost use Rattle.plan_replay.specs.Run.{map_text};
 ghost use Rattle.realm_plan.specs.PlanView.{plan_view};
 ghost use Rattle.run_program.specs.Fitting.{ReportFits};
 ghost use Rattle.run_program.specs.Text.{report_lines, audit_line};
@@ -10,13 +10,13 @@ ghost use Rattle.run_program.specs.declared.fault.RunFault.TheVariants.{Memory, 
 use crate::fault::RunFault;
 use crate::fit_all;
 use crate::report::push_report;
-use build_commands::Step;
+use builders::Report;
+use host_commands::Step;
 use page_arena::PageStore;
-use plan_runs::{push_map, text_for};
+use plan_replay::{push_map, text_for};
 use realm_host::Host;
 use realm_plan::Plan;
 use std::alloc::{AllocError, Global};
-use workers::Report;
 
 // Appends the lines of the reports, one after the other.
 fn push_reports(

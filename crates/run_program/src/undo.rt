@@ -3,8 +3,8 @@ ghost use Rattle.std.specs.Prelude.{◌≡◌, ◌↔◌, Some, IsTrue};
 ghost use Rattle.realm_model.specs.Kind.{act_kind};
 ghost use Rattle.run_program.specs.Fitting.{IsFittingUndo};
 
-use build_commands::Undone;
 use build_journal::takes_back;
+use host_commands::Undone;
 use realm_model::{Act, Kind, kind_of};
 
 fn is_of_kind(act: &Act, kind: Kind) -> bool

@@ -4,14 +4,14 @@ ghost use Rattle.realm_plan.specs.PlanView.{plan_view};
 ghost use Rattle.run_program.specs.Workers.{AreLeft, IsWithoutWorkersText, IsWorkersText};
 ghost use Rattle.builders.specs.Seats.{new_seat};
 ghost use Rattle.std.specs.List.{range_with_len};
-ghost use Rattle.run_program.specs.Order.{OrderIsNotTold};
+ghost use Rattle.run_program.specs.Order.{ScheduleIsNotRevealed};
 ghost use Rattle.builders.specs.Names.{AreNamed};
 
-use crate::ends::{Ends, ends_of};
 use crate::fault::RunFault;
 use crate::new_workers::workers_of;
 use crate::text::audited_text_of;
-use builders::{Blanks, Ledgers, Seat, Shared, run_builds};
+use crate::worker_ends::{Ends, ends_of};
+use builders::{Blanks, Gate, Ledgers, Seat, Shared, run_builds};
 use page_arena::PageStore;
 use realm_host::Host;
 use realm_plan::Plan;
@@ -19,7 +19,6 @@ use std::alloc::Global;
 use std::marker::{Brand, Send, Sync};
 use std::sync::Wait;
 use std::thread::Threads;
-use workers::Gate;
 
 // Runs the workers of the plan's builds in new seats of a shared host to their end, and returns what they leave.
 fn work_all<
@@ -118,7 +117,7 @@ pub fn run_text<R: Threads + Wait + Sync, S: PageStore + Drop + Send, G: Gate + 
     requires builds { host.limits.builds ≡ vec_len plan.now.builds }
     ensures ok { IfOk result (λ text. IsWorkersText (plan_view plan.now) (G.passes gate.now) (G.stops gate.now) host (string_bytes text)) }
     ensures err { IfErr result (IsWithoutWorkersText (plan_view plan.now) (G.passes gate.now) (G.stops gate.now) host) }
-    ensures order { OrderIsNotTold (plan_view plan.now) (G.passes gate.now) (G.stops gate.now) host }
+    ensures order { ScheduleIsNotRevealed (plan_view plan.now) (G.passes gate.now) (G.stops gate.now) host }
 {
     run_with::<R, S, G, Brand>(rt, alloc, plan, Blanks::new(), host, gate)
 }

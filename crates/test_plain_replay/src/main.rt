@@ -1,12 +1,12 @@
 //! Tests alone: replays a plan over the plain store, as `realmhost replay` does over raw pages. Both print the same text.
 #![tactic(auto)]
 
+use checked_io::Told;
 use command_line::Reason;
 use page_arena::PlainStore;
 use realm_plan::Plan;
 use realm_program::{Fault, read_whole, text_of};
 use std::process::ExitCode;
-use told_device::Told;
 
 /// Reads a plan from standard input, and writes its text to standard output.
 fn run(rt: &HostRuntime) -> Result<(), Fault> {

@@ -1,10 +1,10 @@
 //! Scripts of calls: X0 to X4 before each, and after it.
 use crate::measurements::BY_SHA_256;
 use page_arena::{PageStore, PlainStore};
-use rmi_abi::{Platform, Registers, Settings};
+use rmi_abi::{Platform, Registers, RmmSettings};
 use rmm::Rmm;
 use rmm_granules::Granules;
-use rmm_model::GranuleState;
+use rmm_model::RmmGranuleState;
 use std::alloc::{AllocError, Global};
 use std::process::Abort;
 use std::test::Fail;
@@ -54,7 +54,7 @@ pub type Script<'a> = &'a [([u64; 5], [u64; 5])];
 
 // A monitor of granules from 0x8000_0000 on.
 pub(crate) fn over(alloc: Global, store: PlainStore) -> Result<Rmm<PlainStore>, AllocError> {
-    let platform = Platform::new(Settings::DEFAULT).unwrap();
+    let platform = Platform::new(RmmSettings::DEFAULT).unwrap();
     match Granules::open(alloc, platform, store) {
         Ok(granules) => Ok(Rmm::over(granules)),
         Err((error, _store)) => Err(error),
@@ -561,7 +561,7 @@ fn block(rt: HostRuntime) -> Result<(), Fail> {
 // The realm of an RD has a SHA-256 measurement.
 fn has_rim<S: PageStore>(rt: &impl Abort, rmm: &Rmm<S>, rd: u64, wanted: &[u8; 32]) {
     match rmm.state(rd) {
-        Some(GranuleState::Rd(realm)) => {
+        Some(RmmGranuleState::Rd(realm)) => {
             assert_eq!(rt; realm.rim[..32], wanted[..]);
             assert_eq!(rt; realm.rim[32..], [0; 32][..]);
         }

@@ -5,7 +5,7 @@ use crate::platform::open;
 use page_arena::PlainStore;
 use rmi_abi::{HashAlgorithm, Registers};
 use rmm::Rmm;
-use rmm_model::{GranuleState, PsciRequest, Queued, Realm, RealmState, Rec, StepWords};
+use rmm_model::{PsciRequest, Queued, RmmGranuleState, RmmRealm, RmmRealmState, RmmRec, StepWords};
 use std::alloc::{AllocError, Global};
 use std::fmt::Write;
 
@@ -24,32 +24,32 @@ fn smc(alloc: Global, rmm: &mut Rmm<PlainStore>, n: &[u64; MOST]) -> Result<Stri
 }
 
 // The place of a state among those that there are.
-fn place(state: &GranuleState) -> u8 {
+fn place(state: &RmmGranuleState) -> u8 {
     match state {
-        GranuleState::Undelegated => 0,
-        GranuleState::Delegated => 1,
-        GranuleState::Rd(_) => 2,
-        GranuleState::Rec(_) => 3,
-        GranuleState::RecAux => 4,
-        GranuleState::Data => 5,
-        GranuleState::Rtt => 6,
+        RmmGranuleState::Undelegated => 0,
+        RmmGranuleState::Delegated => 1,
+        RmmGranuleState::Rd(_) => 2,
+        RmmGranuleState::Rec(_) => 3,
+        RmmGranuleState::RecAux => 4,
+        RmmGranuleState::Data => 5,
+        RmmGranuleState::Rtt => 6,
     }
 }
 
 // The realm of the RD at an address.
-fn realm_at(rmm: &Rmm<PlainStore>, rd: u64) -> Option<Realm> {
+fn realm_at(rmm: &Rmm<PlainStore>, rd: u64) -> Option<RmmRealm> {
     match rmm.state(rd)? {
-        GranuleState::Rd(realm) => Some(realm),
+        RmmGranuleState::Rd(realm) => Some(realm),
         _ => None,
     }
 }
 
 // A realm, of a machine from an address on.
-fn realm_text(alloc: Global, realm: &Realm, base: u64) -> Result<String, AllocError> {
+fn realm_text(alloc: Global, realm: &RmmRealm, base: u64) -> Result<String, AllocError> {
     let state = match realm.state {
-        RealmState::New => 0,
-        RealmState::Active => 1,
-        RealmState::SystemOff => 2,
+        RmmRealmState::New => 0,
+        RmmRealmState::Active => 1,
+        RmmRealmState::SystemOff => 2,
     };
     let first = base.wrapping_add(u64::from(realm.first_table.number()) * 4096);
     format!(in alloc;
@@ -64,7 +64,7 @@ fn realm_text(alloc: Global, realm: &Realm, base: u64) -> Result<String, AllocEr
 }
 
 // The measurement of a realm.
-fn rim_text(alloc: Global, realm: &Realm) -> Result<String, AllocError> {
+fn rim_text(alloc: Global, realm: &RmmRealm) -> Result<String, AllocError> {
     let length = match realm.hash {
         HashAlgorithm::Sha256 => 32,
         HashAlgorithm::Sha512 => 64,
@@ -77,10 +77,10 @@ fn rim_text(alloc: Global, realm: &Realm) -> Result<String, AllocError> {
 }
 
 // The sum of the bytes of a granule; of a table, an RD or a REC 0.
-fn sum(rmm: &Rmm<PlainStore>, address: u64, state: &GranuleState) -> u64 {
+fn sum(rmm: &Rmm<PlainStore>, address: u64, state: &RmmGranuleState) -> u64 {
     if matches!(
         state,
-        GranuleState::Rd(_) | GranuleState::Rec(_) | GranuleState::Rtt
+        RmmGranuleState::Rd(_) | RmmGranuleState::Rec(_) | RmmGranuleState::Rtt
     ) {
         return 0;
     }
@@ -100,7 +100,7 @@ fn rec_text(
     alloc: Global,
     rmm: &Rmm<PlainStore>,
     address: u64,
-    rec: &Rec,
+    rec: &RmmRec,
 ) -> Result<String, AllocError> {
     let pending = matches!(
         rec.psci,
@@ -117,11 +117,9 @@ fn rec_text(
     )
 }
 
-// The result of a step that a guest is given. An access of more bytes than one is not known.
+// The result of a step that a guest is given. A step of more than four operands is not known.
 fn guest(alloc: Global, rmm: &mut Rmm<PlainStore>, n: &[u64; MOST]) -> Result<String, AllocError> {
-    let is_wide = n[1] == 0 && n[4] != 1 || n[1] == 1 && n[3] != 1;
-    let is_long = n[6] != 0;
-    if is_wide || is_long {
+    if n[6] != 0 {
         return String::from_str(alloc, "unknown");
     }
     let step = StepWords {
@@ -141,7 +139,7 @@ fn guest(alloc: Global, rmm: &mut Rmm<PlainStore>, n: &[u64; MOST]) -> Result<St
 
 // The results of the steps of a guest since its last entry.
 fn saw(alloc: Global, rmm: &Rmm<PlainStore>, rec: u64) -> Result<String, AllocError> {
-    let Some(GranuleState::Rec(attributes)) = rmm.state(rec) else {
+    let Some(RmmGranuleState::Rec(attributes)) = rmm.state(rec) else {
         return String::from_str(alloc, "none");
     };
     let mut text = format!(in alloc; "{:x}", attributes.result_count)?;
@@ -197,7 +195,7 @@ fn result(
             None => String::from_str(alloc, "none"),
         },
         "rec" => match rmm.state(n[0]) {
-            Some(GranuleState::Rec(rec)) => rec_text(alloc, rmm, n[0], &rec),
+            Some(RmmGranuleState::Rec(rec)) => rec_text(alloc, rmm, n[0], &rec),
             _ => String::from_str(alloc, "none"),
         },
         "realm" => match realm_at(rmm, n[0]) {

@@ -1,7 +1,7 @@
 //! Platforms.
 use crate::numbers::MOST;
 use page_arena::PlainStore;
-use rmi_abi::{Layout, Platform, Settings};
+use rmi_abi::{Layout, Platform, RmmSettings};
 use rmm::Rmm;
 use rmm_granules::Granules;
 use std::alloc::Global;
@@ -12,9 +12,9 @@ fn byte(number: u64) -> u8 {
 }
 
 // The settings that the flags of a platform line decide.
-fn by_flags(settings: Settings, flags: u64) -> Settings {
+fn by_flags(settings: RmmSettings, flags: u64) -> RmmSettings {
     let is = |bit: u64| flags / bit % 2 == 1;
-    Settings {
+    RmmSettings {
         layout: if is(1) { Layout::Eac5 } else { Layout::Rel0 },
         stops_at_destroyed: is(2),
         measures_all_recs: is(4),
@@ -31,8 +31,8 @@ fn by_flags(settings: Settings, flags: u64) -> Settings {
 }
 
 // The settings of a platform line.
-fn settings(n: &[u64; MOST]) -> Settings {
-    let numbers = Settings {
+fn settings(n: &[u64; MOST]) -> RmmSettings {
+    let numbers = RmmSettings {
         base: n[0],
         aux: byte(n[2]),
         vmid_bits: byte(n[3]),
@@ -43,7 +43,7 @@ fn settings(n: &[u64; MOST]) -> Settings {
         lrs: byte(n[9]),
         secure_base: n[10],
         secure_count: (n[11] % 0x1_0000) as u16,
-        ..Settings::DEFAULT
+        ..RmmSettings::DEFAULT
     };
     by_flags(numbers, n[6])
 }

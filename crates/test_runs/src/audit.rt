@@ -1,14 +1,14 @@
 //! Reports beside histories, the lines as a run of plans prints them.
+use crate::expected::holds;
 use crate::lines::{build, replied, step, undone};
-use crate::wanted::holds;
-use build_commands::{Cmd, Refusal, Reply, Step};
+use builders::{Answer, Asked, Report, ReportLine};
 use granule_addr::{Gran, Order, PageOff};
+use host_commands::{Cmd, Refusal, Reply, Step};
 use realm_host::Kind;
 use realm_model::{Act, Event, Rmi};
 use run_program::fits;
 use std::alloc::Global;
 use std::process::Abort;
-use workers::{Answer, Asked, Line, Report};
 
 // The granule of that number, modulo 16.
 fn granule(number: u16) -> Gran {
@@ -87,7 +87,7 @@ fn fit(
     history: &[Event],
     number: u8,
     steps: &[Step],
-    lines: &[Line],
+    lines: &[ReportLine],
     want: bool,
 ) {
     let lines = lines.to_vec(alloc).expect(rt, "memory");
@@ -142,7 +142,7 @@ fn refused_build_undoes_what_it_did(rt: HostRuntime) {
 }
 
 #[test]
-fn byte_that_was_read_is_told(rt: HostRuntime) {
+fn byte_that_was_read_is_returned(rt: HostRuntime) {
     let history = three_builds();
     let offset = PageOff::new(4095).unwrap();
     let steps = [
@@ -161,7 +161,7 @@ fn byte_that_was_read_is_told(rt: HostRuntime) {
 }
 
 #[test]
-fn mark_tells_what_is_open(rt: HostRuntime) {
+fn mark_returns_what_is_open(rt: HostRuntime) {
     let history = [take(0, 0, 0), take(0, 1, 2), give_back(0, 1, 2)];
     let steps = [
         Step::Ask(Cmd::Take { order: 0 }),

@@ -1,13 +1,13 @@
 //! Devices in memory that count what is asked of them, and fail at one call.
 ghost use Rattle.std.specs.Prelude.{◌≡◌, false};
 
-use crate::wanted::{equal, holds};
+use crate::expected::{equal, holds};
+use checked_io::Told;
 use realm_program::Fault;
 use std::alloc::Global;
 use std::io;
 use std::io::{Read, Write};
 use std::process::Abort;
-use told_device::Told;
 
 // Errors after which a caller might ask again, in turn.
 fn failure(call: u64) -> io::Error {

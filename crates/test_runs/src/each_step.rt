@@ -1,12 +1,12 @@
 //! Workers over a teller that refuses each step of three plans in turn.
 use crate::threads::Plans;
 use crate::worker::{ALL, Case, done, refused, undone, works};
+use builders::{Asked, ReportLine};
 use std::alloc::Global;
 use std::process::Abort;
-use workers::{Asked, Line};
 
 // The first steps are done.
-fn done_before(rt: &impl Abort, alloc: Global, steps: usize) -> Vec<Line> {
+fn done_before(rt: &impl Abort, alloc: Global, steps: usize) -> Vec<ReportLine> {
     let mut lines = Vec::new(alloc);
     for place in 0..steps {
         lines.push(done(place)).expect(rt, "memory");

@@ -1,9 +1,9 @@
 //! Gates at which builds wait for one another, or wait in vain.
+use builders::{Gate, Stuck};
 use granule_addr::BuildId;
 use std::sync::atomic::{AtomicU64, Ordering};
 use std::thread;
 use std::time::{Clock, Duration};
-use workers::{Gate, Stuck};
 
 /// Lets a build's turn 2 pass only after the other one of two builds has asked for its turn 2.
 #[derive(Drop)]

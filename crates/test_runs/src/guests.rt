@@ -1,13 +1,12 @@
 //! Guests: builds with the same steps, each with a seat of one host.
 use crate::steps::{STEPS, steps_of};
 use crate::tellers::Refusing;
-use build_commands::Step;
-use builders::{Ledgers, Seat, SeatTeller, Shared};
+use builders::{Gate, Ledgers, Report, Seat, SeatTeller, Shared, work};
+use host_commands::Step;
 use page_arena::PageStore;
 use std::alloc::Global;
 use std::process::Abort;
 use std::sync::Wait;
-use workers::{Gate, Report, work};
 
 /// A build's seat and its steps, which of them is refused, and what came of them.
 #[derive(Drop)]

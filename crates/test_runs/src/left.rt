@@ -1,8 +1,8 @@
 //! What is left of a host of three guests.
-use crate::wanted::{holds, same_text};
+use crate::expected::{holds, same_text};
 use granule_addr::BuildId;
 use page_arena::PageStore;
-use plan_runs::map_text;
+use plan_replay::map_text;
 use realm_host::Host;
 use std::alloc::Global;
 use std::process::Abort;

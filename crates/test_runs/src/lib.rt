@@ -13,6 +13,8 @@ mod devices;
 #[cfg(test)]
 mod each_step;
 #[cfg(test)]
+mod expected;
+#[cfg(test)]
 mod gates;
 #[cfg(test)]
 mod guests;
@@ -44,7 +46,5 @@ mod threads;
 mod told;
 #[cfg(test)]
 mod turns;
-#[cfg(test)]
-mod wanted;
 #[cfg(test)]
 mod worker;

@@ -2,14 +2,14 @@
 ghost use Rattle.std.specs.Prelude.{◌≡◌, []};
 ghost use Rattle.builders.specs.Names.{AreNamed};
 
+use crate::expected::holds;
 use crate::guests::{Guest, guests_of};
 use crate::hosts::{booted, closed, started};
 use crate::left::{has_two_guests, is_without_build_1};
 use crate::reports::{is_accepted, is_refused};
 use crate::steps::STEPS;
 use crate::turns::{Turns, Waiting};
-use crate::wanted::holds;
-use builders::{Blanks, Ledgers, Seat, Shared};
+use builders::{Blanks, Gate, Ledgers, Report, Seat, Shared};
 use page_arena::{PageStore, PlainStore};
 use realm_host::Host;
 use std::alloc::Global;
@@ -19,7 +19,6 @@ use std::sync::Wait;
 use std::thread;
 use std::thread::Threads;
 use std::time::Clock;
-use workers::{Gate, Report};
 
 // The report of a guest, refused that step or none, is as it has to be.
 fn is_reported(rt: &impl Abort, alloc: Global, report: &Option<Report>, refused: Option<usize>) {

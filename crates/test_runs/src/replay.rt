@@ -80,7 +80,7 @@ fn a_write_that_fails_leaves_a_prefix_of_the_text(rt: HostRuntime) {
 }
 
 #[test]
-fn a_flush_that_fails_is_told(rt: HostRuntime) {
+fn a_flush_that_fails_is_reported(rt: HostRuntime) {
     let devices = Devices {
         most_read: 25,
         most_written: 10,

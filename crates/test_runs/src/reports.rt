@@ -1,17 +1,17 @@
 //! What the reports of guests have to be.
+use crate::expected::{equal, holds, same_lines};
 use crate::steps::{ENTER, STEPS};
-use crate::wanted::{equal, holds, same_lines};
+use builders::{Answer, Asked, Report, ReportLine};
 use granule_addr::RecNo;
 use realm_host::{Kind, Refusal, Reply, Undone};
 use realm_model::Rmi;
 use std::alloc::Global;
 use std::process::Abort;
-use workers::{Answer, Asked, Line, Report};
 
 // A place of a report has that question and that answer.
 fn line(rt: &impl Abort, report: &Report, place: usize, asked: Asked, answer: Answer) {
     let seen = report.lines.get(place).expect(rt, "a line");
-    holds(rt, "the line", *seen == Line { asked, answer });
+    holds(rt, "the line", *seen == ReportLine { asked, answer });
 }
 
 // The first steps of a report are accepted, each at its own place.
@@ -43,13 +43,13 @@ fn opened(step: usize) -> Option<Kind> {
 }
 
 // The undos of the first steps, the newest first, until nothing is open.
-fn undos_of(rt: &impl Abort, alloc: Global, steps: usize) -> Vec<Line> {
+fn undos_of(rt: &impl Abort, alloc: Global, steps: usize) -> Vec<ReportLine> {
     let mut undos = Vec::new(alloc);
     let mut left = 0u16;
     for step in 0..steps {
         if let Some(kind) = opened(step) {
             let answer = Answer::Undone(Undone { kind, left });
-            let undo = Line {
+            let undo = ReportLine {
                 asked: Asked::Undo,
                 answer,
             };

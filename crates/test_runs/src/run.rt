@@ -1,8 +1,8 @@
 //! A plan run in threads, and the text of its run, over bytes in memory, over devices that fail, and at gates.
 use crate::devices::{Devices, Outcome};
+use crate::expected::equal;
 use crate::gates::{ForBuild0, Together};
-use crate::wanted::equal;
-use builders::OpenGate;
+use builders::{Gate, OpenGate};
 use command_line::Reason;
 use granule_addr::BuildId;
 use realm_plan::PlanFault;
@@ -13,7 +13,6 @@ use std::marker::Sync;
 use std::process::Abort;
 use std::sync::Wait;
 use std::thread::Threads;
-use workers::Gate;
 
 const PLAN: &[u8] = br#"pages = 2
 [[build]]
@@ -56,7 +55,7 @@ fn each_build_reads_after_both_have_filled(rt: HostRuntime) {
 }
 
 #[test]
-fn the_lowest_build_that_waits_in_vain_is_told(rt: HostRuntime) {
+fn the_lowest_build_that_waits_in_vain_is_reported(rt: HostRuntime) {
     let fault = Fault::Stuck(BuildId::new(1).unwrap());
     equal(&rt, "the status", fault.status() as u64, 3);
     let want = Outcome::nothing(fault, 0);
@@ -64,7 +63,7 @@ fn the_lowest_build_that_waits_in_vain_is_told(rt: HostRuntime) {
 }
 
 #[test]
-fn a_plan_that_is_none_is_told(rt: HostRuntime) {
+fn a_plan_that_is_none_is_reported(rt: HostRuntime) {
     let devices = Devices::working(b"pages =");
     let want = Outcome::nothing(Fault::Plan(PlanFault::Syntax), 0);
     runs(&rt, rt.alloc(), &OpenGate, &devices, &want);

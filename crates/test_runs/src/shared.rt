@@ -2,13 +2,13 @@
 ghost use Rattle.std.specs.Prelude.{◌≡◌, []};
 ghost use Rattle.builders.specs.Names.{AreNamed};
 
+use crate::expected::{equal, holds, same_text};
 use crate::hosts;
 use crate::hosts::{booted, started};
-use crate::wanted::{equal, holds, same_text};
 use builders::{Blanks, CloseFault, Ledgers, Seat, Shared};
 use granule_addr::{BuildId, PageOff};
 use page_arena::PlainStore;
-use plan_runs::map_text;
+use plan_replay::map_text;
 use realm_host::{Cmd, Host, Kind, Refusal, Reply, Undone};
 use std::alloc::Global;
 use std::marker::Brand;

@@ -1,7 +1,7 @@
 //! The steps of a guest.
 use arrayvec::ArrayVec;
-use build_commands::{Cmd, Step};
 use granule_addr::{PageOff, RecNo};
+use host_commands::{Cmd, Step};
 
 /// How many steps a guest has.
 pub const STEPS: usize = 18;

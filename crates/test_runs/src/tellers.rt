@@ -1,12 +1,11 @@
 //! A seat whose build is refused one question.
 ghost use Rattle.std.specs.Prelude.{◌+◌, ◌*◌};
 
-use builders::{Ledgers, SeatTeller};
+use builders::{Ledgers, SeatTeller, Teller};
 use page_arena::PageStore;
 use realm_host::{Cmd, Mark, Refusal, Reply, Undone};
 use realm_model::Rmi;
 use std::sync::Wait;
-use workers::Teller;
 
 /// Passes each question on to a seat, but refuses one, counted from 0, without asking the host.
 #[derive(Drop)]

@@ -1,9 +1,9 @@
 //! The lines of refusals that no plan meets.
+use crate::expected::same_text;
 use crate::lines::build;
-use crate::wanted::same_text;
-use build_commands::{Refusal, Step};
-use plan_runs::{TurnAnswer, push_turn};
-use plan_steps::PlanStep;
+use host_commands::{Refusal, Step};
+use plan_replay::{TurnAnswer, push_turn};
+use realm_plan::PlanStep;
 use std::alloc::Global;
 use std::process::Abort;
 

@@ -3,16 +3,19 @@
 ghost use Rattle.std.specs.Prelude.{◌≡◌, [], All};
 ghost use Rattle.builders.specs.Names.{AreNamed};
 
+use crate::expected::{equal, holds, same_lines, same_text};
 use crate::gates::{ForBuild0, Together};
 use crate::hosts::{booted, closed, started};
 use crate::lines;
 use crate::lines::{replied, step};
-use crate::wanted::{equal, holds, same_lines, same_text};
-use build_commands::Step;
-use builders::{Blanks, Ledgers, OpenGate, Seat, Shared, Worker, run_builds};
+use builders::{
+    Answer, Asked, Blanks, Gate, Ledgers, OpenGate, Report, ReportLine, Seat, Shared, Worker,
+    run_builds,
+};
 use granule_addr::{BuildId, PageOff};
+use host_commands::Step;
 use page_arena::PlainStore;
-use plan_runs::map_text;
+use plan_replay::map_text;
 use realm_host::{Cmd, Host, Kind, Refusal, Reply};
 use realm_model::Rmi;
 use std::alloc::Global;
@@ -20,7 +23,6 @@ use std::marker::{Brand, Send, Sync};
 use std::process::Abort;
 use std::sync::Wait;
 use std::thread::Threads;
-use workers::{Answer, Asked, Gate, Line, Report};
 
 // What came of builds that worked side by side: the build that has not ended, the reports by build, and the map.
 #[derive(Drop)]
@@ -90,16 +92,16 @@ impl Plans {
 }
 
 // The first page of the build that was taken.
-fn taken() -> Line {
+fn taken() -> ReportLine {
     replied(0, Reply::FirstPage(0))
 }
 
-fn undone(kind: Kind, left: u16) -> Line {
+fn undone(kind: Kind, left: u16) -> ReportLine {
     lines::undone(Asked::Undo, kind, left)
 }
 
 // The report of a build has these lines.
-fn has_lines(rt: &impl Abort, outcome: &Outcome, number: u8, want: &[Line]) {
+fn has_lines(rt: &impl Abort, outcome: &Outcome, number: u8, want: &[ReportLine]) {
     let report = outcome.reports.get(number as usize).expect(rt, "a report");
     equal(rt, "the build", report.build.number() as u64, number as u64);
     same_lines(rt, report.lines.as_slice(), want);
@@ -210,7 +212,7 @@ fn is_outcome(
     rt: &impl Abort,
     outcome: &Outcome,
     ends: Result<(), BuildId>,
-    lines: &[&[Line]],
+    lines: &[&[ReportLine]],
     map: &str,
 ) {
     holds(rt, "the ends", outcome.ends == ends);

@@ -2,11 +2,11 @@
 ghost use Rattle.std.specs.Prelude.{◌≡◌, false};
 
 use crate::devices::{Sink, Source, told_sink, told_source};
-use crate::wanted::{equal, holds};
+use crate::expected::{equal, holds};
+use checked_io::Told;
 use realm_program::{ReadError, read_whole};
 use std::alloc::Global;
 use std::process::Abort;
-use told_device::Told;
 
 // A reader was asked `reads` times, and this is told.
 fn was_read(rt: &impl Abort, input: &Told<Source<'_>>, has_failed: bool, reads: u64) {

@@ -1,10 +1,10 @@
 //! A gate at which builds wait for one another.
 use crate::steps::STEPS;
+use builders::{Gate, Stuck};
 use granule_addr::BuildId;
 use std::sync::atomic::{AtomicU64, Ordering};
 use std::thread;
 use std::time::{Clock, Duration};
-use workers::{Gate, Stuck};
 
 /// Who waits for whom.
 #[derive(Clone, Copy)]

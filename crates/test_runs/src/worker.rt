@@ -1,17 +1,17 @@
 //! Workers over a teller and a gate in the place of a host.
 ghost use Rattle.std.specs.Prelude.{◌≡◌, ◌+◌, ◌*◌, ◌≤◌, [], length, vec_capacity};
 
+use crate::expected::{holds, same_lines};
 use crate::lines;
 use crate::lines::{replied, step};
-use crate::wanted::{holds, same_lines};
-use build_books::{Books, Mark};
-use build_commands::{Cmd, Refusal, Reply, Step};
+use builders::{Answer, Asked, Gate, Report, ReportLine, Stuck, Teller, work};
 use granule_addr::{BuildId, RecNo};
+use host_commands::{Cmd, Refusal, Reply, Step};
+use host_ledger::{HostLedger, Mark};
 use realm_host::{Kind, Undone};
 use std::alloc::Global;
 use std::process::Abort;
 use std::sync::atomic::{AtomicU64, Ordering};
-use workers::{Answer, Asked, Gate, Line, Report, Stuck, Teller, work};
 
 // Accepts all questions but those two, counted from 0. An undo always leaves 1.
 #[derive(Drop)]
@@ -117,29 +117,29 @@ pub(crate) const ALL: Case = Case {
 };
 
 /// A step is done.
-pub(crate) fn done(place: usize) -> Line {
+pub(crate) fn done(place: usize) -> ReportLine {
     replied(place, Reply::Done)
 }
 
 /// A delegation is undone, and the answer says that one act is left.
-pub(crate) fn undone(asked: Asked) -> Line {
+pub(crate) fn undone(asked: Asked) -> ReportLine {
     lines::undone(asked, Kind::Delegate, 1)
 }
 
-fn exited(number: u16) -> Line {
-    Line {
+fn exited(number: u16) -> ReportLine {
+    ReportLine {
         asked: Asked::Exit(RecNo::new(number)),
         answer: Answer::Replied(Reply::Done),
     }
 }
 
 /// A step is refused.
-pub(crate) fn refused(place: usize) -> Line {
+pub(crate) fn refused(place: usize) -> ReportLine {
     step(place, Answer::Refused(Refusal::HistoryFull))
 }
 
-fn undo_refused() -> Line {
-    Line {
+fn undo_refused() -> ReportLine {
+    ReportLine {
         asked: Asked::Undo,
         answer: Answer::Refused(Refusal::HistoryFull),
     }
@@ -157,9 +157,9 @@ fn enter(number: u16) -> Step {
 
 // The mark of a build that has done nothing.
 fn first_mark(rt: &impl Abort, alloc: Global) -> Mark {
-    match Books::build(alloc, 1, 1, 0, 1, 16) {
-        Ok(books) => books.mark_now(BuildId::new(0).unwrap()),
-        Err(_) => panic!(rt; "there is no memory for books"),
+    match HostLedger::build(alloc, 1, 1, 0, 1, 16) {
+        Ok(ledger) => ledger.mark_now(BuildId::new(0).unwrap()),
+        Err(_) => panic!(rt; "there is no memory for ledger"),
     }
 }
 
@@ -191,7 +191,7 @@ pub(crate) fn works(
     alloc: Global,
     case: &Case,
     steps: &[Step],
-    want: &[Line],
+    want: &[ReportLine],
     ended: bool,
 ) {
     assert!(rt; steps.len() <= 16);
@@ -232,7 +232,7 @@ fn refused_undo_ends_it(rt: HostRuntime) {
 }
 
 #[test]
-fn nothing_is_told_of_a_turn_that_does_not_come(rt: HostRuntime) {
+fn nothing_is_reported_of_a_turn_that_does_not_come(rt: HostRuntime) {
     let steps = [delegate(), delegate(), delegate()];
     let case = Case {
         refused: 2,
@@ -289,7 +289,7 @@ fn way_back_is_no_longer_than_the_journal(rt: HostRuntime) {
 }
 
 #[test]
-fn looking_back_takes_a_turn(rt: HostRuntime) {
+fn checking_back_takes_a_turn(rt: HostRuntime) {
     let steps = [delegate(), Step::Mark, delegate(), Step::Back];
     let case = Case {
         above: 2,

@@ -2,8 +2,8 @@
 ghost use Rattle.std.specs.Prelude.{◌≡◌, IsTrue};
 ghost use Rattle.page_arena.specs.Block.{IsTakenBlock};
 
+use crate::expected::{built, equal, holds};
 use crate::names::{granule, order};
-use crate::wanted::{built, equal, holds};
 use buddy::BuddyArena;
 use granule_addr::{Gran, Order};
 use page_arena::{PageStore, PlainStore};

@@ -1,8 +1,8 @@
 //! Bytes of pages, in both stores.
 ghost use Rattle.std.specs.Prelude.{◌<◌};
 
+use crate::expected::{built, equal};
 use crate::names::{granule, offset, order};
-use crate::wanted::{built, equal};
 use buddy::BuddyArena;
 use granule_addr::{Gran, PageOff};
 use page_arena::{PageStore, PlainStore};

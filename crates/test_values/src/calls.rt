@@ -1,6 +1,6 @@
 //! Calls of the host by the numbers of builds, and what they have to answer.
+use crate::expected::{equal, holds};
 use crate::hosts::build;
-use crate::wanted::{equal, holds};
 use arrayvec::ArrayVec;
 use granule_addr::Vmid;
 use page_arena::PageStore;

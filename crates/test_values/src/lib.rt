@@ -17,6 +17,8 @@ mod bytes;
 #[cfg(test)]
 mod calls;
 #[cfg(test)]
+mod expected;
+#[cfg(test)]
 mod hosts;
 #[cfg(test)]
 mod marks;
@@ -40,5 +42,3 @@ mod sizes;
 mod tables;
 #[cfg(test)]
 mod visits;
-#[cfg(test)]
-mod wanted;

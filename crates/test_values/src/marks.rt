@@ -1,7 +1,7 @@
 //! Marks: how far back a build can go, and what it is refused.
 use crate::calls;
+use crate::expected::holds;
 use crate::hosts::{arena, build, plain};
-use crate::wanted::holds;
 use page_arena::PageStore;
 use realm_host::{Cmd, Host, Kind, Mark, Refusal, Reply};
 use realm_model::GranuleState;

@@ -1,5 +1,5 @@
 //! The bytes by which an event is measured.
-use crate::wanted::holds;
+use crate::expected::holds;
 use granule_addr::{IpaGran, RecNo};
 use realm_objects::{data_event, rec_event, ripas_event};
 

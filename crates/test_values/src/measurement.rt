@@ -1,7 +1,7 @@
 //! The measurement of a realm, which no plan prints.
 use crate::calls;
+use crate::expected::holds;
 use crate::hosts::{arena, build, plain};
-use crate::wanted::holds;
 use granule_addr::RecNo;
 use page_arena::PageStore;
 use realm_host::{Host, Kind, Reply};

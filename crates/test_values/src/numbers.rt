@@ -1,6 +1,6 @@
 //! Numbers of a machine, and the words of results and of table entries, by rows that are worked out by hand.
+use crate::expected::{equal, holds};
 use crate::names::granule;
-use crate::wanted::{equal, holds};
 use granule_addr::{
     BuildId, Gran, IpaGran, IpaWidth, Level, Order, PageOff, Vmid, align_down, buddy_of, index_at,
     is_protected, start_table,

@@ -1,8 +1,8 @@
 //! What is read of granules, of a realm with its REC and its rows, and of what a build has open.
 use crate::calls;
+use crate::expected::{equal, holds};
 use crate::hosts::{arena, build, plain};
 use crate::names::granule;
-use crate::wanted::{equal, holds};
 use realm_host::{
     Act, Cmd, Entry, Gran, GranuleState, GranuleView, Host, IpaGran, Kind, Level, Order, PageStore,
     RecNo, RecState, Reply, Ripas, RowView,

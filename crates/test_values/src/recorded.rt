@@ -1,7 +1,7 @@
 //! Recorded events, applied to another host.
 use crate::calls;
+use crate::expected::holds;
 use crate::hosts::{arena, build, plain};
-use crate::wanted::holds;
 use granule_addr::{Gran, Order};
 use page_arena::PageStore;
 use realm_host::Host;

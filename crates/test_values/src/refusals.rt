@@ -1,7 +1,7 @@
 //! Refusals that no plan meets, and how refusals are told.
 use crate::calls;
+use crate::expected::holds;
 use crate::hosts::{arena, build, plain};
-use crate::wanted::holds;
 use granule_addr::Order;
 use page_arena::PageStore;
 use realm_host::{Cmd, Host, Refusal, Settings};
@@ -47,7 +47,7 @@ fn is_told(rt: &impl Abort, alloc: Global, refusal: Refusal, text: &str) {
 }
 
 #[test]
-fn refusals_before_the_journal_are_told(rt: HostRuntime) {
+fn refusals_before_the_journal_are_reported(rt: HostRuntime) {
     is_told(&rt, rt.alloc(), Refusal::NoBuild, "there is no such build");
     is_told(
         &rt,
@@ -83,7 +83,7 @@ fn refusals_before_the_journal_are_told(rt: HostRuntime) {
 }
 
 #[test]
-fn refusals_of_room_and_of_the_monitor_are_told(rt: HostRuntime) {
+fn refusals_of_room_and_of_the_monitor_are_reported(rt: HostRuntime) {
     let order = Order::new(9).unwrap();
     let rtt = Rmi {
         status: Status::Rtt,

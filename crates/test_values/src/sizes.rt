@@ -1,5 +1,5 @@
 //! How many pages a store can have.
-use crate::wanted::{built, equal, holds};
+use crate::expected::{built, equal, holds};
 use buddy::BuddyArena;
 use page_arena::{BuildError, PageStore, PlainStore};
 use std::marker::Send;

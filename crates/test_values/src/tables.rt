@@ -3,8 +3,8 @@ ghost use Rattle.std.specs.Prelude.{◌≡◌, true, length, replicate};
 ghost use Rattle.granule_addr.specs.Page.{zero_page};
 ghost use Rattle.rmi_monitor.specs.View.{IsTaken};
 
+use crate::expected::{equal, holds};
 use crate::names::granule;
-use crate::wanted::{equal, holds};
 use buddy::BuddyArena;
 use granule_addr::{Gran, Order, Vmid};
 use page_arena::{PageStore, PlainStore};

@@ -1,6 +1,6 @@
 //! How many orders a call of the arena looks at.
+use crate::expected::{built, equal, holds};
 use crate::names::order;
-use crate::wanted::{built, equal, holds};
 use buddy::BuddyArena;
 use page_arena::PageStore;
 use std::process::Abort;

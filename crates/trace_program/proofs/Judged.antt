@@ -5,7 +5,7 @@ use Rattle.std.proofs.Math.Nat.{eq-zero-or-pos}
 use Rattle.std.specs.Prelude.{Result, Ok, Err, IfOk}
 use Rattle.std.specs.Io.KnownBytes.{Consumes, IsAtEnd}
 use Rattle.trace_program.specs.Session.{Now}
-use Rattle.told_device.specs.Lines.{lines_in}
+use Rattle.checked_io.specs.Lines.{lines_in}
 use Rattle.trace_program.specs.Input.{kept_of_line}
 use Rattle.trace_program.specs.Verdict.{has_answer, is_only_performed, answers_in, performed_in, agreement_text, LineDiffers, AreAgreed, AllAgree, LastDiffers, IsTraceJudged}
 use Rattle.trace_program.specs.Checking.{CountsLine, IsAgreedSoFar, IsAgreedUnderway, StopsAtFeed}
@@ -15,7 +15,7 @@ use Rattle.trace_program.specs.declared.checking.Verdict.TheVariants.{Agree, NoA
 use Rattle.trace_program.proofs.LinesRead.{lines_are_all, rest_is_last}
 use Rattle.trace_program.proofs.Underway.{consumes_keeps, consumes_nothing}
 use Rattle.trace_program.proofs.Agreed.{agreed_none, kept_agreed, kept_count, kept_differs}
-use Rattle.told_device.proofs.Read.{consumes_none, consumes_more}
+use Rattle.checked_io.proofs.Read.{consumes_none, consumes_more}
 
 -- ---- reads
 

@@ -1,6 +1,6 @@
 -- The lines of what was read, one byte after another.
 use Rattle.std.proofs.Common.{◌≡◌, ℕ, ◌<◌, ◌==◌, true, false, List, [], ◌∷◌, ◌++◌, length, refl, sym, ◌∙◌}
-use Rattle.told_device.specs.Lines.{lines_in}
+use Rattle.checked_io.specs.Lines.{lines_in}
 use Rattle.trace_program.specs.Input.{kept_of_line, AreLinesRead}
 use Rattle.trace_program.proofs.Kept.{kept_none, none_kept, some_kept}
 use Rattle.trace_program.proofs.Parts.{cut_feed, cut_more, lines_without, lines_with}

@@ -3,7 +3,7 @@ use Rattle.std.proofs.Common.{◌≡◌, ℕ, ◌<◌, ◌==◌, Bool, true, fal
 use mathlib.Core.List.{append-nil}
 use Rattle.std.specs.List.{onto_first}
 use Rattle.std.proofs.lemmas.List.Splits.{length-slice_split}
-use Rattle.told_device.specs.Lines.{parts_of, last_line, without_empty_last, lines_in}
+use Rattle.checked_io.specs.Lines.{parts_of, last_line, without_empty_last, lines_in}
 
 -- the last part with one byte more
 abbrev onto_last : ℕ → List (List ℕ) → List (List ℕ)

@@ -2,10 +2,10 @@
 use Rattle.std.proofs.Common.{◌≡◌, ℕ, ◌<◌, ◌==◌, true, false, List, [], ◌∷◌, ◌++◌, length, map, get_or, take, Option, None, refl, sym, ap, ◌∙◌, append_assoc, ◌⊎◌, inl, inr}
 use mathlib.Core.List.{append-nil}
 use Rattle.std.specs.Io.KnownBytes.{Appends, Keeps}
-use Rattle.told_device.specs.Whole.{AppendsFront}
-use Rattle.told_device.proofs.Written.{appends_none, appends_more, appends_keeps}
-use Rattle.trace_program.specs.Session.{Now, IsLineTold, IsSession}
-use Rattle.told_device.specs.Lines.{last_line}
+use Rattle.checked_io.specs.Whole.{AppendsFront}
+use Rattle.checked_io.proofs.Written.{appends_none, appends_more, appends_keeps}
+use Rattle.trace_program.specs.Session.{Now, IsLineReported, IsSession}
+use Rattle.checked_io.specs.Lines.{last_line}
 use Rattle.trace_program.specs.Input.{kept_of_line, IsCutShort}
 use Rattle.trace_program.specs.Answering.{IsSoFar, Writes, WritesFront}
 use Rattle.trace_program.proofs.LinesRead.{none_read, byte_read, feed_read}
@@ -17,7 +17,7 @@ pub so_far_none : (old : Option (List ℕ)) → IsSoFar old old [] None []
 so_far_none old = record { parts = none_read; text = []; session = (refl, refl); written = appends_none old }
 
 -- a line ends, and is answered
-pub session_more : (old new : Option (List ℕ)) (read : List ℕ) (bench : Now) (line : List ℕ) (s : IsSoFar old new read bench line) (told : List ℕ) (after : Now) → IsLineTold bench line told after
+pub session_more : (old new : Option (List ℕ)) (read : List ℕ) (bench : Now) (line : List ℕ) (s : IsSoFar old new read bench line) (told : List ℕ) (after : Now) → IsLineReported bench line told after
     → IsSession None (map kept_of_line (s.parts.lines ++ s.parts.rest ∷ [])) (s.text ++ told) after
 session_more old new read bench line s told after is = kept_session_more None s.parts.lines s.parts.rest line s.text told bench after s.session s.parts.is_kept is
 

@@ -2,8 +2,8 @@
 use Rattle.std.proofs.Common.{◌≡◌, ℕ, ◌<◌, List, [], ◌∷◌, ◌++◌, length, map, Option, Some, None, sym, ap, ◌∙◌, subst, ◌⊎◌, inl, inr}
 use mathlib.Core.List.{append-nil}
 use Rattle.std.specs.Io.KnownBytes.{Keeps, Consumes, IsAtEnd}
-use Rattle.told_device.proofs.Written.{appends_more}
-use Rattle.told_device.proofs.Read.{consumes_none, consumes_more, keeps_same}
+use Rattle.checked_io.proofs.Written.{appends_more}
+use Rattle.checked_io.proofs.Read.{consumes_none, consumes_more, keeps_same}
 use Rattle.trace_program.specs.Session.{Now, IsSession}
 use Rattle.trace_program.specs.Input.{kept_of_line, AreLinesAnswered, IsCutShort, AreAnswersCutShort}
 use Rattle.trace_program.specs.Answering.{IsSoFar, IsUnderway, Writes, WritesFront}

@@ -10,7 +10,7 @@ use Rattle.realm_model.specs.Command.Rec.{rec_create}
 use Rattle.realm_model.proofs.Outcomes.{Yields, Yields-check, Yields-with_realm}
 use Rattle.rmi_monitor.specs.View.{MonitorView, Answers, after_command, seen_in}
 use Rattle.rmi_bench.specs.Calls.{naming, numbered, Does}
-use Rattle.rmi_trace.specs.declared.answer.Answer.TheVariants as answer
+use Rattle.rmi_trace.specs.declared.answer.TraceAnswer.TheVariants as answer
 use Rattle.rmi_trace.specs.declared.request.Command.TheVariants.{HostPeek, RecCreate}
 use Rattle.trace_program.specs.Commands.{command_outcome, answer_with, answer_to, next_rec_number}
 

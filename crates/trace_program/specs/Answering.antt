@@ -1,8 +1,8 @@
 -- What has been read and written so far.
 use Rattle.std.specs.Prelude.{ℕ, Bool, true, false, List, map, Option, None}
 use Rattle.std.specs.Io.KnownBytes.{Appends, Consumes}
-use Rattle.told_device.specs.Whole.{AppendsFront}
-use Rattle.trace_program.specs.Session.{Now, IsLineTold, IsSession}
+use Rattle.checked_io.specs.Whole.{AppendsFront}
+use Rattle.trace_program.specs.Session.{Now, IsLineReported, IsSession}
 use Rattle.trace_program.specs.Input.{kept_of_line, AreLinesRead, AreLinesAnswered}
 
 -- The lines of what was read are answered.
@@ -15,14 +15,14 @@ pub record IsSoFar (old new : Option (List ℕ)) (read : List ℕ) (bench : Now)
 -- the answer to a line was written
 pub record Writes (old new : Option (List ℕ)) (before : Now) (line : List ℕ) (after : Now) : Type 0 where
   pub told : List ℕ
-  pub is_told : IsLineTold before line told after
+  pub is_told : IsLineReported before line told after
   pub written : Appends old new told
 
 -- a prefix of the answer to a line was written
 pub record WritesFront (old new : Option (List ℕ)) (before : Now) (line : List ℕ) : Type 0 where
   pub after : Now
   pub told : List ℕ
-  pub is_told : IsLineTold before line told after
+  pub is_told : IsLineReported before line told after
   pub written : AppendsFront old new told
 
 -- the same, of what the reader gave

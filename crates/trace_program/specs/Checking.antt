@@ -2,7 +2,7 @@
 use Rattle.std.specs.Prelude.{◌≡◌, ℕ, ◌+◌, List, [], ◌∷◌, ◌++◌, length, map, Option, None}
 use Rattle.std.specs.Io.KnownBytes.{Consumes}
 use Rattle.trace_program.specs.Session.{Now}
-use Rattle.told_device.specs.Lines.{lines_in}
+use Rattle.checked_io.specs.Lines.{lines_in}
 use Rattle.trace_program.specs.Input.{kept_of_line, AreLinesRead}
 use Rattle.trace_program.specs.Verdict.{IsAgreed, AreAgreed, answers_in, performed_in, EndsWithFeed, LastDiffers}
 use Rattle.trace_program.specs.declared.checking.Counts.{Counts}

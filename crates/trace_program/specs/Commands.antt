@@ -11,8 +11,8 @@ use Rattle.realm_model.specs.Command.Data.{data_create, data_create_unknown, dat
 use Rattle.realm_model.specs.Command.Rec.{rec_create, rec_enter, rec_exit, rec_destroy, guest_write}
 use Rattle.rmi_monitor.specs.View.{MonitorView, seen_in, make_realm}
 use Rattle.rmi_bench.specs.Calls.{naming, on_rec, numbered}
-use Rattle.rmi_trace.specs.declared.answer.Answer.{Answer}
-use Rattle.rmi_trace.specs.declared.answer.Answer.TheVariants as answer
+use Rattle.rmi_trace.specs.declared.answer.TraceAnswer.{TraceAnswer}
+use Rattle.rmi_trace.specs.declared.answer.TraceAnswer.TheVariants as answer
 use Rattle.rmi_trace.specs.declared.request.Command.{Command}
 use Rattle.rmi_trace.specs.declared.request.Command.TheVariants.{GranuleDelegate, GranuleUndelegate, HostFill, HostPeek, RealmCreate, RealmActivate}
 use Rattle.rmi_trace.specs.declared.request.Command.TheVariants.{RealmDestroy, RttCreate, RttDestroy, RttInitRipas, DataCreate, DataCreateUnknown}
@@ -53,11 +53,11 @@ value_of (RecCreate rd granule auxiliaries) m = Some (next_rec_number m rd)
 value_of _ m = None
 
 -- RMI_SUCCESS with the value, if there is one, or the result word of a refusal. RMM 1.0, RMI command return codes.
-abbrev pub answer_with : Option ℕ → Outcome → Answer
+abbrev pub answer_with : Option ℕ → Outcome → TraceAnswer
 answer_with (Some value) (Ok updates) = answer.Value value
 answer_with None (Ok updates) = answer.ResultWord 0
 answer_with value (Err refusal) = answer.ResultWord (result_word refusal)
 
 -- what is answered to the command
-abbrev pub answer_to : Command → MonitorView → Answer
+abbrev pub answer_to : Command → MonitorView → TraceAnswer
 answer_to command m = answer_with (value_of command m) (command_outcome command m)

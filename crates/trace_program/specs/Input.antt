@@ -1,8 +1,8 @@
 -- Lines of an input, and their answers.
 use Rattle.std.specs.Prelude.{◌≡◌, ℕ, List, [], ◌∷◌, ◌++◌, map, take, Option, None}
 use Rattle.std.specs.Io.KnownBytes.{Consumes, IsAtEnd, Appends}
-use Rattle.told_device.specs.Lines.{parts_of, lines_in}
-use Rattle.told_device.specs.Whole.{AppendsFront}
+use Rattle.checked_io.specs.Lines.{parts_of, lines_in}
+use Rattle.checked_io.specs.Whole.{AppendsFront}
 use Rattle.trace_program.specs.Session.{Now, IsSession}
 
 -- What is kept of a line: one byte more than a line that is read may have, which is enough to see that it is too long.

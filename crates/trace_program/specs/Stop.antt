@@ -5,10 +5,10 @@ use Rattle.command_line.specs.declared.ended.Ended.{Ended}
 use Rattle.command_line.specs.declared.stop.Stop.{Stop}
 use Rattle.trace_program.specs.declared.checking.Verdict.{Verdict}
 use Rattle.trace_program.specs.declared.checking.Verdict.TheVariants.{Agree, NoAnswers, Differ}
-use Rattle.trace_program.specs.declared.fault.Fault.{Fault}
-use Rattle.trace_program.specs.declared.fault.Fault.TheVariants.{Memory, Device}
+use Rattle.trace_program.specs.declared.fault.TraceError.{TraceError}
+use Rattle.trace_program.specs.declared.fault.TraceError.TheVariants.{Memory, Device}
 
-abbrev pub trace_status_of : Fault → ℕ
+abbrev pub trace_status_of : TraceError → ℕ
 trace_status_of Memory = 3
 trace_status_of Device = 5
 
@@ -18,7 +18,7 @@ trace_verdict_status Agree = 0
 trace_verdict_status NoAnswers = 1
 trace_verdict_status Differ = 1
 
-abbrev pub trace_exit_status : Result (Ended Verdict) (Stop Fault) → ℕ
+abbrev pub trace_exit_status : Result (Ended Verdict) (Stop TraceError) → ℕ
 trace_exit_status outcome = status_of_end trace_verdict_status trace_status_of outcome
 
 -- the statuses of a program that stops

@@ -2,16 +2,16 @@
 -- is no command says so.
 use Rattle.std.specs.Prelude.{◌≡◌, ℕ, ◌+◌, ◌<◌, ◌&&◌, Bool, true, false, List, [], ◌∷◌, ◌++◌, codes, decimal, length, map, filter, is_some, is_none, Option, Some, None, ◌⊎◌}
 use Rattle.std.specs.Io.KnownBytes.{Consumes, IsAtEnd, Appends}
-use Rattle.told_device.specs.Whole.{AppendsFront}
+use Rattle.checked_io.specs.Whole.{AppendsFront}
 use Rattle.rmi_trace.specs.Answers.{repeated_line, trace_answer_text}
 use Rattle.rmi_trace.specs.Lines.{text_of, answer_in, line_of_trace}
-use Rattle.rmi_trace.specs.declared.answer.Answer.{Answer}
-use Rattle.rmi_trace.specs.declared.answer.Answer.TheVariants.{NoCommand}
-use Rattle.rmi_trace.specs.declared.line.Line.{Line}
-use Rattle.rmi_trace.specs.declared.line.Line.TheVariants as line
+use Rattle.rmi_trace.specs.declared.answer.TraceAnswer.{TraceAnswer}
+use Rattle.rmi_trace.specs.declared.answer.TraceAnswer.TheVariants.{NoCommand}
+use Rattle.rmi_trace.specs.declared.line.TraceLine.{TraceLine}
+use Rattle.rmi_trace.specs.declared.line.TraceLine.TheVariants as line
 use Rattle.rmi_trace.specs.declared.request.Request.TheVariants.{Command, Reading}
 use Rattle.trace_program.specs.Session.{Now, IsTraceAnswer, written_with}
-use Rattle.told_device.specs.Lines.{lines_in}
+use Rattle.checked_io.specs.Lines.{lines_in}
 use Rattle.trace_program.specs.Input.{kept_of_line}
 use Rattle.trace_program.specs.declared.checking.Verdict.{Verdict}
 use Rattle.trace_program.specs.declared.checking.Verdict.TheVariants.{Agree, NoAnswers, Differ}
@@ -19,7 +19,7 @@ use Rattle.trace_program.specs.declared.checking.Verdict.TheVariants.{Agree, NoA
 -- ---- one line
 
 -- the answer that a line has; a remark has none
-abbrev pub stated_with : List ℕ → Line → Option (List ℕ)
+abbrev pub stated_with : List ℕ → TraceLine → Option (List ℕ)
 stated_with bytes line.Remark = None
 stated_with bytes _ = answer_in (text_of bytes)
 
@@ -29,7 +29,7 @@ stated_in bytes = stated_with bytes (line_of_trace bytes)
 abbrev pub has_answer : List ℕ → Bool
 has_answer bytes = is_some (stated_in bytes)
 
-abbrev pub is_command_or_reading : Line → Bool
+abbrev pub is_command_or_reading : TraceLine → Bool
 is_command_or_reading (line.Request (Command c)) = true
 is_command_or_reading (line.Request (Reading r)) = true
 is_command_or_reading _ = false
@@ -40,37 +40,37 @@ is_only_performed bytes = is_command_or_reading (line_of_trace bytes) && is_none
 
 -- A line that is answered `no command` has to say so. Any other line may be without an answer; if it has one, it is the
 -- one that the rules give.
-abbrev pub IsRight : Option (List ℕ) → Option Answer → Type 0
+abbrev pub IsRight : Option (List ℕ) → Option TraceAnswer → Type 0
 IsRight None given = ¬ (given ≡ Some NoCommand)
 IsRight (Some stated) None = ⊥
 IsRight (Some stated) (Some a) = stated ≡ trace_answer_text a
 
 -- the line is performed, and it is right
 pub record IsAgreed (old : Now) (bytes : List ℕ) (new : Now) : Type 0 where
-  pub given : Option Answer
+  pub given : Option TraceAnswer
   pub answer : IsTraceAnswer (line_of_trace bytes) old given new
   pub right : IsRight (stated_in bytes) given
 
 -- where the line is no command, words may follow that help; else nothing follows
-abbrev pub IsHint : Option Answer → List ℕ → Type 0
+abbrev pub IsHint : Option TraceAnswer → List ℕ → Type 0
 IsHint (Some NoCommand) hint = Unit {0}
 IsHint given hint = hint ≡ []
 
 -- a hint is added to a text
-pub record AddsHint (given : Option Answer) (old new : List ℕ) : Type 0 where
+pub record AddsHint (given : Option TraceAnswer) (old new : List ℕ) : Type 0 where
   pub hint : List ℕ
   pub is_hint : IsHint given hint
   pub added : new ≡ old ++ hint
 
 -- what is said of a line that is wrong: its number, the line, the line as it is answered, and a hint
-abbrev pub IsDifference : ℕ → List ℕ → Line → Option Answer → List ℕ → Type 0
+abbrev pub IsDifference : ℕ → List ℕ → TraceLine → Option TraceAnswer → List ℕ → Type 0
 IsDifference number bytes line given text =
     AddsHint given (codes "line " ++ repeated_line (decimal number) ++ repeated_line bytes ++ written_with bytes line given) text
 
 -- The line is performed, and it is wrong.
 pub record LineDiffers (old : Now) (number : ℕ) (bytes text : List ℕ) : Type 0 where
   pub new : Now
-  pub given : Option Answer
+  pub given : Option TraceAnswer
   pub answer : IsTraceAnswer (line_of_trace bytes) old given new
   pub wrong : ¬ IsRight (stated_in bytes) given
   pub told : IsDifference number bytes (line_of_trace bytes) given text

@@ -3,13 +3,13 @@ ghost use Rattle.std.specs.Prelude.{◌≡◌, ◌≤◌, ◌+◌, ◌-◌, ◌^
 ghost use Rattle.std.specs.Io.KnownBytes.{Keeps, IsAtEnd};
 ghost use Rattle.trace_program.specs.Answering.{IsSoFar, IsUnderway, AnsweringGoesOn, Writes, WritesFront};
 ghost use Rattle.trace_program.specs.Input.{kept_of_line, AreLinesAnswered, IsCutShort, AreAnswersCutShort};
-ghost use Rattle.trace_program.specs.declared.fault.Fault.TheVariants.{Device};
+ghost use Rattle.trace_program.specs.declared.fault.TraceError.TheVariants.{Device};
 
-use crate::{Fault, Session};
+use crate::{Session, TraceError};
+use checked_io::Told;
 use rmi_trace::MOST_LINE;
 use std::alloc::{AllocError, Global};
 use std::io::{Read, Write};
-use told_device::Told;
 
 // What is kept of a line: one byte more than a line that is read may have.
 const KEPT: usize = MOST_LINE + 1;
@@ -34,7 +34,7 @@ struct Answering {
 
 impl Answering {
     // Ends the line, and writes it with its answer.
-    fn end_line<W: Write>(&mut self, alloc: Global, output: &mut Told<W>) -> Result<(), Fault>
+    fn end_line<W: Write>(&mut self, alloc: Global, output: &mut Told<W>) -> Result<(), TraceError>
         requires { output.old.failed ≡ false }
         ensures ok { OnOk result (Writes (W.contents output.old.device) (W.contents output.new.device)
             self.old.session.bench self.old.line.items self.new.session.bench) }
@@ -57,7 +57,7 @@ impl Answering {
         alloc: Global,
         byte: u8,
         output: &mut Told<W>,
-    ) -> Result<(), Fault>
+    ) -> Result<(), TraceError>
         requires { output.old.failed ≡ false }
         ensures ok { (start : Option (List ℕ)) (read : List ℕ) → IsSoFar start (W.contents output.old.device) read self.old.session.bench self.old.line.items
             → OnOk result (IsSoFar start (W.contents output.new.device) (read ++ byte ∷ []) self.new.session.bench self.new.line.items) }
@@ -80,7 +80,7 @@ impl Answering {
         alloc: Global,
         part: &[u8],
         output: &mut Told<W>,
-    ) -> Result<(), Fault>
+    ) -> Result<(), TraceError>
         requires { output.old.failed ≡ false }
         ensures ok { (start : Option (List ℕ)) (read : List ℕ) → IsSoFar start (W.contents output.old.device) read self.old.session.bench self.old.line.items
             → OnOk result (IsSoFar start (W.contents output.new.device) (read ++ part.now) self.new.session.bench self.new.line.items) }
@@ -96,7 +96,7 @@ impl Answering {
     }
 
     // Ends the last line, which has no line feed, unless it is empty.
-    fn end<W: Write>(&mut self, alloc: Global, output: &mut Told<W>) -> Result<(), Fault>
+    fn end<W: Write>(&mut self, alloc: Global, output: &mut Told<W>) -> Result<(), TraceError>
         requires { output.old.failed ≡ false }
         ensures ok { (input left start : Option (List ℕ)) → IsUnderway input left start (W.contents output.old.device) self.old.session.bench self.old.line.items
             → IsAtEnd left → OnOk result (AreLinesAnswered input left start (W.contents output.new.device)) }
@@ -119,7 +119,7 @@ impl Answering {
         input: &mut Told<R>,
         buf: &mut [u8; 4096],
         output: &mut Told<W>,
-    ) -> Result<bool, Fault>
+    ) -> Result<bool, TraceError>
         requires readable { input.old.failed ≡ false }
         requires writable { output.old.failed ≡ false }
         ensures ok { (begin start : Option (List ℕ)) → IsUnderway begin (R.remaining input.old.device) start (W.contents output.old.device) self.old.session.bench self.old.line.items
@@ -149,7 +149,7 @@ pub fn answer<R: Read, W: Write>(
     alloc: Global,
     input: &mut Told<R>,
     output: &mut Told<W>,
-) -> Result<(), Fault>
+) -> Result<(), TraceError>
     requires readable { input.old.failed ≡ false }
     requires writable { output.old.failed ≡ false }
     ensures ok { OnOk result (AreLinesAnswered (R.remaining input.old.device) (R.remaining input.new.device)
@@ -171,5 +171,5 @@ pub fn answer<R: Read, W: Write>(
             return Ok(());
         }
     }
-    Err(Fault::Device)
+    Err(TraceError::Device)
 }

@@ -6,16 +6,16 @@ ghost use Rattle.rmi_trace.specs.Answers.{repeated_line};
 ghost use Rattle.trace_program.specs.Session.{written_with};
 ghost use Rattle.trace_program.specs.Verdict.{stated_with, IsDifference, IsHint, IsRight, is_command_or_reading, agreement_text, LineDiffers, IsTraceJudged, IsChecked, IsCheckedInPart};
 ghost use Rattle.trace_program.specs.Checking.{CountsLine, IsAgreedSoFar, IsAgreedUnderway, StopsAtFeed};
-ghost use Rattle.trace_program.specs.declared.fault.Fault.TheVariants.{Memory, Device};
+ghost use Rattle.trace_program.specs.declared.fault.TraceError.TheVariants.{Memory, Device};
 ghost use Rattle.trace_program.specs.declared.checking.Verdict.TheVariants.{Agree, NoAnswers};
 
 use crate::answering::keep;
 use crate::session::push_told;
-use crate::{Fault, Session};
-use rmi_trace::{Answer, Line, Request, cut_answer, nearest_word, parse, push_line};
+use crate::{Session, TraceError};
+use checked_io::Told;
+use rmi_trace::{Request, TraceAnswer, TraceLine, cut_answer, nearest_word, parse, push_line};
 use std::alloc::{AllocError, Global};
 use std::io::{Read, Write};
-use told_device::Told;
 
 /// Whether the lines of a trace are right: each has the answer of the rules, or none, and a line that is answered `no
 /// command` says so.
@@ -37,33 +37,33 @@ struct Judged {
 }
 
 // The answer that stands in a line.
-fn stated<'a>(bytes: &'a [u8], line: &Line) -> Option<&'a [u8]>
+fn stated<'a>(bytes: &'a [u8], line: &TraceLine) -> Option<&'a [u8]>
     ensures { option_copied result ≡ stated_with bytes.now line.now }
 {
     match line {
-        Line::Remark => None,
+        TraceLine::Remark => None,
         _ => cut_answer(bytes).1,
     }
 }
 
 // Whether a line with the stated answer, or with none, is right where the answer `given` is given.
-fn is_right(stated: Option<&[u8]>, given: &Option<Answer>) -> bool
+fn is_right(stated: Option<&[u8]>, given: &Option<TraceAnswer>) -> bool
     ensures { IsTrue result ↔ IsRight (option_copied stated.entry) given.now }
 {
     match (stated, given) {
-        (None, Some(Answer::NoCommand)) => false,
+        (None, Some(TraceAnswer::NoCommand)) => false,
         (None, _) => true,
         (Some(stated), Some(answer)) => stated == answer.text().as_slice(),
         (Some(_), None) => false,
     }
 }
 
-fn is_command_or_reading(line: &Line) -> bool
+fn is_command_or_reading(line: &TraceLine) -> bool
     ensures { result ≡ is_command_or_reading line.now }
 {
     matches!(
         line,
-        Line::Request(Request::Command(_) | Request::Reading(_))
+        TraceLine::Request(Request::Command(_) | Request::Reading(_))
     )
 }
 
@@ -102,11 +102,11 @@ fn agreement(alloc: Global, counts: Counts) -> Result<Judged, AllocError>
 }
 
 // The line of a word that was probably meant, where the line is no command.
-fn hint_of(alloc: Global, bytes: &[u8], given: &Option<Answer>) -> Result<Vec<u8>, AllocError>
+fn hint_of(alloc: Global, bytes: &[u8], given: &Option<TraceAnswer>) -> Result<Vec<u8>, AllocError>
     ensures { IfOk result (λ hint. IsHint given.now hint.items) }
 {
     let mut hint = Vec::new(alloc);
-    let Some(Answer::NoCommand) = given else {
+    let Some(TraceAnswer::NoCommand) = given else {
         return Ok(hint);
     };
     if let Some(word) = nearest_word(alloc, bytes)? {
@@ -122,8 +122,8 @@ fn difference(
     alloc: Global,
     number: u128,
     bytes: &[u8],
-    line: &Line,
-    given: &Option<Answer>,
+    line: &TraceLine,
+    given: &Option<TraceAnswer>,
 ) -> Result<Vec<u8>, AllocError>
     ensures { IfOk result (λ text. IsDifference number bytes.now line.now given.now text.items) }
 {
@@ -234,7 +234,7 @@ impl Checking {
         alloc: Global,
         input: &mut Told<R>,
         buf: &mut [u8; 4096],
-    ) -> Result<Option<Judged>, Fault>
+    ) -> Result<Option<Judged>, TraceError>
         requires readable { input.old.failed ≡ false }
         requires few { self.old.counts.answers + self.old.counts.performed ≤ self.old.counts.lines }
         requires room { self.old.counts.lines + 4096 < 2 ^ 100 }
@@ -262,7 +262,7 @@ impl Checking {
 }
 
 // Reads the lines of a trace, up to the first that is wrong, or to their end.
-fn judge<R: Read>(alloc: Global, input: &mut Told<R>) -> Result<Judged, Fault>
+fn judge<R: Read>(alloc: Global, input: &mut Told<R>) -> Result<Judged, TraceError>
     requires { input.old.failed ≡ false }
     ensures judged { IfOk result (λ judged. IsTraceJudged (R.remaining input.old.device) (R.remaining input.new.device) judged.verdict judged.text.items) }
     ensures failed { (input.new.failed ≡ true) → result ≡ Err Device }
@@ -283,7 +283,7 @@ fn judge<R: Read>(alloc: Global, input: &mut Told<R>) -> Result<Judged, Fault>
             return Ok(judged);
         }
     }
-    Err(Fault::Device)
+    Err(TraceError::Device)
 }
 
 /// Reads the lines of a trace, and writes whether they are right: a line has the answer of the rules, or none; and one that
@@ -299,7 +299,7 @@ pub fn check<R: Read, W: Write>(
     alloc: Global,
     input: &mut Told<R>,
     output: &mut Told<W>,
-) -> Result<Verdict, Fault>
+) -> Result<Verdict, TraceError>
     requires readable { input.old.failed ≡ false }
     requires writable { output.old.failed ≡ false }
     ensures ok { IfOk result (λ verdict. IsChecked (R.remaining input.old.device) (R.remaining input.new.device)

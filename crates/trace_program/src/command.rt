@@ -6,20 +6,20 @@ ghost use Rattle.trace_program.specs.Commands.{command_outcome, answer_with, ans
 
 use realm_model::Rmi;
 use rmi_bench::Bench;
-use rmi_trace::{Answer, Command};
+use rmi_trace::{Command, TraceAnswer};
 
 // The answer to a command that gives no value.
-fn told(call: Result<(), Rmi>) -> Answer
+fn told(call: Result<(), Rmi>) -> TraceAnswer
     ensures { (outcome : Outcome) → Answers call outcome → result ≡ answer_with None outcome }
 {
     match call {
-        Ok(()) => Answer::ResultWord(0),
-        Err(refusal) => Answer::ResultWord(refusal.word()),
+        Ok(()) => TraceAnswer::ResultWord(0),
+        Err(refusal) => TraceAnswer::ResultWord(refusal.word()),
     }
 }
 
 /// Performs a command on the bench, and gives its answer.
-pub fn perform(bench: &mut Bench, command: &Command) -> Answer
+pub fn perform(bench: &mut Bench, command: &Command) -> TraceAnswer
     ensures answer { result ≡ answer_to command.now bench.old }
     ensures machine { bench.new ≡ after_command (command_outcome command.now bench.old) bench.old }
 {
@@ -28,8 +28,8 @@ pub fn perform(bench: &mut Bench, command: &Command) -> Answer
         Command::GranuleUndelegate { granule } => told(bench.granule_undelegate(*granule)),
         Command::HostFill { granule, value } => told(bench.host_fill(*granule, *value)),
         Command::HostPeek { granule, offset } => match bench.host_peek(*granule, *offset) {
-            Ok(byte) => Answer::Value(u16::from(byte)),
-            Err(refusal) => Answer::ResultWord(refusal.word()),
+            Ok(byte) => TraceAnswer::Value(u16::from(byte)),
+            Err(refusal) => TraceAnswer::ResultWord(refusal.word()),
         },
         Command::RealmCreate {
             rd,
@@ -62,8 +62,8 @@ pub fn perform(bench: &mut Bench, command: &Command) -> Answer
             granule,
             auxiliaries,
         } => match bench.rec_create(*rd, *granule, auxiliaries.as_slice()) {
-            Ok(number) => Answer::Value(number),
-            Err(refusal) => Answer::ResultWord(refusal.word()),
+            Ok(number) => TraceAnswer::Value(number),
+            Err(refusal) => TraceAnswer::ResultWord(refusal.word()),
         },
         Command::RecEnter { rec } => told(bench.rec_enter(*rec)),
         Command::RecExit { rec } => told(bench.rec_exit(*rec)),

@@ -1,15 +1,15 @@
 //! Why a trace is not taken to its end.
 ghost use Rattle.std.specs.Prelude.{◌≡◌};
-ghost use Rattle.trace_program.specs.declared.fault.Fault.TheVariants.{Memory, Device};
+ghost use Rattle.trace_program.specs.declared.fault.TraceError.TheVariants.{Memory, Device};
 
+use checked_io::DeviceFailed;
 use command_line::Reason;
 use std::alloc::AllocError;
 use thiserror::Error;
-use told_device::DeviceFailed;
 
 /// Why a trace is not taken to its end. Its line goes to standard error.
 #[derive(Clone, Copy, Debug, Error)]
-pub enum Fault {
+pub enum TraceError {
     /// Allocation failed.
     #[error("memory")]
     Memory,
@@ -18,7 +18,7 @@ pub enum Fault {
     Device,
 }
 
-impl Reason for Fault {
+impl Reason for TraceError {
     ghost use Rattle.trace_program.specs.Stop.{trace_status_of};
 
     ghost status_of = { trace_status_of };
@@ -27,28 +27,28 @@ impl Reason for Fault {
 
     fn status(&self) -> u8 {
         match self {
-            Fault::Memory => 3,
-            Fault::Device => 5,
+            TraceError::Memory => 3,
+            TraceError::Device => 5,
         }
     }
 
-    fn of_memory() -> Fault {
-        Fault::Memory
+    fn of_memory() -> TraceError {
+        TraceError::Memory
     }
 }
 
-impl From<DeviceFailed> for Fault {
+impl From<DeviceFailed> for TraceError {
     ghost from_gives = { λ _ fault. fault ≡ Device };
 
-    fn from(_error: DeviceFailed) -> Fault {
-        Fault::Device
+    fn from(_error: DeviceFailed) -> TraceError {
+        TraceError::Device
     }
 }
 
-impl From<AllocError> for Fault {
+impl From<AllocError> for TraceError {
     ghost from_gives = { λ _ fault. fault ≡ Memory };
 
-    fn from(_error: AllocError) -> Fault {
-        Fault::Memory
+    fn from(_error: AllocError) -> TraceError {
+        TraceError::Memory
     }
 }

@@ -6,49 +6,49 @@ use arrayvec::ArrayVec;
 use realm_model::{GranuleState, RealmState, RecState};
 use realm_objects::{RealmDesc, Rec};
 use rmi_bench::Bench;
-use rmi_trace::{Answer, Reading, State};
+use rmi_trace::{Reading, TraceAnswer, TraceGranuleState};
 
 // The state of a granule, as a trace names it.
-fn granule_state(state: GranuleState) -> State
+fn granule_state(state: GranuleState) -> TraceGranuleState
     ensures { result ≡ granule_state_of state }
 {
     match state {
-        GranuleState::Undelegated => State::Undelegated,
-        GranuleState::Delegated => State::Delegated,
-        GranuleState::Rd => State::Rd,
-        GranuleState::Rec => State::Rec,
-        GranuleState::RecAux => State::RecAux,
-        GranuleState::Data => State::Data,
-        GranuleState::Rtt => State::Rtt,
+        GranuleState::Undelegated => TraceGranuleState::Undelegated,
+        GranuleState::Delegated => TraceGranuleState::Delegated,
+        GranuleState::Rd => TraceGranuleState::Rd,
+        GranuleState::Rec => TraceGranuleState::Rec,
+        GranuleState::RecAux => TraceGranuleState::RecAux,
+        GranuleState::Data => TraceGranuleState::Data,
+        GranuleState::Rtt => TraceGranuleState::Rtt,
     }
 }
 
 // The state of a realm, as a trace names it.
-fn realm_state(state: RealmState) -> rmi_trace::RealmState
+fn realm_state(state: RealmState) -> rmi_trace::TraceRealmState
     ensures { result ≡ realm_state_of state }
 {
     match state {
-        RealmState::New => rmi_trace::RealmState::New,
-        RealmState::Active => rmi_trace::RealmState::Active,
+        RealmState::New => rmi_trace::TraceRealmState::New,
+        RealmState::Active => rmi_trace::TraceRealmState::Active,
     }
 }
 
 // The state of a REC, as a trace names it.
-fn rec_state(state: RecState) -> rmi_trace::RecState
+fn rec_state(state: RecState) -> rmi_trace::TraceRecState
     ensures { result ≡ rec_state_of state }
 {
     match state {
-        RecState::Ready => rmi_trace::RecState::Ready,
-        RecState::Running => rmi_trace::RecState::Running,
+        RecState::Ready => rmi_trace::TraceRecState::Ready,
+        RecState::Running => rmi_trace::TraceRecState::Running,
     }
 }
 
 // What is told of a realm.
-fn realm_answer(realm: &RealmDesc) -> Answer
+fn realm_answer(realm: &RealmDesc) -> TraceAnswer
     ensures { result ≡ realm_answer realm.now }
 {
     let root = realm.root();
-    Answer::Realm {
+    TraceAnswer::Realm {
         state: realm_state(realm.state()),
         vmid: realm.vmid().number(),
         root: root.first.number(),
@@ -58,14 +58,14 @@ fn realm_answer(realm: &RealmDesc) -> Answer
 }
 
 // What is told of a REC.
-fn rec_answer(rec: &Rec) -> Answer
+fn rec_answer(rec: &Rec) -> TraceAnswer
     ensures { result ≡ rec_answer rec.now }
 {
     let mut auxiliaries = ArrayVec::new();
     'granules: for granule in rec.auxiliaries() {
         auxiliaries.push(granule.number());
     }
-    Answer::Rec {
+    TraceAnswer::Rec {
         number: rec.number().number(),
         state: rec_state(rec.state()),
         auxiliaries,
@@ -73,33 +73,33 @@ fn rec_answer(rec: &Rec) -> Answer
 }
 
 /// What the bench answers to a reading.
-pub fn read(bench: &Bench, reading: &Reading) -> Answer
+pub fn read(bench: &Bench, reading: &Reading) -> TraceAnswer
     ensures { IsReading reading.now bench.now result }
 {
     match reading {
         Reading::State { granule } => match bench.state(*granule) {
-            Some(state) => Answer::State(granule_state(state)),
-            None => Answer::Nothing,
+            Some(state) => TraceAnswer::State(granule_state(state)),
+            None => TraceAnswer::Nothing,
         },
         Reading::Sum { granule } => match bench.sum(*granule) {
-            Some(sum) => Answer::Sum(sum),
-            None => Answer::Nothing,
+            Some(sum) => TraceAnswer::Sum(sum),
+            None => TraceAnswer::Nothing,
         },
         Reading::Word { granule, index } => match bench.word(*granule, *index) {
-            Some(word) => Answer::Word(word),
-            None => Answer::Nothing,
+            Some(word) => TraceAnswer::Word(word),
+            None => TraceAnswer::Nothing,
         },
         Reading::Realm { granule } => match bench.realm(*granule) {
             Some(realm) => realm_answer(realm),
-            None => Answer::Nothing,
+            None => TraceAnswer::Nothing,
         },
         Reading::Measurement { granule } => match bench.realm(*granule) {
-            Some(realm) => Answer::Measurement(*realm.measurement()),
-            None => Answer::Nothing,
+            Some(realm) => TraceAnswer::Measurement(*realm.measurement()),
+            None => TraceAnswer::Nothing,
         },
         Reading::Rec { granule } => match bench.rec(*granule) {
             Some(rec) => rec_answer(rec),
-            None => Answer::Nothing,
+            None => TraceAnswer::Nothing,
         },
     }
 }

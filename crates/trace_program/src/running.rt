@@ -3,21 +3,21 @@ ghost use Rattle.std.specs.Prelude.{◌≡◌, ◌⊎◌, ◌+◌, ◌^◌, ◌�
 ghost use Rattle.trace_program.specs.Input.{AreLinesAnswered};
 ghost use Rattle.trace_program.specs.Verdict.{IsChecked};
 ghost use Rattle.trace_program.specs.declared.checking.Verdict.TheVariants.{Agree};
-ghost use Rattle.trace_program.specs.declared.fault.Fault.TheVariants.{Device};
-ghost use Rattle.command_line.specs.declared.rmitrace.Asked.TheVariants.{Answer, Check};
+ghost use Rattle.trace_program.specs.declared.fault.TraceError.TheVariants.{Device};
+ghost use Rattle.command_line.specs.declared.rmitrace.TraceSubcommand.TheVariants.{Answer, Check};
 
-use crate::{Asked, Fault, Verdict, answer, check};
+use crate::{TraceError, TraceSubcommand, Verdict, answer, check};
+use checked_io::Told;
 use std::alloc::Global;
 use std::io::{Read, Write};
-use told_device::Told;
 
 /// Does what is asked, over any reader and any writer. Where lines are answered, the answers are right: the verdict is `Agree`.
 pub fn run<R: Read, W: Write>(
     alloc: Global,
-    asked: Asked,
+    asked: TraceSubcommand,
     input: &mut Told<R>,
     output: &mut Told<W>,
-) -> Result<Verdict, Fault>
+) -> Result<Verdict, TraceError>
     requires readable { input.old.failed ≡ false }
     requires writable { output.old.failed ≡ false }
     ensures answered { asked ≡ Answer → IfOk result (λ verdict. (verdict ≡ Agree) × AreLinesAnswered (R.remaining input.old.device) (R.remaining input.new.device)
@@ -28,10 +28,10 @@ pub fn run<R: Read, W: Write>(
     ensures device { result ≡ Err Device → (input.new.failed ≡ true) ⊎ (output.new.failed ≡ true) ⊎ (2 ^ 64 ≤ input.new.reads + 1) }
 {
     match asked {
-        Asked::Answer => {
+        TraceSubcommand::Answer => {
             answer(alloc, input, output)?;
             Ok(Verdict::Agree)
         }
-        Asked::Check => check(alloc, input, output),
+        TraceSubcommand::Check => check(alloc, input, output),
     }
 }

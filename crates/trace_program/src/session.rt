@@ -1,25 +1,27 @@
 //! The lines of a trace, one after another.
 ghost use Rattle.std.specs.Prelude.{◌≡◌, ◌++◌, List, ℕ, None, IfOk, OnOk, OnErr};
-ghost use Rattle.trace_program.specs.Session.{IsOpening, IsRequestPerformed, IsTraceAnswer, IsLineTold, written_with};
+ghost use Rattle.trace_program.specs.Session.{IsOpening, IsRequestPerformed, IsTraceAnswer, IsLineReported, written_with};
 ghost use Rattle.rmi_bench.specs.Machine.{is_machine};
 
 use crate::{perform, read};
 use rmi_bench::{Bench, OpenError};
-use rmi_trace::{Answer, Line, Opening, Request, cut_answer, parse, push_answered, push_line};
+use rmi_trace::{
+    Request, TraceAnswer, TraceLine, TraceOpening, cut_answer, parse, push_answered, push_line,
+};
 use std::alloc::{AllocError, Global};
 
 /// Appends what is written for a line that is given this answer: a remark as it is, and else what it asks, and the answer.
 pub(crate) fn push_told(
     text: &mut Vec<u8>,
     bytes: &[u8],
-    line: &Line,
-    given: &Option<Answer>,
+    line: &TraceLine,
+    given: &Option<TraceAnswer>,
 ) -> Result<(), AllocError>
     ensures ok { OnOk result (text.new.items ≡ text.old.items ++ written_with bytes.now line.now given.now) }
     ensures err { OnErr result (text.new.items ≡ text.old.items) }
 {
     let asked = match line {
-        Line::Remark => bytes,
+        TraceLine::Remark => bytes,
         _ => cut_answer(bytes).0,
     };
     match given {
@@ -44,7 +46,11 @@ impl Session {
     }
 
     // Opens a fresh machine.
-    fn open(&mut self, alloc: Global, opening: &Opening) -> Result<Option<Answer>, AllocError>
+    fn open(
+        &mut self,
+        alloc: Global,
+        opening: &TraceOpening,
+    ) -> Result<Option<TraceAnswer>, AllocError>
         ensures ok { IfOk result (λ given. IsOpening (is_machine opening.now.pages opening.now.vmids opening.now.auxiliaries)
             opening.now self.old.bench given self.new.bench) }
         ensures err { OnErr result (self.new.bench ≡ self.old.bench) }
@@ -54,13 +60,17 @@ impl Session {
                 self.bench = Some(bench);
                 Ok(None)
             }
-            Err(OpenError::NoMachine) => Ok(Some(Answer::NoCommand)),
+            Err(OpenError::NoMachine) => Ok(Some(TraceAnswer::NoCommand)),
             Err(OpenError::Memory(error)) => Err(error),
         }
     }
 
     // Does what is asked.
-    fn perform(&mut self, alloc: Global, request: &Request) -> Result<Option<Answer>, AllocError>
+    fn perform(
+        &mut self,
+        alloc: Global,
+        request: &Request,
+    ) -> Result<Option<TraceAnswer>, AllocError>
         ensures ok { IfOk result (λ given. IsRequestPerformed request.now self.old.bench given self.new.bench) }
         ensures err { OnErr result (self.new.bench ≡ self.old.bench) }
     {
@@ -68,24 +78,28 @@ impl Session {
             Request::Opening(opening) => self.open(alloc, opening),
             Request::Command(command) => match &mut self.bench {
                 Some(bench) => Ok(Some(perform(bench, command))),
-                None => Ok(Some(Answer::NoCommand)),
+                None => Ok(Some(TraceAnswer::NoCommand)),
             },
             Request::Reading(reading) => match &self.bench {
                 Some(bench) => Ok(Some(read(bench, reading))),
-                None => Ok(Some(Answer::NoCommand)),
+                None => Ok(Some(TraceAnswer::NoCommand)),
             },
         }
     }
 
     /// The answer to a line, if it gets one. Memory is taken for a fresh machine alone; where there is none, nothing changes.
-    pub fn answer(&mut self, alloc: Global, line: &Line) -> Result<Option<Answer>, AllocError>
+    pub fn answer(
+        &mut self,
+        alloc: Global,
+        line: &TraceLine,
+    ) -> Result<Option<TraceAnswer>, AllocError>
         ensures ok { IfOk result (λ given. IsTraceAnswer line.now self.old.bench given self.new.bench) }
         ensures err { OnErr result (self.new.bench ≡ self.old.bench) }
     {
         match line {
-            Line::Remark => Ok(None),
-            Line::Request(request) => self.perform(alloc, request),
-            Line::Neither => Ok(Some(Answer::NoCommand)),
+            TraceLine::Remark => Ok(None),
+            TraceLine::Request(request) => self.perform(alloc, request),
+            TraceLine::Neither => Ok(Some(TraceAnswer::NoCommand)),
         }
     }
 
@@ -96,7 +110,7 @@ impl Session {
         bytes: &[u8],
         text: &mut Vec<u8>,
     ) -> Result<(), AllocError>
-        ensures ok { OnOk result ((told : List ℕ) × (text.new.items ≡ text.old.items ++ told) × IsLineTold self.old.bench bytes.now told self.new.bench) }
+        ensures ok { OnOk result ((told : List ℕ) × (text.new.items ≡ text.old.items ++ told) × IsLineReported self.old.bench bytes.now told self.new.bench) }
         ensures err { OnErr result (text.new.items ≡ text.old.items) }
     {
         let line = parse(bytes);

@@ -1,18 +1,18 @@
 -- How the application of a history ends.
 use Rattle.std.proofs.Common.{◌≡◌, ◌↔◌, ◌+◌, ℕ, length, List, [], ◌∷◌, Option, Some, None, IfSome, Ok, Err, Bool, true, false, refl, ap, ◌∙◌, arith}
 use Rattle.std.specs.Io.KnownBytes.{Appends, prepend_known}
-use Rattle.build_books.specs.View.{HostView}
-use Rattle.told_device.specs.Whole.{AppendsFront}
-use Rattle.told_device.proofs.Read.{keeps_same}
-use Rattle.told_device.specs.Lines.{lines_in, IsLine, HasLongLine}
+use Rattle.host_ledger.specs.View.{HostView}
+use Rattle.checked_io.specs.Whole.{AppendsFront}
+use Rattle.checked_io.proofs.Read.{keeps_same}
+use Rattle.checked_io.specs.Lines.{lines_in, IsLine, HasLongLine}
 use Rattle.history_text.specs.Histories.{IsOpeningText}
 use Rattle.history_text.specs.declared.opening.Opening.{Opening}
 use Rattle.history_text.proofs.Short.{opening_is_short}
 use Rattle.view_program.specs.Applied.{host_of_opening, IsHistoryIn, IsNoEvent, IsEventRefused, StopsAt, IsNoHistoryIn, IsMap, HasNoMap}
 use Rattle.view_program.specs.Printed.{IsApplyEnd, IsMapPrinted}
 use Rattle.view_program.specs.Taking.{AreLinesTaken, AreCutShort, AreNotTaken}
-use Rattle.view_program.specs.declared.fault.Fault.{Fault}
-use Rattle.view_program.specs.declared.fault.Fault.TheVariants.{NoPlan, Plan, NoOpening, NoEvent, Refused, EraseNamesNoBuild, OrderOutsideLimits, Memory, Device}
+use Rattle.view_program.specs.declared.fault.ViewError.{ViewError}
+use Rattle.view_program.specs.declared.fault.ViewError.TheVariants.{NoPlan, Plan, NoOpening, NoEvent, Refused, EraseNamesNoBuild, OrderOutsideLimits, Memory, Device}
 use Rattle.view_program.proofs.Takings.{length-taken}
 
 -- nothing was read ahead
@@ -50,7 +50,7 @@ module _ (first : List ℕ) (o : Opening) (opens : IsOpeningText first o) where
       of_input (Some xs) None is' more = absurd is'
       of_input (Some xs) (Some ys) is' more = is' ∙ ap (λ (t : List (List ℕ)). first ∷ t) more
 
-  stops : (IsReason : HostView → List ℕ → Type 0) (lines more : List (List ℕ)) (number : ℕ) (fault : Fault) → lines ≡ first ∷ more
+  stops : (IsReason : HostView → List ℕ → Type 0) (lines more : List (List ℕ)) (number : ℕ) (fault : ViewError) → lines ≡ first ∷ more
       → (cut : AreCutShort (host_of_opening o) more fault) → number ≡ length cut.mid.history + 2 → IsReason cut.mid cut.line → StopsAt IsReason lines number
   stops IsReason lines more number fault are cut same reason = record {
     o = o;
@@ -64,7 +64,7 @@ module _ (first : List ℕ) (o : Opening) (opens : IsOpeningText first o) where
     reason = reason;
   }
 
-  pub no_history_in : (input ahead : Option (List ℕ)) (fault : Fault) → IsLine input first ahead → AreNotTaken ahead (host_of_opening o) fault → IsNoHistoryIn input fault
+  pub no_history_in : (input ahead : Option (List ℕ)) (fault : ViewError) → IsLine input first ahead → AreNotTaken ahead (host_of_opening o) fault → IsNoHistoryIn input fault
   no_history_in input ahead (NoPlan errors) is none = absurd none
   no_history_in input ahead (Plan fault) is none = absurd none
   no_history_in input ahead NoOpening is none = absurd none
@@ -85,7 +85,7 @@ module _ (first : List ℕ) (o : Opening) (opens : IsOpeningText first o) where
 
 module _ (erase : Option ℕ) (unread : Bool) (input : Option (List ℕ)) where
   -- where there is no history, nothing is written
-  pub no_history : (output : Option (List ℕ)) (fault : Fault) → IsNoHistoryIn input fault → (fault ≡ Device → unread ≡ true) → IsApplyEnd erase unread input output output (Err fault)
+  pub no_history : (output : Option (List ℕ)) (fault : ViewError) → IsNoHistoryIn input fault → (fault ≡ Device → unread ≡ true) → IsApplyEnd erase unread input output output (Err fault)
   no_history output (NoPlan errors) none read = absurd none
   no_history output (Plan fault) none read = absurd none
   no_history output NoOpening none read = (none, keeps_same output)
@@ -97,7 +97,7 @@ module _ (erase : Option ℕ) (unread : Bool) (input : Option (List ℕ)) where
   no_history output Device none read = rw (read refl) (keeps_same output)
 
   -- a history, and no map of it
-  pub no_map : (output : Option (List ℕ)) (o : Opening) (host : HostView) (fault : Fault) → IsHistoryIn input o host → HasNoMap erase o fault → IsApplyEnd erase unread input output output (Err fault)
+  pub no_map : (output : Option (List ℕ)) (o : Opening) (host : HostView) (fault : ViewError) → IsHistoryIn input o host → HasNoMap erase o fault → IsApplyEnd erase unread input output output (Err fault)
   no_map output o host (NoPlan errors) history none = absurd none
   no_map output o host (Plan fault) history none = absurd none
   no_map output o host NoOpening history none = absurd none

@@ -6,16 +6,16 @@ use Rattle.realm_program.specs.Whole.{kept_of}
 use Rattle.realm_program.proofs.KeptPlan.{plan_of-kept_of}
 use Rattle.realm_program.specs.declared.input.ReadError.{ReadError}
 use Rattle.realm_program.specs.declared.input.ReadError.TheVariants as read_error
-use Rattle.told_device.specs.Whole.{AppendsFront}
-use Rattle.told_device.proofs.Read.{keeps_same}
-use Rattle.plan_check.specs.Texts.{IsReport}
-use Rattle.plan_check.specs.declared.report.Report.{Report}
+use Rattle.checked_io.specs.Whole.{AppendsFront}
+use Rattle.checked_io.proofs.Read.{keeps_same}
+use Rattle.plan_lint.specs.Texts.{IsReport}
+use Rattle.plan_lint.specs.declared.report.LintReport.{LintReport}
 use Rattle.view_program.specs.Stop.{view_fault_of_read}
 use Rattle.view_program.specs.Checked.{verdict_of, IsReportOn, IsVerdictOn, AreErrorsOf, AreErrorsOfBytes, IsCheckEnd}
-use Rattle.view_program.specs.declared.fault.Fault.TheVariants.{Device}
+use Rattle.view_program.specs.declared.fault.ViewError.TheVariants.{Device}
 
 -- what is told of the bytes that were kept is told of the input
-pub report_from_kept : (source : List ℕ) (known : Option (List ℕ)) (bytes : List ℕ) (report : Report) → IfSome known (λ xs. bytes ≡ kept_of xs) → IsReport source bytes report
+pub report_from_kept : (source : List ℕ) (known : Option (List ℕ)) (bytes : List ℕ) (report : LintReport) → IfSome known (λ xs. bytes ≡ kept_of xs) → IsReport source bytes report
     → IsReportOn source known report
 report_from_kept source None bytes report kept is = tt
 report_from_kept source (Some xs) bytes report kept is = subst (λ (b : List ℕ). IsReport source b report) kept is
@@ -24,7 +24,7 @@ verdict_from_plan : (known : Option (List ℕ)) (bytes : List ℕ) (is_plan : Bo
 verdict_from_plan None bytes is_plan kept is = tt
 verdict_from_plan (Some xs) bytes is_plan kept is = ap verdict_of (is ∙ ap (λ (b : List ℕ). is_ok (plan_of b)) kept ∙ ap is_ok (plan_of-kept_of xs))
 
-pub verdict_from_kept : (source : List ℕ) (known : Option (List ℕ)) (bytes : List ℕ) (report : Report) → IfSome known (λ xs. bytes ≡ kept_of xs) → IsReport source bytes report
+pub verdict_from_kept : (source : List ℕ) (known : Option (List ℕ)) (bytes : List ℕ) (report : LintReport) → IfSome known (λ xs. bytes ≡ kept_of xs) → IsReport source bytes report
     → IsVerdictOn known (verdict_of report.is_plan)
 verdict_from_kept source known bytes report kept is = verdict_from_plan known bytes report.is_plan kept is.is_plan
 
@@ -45,7 +45,7 @@ unreported source unread input output read_error.Memory read = keeps_same output
 unreported source unread input output read_error.Device read = rw (read refl) (keeps_same output)
 
 -- a prefix of the text was written
-pub cut_report : (source : List ℕ) (unread : Bool) (input old new : Option (List ℕ)) (report : Report) → unread ≡ false → IsReportOn source input report → AppendsFront old new (string_bytes report.text)
+pub cut_report : (source : List ℕ) (unread : Bool) (input old new : Option (List ℕ)) (report : LintReport) → unread ≡ false → IsReportOn source input report → AppendsFront old new (string_bytes report.text)
     → IsCheckEnd source unread input old new (Err Device)
 cut_report source unread input old new report read of_input written = rw read (record { report = report; of_input = of_input; written = written })
 

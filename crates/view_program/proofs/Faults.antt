@@ -1,8 +1,8 @@
 -- What becomes of a line that cannot be read.
 use Rattle.std.proofs.Common.{List, ℕ, Option}
-use Rattle.build_books.specs.View.{HostView}
-use Rattle.told_device.specs.declared.lines.LineError.{LineError}
-use Rattle.told_device.specs.declared.lines.LineError.TheVariants as line_error
+use Rattle.host_ledger.specs.View.{HostView}
+use Rattle.checked_io.specs.declared.lines.LineError.{LineError}
+use Rattle.checked_io.specs.declared.lines.LineError.TheVariants as line_error
 use Rattle.view_program.specs.Applied.{IsNoHistoryIn}
 use Rattle.view_program.specs.Stop.{fault_of_line}
 use Rattle.view_program.specs.Taking.{AreNotTaken}

@@ -4,7 +4,7 @@ use mathlib.Core.List.{append-nil}
 use Rattle.realm_model.specs.declared.act.Event.{Event}
 use Rattle.realm_model.specs.Machine.{Limits}
 use Rattle.realm_model.specs.History.{after, IsLegal}
-use Rattle.build_books.specs.View.{HostView}
+use Rattle.host_ledger.specs.View.{HostView}
 use Rattle.history_text.specs.declared.opening.Opening.{Opening}
 use Rattle.view_program.specs.Applied.{host_of_opening, AreTaken, AreTexts, IsHistory, IsLegalText}
 

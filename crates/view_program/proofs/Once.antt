@@ -1,7 +1,7 @@
 -- Lines that are a history are so in one way, and have no line at which they stop.
 use Rattle.std.proofs.Common.{◌≡◌, ℕ, List, [], ◌∷◌, ◌++◌, refl, sym, ap, ◌∙◌, subst}
 use Rattle.realm_model.specs.declared.act.Event.{Event}
-use Rattle.build_books.specs.View.{HostView, with_event}
+use Rattle.host_ledger.specs.View.{HostView, with_event}
 use Rattle.realm_host.specs.Recorded.{CanApply}
 use Rattle.history_text.specs.Histories.{opening_numbers, IsOpeningText}
 use Rattle.history_text.specs.declared.opening.Opening.{Opening}

@@ -8,13 +8,13 @@ use Rattle.realm_program.proofs.KeptPlan.{plan_from_kept}
 use Rattle.realm_program.specs.declared.fault.Fault as plan_fault
 use Rattle.realm_program.specs.declared.input.ReadError.{ReadError}
 use Rattle.realm_program.specs.declared.input.ReadError.TheVariants as read_error
-use Rattle.told_device.specs.Whole.{AppendsFront}
-use Rattle.told_device.proofs.Read.{keeps_same}
+use Rattle.checked_io.specs.Whole.{AppendsFront}
+use Rattle.checked_io.proofs.Read.{keeps_same}
 use Rattle.view_program.specs.Stop.{view_fault_of_read}
 use Rattle.view_program.specs.Checked.{GivesNoPlan}
 use Rattle.view_program.specs.Printed.{IsPlanEnd}
-use Rattle.view_program.specs.declared.fault.Fault.{Fault}
-use Rattle.view_program.specs.declared.fault.Fault.TheVariants.{NoPlan, Plan as OfPlan, NoOpening, NoEvent, Refused, EraseNamesNoBuild, OrderOutsideLimits, Memory, Device}
+use Rattle.view_program.specs.declared.fault.ViewError.{ViewError}
+use Rattle.view_program.specs.declared.fault.ViewError.TheVariants.{NoPlan, Plan as OfPlan, NoOpening, NoEvent, Refused, EraseNamesNoBuild, OrderOutsideLimits, Memory, Device}
 use Rattle.view_program.proofs.CheckEnds.{errors_from_kept}
 
 -- a plan that is read of the bytes that were kept is that of the input
@@ -29,7 +29,7 @@ module _ (texts : Plan → List ℕ → Type 0) (without : Plan → plan_fault.F
   unread_plan output read_error.Device read = rw (read refl) (keeps_same output)
 
   -- the input is no plan
-  pub no_plan : (output : Option (List ℕ)) (bytes : List ℕ) (fault : Fault) → IfSome input (λ xs. bytes ≡ kept_of xs) → GivesNoPlan source bytes fault
+  pub no_plan : (output : Option (List ℕ)) (bytes : List ℕ) (fault : ViewError) → IfSome input (λ xs. bytes ≡ kept_of xs) → GivesNoPlan source bytes fault
       → IsPlanEnd texts without source unread input output output (Err fault)
   no_plan output bytes (NoPlan errors) kept gives = (errors_from_kept source input bytes (string_bytes errors) kept gives, keeps_same output)
   no_plan output bytes (OfPlan fault) kept gives = absurd gives

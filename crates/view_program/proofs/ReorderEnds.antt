@@ -1,23 +1,23 @@
 -- How the writing of a plan with another order ends.
 use Rattle.std.proofs.Common.{◌≡◌, ℕ, List, Option, Err, Bool, true, false, refl, string_bytes}
 use Rattle.std.specs.Prelude.{IfSome}
-use Rattle.told_device.specs.Whole.{AppendsFront}
-use Rattle.told_device.proofs.Read.{keeps_same}
+use Rattle.checked_io.specs.Whole.{AppendsFront}
+use Rattle.checked_io.proofs.Read.{keeps_same}
 use Rattle.realm_plan.specs.Plan.{Plan}
 use Rattle.realm_program.specs.Whole.{kept_of}
 use Rattle.realm_program.specs.Printed.{IsPlanOf}
 use Rattle.realm_program.specs.declared.fault.Fault.TheVariants as run_fault
 use Rattle.realm_program.specs.declared.input.ReadError.{ReadError}
 use Rattle.realm_program.specs.declared.input.ReadError.TheVariants as read_error
-use Rattle.command_line.specs.declared.realmview.Turns.{Turns}
+use Rattle.command_line.specs.declared.realmview.SchedulingPolicy.{SchedulingPolicy}
 use Rattle.view_program.specs.Stop.{view_fault_of_read}
 use Rattle.view_program.specs.Checked.{GivesNoPlan}
 use Rattle.view_program.specs.Reordered.{IsWholeText, IsReorderedIn, IsNotReordered, IsReorderEnd}
-use Rattle.view_program.specs.declared.fault.Fault.{Fault}
-use Rattle.view_program.specs.declared.fault.Fault.TheVariants.{NoPlan, Plan as OfPlan, NoOpening, NoEvent, Refused, EraseNamesNoBuild, OrderOutsideLimits, Memory, Device}
+use Rattle.view_program.specs.declared.fault.ViewError.{ViewError}
+use Rattle.view_program.specs.declared.fault.ViewError.TheVariants.{NoPlan, Plan as OfPlan, NoOpening, NoEvent, Refused, EraseNamesNoBuild, OrderOutsideLimits, Memory, Device}
 use Rattle.view_program.proofs.CheckEnds.{errors_from_kept}
 
-module _ (turns : Turns) (source : List ℕ) (unread : Bool) (input : Option (List ℕ)) where
+module _ (turns : SchedulingPolicy) (source : List ℕ) (unread : Bool) (input : Option (List ℕ)) where
   -- nothing was read
   pub unread_order : (output : Option (List ℕ)) (error : ReadError) → (error ≡ read_error.Device → unread ≡ true)
       → IsReorderEnd turns source unread input output output (Err (view_fault_of_read error))
@@ -25,7 +25,7 @@ module _ (turns : Turns) (source : List ℕ) (unread : Bool) (input : Option (Li
   unread_order output read_error.Device read = rw (read refl) (keeps_same output)
 
   -- the input is no plan
-  pub no_plan_to_order : (output : Option (List ℕ)) (bytes : List ℕ) (fault : Fault) → IfSome input (λ xs. bytes ≡ kept_of xs) → GivesNoPlan source bytes fault
+  pub no_plan_to_order : (output : Option (List ℕ)) (bytes : List ℕ) (fault : ViewError) → IfSome input (λ xs. bytes ≡ kept_of xs) → GivesNoPlan source bytes fault
       → IsReorderEnd turns source unread input output output (Err fault)
   no_plan_to_order output bytes (NoPlan errors) kept gives = (errors_from_kept source input bytes (string_bytes errors) kept gives, keeps_same output)
   no_plan_to_order output bytes (OfPlan fault) kept gives = absurd gives
@@ -38,7 +38,7 @@ module _ (turns : Turns) (source : List ℕ) (unread : Bool) (input : Option (Li
   no_plan_to_order output bytes Device kept gives = absurd gives
 
   -- nothing was written
-  pub not_reordered : (output : Option (List ℕ)) (plan : Plan) (fault : Fault) → IsPlanOf input plan → IsNotReordered fault
+  pub not_reordered : (output : Option (List ℕ)) (plan : Plan) (fault : ViewError) → IsPlanOf input plan → IsNotReordered fault
       → IsReorderEnd turns source unread input output output (Err fault)
   not_reordered output plan (NoPlan errors) of_input is = absurd is
   not_reordered output plan (OfPlan (run_fault.Plan fault)) of_input is = absurd is

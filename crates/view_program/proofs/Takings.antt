@@ -2,14 +2,14 @@
 use Rattle.std.proofs.Common.{◌≡◌, ◌↔◌, Bool, true, false, Ok, Err, ℕ, ◌+◌, ◌<◌, List, [], ◌∷◌, ◌++◌, length, length-append, Option, Some, None}
 use Rattle.std.proofs.Common.{IfSome, refl, sym, ap, ◌∙◌, append_assoc, arith, subst}
 use mathlib.Core.List.{append-nil}
-use Rattle.build_books.specs.View.{HostView}
+use Rattle.host_ledger.specs.View.{HostView}
 use Rattle.realm_host.specs.Recorded.{fresh_like}
-use Rattle.told_device.specs.Lines.{lines_in, IsLine, HasLongLine}
+use Rattle.checked_io.specs.Lines.{lines_in, IsLine, HasLongLine}
 use Rattle.history_text.proofs.Short.{event_is_short}
 use Rattle.view_program.specs.Applied.{IsLineTaken, AreTaken, IsNoEvent}
 use Rattle.view_program.specs.Taking.{AreLinesTaken, IsUntaken, AreCutShort, AreNotTaken}
-use Rattle.view_program.specs.declared.fault.Fault.{Fault}
-use Rattle.view_program.specs.declared.fault.Fault.TheVariants.{NoPlan, Plan, NoOpening, NoEvent, Refused, EraseNamesNoBuild, OrderOutsideLimits, Memory, Device}
+use Rattle.view_program.specs.declared.fault.ViewError.{ViewError}
+use Rattle.view_program.specs.declared.fault.ViewError.TheVariants.{NoPlan, Plan, NoOpening, NoEvent, Refused, EraseNamesNoBuild, OrderOutsideLimits, Memory, Device}
 
 -- ---- what was read
 
@@ -76,7 +76,7 @@ module _ (start now : Option (List ℕ)) (old mid : HostView) (s : SoFar start n
 
   -- ---- up to a line that is not taken
 
-  cut_at : (start' now' : Option (List ℕ)) (line : List ℕ) (fault : Fault) → Took start' s.lines now'
+  cut_at : (start' now' : Option (List ℕ)) (line : List ℕ) (fault : ViewError) → Took start' s.lines now'
       → IfSome now' (λ bytes. (more : List (List ℕ)) × (lines_in bytes ≡ line ∷ more)) → IsUntaken mid line fault
       → IfSome start' (λ bytes. AreCutShort old (lines_in bytes) fault)
   cut_at None now' line fault took is untaken = tt
@@ -96,7 +96,7 @@ module _ (start now : Option (List ℕ)) (old mid : HostView) (s : SoFar start n
   next_is (Some xs) None line is = absurd is
   next_is (Some xs) (Some ys) line is = (lines_in ys, is)
 
-  pub not_taken : (next : Option (List ℕ)) (line : List ℕ) (fault : Fault) → IsLine now line next → IsUntaken mid line fault → AreNotTaken start old fault
+  pub not_taken : (next : Option (List ℕ)) (line : List ℕ) (fault : ViewError) → IsLine now line next → IsUntaken mid line fault → AreNotTaken start old fault
   not_taken next line (NoPlan errors) is untaken = absurd untaken
   not_taken next line (Plan fault) is untaken = absurd untaken
   not_taken next line NoOpening is untaken = absurd untaken

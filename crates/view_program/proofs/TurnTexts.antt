@@ -1,7 +1,7 @@
 -- The texts of turns, with one turn more.
 use Rattle.std.proofs.Common.{◌≡◌, ℕ, List, [], ◌∷◌, ◌++◌, refl, sym, ap, ◌∙◌, append_assoc}
 use Rattle.std.proofs.lemmas.List.{append-nil}
-use Rattle.refusal_reasons.specs.declared.explained.ExplainedTurn.{ExplainedTurn}
+use Rattle.explain.specs.declared.explained.ExplainedTurn.{ExplainedTurn}
 use Rattle.view_program.specs.Why.{IsTurnText, AreTurnTexts, AppendsTurn, AppendsTurns}
 
 more : (turns : List ExplainedTurn) (turn : ExplainedTurn) (lines text : List ℕ) → AreTurnTexts turns lines → IsTurnText turn text

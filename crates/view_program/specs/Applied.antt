@@ -2,17 +2,17 @@
 use Rattle.std.specs.Prelude.{◌≡◌, ◌+◌, ◌<◌, ◌≤◌, ℕ, List, [], ◌∷◌, ◌++◌, length, Option, Some, None, IfSome}
 use Rattle.realm_model.specs.declared.act.Event.{Event}
 use Rattle.realm_model.specs.History.{IsLegal}
-use Rattle.build_books.specs.Booted.{booted}
-use Rattle.build_books.specs.View.{HostView, with_event}
+use Rattle.host_ledger.specs.Booted.{booted}
+use Rattle.host_ledger.specs.View.{HostView, with_event}
 use Rattle.realm_host.specs.Recorded.{CanApply, IsWhyNot, IsWithout}
 use Rattle.realm_host.specs.declared.why_not.WhyNot.{WhyNot}
-use Rattle.told_device.specs.Lines.{lines_in}
+use Rattle.checked_io.specs.Lines.{lines_in}
 use Rattle.history_text.specs.Events.{IsEventText}
 use Rattle.history_text.specs.Histories.{IsOpeningText}
 use Rattle.history_text.specs.declared.opening.Opening.{Opening}
-use Rattle.plan_runs.specs.Run.{map_text}
-use Rattle.view_program.specs.declared.fault.Fault.{Fault}
-use Rattle.view_program.specs.declared.fault.Fault.TheVariants.{NoOpening, NoEvent, Refused, EraseNamesNoBuild, Memory, Device}
+use Rattle.plan_replay.specs.Run.{map_text}
+use Rattle.view_program.specs.declared.fault.ViewError.{ViewError}
+use Rattle.view_program.specs.declared.fault.ViewError.TheVariants.{NoOpening, NoEvent, Refused, EraseNamesNoBuild, Memory, Device}
 
 -- a host of that size, before any event
 abbrev pub host_of_opening : Opening → HostView
@@ -92,7 +92,7 @@ pub record StopsAt (IsReason : HostView → List ℕ → Type 0) (lines : List (
   pub reason : IsReason host line
 
 -- Why the input is no history, where it is known. That allocation or a device failed is no matter of its lines.
-abbrev pub IsNoHistoryIn : Option (List ℕ) → Fault → Type 0
+abbrev pub IsNoHistoryIn : Option (List ℕ) → ViewError → Type 0
 IsNoHistoryIn input NoOpening = IfSome input (λ bytes. OpensNone (lines_in bytes))
 IsNoHistoryIn input (NoEvent number) = IfSome input (λ bytes. StopsAt (λ host line. IsNoEvent line) (lines_in bytes) number)
 IsNoHistoryIn input (Refused number why words) = IfSome input (λ bytes. StopsAt (IsEventRefused why) (lines_in bytes) number)
@@ -114,7 +114,7 @@ IsMap None o host text = text ≡ map_text host
 IsMap (Some build) o host text = IsMapOfHistoryWithout o host build text
 
 -- Why there is no map: allocation failed, or the build to be left out is not one of the machine's.
-abbrev pub HasNoMap : Option ℕ → Opening → Fault → Type 0
+abbrev pub HasNoMap : Option ℕ → Opening → ViewError → Type 0
 HasNoMap erase o Memory = Unit {0}
 HasNoMap (Some build) o EraseNamesNoBuild = o.builds ≤ build
 HasNoMap erase o fault = ⊥

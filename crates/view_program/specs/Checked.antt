@@ -3,36 +3,36 @@ use Rattle.std.specs.Prelude.{◌≡◌, Bool, true, false, List, ℕ, Option, I
 use Rattle.std.specs.Io.KnownBytes.{Appends, Keeps}
 use Rattle.realm_plan.specs.Plan.{plan_of}
 use Rattle.realm_program.specs.Whole.{kept_of}
-use Rattle.told_device.specs.Whole.{AppendsFront}
-use Rattle.plan_check.specs.Texts.{IsReport}
-use Rattle.plan_check.specs.declared.report.Report.{Report}
-use Rattle.view_program.specs.declared.checking.Verdict.{Verdict}
-use Rattle.view_program.specs.declared.checking.Verdict.TheVariants.{Done, HasErrors}
-use Rattle.view_program.specs.declared.fault.Fault.{Fault}
-use Rattle.view_program.specs.declared.fault.Fault.TheVariants.{NoPlan, Memory, Device}
+use Rattle.checked_io.specs.Whole.{AppendsFront}
+use Rattle.plan_lint.specs.Texts.{IsReport}
+use Rattle.plan_lint.specs.declared.report.LintReport.{LintReport}
+use Rattle.view_program.specs.declared.checking.ViewOutcome.{ViewOutcome}
+use Rattle.view_program.specs.declared.checking.ViewOutcome.TheVariants.{Done, HasErrors}
+use Rattle.view_program.specs.declared.fault.ViewError.{ViewError}
+use Rattle.view_program.specs.declared.fault.ViewError.TheVariants.{NoPlan, Memory, Device}
 
-abbrev pub verdict_of : Bool → Verdict
+abbrev pub verdict_of : Bool → ViewOutcome
 verdict_of true = Done
 verdict_of false = HasErrors
 
 -- the report on the input; at most one byte more of it is kept than a plan can have
-abbrev pub IsReportOn : List ℕ → Option (List ℕ) → Report → Type 0
+abbrev pub IsReportOn : List ℕ → Option (List ℕ) → LintReport → Type 0
 IsReportOn source input report = IfSome input (λ bytes. IsReport source (kept_of bytes) report)
 
 -- the errors are written exactly where the input is no plan
-abbrev pub IsVerdictOn : Option (List ℕ) → Verdict → Type 0
+abbrev pub IsVerdictOn : Option (List ℕ) → ViewOutcome → Type 0
 IsVerdictOn input verdict = IfSome input (λ bytes. verdict ≡ verdict_of (is_ok (plan_of bytes)))
 
 -- the whole text was written
-pub record IsReported (source : List ℕ) (input old new : Option (List ℕ)) (verdict : Verdict) : Type 0 where
-  pub report : Report
+pub record IsReported (source : List ℕ) (input old new : Option (List ℕ)) (verdict : ViewOutcome) : Type 0 where
+  pub report : LintReport
   pub of_input : IsReportOn source input report
   pub written : Appends old new (string_bytes report.text)
   pub verdict_is : IsVerdictOn input verdict
 
 -- a prefix of the text was written
 pub record IsReportCut (source : List ℕ) (input old new : Option (List ℕ)) : Type 0 where
-  pub report : Report
+  pub report : LintReport
   pub of_input : IsReportOn source input report
   pub written : AppendsFront old new (string_bytes report.text)
 
@@ -42,7 +42,7 @@ IsReportEndOfDevice source true input old new = Keeps old new
 IsReportEndOfDevice source false input old new = IsReportCut source input old new
 
 -- The text is written whole or not at all, unless a write fails on the way. `unread` is whether a read failed.
-abbrev pub IsCheckEnd : List ℕ → Bool → Option (List ℕ) → Option (List ℕ) → Option (List ℕ) → Result Verdict Fault → Type 0
+abbrev pub IsCheckEnd : List ℕ → Bool → Option (List ℕ) → Option (List ℕ) → Option (List ℕ) → Result ViewOutcome ViewError → Type 0
 IsCheckEnd source unread input old new (Ok verdict) = IsReported source input old new verdict
 IsCheckEnd source unread input old new (Err Memory) = Keeps old new
 IsCheckEnd source unread input old new (Err Device) = IsReportEndOfDevice source unread input old new
@@ -52,20 +52,20 @@ IsCheckEnd source unread input old new (Err fault) = ⊥
 
 -- These are the errors of the input, which is no plan.
 pub record AreErrorsOf (source : List ℕ) (input : Option (List ℕ)) (errors : List ℕ) : Type 0 where
-  pub report : Report
+  pub report : LintReport
   pub of_input : IsReportOn source input report
   pub text : errors ≡ string_bytes report.text
   pub no_plan : IsVerdictOn input HasErrors
 
 -- the errors of bytes that are no plan
 pub record AreErrorsOfBytes (source bytes errors : List ℕ) : Type 0 where
-  pub report : Report
+  pub report : LintReport
   pub is_report : IsReport source bytes report
   pub text : errors ≡ string_bytes report.text
   pub no_plan : is_ok (plan_of bytes) ≡ false
 
 -- why bytes give no plan: their errors, or allocation failed
-abbrev pub GivesNoPlan : List ℕ → List ℕ → Fault → Type 0
+abbrev pub GivesNoPlan : List ℕ → List ℕ → ViewError → Type 0
 GivesNoPlan source bytes (NoPlan errors) = AreErrorsOfBytes source bytes (string_bytes errors)
 GivesNoPlan source bytes Memory = Unit {0}
 GivesNoPlan source bytes fault = ⊥

@@ -1,10 +1,10 @@
 -- The history of a plan as text.
 use Rattle.std.specs.Prelude.{◌≡◌, ◌<◌, ℕ, List, [], length, Option, Some, None}
-use Rattle.build_books.specs.View.{HostView}
+use Rattle.host_ledger.specs.View.{HostView}
 use Rattle.history_text.specs.Histories.{history_text, shown}
 use Rattle.history_text.specs.declared.opening.Opening.{Opening}
 use Rattle.realm_plan.specs.Plan.{Plan}
-use Rattle.plan_runs.specs.Run.{IsToldRun}
+use Rattle.plan_replay.specs.Run.{IsReportedRun}
 use Rattle.realm_program.specs.Replay.{opening_host}
 
 -- the machine of a plan
@@ -21,5 +21,5 @@ pub record IsHistoryText (erase : Option ℕ) (plan : Plan) (text : List ℕ) : 
   pub of_plan : IsBuildOfPlan erase plan
   pub last : HostView
   pub lines : List ℕ
-  pub run : IsToldRun plan (opening_host plan) last [] lines
+  pub run : IsReportedRun plan (opening_host plan) last [] lines
   pub whole : text ≡ history_text (opening_of plan) (shown erase last.history)

@@ -1,6 +1,6 @@
 -- The document of a plan's run.
 use Rattle.std.specs.Prelude.{ℕ, List}
-use Rattle.build_books.specs.View.{HostView}
+use Rattle.host_ledger.specs.View.{HostView}
 use Rattle.realm_plan.specs.Plan.{Plan}
 use Rattle.realm_program.specs.Replay.{opening_host}
 use Rattle.run_json.specs.Document.{IsDocument}

@@ -8,20 +8,20 @@ use Rattle.realm_plan.specs.Plan.{Plan}
 use Rattle.realm_program.specs.Replay.{opening_host}
 use Rattle.realm_program.specs.declared.fault.Fault.{Fault}
 use Rattle.realm_program.specs.declared.fault.Fault.TheVariants.{Memory}
-use Rattle.order_runs.specs.Drawn.{IsSampled}
-use Rattle.order_runs.specs.Explored.{IsExplored}
-use Rattle.order_runs.specs.declared.totals.Totals.{Totals}
-use Rattle.order_runs.specs.Exploring.{IsNotExplored}
-use Rattle.order_runs.specs.Lines.{orders_text, drawn_text}
-use Rattle.command_line.specs.declared.realmview.Orders.{Orders}
-use Rattle.command_line.specs.declared.realmview.Orders.TheVariants.{First, Drawn}
+use Rattle.schedules.specs.Drawn.{IsSampled}
+use Rattle.schedules.specs.Explored.{IsExplored}
+use Rattle.schedules.specs.declared.totals.Totals.{Totals}
+use Rattle.schedules.specs.Exploring.{IsNotExplored}
+use Rattle.schedules.specs.Lines.{schedules_text, drawn_text}
+use Rattle.command_line.specs.declared.realmview.Schedules.{Schedules}
+use Rattle.command_line.specs.declared.realmview.Schedules.TheVariants.{First, Drawn}
 
 -- what the orders of a plan come to, from the lowest on: all that there are, or the first `most`
 pub record IsFirstText (most : ℕ) (plan : Plan) (text : List ℕ) : Type 0 where
   pub totals : Totals
   pub is_whole : Bool
   pub explored : IsExplored plan (opening_host plan) most totals is_whole
-  pub whole : text ≡ orders_text plan totals is_whole
+  pub whole : text ≡ schedules_text plan totals is_whole
 
 -- the numbers of xoshiro256++ from this seed on
 abbrev pub random_numbers : ℕ → Stream
@@ -33,12 +33,12 @@ pub record IsDrawnText (count seed : ℕ) (plan : Plan) (text : List ℕ) : Type
   pub sampled : IsSampled plan (opening_host plan) (random_numbers seed) count totals
   pub whole : text ≡ drawn_text plan totals
 
-abbrev pub IsOrdersText : Orders → Plan → List ℕ → Type 0
-IsOrdersText (First most) plan text = IsFirstText most plan text
-IsOrdersText (Drawn count seed) plan text = IsDrawnText count seed plan text
+abbrev pub IsSchedulesText : Schedules → Plan → List ℕ → Type 0
+IsSchedulesText (First most) plan text = IsFirstText most plan text
+IsSchedulesText (Drawn count seed) plan text = IsDrawnText count seed plan text
 
 -- why there is no such text: allocation failed, or a host did not give the same answers to the same calls
-abbrev pub IsWithoutOrders : Orders → Plan → Fault → Type 0
-IsWithoutOrders (First most) plan fault = IsNotExplored plan fault
-IsWithoutOrders (Drawn count seed) plan Memory = Unit {0}
-IsWithoutOrders (Drawn count seed) plan fault = ⊥
+abbrev pub IsWithoutSchedules : Schedules → Plan → Fault → Type 0
+IsWithoutSchedules (First most) plan fault = IsNotExplored plan fault
+IsWithoutSchedules (Drawn count seed) plan Memory = Unit {0}
+IsWithoutSchedules (Drawn count seed) plan fault = ⊥

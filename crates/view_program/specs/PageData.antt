@@ -1,7 +1,7 @@
 -- The page of a plan's run.
 use Rattle.std.specs.Prelude.{◌≡◌, ℕ, List, [], ◌∷◌, ◌++◌, codes, length}
 use Rattle.std.specs.List.{range_with_len}
-use Rattle.build_books.specs.View.{HostView}
+use Rattle.host_ledger.specs.View.{HostView}
 use Rattle.realm_host.specs.Recorded.{IsWithout}
 use Rattle.realm_plan.specs.Plan.{Plan}
 use Rattle.realm_program.specs.Replay.{opening_host}

@@ -1,11 +1,11 @@
 -- What is printed of a history that is applied, and how that ends.
 use Rattle.std.specs.Prelude.{ℕ, Bool, true, false, List, Option, None, Result, Ok, Err, string_bytes}
 use Rattle.std.specs.Io.KnownBytes.{Appends, Keeps}
-use Rattle.build_books.specs.View.{HostView}
-use Rattle.told_device.specs.Whole.{AppendsFront}
+use Rattle.host_ledger.specs.View.{HostView}
+use Rattle.checked_io.specs.Whole.{AppendsFront}
 use Rattle.history_text.specs.declared.opening.Opening.{Opening}
 use Rattle.view_program.specs.Applied.{IsHistoryIn, IsNoHistoryIn, IsMap, HasNoMap}
-use Rattle.view_program.specs.declared.fault.Fault.{Fault}
+use Rattle.view_program.specs.declared.fault.ViewError.{ViewError}
 use Rattle.realm_program.specs.Printed.{IsPrinted, HasNoText, IsEndOfDevice}
 use Rattle.realm_program.specs.Replay.{IsWithoutText}
 use Rattle.realm_plan.specs.Plan as plan
@@ -15,13 +15,13 @@ use Rattle.view_program.specs.Json.{IsJsonText}
 use Rattle.view_program.specs.PageData.{IsPageText}
 use Rattle.view_program.specs.Checked.{AreErrorsOf, IsCheckEnd}
 use Rattle.view_program.specs.Why.{IsWhyText}
-use Rattle.view_program.specs.Orders.{IsOrdersText, IsWithoutOrders}
+use Rattle.view_program.specs.Orders.{IsSchedulesText, IsWithoutSchedules}
 use Rattle.view_program.specs.Reordered.{IsReorderEnd}
-use Rattle.view_program.specs.declared.checking.Verdict.{Verdict}
-use Rattle.view_program.specs.declared.checking.Verdict.TheVariants.{Done, HasErrors}
-use Rattle.command_line.specs.declared.realmview.Asked.{Asked}
-use Rattle.command_line.specs.declared.realmview.Asked.TheVariants.{History, Apply, Json, Page, Why, Explore, Order, Check}
-use Rattle.view_program.specs.declared.fault.Fault.TheVariants.{NoPlan, Plan, NoOpening, NoEvent, Refused, EraseNamesNoBuild, Memory, Device}
+use Rattle.view_program.specs.declared.checking.ViewOutcome.{ViewOutcome}
+use Rattle.view_program.specs.declared.checking.ViewOutcome.TheVariants.{Done, HasErrors}
+use Rattle.command_line.specs.declared.realmview.ViewSubcommand.{ViewSubcommand}
+use Rattle.command_line.specs.declared.realmview.ViewSubcommand.TheVariants.{History, Apply, Json, Page, Why, Explore, Order, Check}
+use Rattle.view_program.specs.declared.fault.ViewError.TheVariants.{NoPlan, Plan, NoOpening, NoEvent, Refused, EraseNamesNoBuild, Memory, Device}
 
 -- the input is a history with this map
 pub record HasMap (erase : Option ℕ) (input : Option (List ℕ)) (text : List ℕ) : Type 0 where
@@ -55,7 +55,7 @@ IsApplyEndOfDevice erase true input old new = Keeps old new
 IsApplyEndOfDevice erase false input old new = IsMapCut erase input old new
 
 -- The map is printed whole or not at all, unless a write fails on the way. `unread` is whether a read failed.
-abbrev pub IsApplyEnd : Option ℕ → Bool → Option (List ℕ) → Option (List ℕ) → Option (List ℕ) → Result (Unit {0}) Fault → Type 0
+abbrev pub IsApplyEnd : Option ℕ → Bool → Option (List ℕ) → Option (List ℕ) → Option (List ℕ) → Result (Unit {0}) ViewError → Type 0
 IsApplyEnd erase unread input old new (Ok _) = IsMapPrinted erase input old new
 IsApplyEnd erase unread input old new (Err NoOpening) = IsNoHistoryIn input NoOpening × Keeps old new
 IsApplyEnd erase unread input old new (Err (NoEvent line)) = IsNoHistoryIn input (NoEvent line) × Keeps old new
@@ -69,7 +69,7 @@ IsApplyEnd erase unread input old new (Err fault) = ⊥
 
 -- The end of a text that a plan has: it is printed whole or not at all, unless a write fails on the way. Of an input that is no
 -- plan the fault has the errors.
-abbrev pub IsPlanEnd : (plan.Plan → List ℕ → Type 0) → (plan.Plan → plan_fault.Fault → Type 0) → List ℕ → Bool → Option (List ℕ) → Option (List ℕ) → Option (List ℕ) → Result (Unit {0}) Fault → Type 0
+abbrev pub IsPlanEnd : (plan.Plan → List ℕ → Type 0) → (plan.Plan → plan_fault.Fault → Type 0) → List ℕ → Bool → Option (List ℕ) → Option (List ℕ) → Option (List ℕ) → Result (Unit {0}) ViewError → Type 0
 IsPlanEnd texts without source unread input old new (Ok done) = IsPrinted texts input old new
 IsPlanEnd texts without source unread input old new (Err (NoPlan errors)) = AreErrorsOf source input (string_bytes errors) × Keeps old new
 IsPlanEnd texts without source unread input old new (Err (Plan fault)) = HasNoText without input fault × Keeps old new
@@ -78,17 +78,17 @@ IsPlanEnd texts without source unread input old new (Err Device) = IsEndOfDevice
 IsPlanEnd texts without source unread input old new (Err fault) = ⊥
 
 -- the end of what is done where no plan is checked
-abbrev pub EndsAs : (Result (Unit {0}) Fault → Type 0) → Result Verdict Fault → Type 0
+abbrev pub EndsAs : (Result (Unit {0}) ViewError → Type 0) → Result ViewOutcome ViewError → Type 0
 EndsAs IsEndOf (Ok Done) = IsEndOf (Ok tt)
 EndsAs IsEndOf (Ok HasErrors) = ⊥
 EndsAs IsEndOf (Err fault) = IsEndOf (Err fault)
 
-abbrev pub IsRunEnd : Asked → List ℕ → Bool → Option (List ℕ) → Option (List ℕ) → Option (List ℕ) → Result Verdict Fault → Type 0
+abbrev pub IsRunEnd : ViewSubcommand → List ℕ → Bool → Option (List ℕ) → Option (List ℕ) → Option (List ℕ) → Result ViewOutcome ViewError → Type 0
 IsRunEnd (History erase) source unread input old new result = EndsAs (IsPlanEnd (IsHistoryText erase) (IsWithoutText erase) source unread input old new) result
 IsRunEnd (Apply erase) source unread input old new result = EndsAs (IsApplyEnd erase unread input old new) result
 IsRunEnd Json source unread input old new result = EndsAs (IsPlanEnd IsJsonText (IsWithoutText None) source unread input old new) result
 IsRunEnd Page source unread input old new result = EndsAs (IsPlanEnd IsPageText (IsWithoutText None) source unread input old new) result
 IsRunEnd (Why all) source unread input old new result = EndsAs (IsPlanEnd IsWhyText (IsWithoutText None) source unread input old new) result
-IsRunEnd (Explore orders) source unread input old new result = EndsAs (IsPlanEnd (IsOrdersText orders) (IsWithoutOrders orders) source unread input old new) result
+IsRunEnd (Explore orders) source unread input old new result = EndsAs (IsPlanEnd (IsSchedulesText orders) (IsWithoutSchedules orders) source unread input old new) result
 IsRunEnd (Order turns) source unread input old new result = EndsAs (IsReorderEnd turns source unread input old new) result
 IsRunEnd Check source unread input old new result = IsCheckEnd source unread input old new result

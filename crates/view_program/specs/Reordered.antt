@@ -6,30 +6,30 @@ use Rattle.realm_plan.specs.declared.fault.PlanFault.TheVariants as plan_fault
 use Rattle.realm_program.specs.Printed.{IsPlanOf}
 use Rattle.realm_program.specs.Replay.{opening_host}
 use Rattle.realm_program.specs.declared.fault.Fault.TheVariants as run_fault
-use Rattle.told_device.specs.Whole.{AppendsFront}
-use Rattle.order_runs.specs.Rotation.{AreInRotation, AreOneByOne, IsWholeOrder}
-use Rattle.order_runs.specs.declared.choice.Choice.{Choice}
-use Rattle.command_line.specs.declared.realmview.Turns.{Turns}
-use Rattle.command_line.specs.declared.realmview.Turns.TheVariants.{InRotation, OneByOne}
-use Rattle.view_program.specs.declared.fault.Fault.{Fault}
+use Rattle.checked_io.specs.Whole.{AppendsFront}
+use Rattle.schedules.specs.Rotation.{AreInRotation, AreOneByOne, IsWholeSchedule}
+use Rattle.schedules.specs.declared.choice.Choice.{Choice}
+use Rattle.command_line.specs.declared.realmview.SchedulingPolicy.{SchedulingPolicy}
+use Rattle.command_line.specs.declared.realmview.SchedulingPolicy.TheVariants.{InRotation, OneByOne}
+use Rattle.view_program.specs.declared.fault.ViewError.{ViewError}
 use Rattle.view_program.specs.Checked.{AreErrorsOf}
-use Rattle.view_program.specs.declared.fault.Fault.TheVariants.{NoPlan, Plan, OrderOutsideLimits, Memory, Device}
+use Rattle.view_program.specs.declared.fault.ViewError.TheVariants.{NoPlan, Plan, OrderOutsideLimits, Memory, Device}
 
 -- ---- the order
 
-abbrev pub rule_of : Turns → List Choice → Type 0
+abbrev pub rule_of : SchedulingPolicy → List Choice → Type 0
 rule_of InRotation = AreInRotation 0
 rule_of OneByOne = AreOneByOne
 
 -- The builds of the turns of a run of the plan, by the rule: each turn is of a build that has a step left, and in the
 -- end no build has one.
-abbrev pub IsOrderOf : Turns → plan.Plan → List ℕ → Type 0
-IsOrderOf turns it order = IsWholeOrder (rule_of turns) it (opening_host it) order
+abbrev pub IsOrderOf : SchedulingPolicy → plan.Plan → List ℕ → Type 0
+IsOrderOf turns it order = IsWholeSchedule (rule_of turns) it (opening_host it) order
 
 -- ---- the text
 
 -- the text is a plan, whose own order is such an order
-pub record IsWholeText (turns : Turns) (text : List ℕ) : Type 0 where
+pub record IsWholeText (turns : SchedulingPolicy) (text : List ℕ) : Type 0 where
   pub it : plan.Plan
   pub is_plan : plan.plan_of text ≡ Ok it
   pub whole : IsOrderOf turns it it.order
@@ -37,14 +37,14 @@ pub record IsWholeText (turns : Turns) (text : List ℕ) : Type 0 where
 -- ---- why there is none
 
 -- why a text is not taken as a plan with such an order
-abbrev pub IsNotWhole : List ℕ → Fault → Type 0
+abbrev pub IsNotWhole : List ℕ → ViewError → Type 0
 IsNotWhole text OrderOutsideLimits = plan.plan_of text ≡ Err plan_fault.Limit
 IsNotWhole text (Plan run_fault.Mismatch) = Unit {0}
 IsNotWhole text Memory = Unit {0}
 IsNotWhole text fault = ⊥
 
 -- why a plan is not written with such an order
-abbrev pub IsNotReordered : Fault → Type 0
+abbrev pub IsNotReordered : ViewError → Type 0
 IsNotReordered OrderOutsideLimits = Unit {0}
 IsNotReordered (Plan run_fault.Mismatch) = Unit {0}
 IsNotReordered Memory = Unit {0}
@@ -53,30 +53,30 @@ IsNotReordered fault = ⊥
 -- ---- the end
 
 -- the input is a plan, and so is the text, with such an order
-pub record IsReorderedIn (turns : Turns) (input : Option (List ℕ)) (text : List ℕ) : Type 0 where
+pub record IsReorderedIn (turns : SchedulingPolicy) (input : Option (List ℕ)) (text : List ℕ) : Type 0 where
   pub read : plan.Plan
   pub of_input : IsPlanOf input read
   pub is_whole : IsWholeText turns text
 
 -- the whole text was written
-pub record IsReorderWritten (turns : Turns) (input old new : Option (List ℕ)) : Type 0 where
+pub record IsReorderWritten (turns : SchedulingPolicy) (input old new : Option (List ℕ)) : Type 0 where
   pub text : List ℕ
   pub is_text : IsReorderedIn turns input text
   pub written : Appends old new text
 
 -- a prefix of the text was written
-pub record IsReorderCut (turns : Turns) (input old new : Option (List ℕ)) : Type 0 where
+pub record IsReorderCut (turns : SchedulingPolicy) (input old new : Option (List ℕ)) : Type 0 where
   pub text : List ℕ
   pub is_text : IsReorderedIn turns input text
   pub written : AppendsFront old new text
 
 -- a device failed: nothing was written if it was a read, and a prefix of the text if it was a write
-abbrev pub IsReorderEndOfDevice : Turns → Bool → Option (List ℕ) → Option (List ℕ) → Option (List ℕ) → Type 0
+abbrev pub IsReorderEndOfDevice : SchedulingPolicy → Bool → Option (List ℕ) → Option (List ℕ) → Option (List ℕ) → Type 0
 IsReorderEndOfDevice turns true input old new = Keeps old new
 IsReorderEndOfDevice turns false input old new = IsReorderCut turns input old new
 
 -- The text is written whole or not at all, unless a write fails on the way. `unread` is whether a read failed.
-abbrev pub IsReorderEnd : Turns → List ℕ → Bool → Option (List ℕ) → Option (List ℕ) → Option (List ℕ) → Result (Unit {0}) Fault → Type 0
+abbrev pub IsReorderEnd : SchedulingPolicy → List ℕ → Bool → Option (List ℕ) → Option (List ℕ) → Option (List ℕ) → Result (Unit {0}) ViewError → Type 0
 IsReorderEnd turns source unread input old new (Ok _) = IsReorderWritten turns input old new
 IsReorderEnd turns source unread input old new (Err (NoPlan errors)) = AreErrorsOf source input (string_bytes errors) × Keeps old new
 IsReorderEnd turns source unread input old new (Err (Plan run_fault.Mismatch)) = ((read : plan.Plan) × IsPlanOf input read) × Keeps old new

@@ -3,17 +3,17 @@ use Rattle.std.specs.Prelude.{ℕ, Result}
 use Rattle.command_line.specs.Ended.{status_of_end}
 use Rattle.command_line.specs.declared.ended.Ended.{Ended}
 use Rattle.command_line.specs.declared.stop.Stop.{Stop}
-use Rattle.told_device.specs.declared.lines.LineError.{LineError}
-use Rattle.told_device.specs.declared.lines.LineError.TheVariants as line_error
+use Rattle.checked_io.specs.declared.lines.LineError.{LineError}
+use Rattle.checked_io.specs.declared.lines.LineError.TheVariants as line_error
 use Rattle.realm_program.specs.Fault as plan
 use Rattle.realm_program.specs.declared.input.ReadError.{ReadError}
 use Rattle.realm_program.specs.declared.input.ReadError.TheVariants as read_error
-use Rattle.view_program.specs.declared.checking.Verdict.{Verdict}
-use Rattle.view_program.specs.declared.checking.Verdict.TheVariants.{Done, HasErrors}
-use Rattle.view_program.specs.declared.fault.Fault.{Fault}
-use Rattle.view_program.specs.declared.fault.Fault.TheVariants.{NoPlan, Plan, NoOpening, NoEvent, Refused, EraseNamesNoBuild, OrderOutsideLimits, Memory, Device}
+use Rattle.view_program.specs.declared.checking.ViewOutcome.{ViewOutcome}
+use Rattle.view_program.specs.declared.checking.ViewOutcome.TheVariants.{Done, HasErrors}
+use Rattle.view_program.specs.declared.fault.ViewError.{ViewError}
+use Rattle.view_program.specs.declared.fault.ViewError.TheVariants.{NoPlan, Plan, NoOpening, NoEvent, Refused, EraseNamesNoBuild, OrderOutsideLimits, Memory, Device}
 
-abbrev pub view_status_of : Fault → ℕ
+abbrev pub view_status_of : ViewError → ℕ
 view_status_of (NoPlan errors) = 1
 view_status_of (Plan fault) = plan.status_of fault
 view_status_of NoOpening = 1
@@ -24,18 +24,18 @@ view_status_of OrderOutsideLimits = 1
 view_status_of Memory = 3
 view_status_of Device = 5
 
-abbrev pub fault_of_line : LineError → Fault
+abbrev pub fault_of_line : LineError → ViewError
 fault_of_line line_error.Memory = Memory
 fault_of_line line_error.Device = Device
 
-abbrev pub view_fault_of_read : ReadError → Fault
+abbrev pub view_fault_of_read : ReadError → ViewError
 view_fault_of_read read_error.Memory = Memory
 view_fault_of_read read_error.Device = Device
 
 -- a verdict ends the program with 0, unless a plan has errors
-abbrev pub view_verdict_status : Verdict → ℕ
+abbrev pub view_verdict_status : ViewOutcome → ℕ
 view_verdict_status Done = 0
 view_verdict_status HasErrors = 1
 
-abbrev pub view_exit_status : Result (Ended Verdict) (Stop Fault) → ℕ
+abbrev pub view_exit_status : Result (Ended ViewOutcome) (Stop ViewError) → ℕ
 view_exit_status outcome = status_of_end view_verdict_status view_status_of outcome

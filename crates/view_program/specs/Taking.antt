@@ -1,10 +1,10 @@
 -- Events that a host takes from the lines to come.
 use Rattle.std.specs.Prelude.{◌≡◌, ◌+◌, ℕ, List, ◌∷◌, ◌++◌, length, Option, IfSome}
-use Rattle.build_books.specs.View.{HostView}
-use Rattle.told_device.specs.Lines.{lines_in}
+use Rattle.host_ledger.specs.View.{HostView}
+use Rattle.checked_io.specs.Lines.{lines_in}
 use Rattle.view_program.specs.Applied.{AreTaken, IsNoEvent, IsEventRefused}
-use Rattle.view_program.specs.declared.fault.Fault.{Fault}
-use Rattle.view_program.specs.declared.fault.Fault.TheVariants.{NoEvent, Refused, Memory, Device}
+use Rattle.view_program.specs.declared.fault.ViewError.{ViewError}
+use Rattle.view_program.specs.declared.fault.ViewError.TheVariants.{NoEvent, Refused, Memory, Device}
 
 -- all lines to come are taken
 pub record AreLinesTaken (input : Option (List ℕ)) (old new : HostView) : Type 0 where
@@ -13,12 +13,12 @@ pub record AreLinesTaken (input : Option (List ℕ)) (old new : HostView) : Type
   pub taken : AreTaken old lines new
 
 -- a host does not take this line, whose number follows from how many events it has
-abbrev pub IsUntaken : HostView → List ℕ → Fault → Type 0
+abbrev pub IsUntaken : HostView → List ℕ → ViewError → Type 0
 IsUntaken host line (NoEvent number) = (number ≡ length host.history + 2) × IsNoEvent line
 IsUntaken host line (Refused number why words) = (number ≡ length host.history + 2) × IsEventRefused why host line
 IsUntaken host line fault = ⊥
 
-pub record AreCutShort (old : HostView) (lines : List (List ℕ)) (fault : Fault) : Type 0 where
+pub record AreCutShort (old : HostView) (lines : List (List ℕ)) (fault : ViewError) : Type 0 where
   pub before : List (List ℕ)
   pub line : List ℕ
   pub after : List (List ℕ)
@@ -28,7 +28,7 @@ pub record AreCutShort (old : HostView) (lines : List (List ℕ)) (fault : Fault
   pub untaken : IsUntaken mid line fault
 
 -- why not all lines to come are taken
-abbrev pub AreNotTaken : Option (List ℕ) → HostView → Fault → Type 0
+abbrev pub AreNotTaken : Option (List ℕ) → HostView → ViewError → Type 0
 AreNotTaken input old (NoEvent number) = IfSome input (λ bytes. AreCutShort old (lines_in bytes) (NoEvent number))
 AreNotTaken input old (Refused number why words) = IfSome input (λ bytes. AreCutShort old (lines_in bytes) (Refused number why words))
 AreNotTaken input old Memory = Unit {0}

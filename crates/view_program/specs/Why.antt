@@ -1,13 +1,13 @@
 -- The run of a plan with the reasons of its refusals, as text.
 use Rattle.std.specs.Prelude.{◌≡◌, ℕ, List, [], ◌∷◌, ◌++◌, map, string_bytes, Option, Some, None}
 use Rattle.std.specs.List.{filter_map, range_with_len}
-use Rattle.build_books.specs.View.{HostView}
+use Rattle.host_ledger.specs.View.{HostView}
 use Rattle.realm_plan.specs.Plan.{Plan}
-use Rattle.plan_runs.specs.Run.{map_text}
-use Rattle.refusal_reasons.specs.Explained.{report_of, IsExplainedRun}
-use Rattle.refusal_reasons.specs.Unfinished.{unfinished_abort}
-use Rattle.refusal_reasons.specs.declared.explained.ExplainedTurn.{ExplainedTurn}
-use Rattle.refusal_reasons.specs.declared.explained.Explanation.{Explanation}
+use Rattle.plan_replay.specs.Run.{map_text}
+use Rattle.explain.specs.Explained.{report_of, IsExplainedRun}
+use Rattle.explain.specs.Unfinished.{unfinished_abort}
+use Rattle.explain.specs.declared.explained.ExplainedTurn.{ExplainedTurn}
+use Rattle.explain.specs.declared.explained.Explanation.{Explanation}
 use Rattle.realm_program.specs.Replay.{opening_host}
 
 -- Below the line of a turn that is refused there are words, and below any other nothing.

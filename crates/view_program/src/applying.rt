@@ -4,25 +4,25 @@ ghost use Rattle.realm_host.specs.Recorded.{fresh_like};
 ghost use Rattle.history_text.specs.Histories.{IsSize};
 ghost use Rattle.view_program.specs.Applied.{host_of_opening, IsHistoryIn, IsNoHistoryIn, IsMap, HasNoMap};
 ghost use Rattle.view_program.specs.Printed.{IsApplyEnd};
-ghost use Rattle.view_program.specs.declared.fault.Fault.TheVariants.{Device};
+ghost use Rattle.view_program.specs.declared.fault.ViewError.TheVariants.{Device};
 
-use crate::fault::Fault;
+use crate::fault::ViewError;
+use crate::history_lines::{opening_in, take_lines};
 use crate::machine::boot;
-use crate::taking::{opening_in, take_lines};
 use buddy::BuddyArena;
+use checked_io::{Lines, Told};
 use granule_addr::BuildId;
 use history_text::Opening;
-use plan_runs::map_text;
+use plan_replay::map_text;
 use realm_host::{Host, apply_without};
 use std::alloc::{AllocError, Global};
 use std::io::{Read, Write};
-use told_device::{Lines, Told};
 
 // The host that the history in the input leads to, and the size of its machine.
 fn host_in<R: Read>(
     alloc: Global,
     input: &mut Told<R>,
-) -> Result<(Opening, Host<BuddyArena>), Fault>
+) -> Result<(Opening, Host<BuddyArena>), ViewError>
     requires { input.old.failed ≡ false }
     ensures told { (input.new.failed ≡ true) ↔ (result ≡ Err Device) }
     ensures ok { IfOk result (λ it. IsHistoryIn (R.remaining input.old.device) it.0 it.1) }
@@ -49,7 +49,7 @@ fn map_without(
     ensures { IfOk result (λ text. IsMap (Some build) opening.now host.now (string_bytes text)) }
 {
     let mut fresh = boot(alloc, opening)?;
-    apply_without(host.books(), build, &mut fresh);
+    apply_without(host.ledger(), build, &mut fresh);
     map_text(alloc, &fresh)
 }
 
@@ -59,7 +59,7 @@ fn asked_map(
     opening: &Opening,
     host: &Host<BuddyArena>,
     erase: Option<BuildId>,
-) -> Result<String, Fault>
+) -> Result<String, ViewError>
     requires size { IsSize opening.now }
     requires machine { fresh_like host.now ≡ host_of_opening opening.now }
     ensures ok { IfOk result (λ text. IsMap erase opening.now host.now (string_bytes text)) }
@@ -69,7 +69,7 @@ fn asked_map(
         return Ok(map_text(alloc, host)?);
     };
     if build.number() >= opening.builds {
-        return Err(Fault::EraseNamesNoBuild);
+        return Err(ViewError::EraseNamesNoBuild);
     }
     Ok(map_without(alloc, opening, host, build)?)
 }
@@ -88,7 +88,7 @@ pub fn apply<R: Read, W: Write>(
     input: &mut Told<R>,
     output: &mut Told<W>,
     erase: Option<BuildId>,
-) -> Result<(), Fault>
+) -> Result<(), ViewError>
     requires readable { input.old.failed ≡ false }
     requires writable { output.old.failed ≡ false }
     ensures end { IsApplyEnd erase input.new.failed (R.remaining input.old.device) (W.contents output.old.device) (W.contents output.new.device) result }

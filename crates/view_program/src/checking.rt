@@ -1,18 +1,18 @@
 //! The report on an input as a plan.
 ghost use Rattle.std.specs.Prelude.{◌≡◌, ◌+◌, ◌≤◌, ◌↔◌, ◌⊎◌, false, true, Err};
 ghost use Rattle.view_program.specs.Checked.{verdict_of, IsCheckEnd};
-ghost use Rattle.view_program.specs.declared.fault.Fault.TheVariants.{Device};
+ghost use Rattle.view_program.specs.declared.fault.ViewError.TheVariants.{Device};
 
-use crate::fault::Fault;
-use plan_check::Report;
+use crate::fault::ViewError;
+use checked_io::Told;
+use plan_lint::LintReport;
 use realm_program::read_whole;
 use std::alloc::Global;
 use std::io::{Read, Write};
-use told_device::Told;
 
 /// How what was asked for ended.
 #[derive(Clone, Copy)]
-pub enum Verdict {
+pub enum ViewOutcome {
     /// It is done.
     Done,
     /// What was checked is no plan, and its errors are written.
@@ -20,13 +20,13 @@ pub enum Verdict {
 }
 
 // The verdict on bytes, by whether they are a plan.
-fn verdict_of(is_plan: bool) -> Verdict
+fn verdict_of(is_plan: bool) -> ViewOutcome
     ensures { result ≡ verdict_of is_plan }
 {
     if is_plan {
-        Verdict::Done
+        ViewOutcome::Done
     } else {
-        Verdict::HasErrors
+        ViewOutcome::HasErrors
     }
 }
 
@@ -40,7 +40,7 @@ pub fn check<R: Read, W: Write>(
     source: &str,
     input: &mut Told<R>,
     output: &mut Told<W>,
-) -> Result<Verdict, Fault>
+) -> Result<ViewOutcome, ViewError>
     requires readable { input.old.failed ≡ false }
     requires writable { output.old.failed ≡ false }
     ensures end { IsCheckEnd source.now input.new.failed (R.remaining input.old.device) (W.contents output.old.device) (W.contents output.new.device) result }
@@ -48,7 +48,7 @@ pub fn check<R: Read, W: Write>(
     ensures asked { input.new.reads ≤ input.old.reads + 1048578 }
 {
     let bytes = read_whole(alloc, input)?;
-    let report = Report::on(alloc, source, &bytes)?;
+    let report = LintReport::on(alloc, source, &bytes)?;
     output.write_whole(report.text.as_bytes())?;
     Ok(verdict_of(report.is_plan))
 }

@@ -1,18 +1,18 @@
 //! Why nothing is printed, or only a prefix of the text.
 ghost use Rattle.std.specs.Prelude.{◌≡◌};
-ghost use Rattle.view_program.specs.declared.fault.Fault.TheVariants.{Plan, Memory, Device};
+ghost use Rattle.view_program.specs.declared.fault.ViewError.TheVariants.{Plan, Memory, Device};
 
+use checked_io::{DeviceFailed, LineError};
 use command_line::Reason;
 use realm_host::WhyNot;
 use realm_program::ReadError;
 use std::alloc::AllocError;
 use thiserror::Error;
-use told_device::{DeviceFailed, LineError};
 
 /// Why what was asked for is not printed, or only a prefix of the text. Its line goes to standard error. Lines are
 /// counted from 1.
 #[derive(Debug, Drop, Error)]
-pub enum Fault {
+pub enum ViewError {
     /// The input is no plan: its errors, as `check` writes them.
     #[error("{}", .0.trim_end())]
     NoPlan(String),
@@ -42,7 +42,7 @@ pub enum Fault {
     Device,
 }
 
-impl Reason for Fault {
+impl Reason for ViewError {
     ghost use Rattle.view_program.specs.Stop.{view_status_of};
 
     ghost status_of = { view_status_of };
@@ -51,69 +51,69 @@ impl Reason for Fault {
 
     fn status(&self) -> u8 {
         match self {
-            Fault::NoPlan(_) => 1,
-            Fault::Plan(fault) => fault.status(),
-            Fault::NoOpening | Fault::NoEvent(_) | Fault::Refused(..) => 1,
-            Fault::OrderOutsideLimits => 1,
-            Fault::EraseNamesNoBuild => 2,
-            Fault::Memory => 3,
-            Fault::Device => 5,
+            ViewError::NoPlan(_) => 1,
+            ViewError::Plan(fault) => fault.status(),
+            ViewError::NoOpening | ViewError::NoEvent(_) | ViewError::Refused(..) => 1,
+            ViewError::OrderOutsideLimits => 1,
+            ViewError::EraseNamesNoBuild => 2,
+            ViewError::Memory => 3,
+            ViewError::Device => 5,
         }
     }
 
-    fn of_memory() -> Fault {
-        Fault::Memory
+    fn of_memory() -> ViewError {
+        ViewError::Memory
     }
 }
 
-impl From<realm_program::Fault> for Fault {
+impl From<realm_program::Fault> for ViewError {
     ghost from_gives = { λ error fault. fault ≡ Plan error };
 
-    fn from(error: realm_program::Fault) -> Fault {
-        Fault::Plan(error)
+    fn from(error: realm_program::Fault) -> ViewError {
+        ViewError::Plan(error)
     }
 }
 
-impl From<LineError> for Fault {
+impl From<LineError> for ViewError {
     ghost use Rattle.std.specs.Prelude.{◌≡◌};
     ghost use Rattle.view_program.specs.Stop.{fault_of_line};
 
     ghost from_gives = { λ error fault. fault ≡ fault_of_line error };
 
-    fn from(error: LineError) -> Fault {
+    fn from(error: LineError) -> ViewError {
         match error {
-            LineError::Memory => Fault::Memory,
-            LineError::Device => Fault::Device,
+            LineError::Memory => ViewError::Memory,
+            LineError::Device => ViewError::Device,
         }
     }
 }
 
-impl From<ReadError> for Fault {
+impl From<ReadError> for ViewError {
     ghost use Rattle.std.specs.Prelude.{◌≡◌};
     ghost use Rattle.view_program.specs.Stop.{view_fault_of_read};
 
     ghost from_gives = { λ error fault. fault ≡ view_fault_of_read error };
 
-    fn from(error: ReadError) -> Fault {
+    fn from(error: ReadError) -> ViewError {
         match error {
-            ReadError::Memory => Fault::Memory,
-            ReadError::Device => Fault::Device,
+            ReadError::Memory => ViewError::Memory,
+            ReadError::Device => ViewError::Device,
         }
     }
 }
 
-impl From<DeviceFailed> for Fault {
+impl From<DeviceFailed> for ViewError {
     ghost from_gives = { λ _ fault. fault ≡ Device };
 
-    fn from(_error: DeviceFailed) -> Fault {
-        Fault::Device
+    fn from(_error: DeviceFailed) -> ViewError {
+        ViewError::Device
     }
 }
 
-impl From<AllocError> for Fault {
+impl From<AllocError> for ViewError {
     ghost from_gives = { λ _ fault. fault ≡ Memory };
 
-    fn from(_error: AllocError) -> Fault {
-        Fault::Memory
+    fn from(_error: AllocError) -> ViewError {
+        ViewError::Memory
     }
 }

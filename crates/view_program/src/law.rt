@@ -1,7 +1,7 @@
 //! Laws of histories that are applied.
 ghost use Rattle.std.specs.Prelude.{◌≡◌, ℕ, List};
 ghost use Rattle.realm_model.specs.History.{IsLegal};
-ghost use Rattle.build_books.specs.View.{HostView};
+ghost use Rattle.host_ledger.specs.View.{HostView};
 ghost use Rattle.history_text.specs.declared.opening.Opening.{Opening};
 ghost use Rattle.realm_host.specs.declared.why_not.WhyNot.{WhyNot};
 ghost use Rattle.view_program.specs.Applied.{IsHistory, IsLegalText, OpensNone, IsNoEvent, IsEventRefused, StopsAt};

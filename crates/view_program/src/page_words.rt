@@ -1,9 +1,9 @@
 //! The words of a page beside the run and its worlds: the reasons of refusals, and the title. They are tested, not proved.
 use crate::plan_title::plan_title;
 use buddy::BuddyArena;
+use explain::{Explanation, explain_turns};
 use realm_plan::Plan;
 use realm_program::boot;
-use refusal_reasons::{Explanation, explain_turns};
 use std::alloc::{AllocError, Global};
 
 // Appends a character of a JSON string.

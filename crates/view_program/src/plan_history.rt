@@ -8,7 +8,7 @@ use crate::plan_text::ViewText;
 use buddy::BuddyArena;
 use granule_addr::BuildId;
 use history_text::{Opening, push_history};
-use plan_runs::run_turns;
+use plan_replay::run_turns;
 use realm_host::Host;
 use realm_plan::Plan;
 use realm_program::{Fault, boot};

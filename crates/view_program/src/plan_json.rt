@@ -7,19 +7,19 @@ ghost use Rattle.view_program.specs.Json.{IsJsonText};
 
 use crate::plan_text::ViewText;
 use buddy::BuddyArena;
-use realm_host::Books;
+use realm_host::HostLedger;
 use realm_plan::Plan;
 use realm_program::{Fault, boot};
 use run_json::run_document;
 use std::alloc::{AllocError, Global};
 
 /// The document of a run of the plan, and the books in the end.
-pub(crate) fn run_of(alloc: Global, plan: &Plan) -> Result<(String, Books), AllocError>
+pub(crate) fn run_of(alloc: Global, plan: &Plan) -> Result<(String, HostLedger), AllocError>
     ensures { IfOk result (λ ran. IsDocument (plan_view plan.now) (opening_host (plan_view plan.now)) ran.1 (string_bytes ran.0)) }
 {
     let mut host = boot::<BuddyArena>(alloc, plan)?;
     let document = run_document(alloc, &mut host, plan)?;
-    Ok((document, host.into_books()))
+    Ok((document, host.into_ledger()))
 }
 
 /// The documents of runs of plans. A plan has none only where allocation failed.
@@ -32,7 +32,7 @@ impl ViewText for Documents {
     ghost is_without = { λ asked. IsWithoutText None };
 
     fn text_of(&self, alloc: Global, plan: &Plan, _source: &[u8]) -> Result<Vec<u8>, Fault> {
-        let (document, _books) = run_of(alloc, plan)?;
+        let (document, _ledger) = run_of(alloc, plan)?;
         Ok(document.into_bytes())
     }
 }

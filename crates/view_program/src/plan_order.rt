@@ -2,28 +2,28 @@
 ghost use Rattle.std.specs.Prelude.{◌≡◌, ◌+◌, ◌≤◌, ◌↔◌, ◌⊎◌, false, true, Err, IfOk, IfErr, OnOk};
 ghost use Rattle.realm_plan.specs.PlanView.{plan_view};
 ghost use Rattle.view_program.specs.Reordered.{IsOrderOf, IsWholeText, IsNotWhole, IsNotReordered, IsReorderEnd};
-ghost use Rattle.view_program.specs.declared.fault.Fault.TheVariants.{Device};
+ghost use Rattle.view_program.specs.declared.fault.ViewError.TheVariants.{Device};
 
-use crate::fault::Fault;
+use crate::fault::ViewError;
 use crate::order_place::{OrderPlace, order_place};
 use crate::order_text::order_array;
 use crate::printing::plan_from;
-use command_line::realmview::Turns;
-use order_runs::{order_in_rotation, order_one_by_one};
+use checked_io::Told;
+use command_line::realmview::SchedulingPolicy;
 use realm_plan::{Plan, PlanError, PlanFault};
 use realm_program::read_whole;
+use schedules::{schedule_in_rotation, schedule_one_by_one};
 use std::alloc::{AllocError, Global};
 use std::io::{Read, Write};
 use std::str::from_utf8;
-use told_device::Told;
 
 // The order of a run of the plan in which each build has all the turns that it needs.
-fn order_of(alloc: Global, plan: &Plan, turns: Turns) -> Result<Vec<usize>, AllocError>
+fn order_of(alloc: Global, plan: &Plan, turns: SchedulingPolicy) -> Result<Vec<usize>, AllocError>
     ensures { IfOk result (λ order. IsOrderOf turns (plan_view plan.now) order.items) }
 {
     match turns {
-        Turns::InRotation => order_in_rotation(alloc, plan),
-        Turns::OneByOne => order_one_by_one(alloc, plan),
+        SchedulingPolicy::InRotation => schedule_in_rotation(alloc, plan),
+        SchedulingPolicy::OneByOne => schedule_one_by_one(alloc, plan),
     }
 }
 
@@ -72,7 +72,11 @@ fn with_order(alloc: Global, bytes: &[u8], order: &[usize]) -> Result<Vec<u8>, A
 }
 
 // Whether a plan's own order gives each build all the turns that it needs.
-fn has_whole_order(alloc: Global, plan: &Plan, turns: Turns) -> Result<bool, AllocError>
+fn has_whole_schedule(
+    alloc: Global,
+    plan: &Plan,
+    turns: SchedulingPolicy,
+) -> Result<bool, AllocError>
     ensures { IfOk result (λ whole. whole ≡ true → IsOrderOf turns (plan_view plan.now) (plan_view plan.now).order) }
 {
     let order = order_of(alloc, plan, turns)?;
@@ -85,20 +89,25 @@ fn has_whole_order(alloc: Global, plan: &Plan, turns: Turns) -> Result<bool, All
 }
 
 // Reads a text back: it is to be a plan whose order gives each build all the turns that it needs.
-fn read_back(alloc: Global, text: &[u8], turns: Turns) -> Result<(), Fault>
+fn read_back(alloc: Global, text: &[u8], turns: SchedulingPolicy) -> Result<(), ViewError>
     ensures ok { OnOk result (IsWholeText turns text.now) }
     ensures err { IfErr result (IsNotWhole text.now) }
 {
     match Plan::from_bytes(alloc, text) {
-        Ok(plan) if has_whole_order(alloc, &plan, turns)? => Ok(()),
-        Err(PlanError::Memory) => Err(Fault::Memory),
-        Err(PlanError::Fault(PlanFault::Limit)) => Err(Fault::OrderOutsideLimits),
-        _ => Err(Fault::Plan(realm_program::Fault::Mismatch)),
+        Ok(plan) if has_whole_schedule(alloc, &plan, turns)? => Ok(()),
+        Err(PlanError::Memory) => Err(ViewError::Memory),
+        Err(PlanError::Fault(PlanFault::Limit)) => Err(ViewError::OrderOutsideLimits),
+        _ => Err(ViewError::Plan(realm_program::Fault::Mismatch)),
     }
 }
 
 // The text of a plan, with its whole order.
-fn reordered(alloc: Global, bytes: &[u8], plan: &Plan, turns: Turns) -> Result<Vec<u8>, Fault>
+fn reordered(
+    alloc: Global,
+    bytes: &[u8],
+    plan: &Plan,
+    turns: SchedulingPolicy,
+) -> Result<Vec<u8>, ViewError>
     ensures ok { IfOk result (λ text. IsWholeText turns text.items) }
     ensures err { IfErr result IsNotReordered }
 {
@@ -121,8 +130,8 @@ pub fn reorder<R: Read, W: Write>(
     source: &str,
     input: &mut Told<R>,
     output: &mut Told<W>,
-    turns: Turns,
-) -> Result<(), Fault>
+    turns: SchedulingPolicy,
+) -> Result<(), ViewError>
     requires readable { input.old.failed ≡ false }
     requires writable { output.old.failed ≡ false }
     ensures end { IsReorderEnd turns source.now input.new.failed (R.remaining input.old.device)

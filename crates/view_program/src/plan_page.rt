@@ -12,7 +12,7 @@ use crate::plan_json::run_of;
 use crate::plan_text::ViewText;
 use buddy::BuddyArena;
 use granule_addr::BuildId;
-use realm_host::{Books, Host, apply_without};
+use realm_host::{Host, HostLedger, apply_without};
 use realm_plan::Plan;
 use realm_program::{Fault, boot};
 use run_json::{Comma, page_of, push_world};
@@ -30,14 +30,14 @@ fn id_of(place: usize) -> BuildId
 fn fresh_without(
     alloc: Global,
     plan: &Plan,
-    books: &Books,
+    ledger: &HostLedger,
     build: BuildId,
 ) -> Result<Host<BuddyArena>, AllocError>
-    requires { opening_host (plan_view plan.now) ≡ fresh_like books.now }
-    ensures { IfOk result (IsWithout books.now build) }
+    requires { opening_host (plan_view plan.now) ≡ fresh_like ledger.now }
+    ensures { IfOk result (IsWithout ledger.now build) }
 {
     let mut fresh = boot(alloc, plan)?;
-    apply_without(books, build, &mut fresh);
+    apply_without(ledger, build, &mut fresh);
     Ok(fresh)
 }
 
@@ -59,13 +59,13 @@ fn push_without(
     alloc: Global,
     text: &mut String,
     plan: &Plan,
-    books: &Books,
+    ledger: &HostLedger,
     build: BuildId,
 ) -> Result<(), AllocError>
-    requires { opening_host (plan_view plan.now) ≡ fresh_like books.now }
-    ensures { OnOk result (IsWithoutWorld books.now build (string_bytes text.old) (string_bytes text.new)) }
+    requires { opening_host (plan_view plan.now) ≡ fresh_like ledger.now }
+    ensures { OnOk result (IsWithoutWorld ledger.now build (string_bytes text.old) (string_bytes text.new)) }
 {
-    let fresh = fresh_without(alloc, plan, books, build)?;
+    let fresh = fresh_without(alloc, plan, ledger, build)?;
     push_next(alloc, text, &fresh, build)
 }
 
@@ -74,13 +74,13 @@ fn push_all_without(
     alloc: Global,
     text: &mut String,
     plan: &Plan,
-    books: &Books,
+    ledger: &HostLedger,
 ) -> Result<(), AllocError>
-    requires { opening_host (plan_view plan.now) ≡ fresh_like books.now }
-    ensures { OnOk result (AreWithoutWorlds (plan_view plan.now) books.now (string_bytes text.old) (string_bytes text.new)) }
+    requires { opening_host (plan_view plan.now) ≡ fresh_like ledger.now }
+    ensures { OnOk result (AreWithoutWorlds (plan_view plan.now) ledger.now (string_bytes text.old) (string_bytes text.new)) }
 {
     for place in 0..plan.builds.len() {
-        push_without(alloc, text, plan, books, id_of(place))?;
+        push_without(alloc, text, plan, ledger, id_of(place))?;
     }
     Ok(())
 }
@@ -96,10 +96,10 @@ fn push_end(text: &mut String, members: &str) -> Result<(), AllocError>
 fn page_data(alloc: Global, plan: &Plan, source: &[u8]) -> Result<String, AllocError>
     ensures { IfOk result (λ text. IsPageData (plan_view plan.now) (string_bytes text)) }
 {
-    let (document, books) = run_of(alloc, plan)?;
+    let (document, ledger) = run_of(alloc, plan)?;
     let mut text = String::new(alloc);
     write!(text, "{{\"run\":{document},\"without\":[")?;
-    push_all_without(alloc, &mut text, plan, &books)?;
+    push_all_without(alloc, &mut text, plan, &ledger)?;
     let members = further_members(alloc, plan, source)?;
     push_end(&mut text, members.as_str())?;
     Ok(text)

@@ -6,13 +6,11 @@ ghost use Rattle.view_program.specs.Why.{AppendsTurn, AppendsTurns, AppendsEnds,
 
 use crate::plan_text::ViewText;
 use buddy::BuddyArena;
-use plan_runs::push_map;
+use explain::{ExplainedTurn, explain_turns, reason_lines, unfinished_aborts, unfinished_lines};
+use plan_replay::push_map;
 use realm_host::Host;
 use realm_plan::Plan;
 use realm_program::{Fault, boot};
-use refusal_reasons::{
-    ExplainedTurn, explain_turns, reason_lines, unfinished_aborts, unfinished_lines,
-};
 use std::alloc::{AllocError, Global};
 
 // Appends the line of a turn, and below it why the turn is refused, if it is.

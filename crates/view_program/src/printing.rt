@@ -4,28 +4,28 @@ ghost use Rattle.realm_plan.specs.Plan.{plan_of};
 ghost use Rattle.realm_plan.specs.PlanView.{plan_view};
 ghost use Rattle.view_program.specs.Checked.{GivesNoPlan};
 ghost use Rattle.view_program.specs.Printed.{IsPlanEnd};
-ghost use Rattle.view_program.specs.declared.fault.Fault.TheVariants.{Device};
+ghost use Rattle.view_program.specs.declared.fault.ViewError.TheVariants.{Device};
 
-use crate::fault::Fault;
+use crate::fault::ViewError;
 use crate::plan_text::ViewText;
-use plan_check::Report;
+use checked_io::Told;
+use plan_lint::LintReport;
 use realm_plan::{Plan, PlanError};
 use realm_program::read_whole;
 use std::alloc::Global;
 use std::io::{Read, Write};
-use told_device::Told;
 
 /// The plan that the bytes are.
-pub(crate) fn plan_from(alloc: Global, source: &str, bytes: &[u8]) -> Result<Plan, Fault>
+pub(crate) fn plan_from(alloc: Global, source: &str, bytes: &[u8]) -> Result<Plan, ViewError>
     ensures ok { IfOk result (λ plan. plan_of bytes.now ≡ Ok (plan_view plan)) }
     ensures err { IfErr result (GivesNoPlan source.now bytes.now) }
 {
     match Plan::from_bytes(alloc, bytes) {
         Ok(plan) => Ok(plan),
-        Err(PlanError::Memory) => Err(Fault::Memory),
+        Err(PlanError::Memory) => Err(ViewError::Memory),
         Err(PlanError::Fault(_)) => {
-            let report = Report::on(alloc, source, bytes)?;
-            Err(Fault::NoPlan(report.text))
+            let report = LintReport::on(alloc, source, bytes)?;
+            Err(ViewError::NoPlan(report.text))
         }
     }
 }
@@ -41,7 +41,7 @@ pub fn print<T: ViewText, R: Read, W: Write>(
     source: &str,
     input: &mut Told<R>,
     output: &mut Told<W>,
-) -> Result<(), Fault>
+) -> Result<(), ViewError>
     requires readable { input.old.failed ≡ false }
     requires writable { output.old.failed ≡ false }
     ensures end { IsPlanEnd (T.is_text asked.now) (T.is_without asked.now) source.now input.new.failed

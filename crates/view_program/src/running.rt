@@ -1,44 +1,51 @@
 //! What the command line asks for is done.
 ghost use Rattle.std.specs.Prelude.{◌≡◌, ◌↔◌, ◌⊎◌, false, true, Err};
 ghost use Rattle.view_program.specs.Printed.{IsRunEnd};
-ghost use Rattle.view_program.specs.declared.fault.Fault.TheVariants.{Device};
+ghost use Rattle.view_program.specs.declared.fault.ViewError.TheVariants.{Device};
 
 use crate::printing::print;
 use crate::{
-    Asked, Documents, Exploring, Fault, Histories, Pages, Reasons, Verdict, apply, check, reorder,
+    Documents, Exploring, Histories, Pages, Reasons, ViewError, ViewOutcome, ViewSubcommand, apply,
+    check, reorder,
 };
-use order_runs::Progress;
+use checked_io::Told;
+use schedules::Progress;
 use std::alloc::Global;
 use std::io::{Read, Write};
-use told_device::Told;
 
 /// Does what is asked, over any reader and any writer. Findings on a plan name the input by `source`. `progress` is told how far
 /// an exploration of orders has come.
 pub fn run<R: Read, W: Write, P: Progress>(
     alloc: Global,
-    asked: Asked,
+    asked: ViewSubcommand,
     source: &str,
     input: &mut Told<R>,
     output: &mut Told<W>,
     progress: &P,
-) -> Result<Verdict, Fault>
+) -> Result<ViewOutcome, ViewError>
     requires readable { input.old.failed ≡ false }
     requires writable { output.old.failed ≡ false }
     ensures device { ((input.new.failed ≡ true) ⊎ (output.new.failed ≡ true)) ↔ (result ≡ Err Device) }
     ensures end { IsRunEnd asked source.now input.new.failed (R.remaining input.old.device) (W.contents output.old.device) (W.contents output.new.device) result }
 {
     match asked {
-        Asked::History(erase) => print(&Histories { erase }, alloc, source, input, output)?,
-        Asked::Apply(erase) => apply(alloc, input, output, erase)?,
-        Asked::Json => print(&Documents, alloc, source, input, output)?,
-        Asked::Page => print(&Pages, alloc, source, input, output)?,
-        Asked::Check => return check(alloc, source, input, output),
-        Asked::Explore(orders) => {
+        ViewSubcommand::History(erase) => print(
+            &Histories { erase },
+            alloc,
+            source,
+            input,
+            output,
+        )?,
+        ViewSubcommand::Apply(erase) => apply(alloc, input, output, erase)?,
+        ViewSubcommand::Json => print(&Documents, alloc, source, input, output)?,
+        ViewSubcommand::Page => print(&Pages, alloc, source, input, output)?,
+        ViewSubcommand::Check => return check(alloc, source, input, output),
+        ViewSubcommand::Explore(orders) => {
             let exploring = Exploring { orders, progress };
             print(&exploring, alloc, source, input, output)?;
         }
-        Asked::Order(turns) => reorder(alloc, source, input, output, turns)?,
-        Asked::Why { all } => print(&Reasons { all }, alloc, source, input, output)?,
+        ViewSubcommand::Order(turns) => reorder(alloc, source, input, output, turns)?,
+        ViewSubcommand::Why { all } => print(&Reasons { all }, alloc, source, input, output)?,
     }
-    Ok(Verdict::Done)
+    Ok(ViewOutcome::Done)
 }

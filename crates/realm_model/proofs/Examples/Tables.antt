@@ -171,15 +171,15 @@ gone = step_by (machine_of 4) _ _ (by 0 (UnRtt 2 0 2)) _
 
 -- ---- and made again: its rows have the RIPAS that is above
 
-again : step (machine_of 4) (world untabled delegated) (by 0 (Rtt 2 0 2)) ≡ Some (world (with_table untabled 2 0 2 Destroyed) table_page)
+clone : step (machine_of 4) (world untabled delegated) (by 0 (Rtt 2 0 2)) ≡ Some (world (with_table untabled 2 0 2 Destroyed) table_page)
 unfolding named outcome_of fits updated_all check realm_from with_realm
-again = step_by (machine_of 4) _ _ (by 0 (Rtt 2 0 2)) _ refl (end_there untabled 0 1 _ _ (walk_there untabled 0 1 (vacant Destroyed) (lit≤ tt) untabled-above)) refl
+clone = step_by (machine_of 4) _ _ (by 0 (Rtt 2 0 2)) _ refl (end_there untabled 0 1 _ _ (walk_there untabled 0 1 (vacant Destroyed) (lit≤ tt) untabled-above)) refl
 
-again-above : get (with_table untabled 2 0 2 Destroyed) (1, 0) ≡ Some (leads 2)
-again-above = beside_table untabled 2 0 2 Destroyed (1, 0) (λ k less. refl)
+clone-above : get (with_table untabled 2 0 2 Destroyed) (1, 0) ≡ Some (leads 2)
+clone-above = beside_table untabled 2 0 2 Destroyed (1, 0) (λ k less. refl)
 
-again-first : get (with_table untabled 2 0 2 Destroyed) (2, 0) ≡ Some (vacant Destroyed)
-again-first = within_table untabled 2 0 2 Destroyed 0 (lit≤ tt)
+clone-first : get (with_table untabled 2 0 2 Destroyed) (2, 0) ≡ Some (vacant Destroyed)
+clone-first = within_table untabled 2 0 2 Destroyed 0 (lit≤ tt)
 
 abbrev then : List Event
 then = by 0 (Rtt 2 0 2) ∷ by 0 (UnRtt 2 0 2) ∷ by 0 (Rtt 2 0 2) ∷ []
@@ -187,7 +187,7 @@ then = by 0 (Rtt 2 0 2) ∷ by 0 (UnRtt 2 0 2) ∷ by 0 (Rtt 2 0 2) ∷ []
 then-world : replay (machine_of 4) (on_four ++ then) ≡ Some (world (with_table untabled 2 0 2 Destroyed) table_page)
 then-world =
     after_append (machine_of 4) on_four then (opening (machine_of 4)) ∙ ap (option_and_then (after (machine_of 4) then)) on_four-world
-    ∙ and_then (machine_of 4) _ _ _ _ _ made (and_then (machine_of 4) _ _ _ _ _ gone (and_then (machine_of 4) _ _ _ _ _ again (at_end (machine_of 4) _)))
+    ∙ and_then (machine_of 4) _ _ _ _ _ made (and_then (machine_of 4) _ _ _ _ _ gone (and_then (machine_of 4) _ _ _ _ _ clone (at_end (machine_of 4) _)))
 
 then-legal : IsLegal (machine_of 4) (on_four ++ then)
 unfolding is_reverse open_entries reverse_of

@@ -18,7 +18,7 @@ use Rattle.realm_model.specs.declared.states.EntryState.TheVariants.{Assigned}
 use Rattle.realm_model.specs.declared.states.Ripas.TheVariants.{Empty, Destroyed}
 use Rattle.realm_model.specs.Rows.{Row, Rows, root_rows, put_row, with_table, without_table, is_unassigned, is_table, is_table_unused, all_rows, unassigned, table, is_unassigned_state, is_table_state}
 use Rattle.realm_model.specs.Ownership.{mapping_of_row, Mapping}
-use Rattle.realm_model.specs.Sound.{look, IsSoundRows}
+use Rattle.realm_model.specs.Sound.{mapping_at, IsSoundRows}
 use Rattle.realm_model.specs.Machine.{Limits, RecRow, Cell}
 use Rattle.realm_model.specs.Update.{Outcome}
 use Rattle.realm_model.specs.Act.{named, reverse_of, is_reverse}
@@ -34,7 +34,7 @@ use Rattle.realm_model.proofs.HistoryParts.{after_append}
 use Rattle.realm_model.proofs.Maps.{place_total, same_place}
 use Rattle.realm_model.proofs.Outcomes.{check_true, end_there}
 use Rattle.realm_model.proofs.RowKinds.{Vacant}
-use Rattle.realm_model.proofs.Rows.{is_place, look-insert, put_there, all_rows_from, all_rows_at}
+use Rattle.realm_model.proofs.Rows.{is_place, mapping_at-insert, put_there, all_rows_from, all_rows_at}
 use Rattle.realm_model.proofs.SoundRows.{root_sound, with_table_sound, none_among}
 use Rattle.realm_model.proofs.TableBack.{table_back}
 use Rattle.realm_model.proofs.TablePlaces.{table_place}
@@ -125,11 +125,11 @@ filled-first = get-insert place_total lower (3, second) page_row (3, second)
 abbrev emptied : Rows
 emptied = insert filled (3, second) (vacant Empty)
 
-emptied-same : (q : ℕ × ℕ) → look lower q ≡ look emptied q
-emptied-same q = elim (is_place q (3, second)) as (λ t. is_place q (3, second) ≡ t → look lower q ≡ cond t (Some Vacant) (look filled q)) [
-  | true ↦ λ e. ap (look lower) (same_place q (3, second) e) ∙ ap (option_map mapping_of_row) lower-first
-  | false ↦ λ e. sym (look-insert lower (3, second) q page_row ∙ ap (λ t. cond t (Some (mapping_of_row page_row)) (look lower q)) e)
-] refl ∙ sym (look-insert filled (3, second) q (vacant Empty))
+emptied-same : (q : ℕ × ℕ) → mapping_at lower q ≡ mapping_at emptied q
+emptied-same q = elim (is_place q (3, second)) as (λ t. is_place q (3, second) ≡ t → mapping_at lower q ≡ cond t (Some Vacant) (mapping_at filled q)) [
+  | true ↦ λ e. ap (mapping_at lower) (same_place q (3, second) e) ∙ ap (option_map mapping_of_row) lower-first
+  | false ↦ λ e. sym (mapping_at-insert lower (3, second) q page_row ∙ ap (λ t. cond t (Some (mapping_of_row page_row)) (mapping_at lower q)) e)
+] refl ∙ sym (mapping_at-insert filled (3, second) q (vacant Empty))
 
 emptied-above : get emptied (2, second) ≡ Some (leads 2)
 emptied-above = get-insert place_total filled (3, second) (vacant Empty) (2, second) ∙ get-insert place_total lower (3, second) page_row (2, second) ∙ lower-above
@@ -137,10 +137,10 @@ emptied-above = get-insert place_total filled (3, second) (vacant Empty) (2, sec
 abbrev closed : Rows
 closed = without_table emptied 3 second
 
-upper_sound : IsSoundRows 41 (look upper)
+upper_sound : IsSoundRows 41 (mapping_at upper)
 upper_sound = with_table_sound wide 2 second (vacant Empty) (root_sound 41) (table_place second 2 refl) wide-second 1 Empty refl
 
-closed-same : (q : ℕ × ℕ) → look upper q ≡ look closed q
+closed-same : (q : ℕ × ℕ) → mapping_at upper q ≡ mapping_at closed q
 closed-same = table_back upper emptied 3 second 2 Empty (vacant Empty) upper-first refl (none_among upper 3 second (vacant Empty) upper_sound (table_place second 3 refl) upper-first refl) emptied-same
 
 closed-above : get closed (1, second) ≡ Some (leads 1)
@@ -157,7 +157,7 @@ closed-first = without emptied 3 second (3, second)
 abbrev bare : Rows
 bare = without_table closed 2 second
 
-bare-same : (q : ℕ × ℕ) → look wide q ≡ look bare q
+bare-same : (q : ℕ × ℕ) → mapping_at wide q ≡ mapping_at bare q
 bare-same = table_back wide closed 2 second 1 Empty (vacant Empty) wide-second refl (none_among wide 2 second (vacant Empty) (root_sound 41) (table_place second 2 refl) wide-second refl) closed-same
 
 free : (row : Row) → mapping_of_row row ≡ Vacant → is_unassigned row ≡ true

@@ -1,16 +1,16 @@
 -- RMI_DATA_CREATE.
 use Rattle.std.specs.Prelude.{ℕ, ◌%◌, ◌==◌, ◌||◌, Bool, not, nat_le, List, [], ◌∷◌, ◌++◌, if◌then◌else◌}
 use Rattle.rmi_abi.specs.declared.hash.HashAlgorithm.{HashAlgorithm}
-use Rattle.rmi_abi.specs.declared.settings.Settings.{Settings}
+use Rattle.rmi_abi.specs.declared.settings.RmmSettings.{RmmSettings}
 use Rattle.rmm_measurement.specs.declared.measure.Extension.TheVariants.{Data as DataExtension}
 use Rattle.rmm_measurement.specs.Bytes.{zeros}
 use Rattle.rmm_measurement.specs.Measure.{digest, extended}
 use Rattle.rmm_model.specs.declared.condition.Condition.TheVariants.{FlagsValid, SrcAlign, SrcBound, SrcPas, DataAlign, DataBound, DataState, RdState, RealmState, RtteState, RtteRipas}
-use Rattle.rmm_model.specs.declared.entry.Entry.{Entry}
-use Rattle.rmm_model.specs.declared.entry.Entry.TheVariants.{Assigned}
-use Rattle.rmm_model.specs.declared.entry.Ripas.TheVariants.{Ram}
-use Rattle.rmm_model.specs.declared.granule.GranuleState.TheVariants.{Data}
-use Rattle.rmm_model.specs.declared.realm.Realm.{Realm}
+use Rattle.rmm_model.specs.declared.entry.RmmRttEntry.{RmmRttEntry}
+use Rattle.rmm_model.specs.declared.entry.RmmRttEntry.TheVariants.{Assigned}
+use Rattle.rmm_model.specs.declared.entry.RmmRipas.TheVariants.{Ram}
+use Rattle.rmm_model.specs.declared.granule.RmmGranuleState.TheVariants.{Data}
+use Rattle.rmm_model.specs.declared.realm.RmmRealm.{RmmRealm}
 use Rattle.rmm_model.specs.declared.realm.RttWalk.{RttWalk as Walked}
 use Rattle.rmm_model.specs.Check.{Command, Check, check, success, error_input, error_rtt}
 use Rattle.rmm_model.specs.Entry.{is_unassigned, is_ram, ripas_in}
@@ -23,7 +23,7 @@ use Rattle.rmm_model.specs.Command.Operand.{host_checks, delegated_checks, rd_ch
 -- ---- checks
 
 -- the flags have bit 0 alone, where the settings say that they are checked
-abbrev pub are_flags_valid : Settings → ℕ → Bool
+abbrev pub are_flags_valid : RmmSettings → ℕ → Bool
 are_flags_valid s flags = s.ignores_data_flags || nat_le flags 1
 
 -- flags, a source page of the host, and a DELEGATED granule
@@ -33,11 +33,11 @@ source_checks m page source flags =
     ∷ host_checks SrcAlign SrcBound SrcPas m source ++ delegated_checks DataAlign DataBound DataState m page
 
 -- the RIPAS is RAM, where the settings say that it has to be
-abbrev pub is_ripas_right : Settings → Entry → Bool
+abbrev pub is_ripas_right : RmmSettings → RmmRttEntry → Bool
 is_ripas_right s entry = not s.data_needs_ram || is_ram (ripas_in entry)
 
 -- a walk that reaches an UNASSIGNED entry of level 3
-abbrev pub vacancy_checks : Settings → Walked → Entry → List Check
+abbrev pub vacancy_checks : RmmSettings → Walked → RmmRttEntry → List Check
 vacancy_checks s found entry =
     entry_checks (RealmState ∷ []) found 3 (is_unassigned entry) error_rtt
     ++ check RtteRipas (RtteState ∷ []) (not (is_ripas_right s entry)) (error_rtt found.level) ∷ []
@@ -56,7 +56,7 @@ unfoldable pub content_digest : HashAlgorithm → ℕ → List ℕ → List ℕ
 content_digest hash flags page = if flags % 2 == 1 then digest hash page else zeros 64
 
 -- the measurement of a realm after a page of data
-unfoldable pub rim_with_data : Realm → ℕ → ℕ → List ℕ → List ℕ
+unfoldable pub rim_with_data : RmmRealm → ℕ → ℕ → List ℕ → List ℕ
 rim_with_data realm ipa flags page = extended realm.hash realm.rim (DataExtension ipa flags (content_digest realm.hash flags page))
 
 -- ---- the command

@@ -2,8 +2,8 @@
 use Rattle.std.specs.Prelude.{ℕ, [], ◌++◌}
 use Rattle.granule_addr.specs.Page.{zero_page}
 use Rattle.rmm_model.specs.declared.condition.Condition.TheVariants.{DataAlign, DataBound, DataState}
-use Rattle.rmm_model.specs.declared.entry.Entry.TheVariants.{Assigned}
-use Rattle.rmm_model.specs.declared.granule.GranuleState.TheVariants.{Data}
+use Rattle.rmm_model.specs.declared.entry.RmmRttEntry.TheVariants.{Assigned}
+use Rattle.rmm_model.specs.declared.granule.RmmGranuleState.TheVariants.{Data}
 use Rattle.rmm_model.specs.Check.{Command, success, error_rtt}
 use Rattle.rmm_model.specs.Entry.{is_unassigned, ripas_in}
 use Rattle.rmm_model.specs.Granule.{of_realm}

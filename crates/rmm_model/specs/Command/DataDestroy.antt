@@ -1,10 +1,10 @@
 -- RMI_DATA_DESTROY.
 use Rattle.std.specs.Prelude.{ℕ, [], ◌++◌, is_some, unwrap_or}
 use Rattle.rmi_abi.specs.declared.word.Word.TheVariants.{Success}
-use Rattle.rmm_model.specs.declared.entry.Entry.TheVariants.{Unassigned}
-use Rattle.rmm_model.specs.declared.entry.Ripas.{Ripas}
-use Rattle.rmm_model.specs.declared.entry.Ripas.TheVariants.{Empty, Destroyed}
-use Rattle.rmm_model.specs.declared.granule.GranuleState.TheVariants.{Delegated}
+use Rattle.rmm_model.specs.declared.entry.RmmRttEntry.TheVariants.{Unassigned}
+use Rattle.rmm_model.specs.declared.entry.RmmRipas.{RmmRipas}
+use Rattle.rmm_model.specs.declared.entry.RmmRipas.TheVariants.{Empty, Destroyed}
+use Rattle.rmm_model.specs.declared.granule.RmmGranuleState.TheVariants.{Delegated}
 use Rattle.rmm_model.specs.Check.{Command, error_rtt_top}
 use Rattle.rmm_model.specs.Entry.{descriptor_of, ripas_in}
 use Rattle.rmm_model.specs.Machine.{Machine, with_blank}
@@ -12,7 +12,7 @@ use Rattle.rmm_model.specs.Walk.{entry_at, with_entry, memory_below, walk, top}
 use Rattle.rmm_model.specs.Command.Operand.{rd_checks, realm_at, page_checks, entry_checks}
 
 -- the RIPAS that is left where memory of a RIPAS was
-abbrev pub left_ripas : Ripas → Ripas
+abbrev pub left_ripas : RmmRipas → RmmRipas
 left_ripas Empty = Empty
 left_ripas _ = Destroyed
 

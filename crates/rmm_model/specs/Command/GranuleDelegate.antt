@@ -1,7 +1,7 @@
 -- RMI_GRANULE_DELEGATE.
 use Rattle.std.specs.Prelude.{ℕ, not, [], ◌∷◌, ◌++◌}
 use Rattle.rmm_model.specs.declared.condition.Condition.TheVariants.{GranAlign, GranBound, GranState, GranGpt}
-use Rattle.rmm_model.specs.declared.granule.GranuleState.TheVariants.{Delegated}
+use Rattle.rmm_model.specs.declared.granule.RmmGranuleState.TheVariants.{Delegated}
 use Rattle.rmm_model.specs.Check.{Command, check, success, error_input}
 use Rattle.rmm_model.specs.Granule.{is_undelegated}
 use Rattle.rmm_model.specs.Machine.{Machine, number_of, is_secure, state_at, with_blank}

@@ -1,7 +1,7 @@
 -- RMI_GRANULE_UNDELEGATE.
 use Rattle.std.specs.Prelude.{ℕ}
 use Rattle.rmm_model.specs.declared.condition.Condition.TheVariants.{GranAlign, GranBound, GranState}
-use Rattle.rmm_model.specs.declared.granule.GranuleState.TheVariants.{Undelegated}
+use Rattle.rmm_model.specs.declared.granule.RmmGranuleState.TheVariants.{Undelegated}
 use Rattle.rmm_model.specs.Check.{Command, success}
 use Rattle.rmm_model.specs.Machine.{Machine, number_of, with_blank}
 use Rattle.rmm_model.specs.Command.Operand.{delegated_checks}

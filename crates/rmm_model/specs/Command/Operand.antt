@@ -1,12 +1,12 @@
 -- Checks of operands that commands share. RMM 1.0, failure conditions of RMI commands.
 use Rattle.std.specs.Prelude.{ℕ, ◌-◌, ◌%◌, ◌==◌, ◌&&◌, ◌||◌, Bool, not, nat_le, List, [], ◌∷◌, ◌++◌, is_none, unwrap_or}
-use Rattle.rmi_abi.specs.declared.registers.Answer.{Answer}
-use Rattle.rmi_abi.specs.declared.settings.Settings.{Settings}
+use Rattle.rmi_abi.specs.declared.registers.SmcResult.{SmcResult}
+use Rattle.rmi_abi.specs.declared.settings.RmmSettings.{RmmSettings}
 use Rattle.rmm_model.specs.declared.condition.Condition.{Condition}
 use Rattle.rmm_model.specs.declared.condition.Condition.TheVariants.{RdAlign, RdBound, RdState, RealmState, LevelBound, IpaAlign, IpaBound, RttWalk, RtteState}
-use Rattle.rmm_model.specs.declared.realm.Realm.{Realm}
+use Rattle.rmm_model.specs.declared.realm.RmmRealm.{RmmRealm}
 use Rattle.rmm_model.specs.declared.realm.RttWalk.{RttWalk as Walked}
-use Rattle.rmm_model.specs.declared.rec.Rec.{Rec}
+use Rattle.rmm_model.specs.declared.rec.RmmRec.{RmmRec}
 use Rattle.rmm_model.specs.Check.{Check, check, error_input, error_realm}
 use Rattle.rmm_model.specs.Granule.{is_undelegated, is_delegated, realm_of, rec_of}
 use Rattle.rmm_model.specs.Level.{entry_size}
@@ -41,11 +41,11 @@ abbrev pub rd_checks : Machine → ℕ → List Check
 rd_checks m rd = address_checks RdAlign RdBound m rd ++ check RdState (RdBound ∷ []) (is_none (realm_of (state_at m rd))) error_input ∷ []
 
 -- the realm of the RD at an address
-abbrev pub realm_at : Machine → ℕ → Realm
+abbrev pub realm_at : Machine → ℕ → RmmRealm
 realm_at m rd = unwrap_or (realm_of (state_at m rd)) no_realm
 
 -- a realm is NEW
-abbrev pub new_checks : Realm → List Check
+abbrev pub new_checks : RmmRealm → List Check
 new_checks realm = check RealmState (RdState ∷ []) (not (is_new realm.state)) error_realm ∷ []
 
 -- ---- RECs
@@ -56,7 +56,7 @@ rec_checks align bound state m rec =
     address_checks align bound m rec ++ check state (bound ∷ []) (is_none (rec_of (state_at m rec))) error_input ∷ []
 
 -- the REC at an address
-abbrev pub rec_at : Machine → ℕ → Rec
+abbrev pub rec_at : Machine → ℕ → RmmRec
 rec_at m rec = unwrap_or (rec_of (state_at m rec)) no_rec
 
 -- ---- addresses of a realm
@@ -68,20 +68,20 @@ abbrev pub is_multiple : ℕ → ℕ → Bool
 is_multiple ipa size = ipa % size == 0
 
 -- a level that is at least that one, and an address of the realm where an entry of the level that many above begins
-abbrev pub ipa_checks : Realm → ℕ → ℕ → ℕ → ℕ → List Check
+abbrev pub ipa_checks : RmmRealm → ℕ → ℕ → ℕ → ℕ → List Check
 ipa_checks realm least level above ipa =
     check LevelBound (RdState ∷ []) (not (is_level least level)) error_input
     ∷ check IpaAlign (LevelBound ∷ []) (not (is_multiple ipa (entry_size (level - above)))) error_input
     ∷ check IpaBound (RdState ∷ []) (not (is_in_space realm ipa)) error_input ∷ []
 
 -- an address of the realm's protected half where a page begins
-abbrev pub page_checks : Realm → ℕ → List Check
+abbrev pub page_checks : RmmRealm → ℕ → List Check
 page_checks realm ipa =
     check IpaAlign [] (not (is_multiple ipa 4096)) error_input
     ∷ check IpaBound (RdState ∷ []) (not (is_protected realm ipa)) error_input ∷ []
 
 -- a level at which there are pages or blocks, and an address of the realm's unprotected half where an entry of the level begins
-abbrev pub unprotected_checks : Settings → Realm → ℕ → ℕ → List Check
+abbrev pub unprotected_checks : RmmSettings → RmmRealm → ℕ → ℕ → List Check
 unprotected_checks s realm level ipa =
     check LevelBound (RdState ∷ []) (not (nat_le s.block_level level && is_level realm.start_level level)) error_input
     ∷ check IpaAlign (LevelBound ∷ []) (not (is_multiple ipa (entry_size level))) error_input
@@ -90,7 +90,7 @@ unprotected_checks s realm level ipa =
 -- ---- walks
 
 -- a walk reaches a level, to an entry that is as it has to be; where it does not, the answer has the level at which it ended
-abbrev pub entry_checks : List Condition → Walked → ℕ → Bool → (ℕ → Answer) → List Check
+abbrev pub entry_checks : List Condition → Walked → ℕ → Bool → (ℕ → SmcResult) → List Check
 entry_checks more found level is answer =
     check RttWalk (RdState ∷ IpaAlign ∷ IpaBound ∷ more) (not (found.level == level)) (answer found.level)
     ∷ check RtteState (RttWalk ∷ []) (not is) (answer found.level) ∷ []

@@ -2,10 +2,10 @@
 use Rattle.std.specs.Prelude.{ℕ, ◌-◌, ◌^◌, ◌==◌, ◌&&◌, ◌||◌, Bool, true, false, not, Option, Some, None, List, [], ◌∷◌, ◌++◌, if◌then◌else◌}
 use Rattle.rmm_model.specs.declared.condition.Condition.TheVariants.{Alias, CallingAlign, CallingBound, CallingState, TargetAlign, TargetBound, TargetState}
 use Rattle.rmm_model.specs.declared.condition.Condition.TheVariants.{Pending, Owner, Target, Status}
-use Rattle.rmm_model.specs.declared.granule.GranuleState.TheVariants.{Rec as IsRec}
+use Rattle.rmm_model.specs.declared.granule.RmmGranuleState.TheVariants.{Rec as IsRec}
 use Rattle.rmm_model.specs.declared.rec.PsciRequest.{PsciRequest}
 use Rattle.rmm_model.specs.declared.rec.PsciRequest.TheVariants.{CpuOn, AffinityInfo, Complete}
-use Rattle.rmm_model.specs.declared.rec.Rec.{Rec}
+use Rattle.rmm_model.specs.declared.rec.RmmRec.{RmmRec}
 use Rattle.rmm_model.specs.Check.{Command, Check, check, success, error_input}
 use Rattle.rmm_model.specs.Machine.{Machine, granule_at, number_of, with_granule, with_word}
 use Rattle.rmm_model.specs.Rec.{is_on}
@@ -61,7 +61,7 @@ is_same_owner None None = true
 is_same_owner _ _ = false
 
 -- two RECs of one realm, of which the second is the target of the first's request, and a status that fits it
-unfoldable pub request_checks : Machine → ℕ → Rec → ℕ → Rec → ℕ → List Check
+unfoldable pub request_checks : Machine → ℕ → RmmRec → ℕ → RmmRec → ℕ → List Check
 request_checks m calling caller target named status =
     check Pending (CallingState ∷ []) (not (is_pending caller.psci)) error_input
     ∷ check Owner (CallingState ∷ TargetState ∷ []) (not (is_same_owner (granule_at m calling).owner (granule_at m target).owner)) error_input
@@ -71,7 +71,7 @@ request_checks m calling caller target named status =
 -- ---- the effect
 
 -- the machine with other attributes of a REC
-abbrev pub with_rec : Machine → ℕ → Rec → Machine
+abbrev pub with_rec : Machine → ℕ → RmmRec → Machine
 with_rec m granule rec = with_granule m granule (record (granule_at m granule) { state = IsRec rec })
 
 -- the REC begins at an entry point, with a context in its first general-purpose register
@@ -79,7 +79,7 @@ abbrev pub with_start : Machine → ℕ → ℕ → ℕ → Machine
 with_start m granule entry_point context = with_word (with_word m granule 31 entry_point) granule 0 context
 
 -- the machine where a CPU_ON that succeeds has begun its target
-abbrev pub with_target : Machine → ℕ → Rec → PsciRequest → Bool → Machine
+abbrev pub with_target : Machine → ℕ → RmmRec → PsciRequest → Bool → Machine
 with_target m granule rec (CpuOn target entry_point context) true =
     with_start (with_rec m granule (record rec { is_runnable = true })) granule entry_point context
 with_target m granule rec request begins = m

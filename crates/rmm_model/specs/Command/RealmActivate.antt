@@ -1,6 +1,6 @@
 -- RMI_REALM_ACTIVATE.
 use Rattle.std.specs.Prelude.{ℕ, ◌++◌}
-use Rattle.rmm_model.specs.declared.realm.RealmState.TheVariants.{Active}
+use Rattle.rmm_model.specs.declared.realm.RmmRealmState.TheVariants.{Active}
 use Rattle.rmm_model.specs.Check.{Command, success}
 use Rattle.rmm_model.specs.Machine.{Machine, number_of, with_realm}
 use Rattle.rmm_model.specs.Command.Operand.{rd_checks, realm_at, new_checks}

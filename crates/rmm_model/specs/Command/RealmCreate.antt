@@ -4,16 +4,16 @@ use Rattle.granule_addr.specs.Page.{zero_page}
 use Rattle.rmi_abi.specs.declared.hash.HashAlgorithm.{HashAlgorithm}
 use Rattle.rmi_abi.specs.declared.hash.HashAlgorithm.TheVariants.{Sha256, Sha512}
 use Rattle.rmi_abi.specs.declared.realm_params.RealmParams.{RealmParams}
-use Rattle.rmi_abi.specs.declared.settings.Settings.{Settings}
+use Rattle.rmi_abi.specs.declared.settings.RmmSettings.{RmmSettings}
 use Rattle.rmi_abi.specs.RealmParams.{realm_params_in}
 use Rattle.rmm_measurement.specs.Measure.{initial}
 use Rattle.rmm_model.specs.declared.condition.Condition.TheVariants.{ParamsAlign, ParamsBound, ParamsPas, ParamsValid, ParamsSupp, RttNumLevel, RttAlign, Alias, RdAlign, RdBound, RdState, RttState, VmidValid}
-use Rattle.rmm_model.specs.declared.entry.Entry.{Entry}
-use Rattle.rmm_model.specs.declared.entry.Entry.TheVariants.{Unassigned, UnassignedNs}
-use Rattle.rmm_model.specs.declared.entry.Ripas.TheVariants.{Empty}
-use Rattle.rmm_model.specs.declared.granule.GranuleState.TheVariants.{Rd, Rtt}
-use Rattle.rmm_model.specs.declared.realm.Realm.{Realm}
-use Rattle.rmm_model.specs.declared.realm.RealmState.TheVariants.{New}
+use Rattle.rmm_model.specs.declared.entry.RmmRttEntry.{RmmRttEntry}
+use Rattle.rmm_model.specs.declared.entry.RmmRttEntry.TheVariants.{Unassigned, UnassignedNs}
+use Rattle.rmm_model.specs.declared.entry.RmmRipas.TheVariants.{Empty}
+use Rattle.rmm_model.specs.declared.granule.RmmGranuleState.TheVariants.{Rd, Rtt}
+use Rattle.rmm_model.specs.declared.realm.RmmRealm.{RmmRealm}
+use Rattle.rmm_model.specs.declared.realm.RmmRealmState.TheVariants.{New}
 use Rattle.rmm_model.specs.Check.{Command, Check, check, success, error_input}
 use Rattle.rmm_model.specs.Entry.{entry_word}
 use Rattle.rmm_model.specs.Granule.{is_delegated, of_no_realm, of_realm}
@@ -30,11 +30,11 @@ unfoldable pub params_at : Machine → ℕ → RealmParams
 params_at m params = realm_params_in (page_in m (number_of m params))
 
 -- breakpoints, watchpoints and vectors are at most those of feature register 0
-abbrev pub fits_features : Settings → RealmParams → Bool
+abbrev pub fits_features : RmmSettings → RealmParams → Bool
 fits_features s p = nat_le p.num_bps s.bps && nat_le p.num_wps s.wps && p.sve_vl == 0
 
 -- No flag is set, and the width is one that the monitor supports; the fields too, where the settings say that they are checked.
-abbrev pub is_supported : Settings → RealmParams → Bool
+abbrev pub is_supported : RmmSettings → RealmParams → Bool
 is_supported s p = p.flags == 0 && nat_le 32 p.s2sz && nat_le p.s2sz s.s2sz && (not s.checks_params || fits_features s p)
 
 -- an address is that of a starting table
@@ -42,7 +42,7 @@ abbrev pub is_start_table : RealmParams → ℕ → Bool
 is_start_table p rd = nat_le p.rtt_base rd && nat_lt (rd - p.rtt_base) (p.rtt_num_start * 4096) && (rd - p.rtt_base) % 4096 == 0
 
 -- parameters of a realm that there can be, whose RD is none of its starting tables
-unfoldable pub params_checks : Settings → RealmParams → ℕ → List Check
+unfoldable pub params_checks : RmmSettings → RealmParams → ℕ → List Check
 params_checks s p rd =
     check ParamsValid (ParamsPas ∷ []) (not (nat_le p.hash_algo 1)) error_input
     ∷ check ParamsSupp (ParamsPas ∷ []) (not (is_supported s p)) error_input
@@ -81,7 +81,7 @@ abbrev pub hash_of : ℕ → HashAlgorithm
 hash_of code = if code == 1 then Sha512 else Sha256
 
 -- the realm that parameters ask for
-unfoldable pub realm_for : Machine → RealmParams → Realm
+unfoldable pub realm_for : Machine → RealmParams → RmmRealm
 realm_for m p = record {
   state = New;
   hash = hash_of p.hash_algo;
@@ -96,15 +96,15 @@ realm_for m p = record {
 }
 
 -- entry n of the starting tables of a new realm, counted through all of them
-abbrev pub start_entry : Realm → ℕ → Entry
+abbrev pub start_entry : RmmRealm → ℕ → RmmRttEntry
 start_entry realm n = if is_protected realm (n * entry_size realm.start_level) then Unassigned Empty else UnassignedNs
 
 -- the page of starting table k
-unfoldable pub start_page : Realm → ℕ → List ℕ
+unfoldable pub start_page : RmmRealm → ℕ → List ℕ
 start_page realm k = with_words 512 (λ i. entry_word (start_entry realm (k * 512 + i))) zero_page
 
 -- the machine with the first starting tables of a realm
-unfoldable pub with_tables : Machine → ℕ → Realm → ℕ → Machine
+unfoldable pub with_tables : Machine → ℕ → RmmRealm → ℕ → Machine
 with_tables m rd realm zero = m
 with_tables m rd realm (suc k) =
     with_page (with_granule (with_tables m rd realm k) (realm.first_table + k) (of_realm rd Rtt)) (realm.first_table + k) (start_page realm k)

@@ -1,8 +1,8 @@
 -- RMI_REALM_DESTROY.
 use Rattle.std.specs.Prelude.{ℕ, zero, suc, ◌+◌, ◌||◌, Bool, false, nat_lt, [], ◌∷◌, ◌++◌}
 use Rattle.rmm_model.specs.declared.condition.Condition.TheVariants.{RdState, RealmLive}
-use Rattle.rmm_model.specs.declared.granule.GranuleState.TheVariants.{Delegated}
-use Rattle.rmm_model.specs.declared.realm.Realm.{Realm}
+use Rattle.rmm_model.specs.declared.granule.RmmGranuleState.TheVariants.{Delegated}
+use Rattle.rmm_model.specs.declared.realm.RmmRealm.{RmmRealm}
 use Rattle.rmm_model.specs.Check.{Command, check, success, error_realm}
 use Rattle.rmm_model.specs.Machine.{Machine, number_of, page_in, with_blank, with_vmid}
 use Rattle.rmm_model.specs.Table.{has_live}
@@ -14,11 +14,11 @@ has_live_table m first zero = false
 has_live_table m first (suc count) = has_live (page_in m first) || has_live_table m (first + 1) count
 
 -- the realm has a REC, or a live entry in a starting table
-unfoldable pub is_realm_live : Machine → Realm → Bool
+unfoldable pub is_realm_live : Machine → RmmRealm → Bool
 is_realm_live m realm = nat_lt 0 realm.rec_count || has_live_table m realm.first_table realm.table_count
 
 -- the machine without the first starting tables of a realm, which are DELEGATED and zero
-unfoldable pub without_tables : Machine → Realm → ℕ → Machine
+unfoldable pub without_tables : Machine → RmmRealm → ℕ → Machine
 without_tables m realm zero = m
 without_tables m realm (suc k) = with_blank (without_tables m realm k) (realm.first_table + k) Delegated
 

@@ -1,13 +1,13 @@
 -- RMI_REC_CREATE.
 use Rattle.std.specs.Prelude.{ℕ, zero, suc, ◌+◌, ◌-◌, ◌^◌, ◌==◌, ◌&&◌, Bool, true, not, nat_le, nat_lt, List, [], ◌∷◌, ◌++◌, if◌then◌else◌}
 use Rattle.granule_addr.specs.Page.{zero_page}
-use Rattle.rmi_abi.specs.declared.settings.Settings.{Settings}
+use Rattle.rmi_abi.specs.declared.settings.RmmSettings.{RmmSettings}
 use Rattle.rmi_abi.specs.Mpidr.{is_mpidr, rec_number}
 use Rattle.rmi_abi.specs.RecParams.{is_runnable_in, mpidr_in, pc_in, gpr_in, num_aux_in, aux_in}
 use Rattle.rmm_model.specs.declared.condition.Condition.TheVariants.{ParamsAlign, ParamsBound, ParamsPas, ParamsValid, RdState, RealmState}
 use Rattle.rmm_model.specs.declared.condition.Condition.TheVariants.{RecAlign, RecBound, RecState, NumAux, AuxAlign, AuxBound, AuxAlias, AuxState, MpidrIndex, NumRecs}
-use Rattle.rmm_model.specs.declared.granule.GranuleState.TheVariants.{Rd, Rec as IsRec, RecAux}
-use Rattle.rmm_model.specs.declared.realm.Realm.{Realm}
+use Rattle.rmm_model.specs.declared.granule.RmmGranuleState.TheVariants.{Rd, Rec as IsRec, RecAux}
+use Rattle.rmm_model.specs.declared.realm.RmmRealm.{RmmRealm}
 use Rattle.rmm_model.specs.Check.{Command, Check, check, success, error_input, error_realm}
 use Rattle.rmm_model.specs.Granule.{is_delegated, of_no_realm, of_realm}
 use Rattle.rmm_model.specs.Machine.{Machine, page_in, is_aligned, is_inside, number_of, state_at, with_granule, with_page}
@@ -49,7 +49,7 @@ aux_checks m page rec =
 -- ---- the new REC
 
 -- the MPIDR of the next REC of a NEW realm that can have one more
-unfoldable pub number_checks : Settings → List ℕ → Realm → List Check
+unfoldable pub number_checks : RmmSettings → List ℕ → RmmRealm → List Check
 number_checks s page realm =
     check ParamsValid (ParamsPas ∷ []) (not (is_mpidr (mpidr_in page))) error_input
     ∷ check MpidrIndex (ParamsValid ∷ RdState ∷ []) (not (rec_number (mpidr_in page) == realm.next_rec)) error_input
@@ -73,7 +73,7 @@ with_created_rec m rd rec page =
     with_page (with_granule m rec (of_realm rd (IsRec (new_rec (is_runnable_in page) (mpidr_in page))))) rec (rec_page page)
 
 -- a realm that was given one REC more, and measured it
-abbrev pub with_one_more : Settings → Realm → List ℕ → Realm
+abbrev pub with_one_more : RmmSettings → RmmRealm → List ℕ → RmmRealm
 with_one_more s realm page = record realm { rim = rim_with_rec s realm page; next_rec = realm.next_rec + 1; rec_count = realm.rec_count + 1 }
 
 -- ---- the command

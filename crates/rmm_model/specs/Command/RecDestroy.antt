@@ -1,8 +1,8 @@
 -- RMI_REC_DESTROY.
 use Rattle.std.specs.Prelude.{ℕ, ◌-◌, Option, Some, None, [], ◌∷◌, ◌++◌}
 use Rattle.rmm_model.specs.declared.condition.Condition.TheVariants.{RecAlign, RecBound, RecGranState, RecState}
-use Rattle.rmm_model.specs.declared.granule.GranuleState.TheVariants.{Delegated, Rd}
-use Rattle.rmm_model.specs.declared.realm.Realm.{Realm}
+use Rattle.rmm_model.specs.declared.granule.RmmGranuleState.TheVariants.{Delegated, Rd}
+use Rattle.rmm_model.specs.declared.realm.RmmRealm.{RmmRealm}
 use Rattle.rmm_model.specs.Check.{Command, check, success, error_rec}
 use Rattle.rmm_model.specs.Granule.{of_no_realm, realm_of}
 use Rattle.rmm_model.specs.Machine.{Machine, granule_at, number_of, with_granule, with_blank}
@@ -11,10 +11,10 @@ use Rattle.rmm_model.specs.Command.Auxiliary.{with_aux}
 use Rattle.rmm_model.specs.Command.Operand.{rec_checks, rec_at}
 
 -- a realm that has one REC less
-abbrev pub with_one_less : Realm → Realm
+abbrev pub with_one_less : RmmRealm → RmmRealm
 with_one_less realm = record realm { rec_count = realm.rec_count - 1 }
 
-abbrev pub without_rec_of : Machine → ℕ → Option Realm → Machine
+abbrev pub without_rec_of : Machine → ℕ → Option RmmRealm → Machine
 without_rec_of m rd (Some realm) = with_granule m rd (of_no_realm (Rd (with_one_less realm)))
 without_rec_of m rd None = m
 

@@ -1,31 +1,35 @@
 -- RMI_REC_ENTER.
 use Rattle.std.specs.Prelude.{ℕ, zero, suc, ◌+◌, ◌%◌, ◌==◌, ◌&&◌, Bool, true, false, not, List, [], ◌∷◌, ◌++◌, Option, Some, None, if◌then◌else◌}
+use Rattle.page_arena.specs.Word.{word_of_page}
 use Rattle.rmi_abi.specs.declared.rec_run.ExitReason.{ExitReason}
 use Rattle.rmi_abi.specs.declared.rec_run.ExitReason.TheVariants.{Sync, Irq}
 use Rattle.rmi_abi.specs.declared.rec_run.RecExit.{RecExit}
-use Rattle.rmi_abi.specs.declared.registers.Answer.{Answer}
+use Rattle.rmi_abi.specs.declared.registers.SmcResult.{SmcResult}
+use Rattle.rmi_abi.specs.declared.settings.RmmSettings.{RmmSettings}
 use Rattle.rmi_abi.specs.declared.word.Word.{Word}
 use Rattle.rmi_abi.specs.declared.word.Word.TheVariants.{Success, ErrorInput, ErrorRealm, Running as RunsOn}
 use Rattle.rmi_abi.specs.Answer.{only}
+use Rattle.rmi_abi.specs.Gic.{gicv3_hcr_in, is_gicv3_hcr, is_gicv3_lr}
 use Rattle.rmi_abi.specs.RecRun.{flags_in, entry_gpr_in, emulates_mmio, injects_sea, rejects_ripas, exit_word, only_reason}
-use Rattle.rmm_model.specs.declared.condition.Condition.TheVariants.{RunAlign, RunBound, RunPas, RecAlign, RecBound, RecGranState, RealmNew, SystemOff, RecState, RecRunnable, RecMmio, RecPsci}
-use Rattle.rmm_model.specs.declared.granule.GranuleState.TheVariants.{Rd}
-use Rattle.rmm_model.specs.declared.realm.Realm.{Realm}
-use Rattle.rmm_model.specs.declared.realm.RealmState.{RealmState}
-use Rattle.rmm_model.specs.declared.realm.RealmState.TheVariants.{New, SystemOff as IsSystemOff}
+use Rattle.rmm_model.specs.declared.condition.Condition.TheVariants.{RunAlign, RunBound, RunPas, RecAlign, RecBound, RecGranState, RealmNew, SystemOff, RecState, RecRunnable, RecMmio, RecGicv3, RecPsci}
+use Rattle.rmm_model.specs.declared.granule.RmmGranuleState.TheVariants.{Rd}
+use Rattle.rmm_model.specs.declared.realm.RmmRealm.{RmmRealm}
+use Rattle.rmm_model.specs.declared.realm.RmmRealmState.{RmmRealmState}
+use Rattle.rmm_model.specs.declared.realm.RmmRealmState.TheVariants.{New, SystemOff as IsSystemOff}
 use Rattle.rmm_model.specs.declared.rec.LastExit.{LastExit}
 use Rattle.rmm_model.specs.declared.rec.LastExit.TheVariants.{Other, HostCall, RipasChange, EmulatableAbort, UnprotectedAbort, SystemRegister}
 use Rattle.rmm_model.specs.declared.rec.PsciRequest.{PsciRequest}
 use Rattle.rmm_model.specs.declared.rec.PsciRequest.TheVariants.{None as NoRequest, Complete}
-use Rattle.rmm_model.specs.declared.rec.Rec.{Rec as Attributes}
-use Rattle.rmm_model.specs.declared.rec.RecState.TheVariants.{Ready, Running}
+use Rattle.rmm_model.specs.declared.rec.RmmRec.{RmmRec as Attributes}
+use Rattle.rmm_model.specs.declared.rec.RmmRecState.TheVariants.{Ready, Running}
 use Rattle.rmm_model.specs.declared.rec.RipasRequest.{RipasRequest}
 use Rattle.rmm_model.specs.declared.step.Came.{Came}
 use Rattle.rmm_model.specs.declared.step.Came.TheVariants.{Result as IsResult, Exit as IsExit, Spin as Spins}
-use Rattle.rmm_model.specs.declared.step.Step.{Step}
-use Rattle.rmm_model.specs.declared.step.Step.TheVariants.{Write, Read, Fetch, SystemOff as SystemOffStep, SystemReset}
+use Rattle.rmm_model.specs.declared.step.GuestStep.{GuestStep}
+use Rattle.rmm_model.specs.declared.step.GuestStep.TheVariants.{Write, Read, Fetch, SystemOff as SystemOffStep, SystemReset}
 use Rattle.rmm_model.specs.declared.step.StepResult.{StepResult}
 use Rattle.rmm_model.specs.declared.step.StepResult.TheVariants.{Done, Read as IsRead, Sea, Psci, Accepted, Rejected, Returned}
+use Rattle.rmm_model.specs.Access.{low_bytes}
 use Rattle.rmm_model.specs.Check.{Command, Check, check, success, error_realm, error_rec}
 use Rattle.rmm_model.specs.Granule.{of_no_realm, realm_of}
 use Rattle.rmm_model.specs.Guest.{rec_in, is_rec_named, first_step, past_step, with_result}
@@ -37,27 +41,28 @@ use Rattle.rmm_model.specs.Entry.{is_ram}
 use Rattle.rmm_model.specs.Step.{access, fetched, tried, came_of_read, after_write, came_of_call, is_exit, rec_after_exit}
 use Rattle.rmm_model.specs.Command.Operand.{host_checks, rec_checks, rec_at}
 use Rattle.rmm_model.specs.Command.PsciComplete.{is_pending, with_rec}
+use Rattle.rmm_model.specs.Command.RecCreate.{all_from}
 
 -- ---- realms of RECs
 
-abbrev pub realm_by : Machine → Option ℕ → Option Realm
+abbrev pub realm_by : Machine → Option ℕ → Option RmmRealm
 realm_by m (Some rd) = realm_of (granule_at m rd).state
 realm_by m None = None
 
 -- the realm that owns a granule
-abbrev pub owner_realm : Machine → ℕ → Option Realm
+abbrev pub owner_realm : Machine → ℕ → Option RmmRealm
 owner_realm m g = realm_by m (granule_at m g).owner
 
 -- the state of a realm; where there is none it counts as NEW
-abbrev pub state_of : Option Realm → RealmState
+abbrev pub state_of : Option RmmRealm → RmmRealmState
 state_of (Some realm) = realm.state
 state_of None = New
 
-abbrev pub is_system_off : RealmState → Bool
+abbrev pub is_system_off : RmmRealmState → Bool
 is_system_off IsSystemOff = true
 is_system_off _ = false
 
-abbrev pub with_realm_off : Machine → ℕ → Option Realm → Machine
+abbrev pub with_realm_off : Machine → ℕ → Option RmmRealm → Machine
 with_realm_off m rd (Some realm) = with_granule m rd (of_no_realm (Rd (record realm { state = IsSystemOff })))
 with_realm_off m rd None = m
 
@@ -70,6 +75,26 @@ abbrev pub is_emulatable : LastExit → Bool
 is_emulatable EmulatableAbort = true
 is_emulatable _ = false
 
+-- ---- registers that are kept in pages
+
+-- a page has as many words of another one, from one of its own on
+unfoldable pub with_copied : Machine → ℕ → ℕ → ℕ → ℕ → ℕ → Machine
+with_copied m from first to place zero = m
+with_copied m from first to place (suc k) =
+    with_word (with_copied m from first to place k) to (place + k) (word_of_page (page_in (with_copied m from first to place k) from) (first + k))
+
+-- general-purpose registers 0 to 30 of a REC are those of a run page. RMM 1.0, RmiRecEnter.gprs.
+abbrev pub with_gprs : Machine → ℕ → ℕ → Machine
+with_gprs m g page = with_copied m page 64 g 0 31
+
+-- a REC has the GIC fields of a run page, where they are checked. RMM 1.0, RmiRecEnter.gicv3_hcr, gicv3_lrs.
+unfoldable pub with_gic : Machine → ℕ → ℕ → Machine
+with_gic m g page = if m.settings.checks_gic then with_copied m page 96 g 192 17 else m
+
+-- a run page has the GIC fields of a REC, where they are checked. RMM 1.0, RmiRecExit.gicv3_hcr, gicv3_lrs.
+unfoldable pub with_exit_gic : Machine → ℕ → ℕ → Machine
+with_exit_gic m g page = if m.settings.checks_gic then with_copied m g 192 page 352 17 else m
+
 -- ---- exits
 
 -- the first words of a page from one on are those of an exit
@@ -77,22 +102,18 @@ unfoldable pub with_exit_words : Machine → ℕ → RecExit → ℕ → Machine
 with_exit_words m page exit zero = m
 with_exit_words m page exit (suc k) = with_word (with_exit_words m page exit k) page (256 + k) (exit_word exit (256 + k))
 
--- an exit is written into the run page at an address, where that is a page of the host
-abbrev pub with_exit : Machine → ℕ → RecExit → Machine
-with_exit m address exit = if is_host_page m address then with_exit_words m (number_of m address) exit 256 else m
+-- an exit of a REC is written into the run page at an address, where that is a page of the host
+abbrev pub with_exit : Machine → ℕ → ℕ → RecExit → Machine
+with_exit m g address exit =
+    if is_host_page m address then with_exit_gic (with_exit_words m (number_of m address) exit 256) g (number_of m address) else m
 
 -- A REC leaves: it is READY, and its exit is in its run page. RMM 1.0, RmiRecExit.
 unfoldable pub left : Machine → ℕ → RecExit → LastExit → Machine
 left m g exit last =
     let rec = rec_in m g in
-    with_exit (with_rec m g (record rec { state = Ready; exit = last })) rec.run exit
+    with_exit (with_rec m g (record rec { state = Ready; exit = last })) g rec.run exit
 
 -- ---- entries
-
--- general-purpose registers of a REC that the host gives
-unfoldable pub with_gprs : Machine → ℕ → ℕ → ℕ → Machine
-with_gprs m g page zero = m
-with_gprs m g page (suc k) = with_word (with_gprs m g page k) g k (entry_gpr_in (page_in (with_gprs m g page k) page) k)
 
 -- the result of a change of RIPAS: how far it came, and whether the host rejected the rest
 abbrev pub ripas_result : RipasRequest → ℕ → StepResult
@@ -100,8 +121,8 @@ ripas_result asked flags =
     if rejects_ripas flags && is_ram asked.ripas && not (asked.base == asked.top) then Rejected asked.base else Accepted asked.base
 
 -- the result of an access that the host emulated
-abbrev pub emulated : Step → ℕ → StepResult
-emulated (Read ipa) gpr0 = IsRead (gpr0 % 256)
+abbrev pub emulated : GuestStep → ℕ → StepResult
+emulated (Read ipa size) gpr0 = IsRead (low_bytes size gpr0)
 emulated _ gpr0 = Done
 
 -- the step that made the last exit ends with a result
@@ -116,7 +137,7 @@ with_psci_result m g _ = m
 abbrev pub answered : Machine → ℕ → LastExit → ℕ → ℕ → Machine
 answered m g RipasChange page flags =
     with_result (with_rec m g (record (rec_in m g) { ripas = no_request })) g (ripas_result (rec_in m g).ripas flags)
-answered m g HostCall page flags = with_result (with_gprs m g page 31) g (Returned (entry_gpr_in (page_in m page) 0))
+answered m g HostCall page flags = with_result (with_gprs m g page) g (Returned (entry_gpr_in (page_in m page) 0))
 answered m g SystemRegister page flags = with_result m g Done
 answered m g UnprotectedAbort page flags = if injects_sea flags then ended m g Sea else m
 answered m g EmulatableAbort page flags =
@@ -130,25 +151,27 @@ begun rec address = record rec { state = Running; run = address; exit = Other; r
 
 -- A REC is entered.
 unfoldable pub entered : Machine → ℕ → ℕ → ℕ → Machine
-entered m g address flags = answered (with_rec m g (begun (rec_in m g) address)) g (rec_in m g).exit (number_of m address) flags
+entered m g address flags =
+    let page = number_of m address in
+    answered (with_gic (with_rec m g (begun (rec_in m g) address)) g page) g (rec_in m g).exit page flags
 
 -- ---- steps
 
 -- what comes of a step
-unfoldable pub came_of : Machine → Realm → ℕ → ℕ → Step → Came
-came_of m realm g flags (Write ipa value) = tried (access m realm ipa true (value % 256))
-came_of m realm g flags (Read ipa) = came_of_read m ipa (access m realm ipa false 0)
+unfoldable pub came_of : Machine → RmmRealm → ℕ → ℕ → GuestStep → Came
+came_of m realm g flags (Write ipa value size) = tried (access m realm ipa true size (low_bytes size value))
+came_of m realm g flags (Read ipa size) = came_of_read m ipa size (access m realm ipa false size 0)
 came_of m realm g flags (Fetch ipa) = tried (fetched m realm ipa)
 came_of m realm g flags step = came_of_call m.settings realm (rec_in m g) flags step
 
-abbrev pub with_exit_of : Machine → ℕ → Step → Bool → Machine
+abbrev pub with_exit_of : Machine → ℕ → GuestStep → Bool → Machine
 with_exit_of m g step true = with_rec m g (rec_after_exit (rec_in m g) step)
 with_exit_of m g step false = m
 
 -- the machine after what a step does
-unfoldable pub after_step : Machine → Realm → ℕ → Step → Came → Machine
-after_step m realm g (Write ipa value) came = after_write m ipa value (access m realm ipa true (value % 256))
-after_step m realm g (Read ipa) came = m
+unfoldable pub after_step : Machine → RmmRealm → ℕ → GuestStep → Came → Machine
+after_step m realm g (Write ipa value size) came = after_write m ipa size value (access m realm ipa true size (low_bytes size value))
+after_step m realm g (Read ipa size) came = m
 after_step m realm g (Fetch ipa) came = m
 after_step m realm g SystemOffStep came = with_system_off m (granule_at m g).owner
 after_step m realm g SystemReset came = with_system_off m (granule_at m g).owner
@@ -172,11 +195,11 @@ behind m g Spins = past_step m g
 abbrev pub no_step : Came
 no_step = IsExit (only_reason Irq) Other
 
-abbrev pub came_in : Machine → Option Realm → ℕ → ℕ → Came
+abbrev pub came_in : Machine → Option RmmRealm → ℕ → ℕ → Came
 came_in m (Some realm) g flags = came_of m realm g flags (first_step m g)
 came_in m None g flags = no_step
 
-abbrev pub after_in : Machine → Option Realm → ℕ → ℕ → Machine
+abbrev pub after_in : Machine → Option RmmRealm → ℕ → ℕ → Machine
 after_in m (Some realm) g flags =
     behind (after_step m realm g (first_step m g) (came_of m realm g flags (first_step m g))) g (came_of m realm g flags (first_step m g))
 after_in m None g flags = m
@@ -204,18 +227,23 @@ ran m g flags (suc count) = carried (came_now m g flags) (after_now m g flags) g
 abbrev pub is_no_mmio : Attributes → ℕ → Bool
 is_no_mmio rec flags = emulates_mmio flags && not (is_emulatable rec.exit)
 
--- a REC of an ACTIVE realm that is READY and runnable, and has nothing pending
-unfoldable pub enter_checks : RealmState → Attributes → ℕ → List Check
-enter_checks state rec flags =
+-- gicv3_hcr or a list register has what a host may not set, where they are checked
+unfoldable pub is_gic_wrong : RmmSettings → List ℕ → Bool
+is_gic_wrong s page = s.checks_gic && not (is_gicv3_hcr (gicv3_hcr_in page) && all_from (is_gicv3_lr s.lrs page) 0 16)
+
+-- a REC of an ACTIVE realm that is READY and runnable, and has nothing pending, with GIC fields that are right
+unfoldable pub enter_checks : RmmRealmState → Attributes → ℕ → Bool → List Check
+enter_checks state rec flags is_wrong =
     check RealmNew (RecGranState ∷ []) (is_new state) error_realm
     ∷ check SystemOff (RecGranState ∷ []) (is_system_off state) (only (ErrorRealm 1))
     ∷ check RecState (RecGranState ∷ []) (is_running rec.state) error_rec
     ∷ check RecRunnable (RecState ∷ []) (not rec.is_runnable) error_rec
     ∷ check RecMmio (RecState ∷ RunPas ∷ []) (is_no_mmio rec flags) error_rec
+    ∷ check RecGicv3 (RecState ∷ RunPas ∷ []) is_wrong error_rec
     ∷ check RecPsci (RecState ∷ []) (is_pending rec.psci) error_rec ∷ []
 
 -- RMI_SUCCESS comes at the REC's exit; until then the call goes on
-abbrev pub entered_answer : Bool → Answer
+abbrev pub entered_answer : Bool → SmcResult
 entered_answer leaves = if leaves then success else only RunsOn
 
 -- A REC runs until its guest makes an exit. RMM 1.0, RMI_REC_ENTER.
@@ -226,7 +254,7 @@ rec_enter rec address m =
     let after = ran (entered m g address flags) g flags 16 in
     record {
       checks = host_checks RunAlign RunBound RunPas m address ++ rec_checks RecAlign RecBound RecGranState m rec
-          ++ enter_checks (state_of (owner_realm m g)) (rec_at m rec) flags;
+          ++ enter_checks (state_of (owner_realm m g)) (rec_at m rec) flags (is_gic_wrong m.settings (page_in m (number_of m address)));
       answer = entered_answer after.0;
       machine = after.1;
     }

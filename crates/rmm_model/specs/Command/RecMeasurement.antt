@@ -1,15 +1,15 @@
 -- The measurement of a realm after a REC. RMM 1.0, RMI_REC_CREATE and RmmMeasurementDescriptorRec.
 use Rattle.std.specs.Prelude.{ℕ, ◌||◌, Bool, List, if◌then◌else◌}
-use Rattle.rmi_abi.specs.declared.settings.Settings.{Settings}
+use Rattle.rmi_abi.specs.declared.settings.RmmSettings.{RmmSettings}
 use Rattle.rmi_abi.specs.RecParams.{is_runnable_in}
 use Rattle.rmm_measurement.specs.declared.measure.Extension.TheVariants.{Rec as RecExtension}
 use Rattle.rmm_measurement.specs.Measure.{extended, rec_digest}
-use Rattle.rmm_model.specs.declared.realm.Realm.{Realm}
+use Rattle.rmm_model.specs.declared.realm.RmmRealm.{RmmRealm}
 
 -- a REC is measured where it is runnable, or where the settings say that all are
-abbrev pub is_rec_measured : Settings → List ℕ → Bool
+abbrev pub is_rec_measured : RmmSettings → List ℕ → Bool
 is_rec_measured s page = is_runnable_in page || s.measures_all_recs
 
 -- the measurement after a REC with the parameters of a page
-unfoldable pub rim_with_rec : Settings → Realm → List ℕ → List ℕ
+unfoldable pub rim_with_rec : RmmSettings → RmmRealm → List ℕ → List ℕ
 rim_with_rec s realm page = if is_rec_measured s page then extended realm.hash realm.rim (RecExtension (rec_digest realm.hash page)) else realm.rim

@@ -3,7 +3,7 @@ use Rattle.std.specs.Prelude.{ℕ, zero, suc, ◌+◌, ◌-◌, ◌/◌, not, na
 use Rattle.rmm_model.specs.declared.condition.Condition.{Condition}
 use Rattle.rmm_model.specs.declared.condition.Condition.TheVariants.{Size, BaseAlign, RtteState, NoProgress}
 use Rattle.rmm_model.specs.declared.entry.Changeable.{Changeable}
-use Rattle.rmm_model.specs.declared.entry.Ripas.{Ripas}
+use Rattle.rmm_model.specs.declared.entry.RmmRipas.{RmmRipas}
 use Rattle.rmm_model.specs.declared.realm.RttWalk.{RttWalk as Walked}
 use Rattle.rmm_model.specs.Check.{Check, check, error_input, error_rtt}
 use Rattle.rmm_model.specs.Entry.{entry_word, can_change, entry_with_ripas}
@@ -42,12 +42,12 @@ change_count m changeable found base top =
     first_fixed changeable (page_in m found.table) (entries_below found base top) first - first
 
 -- the machine with another RIPAS in that many entries of a table, from one on
-unfoldable pub with_ripas_from : Machine → ℕ → ℕ → Ripas → ℕ → Machine
+unfoldable pub with_ripas_from : Machine → ℕ → ℕ → RmmRipas → ℕ → Machine
 with_ripas_from m table first ripas zero = m
 with_ripas_from m table first ripas (suc k) =
     let before = with_ripas_from m table first ripas k in
     with_word before table (first + k) (entry_word (entry_with_ripas ripas (entry_in_page (page_in before table) (first + k))))
 
 -- the machine with another RIPAS in that many entries of a table, from the one of an address on
-abbrev pub with_ripas : Machine → Walked → ℕ → Ripas → ℕ → Machine
+abbrev pub with_ripas : Machine → Walked → ℕ → RmmRipas → ℕ → Machine
 with_ripas m found base ripas count = with_ripas_from m found.table (entry_index found.level base) ripas count

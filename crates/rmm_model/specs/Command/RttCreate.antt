@@ -1,8 +1,8 @@
 -- RMI_RTT_CREATE.
 use Rattle.std.specs.Prelude.{ℕ, ◌+◌, ◌-◌, not, [], ◌++◌}
 use Rattle.rmm_model.specs.declared.condition.Condition.TheVariants.{RttAlign, RttBound, RttState}
-use Rattle.rmm_model.specs.declared.entry.Entry.TheVariants.{Table}
-use Rattle.rmm_model.specs.declared.granule.GranuleState.TheVariants.{Rtt}
+use Rattle.rmm_model.specs.declared.entry.RmmRttEntry.TheVariants.{Table}
+use Rattle.rmm_model.specs.declared.granule.RmmGranuleState.TheVariants.{Rtt}
 use Rattle.rmm_model.specs.Check.{Command, success, error_rtt}
 use Rattle.rmm_model.specs.Entry.{is_table}
 use Rattle.rmm_model.specs.Granule.{of_realm}

@@ -2,11 +2,11 @@
 use Rattle.std.specs.Prelude.{ℕ, ◌+◌, ◌-◌, [], ◌∷◌, ◌++◌, List, is_some, unwrap_or, if◌then◌else◌}
 use Rattle.rmi_abi.specs.declared.word.Word.TheVariants.{Success}
 use Rattle.rmm_model.specs.declared.condition.Condition.TheVariants.{RtteState, RttLive}
-use Rattle.rmm_model.specs.declared.entry.Entry.{Entry}
-use Rattle.rmm_model.specs.declared.entry.Entry.TheVariants.{Unassigned, UnassignedNs}
-use Rattle.rmm_model.specs.declared.entry.Ripas.TheVariants.{Destroyed}
-use Rattle.rmm_model.specs.declared.granule.GranuleState.TheVariants.{Delegated}
-use Rattle.rmm_model.specs.declared.realm.Realm.{Realm}
+use Rattle.rmm_model.specs.declared.entry.RmmRttEntry.{RmmRttEntry}
+use Rattle.rmm_model.specs.declared.entry.RmmRttEntry.TheVariants.{Unassigned, UnassignedNs}
+use Rattle.rmm_model.specs.declared.entry.RmmRipas.TheVariants.{Destroyed}
+use Rattle.rmm_model.specs.declared.granule.RmmGranuleState.TheVariants.{Delegated}
+use Rattle.rmm_model.specs.declared.realm.RmmRealm.{RmmRealm}
 use Rattle.rmm_model.specs.declared.realm.RttWalk.{RttWalk as Walked}
 use Rattle.rmm_model.specs.Check.{Command, Check, check, error_rtt_top}
 use Rattle.rmm_model.specs.Entry.{descriptor_of}
@@ -17,11 +17,11 @@ use Rattle.rmm_model.specs.Walk.{entry_at, with_entry, table_below, walk, top}
 use Rattle.rmm_model.specs.Command.Operand.{rd_checks, realm_at, ipa_checks, entry_checks}
 
 -- the entry that a destroyed table leaves
-abbrev pub left_entry : Realm → ℕ → Entry
+abbrev pub left_entry : RmmRealm → ℕ → RmmRttEntry
 left_entry realm ipa = if is_protected realm ipa then Unassigned Destroyed else UnassignedNs
 
 -- a walk that reaches the level above, to an entry that leads to a table without live entries
-abbrev pub unused_checks : Machine → Walked → Entry → ℕ → ℕ → List Check
+abbrev pub unused_checks : Machine → Walked → RmmRttEntry → ℕ → ℕ → List Check
 unused_checks m found parent ipa level =
     entry_checks [] found (level - 1) (is_some (table_below m parent)) (error_rtt_top (top m found ipa))
     ++ check RttLive (RtteState ∷ []) (has_live (page_in m (unwrap_or (table_below m parent) 0))) (error_rtt_top (top m found ipa) level) ∷ []

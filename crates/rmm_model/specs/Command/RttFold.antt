@@ -1,9 +1,9 @@
 -- RMI_RTT_FOLD.
 use Rattle.std.specs.Prelude.{ℕ, ◌+◌, ◌-◌, ◌*◌, ◌/◌, ◌&&◌, ◌||◌, Bool, not, nat_le, List, [], ◌∷◌, ◌++◌, is_some, unwrap_or}
-use Rattle.rmi_abi.specs.declared.settings.Settings.{Settings}
+use Rattle.rmi_abi.specs.declared.settings.RmmSettings.{RmmSettings}
 use Rattle.rmm_model.specs.declared.condition.Condition.TheVariants.{RtteState, RttHomo, RttBlock}
-use Rattle.rmm_model.specs.declared.entry.Entry.{Entry}
-use Rattle.rmm_model.specs.declared.granule.GranuleState.TheVariants.{Delegated}
+use Rattle.rmm_model.specs.declared.entry.RmmRttEntry.{RmmRttEntry}
+use Rattle.rmm_model.specs.declared.granule.RmmGranuleState.TheVariants.{Delegated}
 use Rattle.rmm_model.specs.declared.realm.RttWalk.{RttWalk as Walked}
 use Rattle.rmm_model.specs.Check.{Command, Check, check, success, error_rtt}
 use Rattle.rmm_model.specs.Entry.{descriptor_of, is_table, is_mapping}
@@ -14,7 +14,7 @@ use Rattle.rmm_model.specs.Walk.{entry_at, with_entry, table_below, walk}
 use Rattle.rmm_model.specs.Command.Operand.{rd_checks, realm_at, is_multiple, ipa_checks, entry_checks}
 
 -- an entry can be one a level higher: the memory of a mapping is aligned to that level
-abbrev pub is_aligned_above : Entry → ℕ → Bool
+abbrev pub is_aligned_above : RmmRttEntry → ℕ → Bool
 is_aligned_above entry level = not (is_mapping entry) || is_multiple (descriptor_of entry / 4096 * 4096) (entry_size (level - 1))
 
 -- A table of a level says the same as one entry above it: its first one, which leads to no table.
@@ -24,11 +24,11 @@ is_homogeneous page level =
     not (is_table first) && is_aligned_above first level && has_parts page first level 512 0
 
 -- a table of a level would become a block of a level at which there is none
-abbrev pub is_block_too_high : Settings → List ℕ → ℕ → Bool
+abbrev pub is_block_too_high : RmmSettings → List ℕ → ℕ → Bool
 is_block_too_high s page level = is_mapping (entry_in_page page 0) && nat_le level s.block_level
 
 -- a walk that reaches the level above, to an entry that leads to a table which says the same as one entry
-abbrev pub fold_checks : Machine → Walked → Entry → ℕ → List Check
+abbrev pub fold_checks : Machine → Walked → RmmRttEntry → ℕ → List Check
 fold_checks m found parent level =
     entry_checks [] found (level - 1) (is_some (table_below m parent)) error_rtt
     ++ check RttHomo (RtteState ∷ []) (not (is_homogeneous (page_in m (unwrap_or (table_below m parent) 0)) level)) (error_rtt level)

@@ -1,14 +1,14 @@
 -- RMI_RTT_INIT_RIPAS.
 use Rattle.std.specs.Prelude.{ℕ, zero, suc, ◌+◌, ◌-◌, ◌*◌, not, false, nat_le, List, [], ◌∷◌, ◌++◌}
 use Rattle.rmi_abi.specs.declared.hash.HashAlgorithm.{HashAlgorithm}
-use Rattle.rmi_abi.specs.declared.settings.Settings.{Settings}
+use Rattle.rmi_abi.specs.declared.settings.RmmSettings.{RmmSettings}
 use Rattle.rmi_abi.specs.declared.word.Word.TheVariants.{Success}
 use Rattle.rmm_measurement.specs.declared.measure.Extension.TheVariants.{Ripas as RipasExtension}
 use Rattle.rmm_measurement.specs.Measure.{extended}
 use Rattle.rmm_model.specs.declared.condition.Condition.TheVariants.{Size, BaseGranAlign, TopGranAlign, BaseBound, TopBound, RdState, RealmState}
 use Rattle.rmm_model.specs.declared.entry.Changeable.{Changeable}
-use Rattle.rmm_model.specs.declared.entry.Ripas.TheVariants.{Ram}
-use Rattle.rmm_model.specs.declared.realm.Realm.{Realm}
+use Rattle.rmm_model.specs.declared.entry.RmmRipas.TheVariants.{Ram}
+use Rattle.rmm_model.specs.declared.realm.RmmRealm.{RmmRealm}
 use Rattle.rmm_model.specs.Check.{Command, Check, check, success, error_input}
 use Rattle.rmm_model.specs.Level.{entry_size}
 use Rattle.rmm_model.specs.Machine.{Machine, number_of, with_realm}
@@ -18,11 +18,11 @@ use Rattle.rmm_model.specs.Command.Operand.{rd_checks, realm_at, is_multiple, ne
 use Rattle.rmm_model.specs.Command.RipasRange.{size_checks, progress_checks, change_count, with_ripas}
 
 -- UNASSIGNED entries become RAM, but for DESTROYED ones where the settings say so
-abbrev pub init_changeable : Settings → Changeable
+abbrev pub init_changeable : RmmSettings → Changeable
 init_changeable s = record { assigned = false; destroyed = not s.stops_at_destroyed }
 
 -- a range of pages in the protected half of a NEW realm
-unfoldable pub range_checks : Realm → ℕ → ℕ → List Check
+unfoldable pub range_checks : RmmRealm → ℕ → ℕ → List Check
 range_checks realm base top =
     check BaseGranAlign [] (not (is_multiple base 4096)) error_input
     ∷ check TopGranAlign [] (not (is_multiple top 4096)) error_input

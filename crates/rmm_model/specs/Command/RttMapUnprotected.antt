@@ -1,8 +1,8 @@
 -- RMI_RTT_MAP_UNPROTECTED.
 use Rattle.std.specs.Prelude.{ℕ, ◌*◌, ◌/◌, ◌%◌, ◌^◌, ◌==◌, ◌&&◌, ◌||◌, Bool, not, nat_lt, [], ◌∷◌, ◌++◌}
-use Rattle.rmi_abi.specs.declared.settings.Settings.{Settings}
+use Rattle.rmi_abi.specs.declared.settings.RmmSettings.{RmmSettings}
 use Rattle.rmm_model.specs.declared.condition.Condition.TheVariants.{LevelBound, DescBound}
-use Rattle.rmm_model.specs.declared.entry.Entry.TheVariants.{AssignedNs}
+use Rattle.rmm_model.specs.declared.entry.RmmRttEntry.TheVariants.{AssignedNs}
 use Rattle.rmm_model.specs.Check.{Command, check, success, error_input, error_rtt}
 use Rattle.rmm_model.specs.Entry.{is_unassigned_ns}
 use Rattle.rmm_model.specs.Level.{entry_size}
@@ -11,16 +11,16 @@ use Rattle.rmm_model.specs.Walk.{entry_at, with_entry, walk}
 use Rattle.rmm_model.specs.Command.Operand.{rd_checks, realm_at, is_multiple, unprotected_checks, entry_checks}
 
 -- SH, in bits 9:8, is 0; where the host may choose it, it is not 0b01
-abbrev pub is_shareability : Settings → ℕ → Bool
+abbrev pub is_shareability : RmmSettings → ℕ → Bool
 is_shareability s desc = desc / 2 ^ 8 % 4 == 0 || (s.takes_shareability && not (desc / 2 ^ 8 % 4 == 1))
 
 -- MemAttr, in bits 4:2, is not 0b100; bits 1:0, 5, 11:10 and 63:48 are 0; S2AP, in bits 7:6, is the host's to choose
-abbrev pub has_attributes : Settings → ℕ → Bool
+abbrev pub has_attributes : RmmSettings → ℕ → Bool
 has_attributes s desc =
     nat_lt desc (2 ^ 48) && desc % 4 == 0 && not (desc / 4 % 8 == 4) && desc / 2 ^ 5 % 2 == 0 && is_shareability s desc && desc / 2 ^ 10 % 4 == 0
 
 -- A descriptor of a level: its address, in bits 47:12, is where a page or block of the level can begin.
-unfoldable pub is_descriptor : Settings → ℕ → ℕ → Bool
+unfoldable pub is_descriptor : RmmSettings → ℕ → ℕ → Bool
 is_descriptor s level desc = has_attributes s desc && is_multiple (desc / 4096 * 4096) (entry_size level)
 
 -- The host's memory is mapped at an unprotected address. RMM 1.0, RMI_RTT_MAP_UNPROTECTED.

@@ -2,8 +2,8 @@
 use Rattle.std.specs.Prelude.{ℕ, ◌+◌, ◌*◌, ◌==◌, ◌&&◌, Bool, true, not, nat_le, Option, Some, List, [], ◌∷◌, ◌++◌}
 use Rattle.rmm_model.specs.declared.condition.Condition.TheVariants.{Size, TopGranAlign, BaseBound, TopBound, RdState, RecAlign, RecBound, RecGranState, RecState, RecOwner}
 use Rattle.rmm_model.specs.declared.entry.Changeable.{Changeable}
-use Rattle.rmm_model.specs.declared.realm.Realm.{Realm}
-use Rattle.rmm_model.specs.declared.rec.Rec.{Rec}
+use Rattle.rmm_model.specs.declared.realm.RmmRealm.{RmmRealm}
+use Rattle.rmm_model.specs.declared.rec.RmmRec.{RmmRec}
 use Rattle.rmm_model.specs.declared.rec.RipasRequest.{RipasRequest}
 use Rattle.rmm_model.specs.Check.{Command, Check, check, success, error_input, error_rec}
 use Rattle.rmm_model.specs.Level.{entry_size}
@@ -21,11 +21,11 @@ set_changeable request = record { assigned = true; destroyed = request.changes_d
 
 -- An address is the one that a REC asked for. It is a protected one: no REC asks for another, and the definition holds for every
 -- machine.
-abbrev pub is_asked : Realm → Rec → ℕ → Bool
+abbrev pub is_asked : RmmRealm → RmmRec → ℕ → Bool
 is_asked realm asking base = base == asking.ripas.base && is_protected realm base
 
 -- a REC of the realm that does not run, and the range that it asked for from its address on
-unfoldable pub ripas_request_checks : Realm → Rec → Bool → ℕ → ℕ → List Check
+unfoldable pub ripas_request_checks : RmmRealm → RmmRec → Bool → ℕ → ℕ → List Check
 ripas_request_checks realm asking is_owner base top =
     check TopGranAlign [] (not (is_multiple top 4096)) error_input
     ∷ check RecState (RecGranState ∷ []) (is_running asking.state) error_rec
@@ -38,7 +38,7 @@ abbrev pub is_rec_of : Machine → ℕ → ℕ → Bool
 is_rec_of m rd rec = is_same_owner (granule_at m (number_of m rec)).owner (Some (number_of m rd))
 
 -- a request that the host has come to an address with
-abbrev pub with_base : Rec → ℕ → Rec
+abbrev pub with_base : RmmRec → ℕ → RmmRec
 with_base rec base = record rec { ripas = record rec.ripas { base = base } }
 
 -- The entries of one table get the RIPAS that a REC asked for, from its address on, as far as they can and lie below a top. The REC

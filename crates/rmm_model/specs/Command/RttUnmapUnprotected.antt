@@ -1,8 +1,8 @@
 -- RMI_RTT_UNMAP_UNPROTECTED.
 use Rattle.std.specs.Prelude.{ℕ, List, [], ◌++◌}
-use Rattle.rmi_abi.specs.declared.registers.Answer.{Answer}
+use Rattle.rmi_abi.specs.declared.registers.SmcResult.{SmcResult}
 use Rattle.rmi_abi.specs.declared.word.Word.TheVariants.{ErrorRtt}
-use Rattle.rmm_model.specs.declared.entry.Entry.TheVariants.{UnassignedNs}
+use Rattle.rmm_model.specs.declared.entry.RmmRttEntry.TheVariants.{UnassignedNs}
 use Rattle.rmm_model.specs.declared.realm.RttWalk.{RttWalk as Walked}
 use Rattle.rmm_model.specs.Check.{Command, Check, success}
 use Rattle.rmm_model.specs.Entry.{is_assigned_ns}
@@ -11,7 +11,7 @@ use Rattle.rmm_model.specs.Walk.{entry_at, with_entry, walk, top}
 use Rattle.rmm_model.specs.Command.Operand.{rd_checks, realm_at, unprotected_checks, entry_checks}
 
 -- RMI_ERROR_RTT with the level of a table, and the next live entry in X1
-abbrev pub error_rtt_next : ℕ → ℕ → Answer
+abbrev pub error_rtt_next : ℕ → ℕ → SmcResult
 error_rtt_next top level = record { word = ErrorRtt level; x1 = top; x2 = 0; x3 = 0; x4 = 0 }
 
 -- a walk reaches a level, to an ASSIGNED_NS entry

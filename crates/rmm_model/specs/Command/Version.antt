@@ -1,6 +1,6 @@
 -- RMI_VERSION.
 use Rattle.std.specs.Prelude.{ℕ, ◌==◌, not, [], ◌∷◌}
-use Rattle.rmi_abi.specs.declared.registers.Answer.{Answer}
+use Rattle.rmi_abi.specs.declared.registers.SmcResult.{SmcResult}
 use Rattle.rmi_abi.specs.declared.word.Word.{Word}
 use Rattle.rmi_abi.specs.declared.word.Word.TheVariants.{Success, ErrorInput}
 use Rattle.rmm_model.specs.declared.condition.Condition.TheVariants.{Version}
@@ -8,7 +8,7 @@ use Rattle.rmm_model.specs.Check.{Command, check}
 use Rattle.rmm_model.specs.Machine.{Machine}
 
 -- a word with the lowest and the highest version that there is, both 1.0
-abbrev pub versions : Word → Answer
+abbrev pub versions : Word → SmcResult
 versions word = record { word = word; x1 = 0x10000; x2 = 0x10000; x3 = 0; x4 = 0 }
 
 -- The versions that there are, with either word. RMM 1.0, RMI_VERSION.

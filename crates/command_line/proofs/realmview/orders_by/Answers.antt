@@ -18,5 +18,5 @@ returns c = record {
   is_most = c.number_of.ensures;
   is_sample = c.number_of-2.ensures;
   is_seed = c.number_of-3.ensures;
-  asked = c.orders_asked.ensures;
+  asked = c.schedules_asked.ensures;
 }

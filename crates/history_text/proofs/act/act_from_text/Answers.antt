@@ -1,5 +1,5 @@
 use Rattle.std.proofs.Common.{sym, ◌∙◌}
-use Rattle.number_text.proofs.Grammars.{meaning_from_parts, no_meaning_from_rest}
+use Rattle.decimal_text.proofs.Grammars.{meaning_from_parts, no_meaning_from_rest}
 use Rattle.history_text.proofs.ActTexts.{acts}
 use Rattle.history_text.proofs.act.act_from_text.Goals as goal
 

@@ -1,5 +1,5 @@
 use Rattle.std.proofs.Common.{◌∙◌}
-use Rattle.number_text.specs.Written.{u8}
+use Rattle.decimal_text.specs.Written.{u8}
 use Rattle.history_text.specs.Written.{granule, offset}
 use Rattle.history_text.proofs.RowsMake.{three_found, three_not_found}
 use Rattle.history_text.proofs.act.byte_at.Goals as goal

@@ -1,4 +1,4 @@
-use Rattle.number_text.proofs.Rows.{two_made, three_made}
+use Rattle.decimal_text.proofs.Rows.{two_made, three_made}
 use Rattle.realm_model.specs.declared.act.Act.TheVariants.{Data, Unknown, UnData}
 use Rattle.history_text.specs.Written.{granule, ipa}
 use Rattle.history_text.proofs.act.data_act.Goals as goal

@@ -1,5 +1,5 @@
-use Rattle.number_text.specs.Written.{u8}
-use Rattle.number_text.proofs.Rows.{one_made, two_made, three_made}
+use Rattle.decimal_text.specs.Written.{u8}
+use Rattle.decimal_text.proofs.Rows.{one_made, two_made, three_made}
 use Rattle.realm_model.specs.declared.act.Act.TheVariants.{Take, UnTake, Fill, Peek, Delegate, Undelegate}
 use Rattle.history_text.specs.Written.{order, granule, offset}
 use Rattle.history_text.proofs.act.page_act.Goals as goal

@@ -1,5 +1,5 @@
 use Rattle.std.proofs.Common.{◌∙◌}
-use Rattle.number_text.specs.Written.{u16}
+use Rattle.decimal_text.specs.Written.{u16}
 use Rattle.history_text.specs.Written.{ipa}
 use Rattle.history_text.proofs.RowsMake.{two_found, two_not_found}
 use Rattle.history_text.proofs.act.range.Goals as goal

@@ -1,5 +1,5 @@
 use Rattle.std.proofs.Common.{[], ◌∷◌, None, refl, sym, ◌∙◌, arith}
-use Rattle.number_text.specs.Written.{u8}
+use Rattle.decimal_text.specs.Written.{u8}
 use Rattle.history_text.specs.Written.{granule, width}
 use Rattle.history_text.proofs.RowsMake.{first_low, second_low, third_low, fourth_low, realm_found, realm_not_found}
 use Rattle.history_text.proofs.act.realm.Goals as goal

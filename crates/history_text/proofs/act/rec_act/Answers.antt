@@ -1,5 +1,5 @@
-use Rattle.number_text.specs.Written.{u8, u16}
-use Rattle.number_text.proofs.Rows.{one_made, four_made}
+use Rattle.decimal_text.specs.Written.{u8, u16}
+use Rattle.decimal_text.proofs.Rows.{one_made, four_made}
 use Rattle.realm_model.specs.declared.act.Act.TheVariants.{Rec, UnRec, Enter, Exit, Poke}
 use Rattle.history_text.specs.Written.{offset, ipa}
 use Rattle.history_text.proofs.RowsMake.{rec_made}

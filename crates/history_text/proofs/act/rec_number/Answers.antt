@@ -1,5 +1,5 @@
 use Rattle.std.proofs.Common.{◌∙◌}
-use Rattle.number_text.specs.Written.{u16}
+use Rattle.decimal_text.specs.Written.{u16}
 use Rattle.history_text.proofs.RowsMake.{one_found, one_not_found}
 use Rattle.history_text.proofs.act.rec_number.Goals as goal
 

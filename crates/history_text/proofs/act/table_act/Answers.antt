@@ -1,5 +1,5 @@
-use Rattle.number_text.specs.Written.{u16}
-use Rattle.number_text.proofs.Rows.{two_made}
+use Rattle.decimal_text.specs.Written.{u16}
+use Rattle.decimal_text.proofs.Rows.{two_made}
 use Rattle.realm_model.specs.declared.act.Act.TheVariants.{Rtt, UnRtt, Ripas}
 use Rattle.history_text.specs.Written.{ipa}
 use Rattle.history_text.proofs.RowsMake.{table_made}

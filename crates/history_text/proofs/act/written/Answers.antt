@@ -1,5 +1,5 @@
 use Rattle.std.proofs.Common.{[], ◌∷◌, ◌∙◌, arith}
-use Rattle.number_text.specs.Written.{u8, u16}
+use Rattle.decimal_text.specs.Written.{u8, u16}
 use Rattle.history_text.specs.Written.{offset, ipa}
 use Rattle.history_text.proofs.RowsMake.{first_low, second_low, third_low, fourth_low, four_found, four_not_found}
 use Rattle.history_text.proofs.act.written.Goals as goal

@@ -1,7 +1,7 @@
 use Rattle.std.proofs.Common.{sym, ◌∙◌, arith}
 use Rattle.std.proofs.lemmas.List.{take_more}
 use Rattle.history_text.specs.Written.{granule}
-use Rattle.number_text.proofs.UpTo.{up_to-long, up_to-above, up_to-found, small_more}
+use Rattle.decimal_text.proofs.UpTo.{up_to-long, up_to-above, up_to-found, small_more}
 use Rattle.history_text.proofs.granules.granules_of.Goals as goal
 
 pub returns-then-numbers-gt-MOST_AUXILIARIES : goal.returns-then-numbers-gt-MOST_AUXILIARIES

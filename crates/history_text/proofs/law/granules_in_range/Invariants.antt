@@ -1,5 +1,5 @@
 use Rattle.std.proofs.Common.{replicate, take}
-use Rattle.number_text.specs.Ranges.{AreAtMost}
+use Rattle.decimal_text.specs.Ranges.{AreAtMost}
 use Rattle.history_text.specs.Written.{granule}
 use Rattle.history_text.proofs.law.granules_in_range.Given as goal
 

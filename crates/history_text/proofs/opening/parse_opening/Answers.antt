@@ -2,7 +2,7 @@ use Rattle.std.proofs.Common.{codes, IsUtf8, sym, ◌∙◌, subst}
 use Rattle.std.proofs.lemmas.Bool.{false≢true}
 use Rattle.std.proofs.lemmas.Bool.Decides.{Decides-eqb}
 use Rattle.std.proofs.lemmas.Slice.Eq.{strip_prefix_is}
-use Rattle.number_text.specs.Ranges.{AreAtMost}
+use Rattle.decimal_text.specs.Ranges.{AreAtMost}
 use Rattle.history_text.specs.Histories.{opening_numbers, opening_maxima}
 use Rattle.history_text.proofs.OpeningTexts.{five_numbers, IsUtf8-opening, same_rest, same_numbers, enough_from_text}
 use Rattle.history_text.proofs.opening.parse_opening.Goals as goal

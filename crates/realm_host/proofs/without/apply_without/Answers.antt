@@ -6,7 +6,7 @@ use Rattle.realm_host.proofs.LeftOut.{nothing_yet, can_apply, is_without}
 use Rattle.realm_host.proofs.without.apply_without.Goals as goal
 
 pub loop-event-init : goal.loop-event-init
-loop-event-init g c = nothing_yet c.args.books.now c.args.build c.args.fresh.now c.requires
+loop-event-init g c = nothing_yet c.args.ledger.now c.args.build c.args.fresh.now c.requires
 
 -- no event that is left is refused
 pub unreachable-requires : goal.unreachable-requires
@@ -15,7 +15,7 @@ unreachable-requires g c =
     let apart : c.event-item.result.build ≢ c.args.build =
     λ same. let bad : false ≡ true = c.if-eq.ensures ∙ eq-eqb c.event-item.result.build c.args.build same in cc in
     let can : CanApply c.loop-event.fresh c.event-item.result =
-    can_apply c.args.books.now c.history-event-items.ensures.legal c.history-event-items.ensures.room c.args.build c.loop-event.event-index c.event-item.result
+    can_apply c.args.ledger.now c.history-event-items.ensures.legal c.history-event-items.ensures.room c.args.build c.loop-event.event-index c.event-item.result
     (subst (λ (es : List Event). c.loop-event.event-index < length es) items c.loop-event-test.true)
     (c.event-item.is ∙ ap (λ (es : List Event). get_or es c.loop-event.event-index c.event-item.result) items)
     c.loop-event.fresh c.loop-event.invariant apart in
@@ -24,6 +24,6 @@ unreachable-requires g c =
 
 pub returns : goal.returns
 returns g c =
-    is_without c.args.books.now c.history-event-items.ensures.legal c.history-event-items.ensures.room c.args.build c.loop-event.event-index
+    is_without c.args.ledger.now c.history-event-items.ensures.legal c.history-event-items.ensures.room c.args.build c.loop-event.event-index
     (subst (λ (es : List Event). length es ≤ c.loop-event.event-index) c.history-event-items.ensures.events c.loop-event-test.false)
     c.loop-event.fresh c.loop-event.invariant

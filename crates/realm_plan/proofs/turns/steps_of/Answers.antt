@@ -1,6 +1,6 @@
 use Rattle.std.proofs.Common.{ℕ, List, map, Bor, Result, refl, sym, ap, ◌∙◌}
-use Rattle.plan_steps.specs.Steps.{step_of}
-use Rattle.plan_steps.specs.declared.step.PlanStep.{PlanStep}
+use Rattle.realm_plan.specs.Steps.{step_of}
+use Rattle.realm_plan.specs.declared.step.PlanStep.{PlanStep}
 use Rattle.realm_plan.specs.Outcome.{or_fault}
 use Rattle.realm_plan.specs.Plan.{steps_of}
 use Rattle.realm_plan.specs.declared.fault.PlanFault.{PlanFault}

@@ -2,7 +2,7 @@ use Rattle.std.proofs.Common.{Err, ap, sym, ◌∙◌, subst}
 use Rattle.std.specs.Io.KnownBytes.{Appends}
 use Rattle.std.proofs.lemmas.Result.{err_from_is_err_and}
 use Rattle.realm_plan.specs.PlanView.{plan_view}
-use Rattle.told_device.specs.Whole.{AppendsFront}
+use Rattle.checked_io.specs.Whole.{AppendsFront}
 use Rattle.realm_program.specs.Printed.{IsEnd}
 use Rattle.realm_program.proofs.Ends.{no_plan, no_text, read_well, printed, cut}
 use Rattle.realm_program.proofs.printing.print.Goals as goal

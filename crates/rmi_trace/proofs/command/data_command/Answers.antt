@@ -1,5 +1,5 @@
-use Rattle.number_text.specs.Written.{u16, u32}
-use Rattle.number_text.proofs.Rows.{two_made, three_made, four_made}
+use Rattle.decimal_text.specs.Written.{u16, u32}
+use Rattle.decimal_text.proofs.Rows.{two_made, three_made, four_made}
 use Rattle.rmi_trace.specs.declared.request.Command.TheVariants.{DataCreate, DataCreateUnknown, DataDestroy}
 use Rattle.rmi_trace.proofs.command.data_command.Goals as goal
 

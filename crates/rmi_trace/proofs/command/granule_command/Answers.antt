@@ -1,5 +1,5 @@
-use Rattle.number_text.specs.Written.{u8, u16}
-use Rattle.number_text.proofs.Rows.{one_made, two_made}
+use Rattle.decimal_text.specs.Written.{u8, u16}
+use Rattle.decimal_text.proofs.Rows.{one_made, two_made}
 use Rattle.rmi_trace.specs.declared.request.Command.TheVariants.{GranuleDelegate, GranuleUndelegate, HostFill, HostPeek}
 use Rattle.rmi_trace.proofs.command.granule_command.Goals as goal
 

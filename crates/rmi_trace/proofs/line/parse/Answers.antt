@@ -1,5 +1,5 @@
 use Rattle.std.proofs.Common.{◌≡◌, true, false, Some, None, IsUtf8, sym, ap, subst, ◌∙◌}
-use Rattle.number_text.specs.Grammar.{meaning_of_text}
+use Rattle.decimal_text.specs.Grammar.{meaning_of_text}
 use Rattle.rmi_trace.specs.Requests.{request_at}
 use Rattle.rmi_trace.specs.Lines.{text_of, is_remark}
 use Rattle.rmi_trace.proofs.Meanings.{asked, line_of_trace-not_readable, line_of_trace-remark, line_of_trace-asked, IsUtf8-asked, meant-line_of_trace}

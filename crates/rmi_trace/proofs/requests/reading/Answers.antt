@@ -1,5 +1,5 @@
-use Rattle.number_text.specs.Written.{u16}
-use Rattle.number_text.proofs.Rows.{one_made, two_made}
+use Rattle.decimal_text.specs.Written.{u16}
+use Rattle.decimal_text.proofs.Rows.{one_made, two_made}
 use Rattle.rmi_trace.specs.declared.request.Reading.TheVariants.{State, Sum, Word, Realm, Measurement, Rec}
 use Rattle.rmi_trace.proofs.requests.reading.Goals as goal
 

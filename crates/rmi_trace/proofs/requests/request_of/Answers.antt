@@ -1,6 +1,6 @@
 use Rattle.std.proofs.Common.{◌≡◌, sym, ◌∙◌}
-use Rattle.number_text.specs.Grammar.{meaning_of_text}
-use Rattle.number_text.proofs.Grammars.{meaning_from_parts, no_meaning_from_rest}
+use Rattle.decimal_text.specs.Grammar.{meaning_of_text}
+use Rattle.decimal_text.proofs.Grammars.{meaning_from_parts, no_meaning_from_rest}
 use Rattle.rmi_trace.specs.Requests.{request_at}
 use Rattle.rmi_trace.proofs.RequestGrammar.{requests}
 use Rattle.rmi_trace.proofs.RequestTexts.{found_is_written, none_is_written}

@@ -1,5 +1,5 @@
 use Rattle.std.proofs.Common.{◌≡◌, ◌++◌, ◌∙◌, Some, None, ap, rules}
-use Rattle.rmi_abi.specs.declared.settings.Settings.{Settings}
+use Rattle.rmi_abi.specs.declared.settings.RmmSettings.{RmmSettings}
 use Rattle.rmm_model.specs.declared.condition.Condition.TheVariants.{SrcAlign, SrcBound, SrcPas, DataAlign, DataBound, DataState}
 use Rattle.rmm_model.specs.Check.{first_failing}
 use Rattle.rmm_model.specs.Command.DataCreate.{source_checks}
@@ -15,7 +15,7 @@ returns-in_err-source-clause-refusal g c =
     let flags = flags_checks m.settings c.args.flags in
     let host = host_checks SrcAlign SrcBound SrcPas m c.args.source in
     let mine = delegated_checks DataAlign DataBound DataState m c.args.page in
-    let right : None ≡ first_failing flags = c.in_ok-check_flags.ensures ∙ ap (λ (s : Settings). first_failing (flags_checks s c.args.flags)) c.settings.ensures.value in
+    let right : None ≡ first_failing flags = c.in_ok-check_flags.ensures ∙ ap (λ (s : RmmSettings). first_failing (flags_checks s c.args.flags)) c.settings.ensures.value in
     let fails : Some c.in_err-source.field-0.0 ≡ first_failing (source_checks m c.args.page c.args.source c.args.flags) =
     failed (flags ++ host) mine c.in_err-source.field-0.0 (c.in_err-source.ensures.refusal ∙ passed flags host right) in
     search rules

@@ -1,6 +1,6 @@
 use Rattle.std.proofs.Common.{ℕ, refl, sym, ap, ◌∙◌, add-one}
 use Rattle.std.proofs.lemmas.List.{length-set}
-use Rattle.rmm_model.specs.declared.granule.GranuleState.TheVariants.{Rtt}
+use Rattle.rmm_model.specs.declared.granule.RmmGranuleState.TheVariants.{Rtt}
 use Rattle.rmm_model.specs.Granule.{of_realm}
 use Rattle.rmm_model.specs.Machine.{Machine, granule_count, with_granule, with_page}
 use Rattle.rmm_model.specs.Command.RealmCreate.{start_page, with_tables}

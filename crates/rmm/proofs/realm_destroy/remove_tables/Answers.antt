@@ -1,6 +1,6 @@
 use Rattle.std.proofs.Common.{ℕ, refl, sym, ap, ◌∙◌, add-one}
 use Rattle.std.proofs.lemmas.List.{length-set}
-use Rattle.rmm_model.specs.declared.granule.GranuleState.TheVariants.{Delegated}
+use Rattle.rmm_model.specs.declared.granule.RmmGranuleState.TheVariants.{Delegated}
 use Rattle.rmm_model.specs.Granule.{of_no_realm}
 use Rattle.rmm_model.specs.Machine.{Machine, granule_count, with_blank}
 use Rattle.rmm_model.specs.Command.RealmDestroy.{without_tables}

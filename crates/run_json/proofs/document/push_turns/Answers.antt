@@ -1,7 +1,7 @@
 use Rattle.std.proofs.Common.{string_bytes, ◌++◌, ◌<◌, ◌≤◌, length, ◌∷◌, [], ◌∙◌, ap, take, get_or, subst, sym}
 use Rattle.std.proofs.lemmas.List.{take_more}
 use Rattle.realm_plan.specs.PlanView.{plan_view}
-use Rattle.plan_runs.specs.Run.{Position, start}
+use Rattle.plan_replay.specs.Run.{Position, start}
 use Rattle.run_json.specs.Document.{AreTurnItems}
 use Rattle.run_json.proofs.Turns.{AreTurnItems-more, HasTurnItems-whole}
 use Rattle.run_json.proofs.document.push_turns.Goals as goal

@@ -1,6 +1,6 @@
 use Rattle.std.proofs.Common.{string_bytes, take}
 use Rattle.realm_plan.specs.PlanView.{plan_view}
-use Rattle.plan_runs.specs.Run.{start}
+use Rattle.plan_replay.specs.Run.{start}
 use Rattle.run_json.specs.Document.{AreTurnItems}
 use Rattle.run_json.proofs.document.push_turns.Given as goal
 

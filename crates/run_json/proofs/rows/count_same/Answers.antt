@@ -1,5 +1,5 @@
 use Rattle.std.proofs.Common.{arith}
-use Rattle.build_books.specs.View.{world_of}
+use Rattle.host_ledger.specs.View.{world_of}
 use Rattle.run_json.proofs.RowRuns.{behind_more, same_more}
 use Rattle.run_json.proofs.rows.count_same.Goals as goal
 

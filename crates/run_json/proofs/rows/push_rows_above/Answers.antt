@@ -1,5 +1,5 @@
 use Rattle.std.proofs.Common.{string_bytes, sym, ◌∙◌, subst}
-use Rattle.build_books.specs.View.{world_of}
+use Rattle.host_ledger.specs.View.{world_of}
 use Rattle.realm_host.specs.Readings.{row_at}
 use Rattle.run_json.specs.Rows.{beginning_at}
 use Rattle.run_json.specs.RowTexts.{AddsItems}

@@ -1,6 +1,6 @@
 use Rattle.std.proofs.Common.{string_bytes, ◌-◌}
 use Rattle.std.specs.List.{flat_map, range_with_len}
-use Rattle.build_books.specs.View.{world_of}
+use Rattle.host_ledger.specs.View.{world_of}
 use Rattle.realm_host.specs.Readings.{row_at}
 use Rattle.run_json.specs.Rows.{beginning_at}
 use Rattle.run_json.specs.RowTexts.{AddsItems}

@@ -1,5 +1,5 @@
 use Rattle.std.proofs.Common.{Some, None, string_bytes, refl, sym, subst}
-use Rattle.build_books.specs.View.{world_of}
+use Rattle.host_ledger.specs.View.{world_of}
 use Rattle.run_json.proofs.RowRuns.{row_read, IsSoFar, so_far_none, so_far_more, so_far_all}
 use Rattle.run_json.proofs.rows.rows_of.Goals as goal
 

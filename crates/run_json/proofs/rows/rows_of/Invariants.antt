@@ -1,6 +1,6 @@
 use Rattle.std.proofs.Common.{string_bytes, ◌-◌}
 use Rattle.std.specs.Prelude.{◌^◌}
-use Rattle.build_books.specs.View.{world_of}
+use Rattle.host_ledger.specs.View.{world_of}
 use Rattle.run_json.proofs.RowRuns.{IsSoFar}
 use Rattle.run_json.proofs.rows.rows_of.Given as goal
 

@@ -1,6 +1,6 @@
 use Rattle.std.proofs.Common.{string_bytes, ◌+◌, refl}
 use Rattle.run_json.specs.Turns.{another_granule}
-use Rattle.plan_runs.proofs.MapLines.{lines_more}
+use Rattle.plan_replay.proofs.MapLines.{lines_more}
 use Rattle.run_json.proofs.turn.push_more_granules.Goals as goal
 
 pub loop-place-preserved : goal.loop-place-preserved

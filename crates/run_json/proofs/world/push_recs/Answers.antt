@@ -1,6 +1,6 @@
 use Rattle.std.proofs.Common.{string_bytes, refl}
 use Rattle.run_json.specs.Worlds.{numbered_rec}
-use Rattle.plan_runs.proofs.MapLines.{lines_more}
+use Rattle.plan_replay.proofs.MapLines.{lines_more}
 use Rattle.run_json.proofs.world.push_recs.Goals as goal
 
 pub loop-number-preserved : goal.loop-number-preserved

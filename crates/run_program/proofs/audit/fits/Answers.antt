@@ -2,7 +2,7 @@ use Rattle.std.proofs.Common.{◌≡◌, ◌↔◌, List, true, false, nat_eq, l
 use Rattle.std.specs.Prelude.{slice_get}
 use Rattle.realm_model.specs.declared.act.Event.{Event}
 use Rattle.realm_model.specs.Stack.{pushed}
-use Rattle.workers.specs.declared.report.Line.{Line}
+use Rattle.builders.specs.declared.report.ReportLine.{ReportLine}
 use Rattle.run_program.specs.Fitting.{DoesFit}
 use Rattle.run_program.proofs.Reading.{fits_here_of, next_there, read_none, read_stop, read_other, read_done, read_all}
 use Rattle.run_program.proofs.audit.fits.Goals.{then-is_done+in_ok-follow, else-is_done}
@@ -20,7 +20,7 @@ returns-then-not-line_fits c =
     c.as_slice.ensures.value c.line_fits.ensures in (
       (λ t. absurd (let no : false ≡ true = t in cc)),
       (λ does. absurd (read_stop c.loop-line.invariant c.line-item.result c.line_fits.result c.loop-line-test.true c.line-item.is says c.if-not-line_fits.true
-          (subst (λ (lines : List Line). DoesFit c.args.report.now.build c.args.steps.now lines c.args.history.now) (sym c.as_slice-line-items.ensures.value) does))),
+          (subst (λ (lines : List ReportLine). DoesFit c.args.report.now.build c.args.steps.now lines c.args.history.now) (sym c.as_slice-line-items.ensures.value) does))),
     )
 
 pub bounds-history-next : goal.bounds-history-next
@@ -56,5 +56,5 @@ loop-line-preserved c =
 
 pub returns : goal.returns
 returns c =
-    subst (λ (lines : List Line). (nat_eq c.loop-line.next (length c.args.history.now) ≡ true) ↔ DoesFit c.args.report.now.build c.args.steps.now lines c.args.history.now)
+    subst (λ (lines : List ReportLine). (nat_eq c.loop-line.next (length c.args.history.now) ≡ true) ↔ DoesFit c.args.report.now.build c.args.steps.now lines c.args.history.now)
     c.as_slice-line-items.ensures.value (read_all c.loop-line.invariant c.loop-line-test.false)

@@ -5,7 +5,7 @@ use Rattle.run_program.proofs.audit.follow.Goals as goal
 
 pub returns-in_ok-push : goal.returns-in_ok-push
 returns-in_ok-push c =
-    c.in_ok-push.ensures.items ∙ ap (λ act. c.args.opened.now.items ++ act ∷ []) c.again.ensures
+    c.in_ok-push.ensures.items ∙ ap (λ act. c.args.opened.now.items ++ act ∷ []) c.clone.ensures
     ∙ sym (pushed_paired c.args.opened.now.items c.args.act.now (sym c.if-is_paired.ensures))
 
 pub returns-then-is_reverse : goal.returns-then-is_reverse

@@ -1,7 +1,7 @@
 use Rattle.std.proofs.Common.{List, ◌∷◌, [], ◌++◌, sym, ap, ap₂, ◌∙◌}
 use Rattle.std.proofs.lemmas.List.{map_more}
-use Rattle.build_commands.specs.declared.cmd.Step.{Step}
-use Rattle.plan_steps.specs.Asked.{asked}
+use Rattle.host_commands.specs.declared.cmd.Step.{Step}
+use Rattle.realm_plan.specs.Asked.{asked}
 use Rattle.run_program.proofs.new_workers.asked_of.Goals as goal
 
 pub loop-step-preserved : goal.loop-step-preserved

@@ -1,5 +1,5 @@
 use Rattle.std.proofs.Common.{◌≡◌, map, take}
-use Rattle.plan_steps.specs.Asked.{asked}
+use Rattle.realm_plan.specs.Asked.{asked}
 use Rattle.run_program.proofs.new_workers.asked_of.Given as goal
 
 abbrev pub invariant-loop-step : goal.invariant-loop-step

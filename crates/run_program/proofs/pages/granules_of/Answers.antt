@@ -1,6 +1,6 @@
 use Rattle.std.proofs.Common.{[], ◌∷◌}
 use Rattle.std.specs.List.{flat_map}
-use Rattle.build_commands.specs.Needs.{operands}
+use Rattle.host_commands.specs.Needs.{operands}
 use Rattle.realm_model.specs.History.{pages_held}
 use Rattle.run_program.specs.Fitting.{HaveNoGranules}
 use Rattle.run_program.proofs.Pushed.{none_of_first, none_of_second}

@@ -3,13 +3,13 @@ use Rattle.std.specs.Prelude.{OnOk}
 use Rattle.std.proofs.lemmas.Bool.{ltb-true}
 use Rattle.std.proofs.lemmas.List.{append-nil}
 use Rattle.std.proofs.lemmas.Option.{slice_get_read, slice_get_past}
-use Rattle.plan_steps.specs.declared.step.PlanStep.{PlanStep}
-use Rattle.workers.specs.declared.report.Line.{Line}
+use Rattle.realm_plan.specs.declared.step.PlanStep.{PlanStep}
+use Rattle.builders.specs.declared.report.ReportLine.{ReportLine}
 use Rattle.run_program.specs.Report.{step_of_line, line_text}
 use Rattle.run_program.proofs.report.push_line.Goals as goal
 
 -- a line of the one step is a line of the other
-of_step : {T E : Type 0} (result : Result T E) (new old : List ℕ) (build : ℕ) (line : Line) (next : Option Line) {step its : Option PlanStep}
+of_step : {T E : Type 0} (result : Result T E) (new old : List ℕ) (build : ℕ) (line : ReportLine) (next : Option ReportLine) {step its : Option PlanStep}
     → step ≡ its
     → OnOk result (new ≡ old ++ line_text build its line next)
     → OnOk result (new ≡ old ++ line_text build step line next)

@@ -1,10 +1,10 @@
 use Rattle.std.proofs.Common.{Err, ap, subst, string_bytes}
 use Rattle.std.specs.Io.KnownBytes.{Appends}
 use Rattle.std.proofs.lemmas.Result.{err_from_is_err_and}
-use Rattle.run_program.proofs.Orders.{order_is_not_told}
+use Rattle.run_program.proofs.Orders.{schedule_is_not_revealed}
 use Rattle.realm_plan.specs.PlanView.{plan_view}
 use Rattle.realm_program.specs.Replay.{opening_host}
-use Rattle.told_device.specs.Whole.{AppendsFront}
+use Rattle.checked_io.specs.Whole.{AppendsFront}
 use Rattle.run_program.specs.Threads.{IsThreadsText, IsWithoutThreadsText}
 use Rattle.run_program.proofs.Faults.{threads_fault}
 use Rattle.realm_program.proofs.Ends.{no_plan, no_text, read_well, printed, cut}
@@ -55,13 +55,13 @@ returns-clause-end g c =
     c.in_ok-plan.ensures.ok c.in_ok-text.ensures.ok (subst (Appends old new) c.as_bytes.ensures.value c.in_ok-write_whole.ensures.ok)
 
 pub returns-in_err-plan-clause-order : goal.returns-in_err-plan-clause-order
-returns-in_err-plan-clause-order g c = λ plan. order_is_not_told plan (g.G.Gate.passes c.args.gate.now) (g.G.Gate.stops c.args.gate.now) (opening_host plan)
+returns-in_err-plan-clause-order g c = λ plan. schedule_is_not_revealed plan (g.G.Gate.passes c.args.gate.now) (g.G.Gate.stops c.args.gate.now) (opening_host plan)
 
 pub returns-in_err-text-clause-order : goal.returns-in_err-text-clause-order
-returns-in_err-text-clause-order g c = λ plan. order_is_not_told plan (g.G.Gate.passes c.args.gate.now) (g.G.Gate.stops c.args.gate.now) (opening_host plan)
+returns-in_err-text-clause-order g c = λ plan. schedule_is_not_revealed plan (g.G.Gate.passes c.args.gate.now) (g.G.Gate.stops c.args.gate.now) (opening_host plan)
 
 pub returns-in_err-write_whole-clause-order : goal.returns-in_err-write_whole-clause-order
-returns-in_err-write_whole-clause-order g c = λ plan. order_is_not_told plan (g.G.Gate.passes c.args.gate.now) (g.G.Gate.stops c.args.gate.now) (opening_host plan)
+returns-in_err-write_whole-clause-order g c = λ plan. schedule_is_not_revealed plan (g.G.Gate.passes c.args.gate.now) (g.G.Gate.stops c.args.gate.now) (opening_host plan)
 
 pub returns-clause-order : goal.returns-clause-order
-returns-clause-order g c = λ plan. order_is_not_told plan (g.G.Gate.passes c.args.gate.now) (g.G.Gate.stops c.args.gate.now) (opening_host plan)
+returns-clause-order g c = λ plan. schedule_is_not_revealed plan (g.G.Gate.passes c.args.gate.now) (g.G.Gate.stops c.args.gate.now) (opening_host plan)

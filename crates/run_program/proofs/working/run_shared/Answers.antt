@@ -2,7 +2,7 @@ use Rattle.std.proofs.Common.{◌++◌, string_bytes, ap, ◌∙◌, sym, subst}
 use Rattle.std.specs.List.{flat_map}
 use Rattle.std.specs.Prelude.{All}
 use Rattle.realm_plan.specs.PlanView.{plan_view}
-use Rattle.plan_runs.specs.Run.{map_text}
+use Rattle.plan_replay.specs.Run.{map_text}
 use Rattle.run_program.specs.Fitting.{ReportFits}
 use Rattle.run_program.specs.Text.{report_lines, audit_line}
 use Rattle.run_program.proofs.Ended.{not_closed, misfit, is_text, with_both, without_text}

@@ -1,6 +1,6 @@
 use Rattle.std.proofs.Common.{sym, subst, string_bytes}
 use Rattle.std.specs.Prelude.{IfOk, IfErr}
-use Rattle.build_books.specs.View.{HostView}
+use Rattle.host_ledger.specs.View.{HostView}
 use Rattle.realm_plan.specs.PlanView.{plan_view}
 use Rattle.run_program.specs.Workers.{IsWorkersText, IsWithoutWorkersText}
 use Rattle.run_program.proofs.working.run_with.Goals as goal

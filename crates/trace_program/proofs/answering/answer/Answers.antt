@@ -2,7 +2,7 @@ use Rattle.std.proofs.Common.{arith}
 use Rattle.std.proofs.lemmas.Result.{err_from_is_err_and}
 use Rattle.trace_program.proofs.Underway.{underway_none, stopped_here}
 use Rattle.trace_program.proofs.answering.answer.Goals as goal
-use Rattle.told_device.proofs.Read.{keeps_same}
+use Rattle.checked_io.proofs.Read.{keeps_same}
 
 pub reads-init : goal.reads-init
 reads-init g c = record {

@@ -1,5 +1,5 @@
 use Rattle.std.proofs.Common.{◌∙◌, ap}
-use Rattle.rmi_trace.specs.declared.answer.Answer.TheVariants.{ResultWord}
+use Rattle.rmi_trace.specs.declared.answer.TraceAnswer.TheVariants.{ResultWord}
 use Rattle.trace_program.proofs.Values.{told_done, told_refused}
 use Rattle.trace_program.proofs.command.told.Goals as goal
 

@@ -1,7 +1,7 @@
 use Rattle.std.proofs.Common.{Err, ap, sym, ◌∙◌, subst, string_bytes}
 use Rattle.std.specs.Io.KnownBytes.{Appends}
 use Rattle.std.proofs.lemmas.Result.{err_from_is_err_and}
-use Rattle.told_device.specs.Whole.{AppendsFront}
+use Rattle.checked_io.specs.Whole.{AppendsFront}
 use Rattle.view_program.specs.Applied.{host_of_opening}
 use Rattle.view_program.specs.Printed.{IsApplyEnd}
 use Rattle.view_program.proofs.Takings.{fresh_like-taken}

@@ -1,8 +1,8 @@
 use Rattle.std.proofs.Common.{◌≡◌, IfErr, Err, ap, sym, ◌∙◌, subst}
 use Rattle.std.specs.Io.KnownBytes.{prepend_known}
 use Rattle.std.proofs.lemmas.Result.{err_from_is_err_and}
-use Rattle.build_books.specs.View.{HostView}
-use Rattle.told_device.specs.Lines.{IsLine}
+use Rattle.host_ledger.specs.View.{HostView}
+use Rattle.checked_io.specs.Lines.{IsLine}
 use Rattle.view_program.specs.Applied.{IsNoHistoryIn}
 use Rattle.view_program.specs.Taking.{AreLinesTaken, AreNotTaken}
 use Rattle.view_program.proofs.ApplyEnds.{ahead_none, is_history_in, no_history_in}

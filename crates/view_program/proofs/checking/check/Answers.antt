@@ -1,9 +1,9 @@
 use Rattle.std.proofs.Common.{ℕ, List, Err, ap, sym, ◌∙◌, subst}
 use Rattle.std.specs.Io.KnownBytes.{Appends}
 use Rattle.std.proofs.lemmas.Result.{err_from_is_err_and}
-use Rattle.told_device.specs.Whole.{AppendsFront}
-use Rattle.told_device.proofs.Read.{keeps_same}
-use Rattle.plan_check.specs.Texts.{IsReport}
+use Rattle.checked_io.specs.Whole.{AppendsFront}
+use Rattle.checked_io.proofs.Read.{keeps_same}
+use Rattle.plan_lint.specs.Texts.{IsReport}
 use Rattle.view_program.specs.Checked.{IsVerdictOn, IsCheckEnd}
 use Rattle.view_program.proofs.CheckEnds.{report_from_kept, verdict_from_kept, unreported, cut_report, bytes_read_well}
 use Rattle.view_program.proofs.checking.check.Goals as goal

@@ -1,5 +1,5 @@
 use Rattle.std.proofs.Common.{string_bytes, sym, subst}
-use Rattle.build_books.specs.View.{HostView}
+use Rattle.host_ledger.specs.View.{HostView}
 use Rattle.realm_plan.specs.PlanView.{plan_view}
 use Rattle.run_json.specs.Document.{IsDocument}
 use Rattle.realm_program.specs.Replay.{opening_host}
@@ -9,5 +9,5 @@ pub returns : goal.returns
 returns c =
     let plan = plan_view c.args.plan.now in
     let document = string_bytes c.in_ok-document.document in
-    subst (λ (books : HostView). IsDocument plan (opening_host plan) books document) (sym c.into_books.ensures)
+    subst (λ (ledger : HostView). IsDocument plan (opening_host plan) ledger document) (sym c.into_ledger.ensures)
     (subst (λ host. IsDocument plan host c.run_document.new.host document) c.in_ok-host.ensures c.in_ok-document.ensures)

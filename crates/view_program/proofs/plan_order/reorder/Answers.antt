@@ -2,7 +2,7 @@ use Rattle.std.proofs.Common.{ℕ, List, Err, ap, sym, ◌∙◌, subst}
 use Rattle.std.specs.Io.KnownBytes.{Appends}
 use Rattle.std.proofs.lemmas.Result.{err_from_is_err_and}
 use Rattle.realm_plan.specs.PlanView.{plan_view}
-use Rattle.told_device.specs.Whole.{AppendsFront}
+use Rattle.checked_io.specs.Whole.{AppendsFront}
 use Rattle.view_program.specs.Checked.{GivesNoPlan}
 use Rattle.view_program.specs.Reordered.{IsReorderEnd}
 use Rattle.view_program.proofs.CheckEnds.{bytes_read_well}

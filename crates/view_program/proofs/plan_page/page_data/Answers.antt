@@ -1,8 +1,8 @@
 use Rattle.std.proofs.Common.{string_bytes, [], ◌++◌, codes, ap, ◌∙◌, subst}
 use Rattle.realm_plan.specs.PlanView.{plan_view}
 use Rattle.realm_program.specs.Replay.{opening_host}
-use Rattle.plan_runs.proofs.Settings.{fresh_like-run}
-use Rattle.run_json.proofs.Turns.{told_run}
+use Rattle.plan_replay.proofs.Settings.{fresh_like-run}
+use Rattle.run_json.proofs.Turns.{reported_run}
 use Rattle.view_program.specs.PageData.{AreWithoutWorlds}
 use Rattle.view_program.proofs.plan_page.page_data.Goals as goal
 
@@ -10,8 +10,8 @@ pub push_all_without-requires : goal.push_all_without-requires
 push_all_without-requires c =
     let plan = plan_view c.args.plan.now in
     let is_document = c.in_ok-document.ensures in
-    let led = told_run plan (opening_host plan) c.in_ok-document.books [] is_document.turns is_document.are_turns in
-    fresh_like-run plan (opening_host plan) c.in_ok-document.books [] led.lines led.run
+    let led = reported_run plan (opening_host plan) c.in_ok-document.ledger [] is_document.turns is_document.are_turns in
+    fresh_like-run plan (opening_host plan) c.in_ok-document.ledger [] led.lines led.run
 
 pub returns : goal.returns
 returns c =
@@ -20,11 +20,11 @@ returns c =
     let worlds = string_bytes c.push_all_without.new.text in
     record {
       document = document;
-      last = c.in_ok-document.books;
+      last = c.in_ok-document.ledger;
       is_document = c.in_ok-document.ensures;
       worlds = worlds;
       are_worlds =
-          subst (λ t. AreWithoutWorlds (plan_view c.args.plan.now) c.in_ok-document.books t worlds) head
+          subst (λ t. AreWithoutWorlds (plan_view c.args.plan.now) c.in_ok-document.ledger t worlds) head
           c.in_ok-push_all_without.ensures;
       members = c.as_str.result.now;
       whole = c.in_ok-push_end.ensures;

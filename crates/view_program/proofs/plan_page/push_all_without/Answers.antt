@@ -7,5 +7,5 @@ pub loop-place-preserved : goal.loop-place-preserved
 loop-place-preserved c =
     let mid = string_bytes c.loop-place.text in
     let new = string_bytes c.push_without.new.text in
-    worlds_more c.args.books.now c.loop-place.place (string_bytes c.args.text.now) mid new c.loop-place.invariant
-    (subst (λ build. IsWithoutWorld c.args.books.now build mid new) c.id_of.ensures c.in_ok-push_without.ensures)
+    worlds_more c.args.ledger.now c.loop-place.place (string_bytes c.args.text.now) mid new c.loop-place.invariant
+    (subst (λ build. IsWithoutWorld c.args.ledger.now build mid new) c.id_of.ensures c.in_ok-push_without.ensures)

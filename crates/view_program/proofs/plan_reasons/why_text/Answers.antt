@@ -1,8 +1,8 @@
 use Rattle.std.proofs.Common.{List, ℕ, ◌++◌, map, ap, append_assoc, subst, ◌∙◌}
-use Rattle.build_books.specs.View.{HostView}
+use Rattle.host_ledger.specs.View.{HostView}
 use Rattle.realm_plan.specs.PlanView.{plan_view}
-use Rattle.plan_runs.specs.Run.{map_text}
-use Rattle.refusal_reasons.specs.Explained.{report_of, IsExplainedRun}
+use Rattle.plan_replay.specs.Run.{map_text}
+use Rattle.explain.specs.Explained.{report_of, IsExplainedRun}
 use Rattle.view_program.specs.Why.{AreTurnTexts}
 use Rattle.view_program.proofs.plan_reasons.why_text.Goals as goal
 

@@ -19,15 +19,15 @@ invariant_of-self c =
     let room = room_for c.args.self.now c.args.act.now (sym c.if-is_paired.ensures) c.requires in
     let len : vec_len c.self.inside.entries ≡ length c.args.self.now =
     c.self.inside.entries.ok.0 ∙ ap (λ (acts : List Act). length acts) c.self.view_is in
-    let paired : is_paired c.again.result ≡ true = ap is_paired c.again.ensures ∙ sym c.if-is_paired.ensures in (
+    let paired : is_paired c.clone.result ≡ true = ap is_paired c.clone.ensures ∙ sym c.if-is_paired.ensures in (
       omega arith,
       omega arith,
-      ap are_paired c.push_reserved.ensures.items ∙ are_paired_push c.self.inside.entries.items c.again.result paired c.self.invariant.2,
+      ap are_paired c.push_reserved.ensures.items ∙ are_paired_push c.self.inside.entries.items c.clone.result paired c.self.invariant.2,
     )
 
 pub returns-then-is_paired : goal.returns-then-is_paired
 returns-then-is_paired c =
-    c.push_reserved.ensures.items ∙ (λ i. c.self.view_is i ++ c.again.ensures i ∷ [])
+    c.push_reserved.ensures.items ∙ (λ i. c.self.view_is i ++ c.clone.ensures i ∷ [])
     ∙ sym (pushed_paired c.args.self.now c.args.act.now (sym c.if-is_paired.ensures))
 
 pub returns-then-is_reverse : goal.returns-then-is_reverse

@@ -1,5 +1,5 @@
 use Rattle.std.proofs.Common.{List, [], false, ap, subst, ◌∙◌}
-use Rattle.build_commands.specs.declared.cmd.Step.{Step}
+use Rattle.host_commands.specs.declared.cmd.Step.{Step}
 use Rattle.builders.specs.Workers.{WorkerView, IsWorkerRun}
 use Rattle.builders.proofs.Working.{no_event, of_worker}
 use Rattle.builders.proofs.worker.Worker.run.Goals as goal

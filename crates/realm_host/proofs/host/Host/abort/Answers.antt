@@ -4,8 +4,8 @@ use Rattle.std.proofs.lemmas.Bool.{ltb-true, lt-leb, le-ltb}
 use Rattle.realm_model.specs.Running.{running_count}
 use Rattle.realm_model.specs.World.{realm_of}
 use Rattle.realm_model.specs.History.{IsLegal}
-use Rattle.build_commands.specs.declared.refusal.Refusal.TheVariants.{NoBuild, RecRunning}
-use Rattle.build_books.specs.View.{HostView, world_of, open_of}
+use Rattle.host_commands.specs.declared.refusal.Refusal.TheVariants.{NoBuild, RecRunning}
+use Rattle.host_ledger.specs.View.{HostView, world_of, open_of}
 use Rattle.realm_host.proofs.Aborts.{rests_all}
 use Rattle.realm_host.proofs.Calls.{aborted, nothing_left}
 use Rattle.realm_host.proofs.host.Host.abort.Goals as goal

@@ -18,11 +18,11 @@ returns-then-not-is_there g c = (
 )
 
 pub act-requires : goal.act-requires
-act-requires g c = subst (CanAct c.args.self.now c.args.build) (sym c.again.ensures)
+act-requires g c = subst (CanAct c.args.self.now c.args.build) (sym c.clone.ensures)
     (can_apply_act c.args.self.now c.args.build c.args.act.now c.requires.there c.requires.forward c.requires.command c.requires.room
     (sym c.if-not-leases_named.ensures) c.check_ranges.ensures c.if-not-is_there.ensures.fits)
 
 pub returns : goal.returns
 returns g c = subst (λ t. IsApplied c.args.self.now c.args.build c.args.act.now t c.act.new.self) (sym c.is_ok.ensures.value)
     (is_applied c.args.self.now c.requires.legal c.args.build c.args.act.now c.act.result c.act.new.self
-    (subst (λ (a : Act). IsActed c.args.self.now c.args.build a c.act.result c.act.new.self) c.again.ensures c.act.ensures))
+    (subst (λ (a : Act). IsActed c.args.self.now c.args.build a c.act.result c.act.new.self) c.clone.ensures c.act.ensures))

@@ -3,7 +3,7 @@ use Rattle.std.specs.Prelude.{nat_lt}
 use Rattle.std.proofs.lemmas.Bool.{lt-ltb}
 use Rattle.realm_model.specs.History.{IsLegal}
 use Rattle.realm_model.specs.declared.act.Act.{Act}
-use Rattle.build_books.specs.View.{HostView}
+use Rattle.host_ledger.specs.View.{HostView}
 use Rattle.realm_host.specs.Acting.{HasRoomFor}
 use Rattle.realm_host.proofs.Applied.{there_next, forward_command}
 use Rattle.realm_host.proofs.There.{build_there}

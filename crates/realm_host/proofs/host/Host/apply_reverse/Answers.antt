@@ -3,7 +3,7 @@ use Rattle.std.specs.Prelude.{option_and_then}
 use Rattle.std.specs.List.{last_or}
 use Rattle.realm_model.specs.Act.{reverse_of}
 use Rattle.realm_model.specs.History.{IsLegal}
-use Rattle.build_books.specs.View.{HostView, open_of}
+use Rattle.host_ledger.specs.View.{HostView, open_of}
 use Rattle.realm_host.proofs.Applied.{legal_next, out_of_turn, runs_on}
 use Rattle.realm_host.proofs.host.Host.apply_reverse.Goals as goal
 

@@ -3,13 +3,13 @@ use Rattle.std.specs.List.{list_any}
 use Rattle.realm_model.specs.History.{IsLegal}
 use Rattle.realm_model.specs.Running.{is_running}
 use Rattle.realm_model.specs.World.{realm_of}
-use Rattle.build_books.specs.View.{HostView, world_of, open_of}
+use Rattle.host_ledger.specs.View.{HostView, world_of, open_of}
 use Rattle.realm_host.proofs.Calls.{enough, rolled}
 use Rattle.realm_host.proofs.host.Host.check_back.Goals as goal
 
 pub open_above-above-requires-clause-enough : goal.open_above-above-requires-clause-enough
 open_above-above-requires-clause-enough g c =
-    subst (λ n. n ≤ length (open_of c.self.inside.books c.args.build)) (sym c.length.ensures)
+    subst (λ n. n ≤ length (open_of c.self.inside.ledger c.args.build)) (sym c.length.ensures)
     (subst (λ (h : HostView). c.args.mark.length ≤ length (open_of h c.args.build)) (sym c.self.view_is)
     (enough c.args.self.now c.args.build c.args.mark c.if-not-is_kept.ensures.stands))
 

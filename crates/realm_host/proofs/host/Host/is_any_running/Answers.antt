@@ -4,7 +4,7 @@ use Rattle.std.proofs.lemmas.List.{take_all}
 use Rattle.std.proofs.lemmas.List.Folds.{list_any_more}
 use Rattle.realm_model.specs.Running.{is_running}
 use Rattle.realm_model.specs.World.{realm_of}
-use Rattle.build_books.specs.View.{world_of}
+use Rattle.host_ledger.specs.View.{world_of}
 use Rattle.realm_host.proofs.host.Host.is_any_running.Goals as goal
 
 pub loop-act-init : goal.loop-act-init

@@ -3,8 +3,8 @@ use Rattle.std.specs.List.{last_or}
 use Rattle.realm_model.specs.Running.{is_running}
 use Rattle.realm_model.specs.World.{realm_of}
 use Rattle.realm_model.specs.declared.act.Act.{Act}
-use Rattle.build_books.specs.View.{HostView, world_of, open_of}
-use Rattle.build_books.proofs.Readings.{none_open}
+use Rattle.host_ledger.specs.View.{HostView, world_of, open_of}
+use Rattle.host_ledger.proofs.Readings.{none_open}
 use Rattle.realm_host.specs.Refusals.{is_newest_running}
 use Rattle.realm_host.proofs.host.Host.is_newest_running.Goals as goal
 
@@ -15,7 +15,7 @@ runs_newest host build newest is = ap (λ (o : Option Act). elim o [ Some act �
 
 pub returns-then-not-has_build : goal.returns-then-not-has_build
 returns-then-not-has_build g c =
-    let none = sym (none_open c.args.build c.self.inside.books.history c.if-not-has_build.ensures.none) ∙ ap (λ (h : HostView). open_of h c.args.build) c.self.view_is in
+    let none = sym (none_open c.args.build c.self.inside.ledger.history c.if-not-has_build.ensures.none) ∙ ap (λ (h : HostView). open_of h c.args.build) c.self.view_is in
     sym (runs_newest c.args.self.now c.args.build None (ap (λ (acts : List Act). last_or None acts) (sym none)))
 
 pub returns-in-Some : goal.returns-in-Some

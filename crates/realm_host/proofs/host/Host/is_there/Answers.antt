@@ -4,24 +4,24 @@ use Rattle.realm_host.proofs.host.Host.is_there.Goals as goal
 
 pub host_peek-requires : goal.host_peek-requires
 host_peek-requires g c =
-    peeked_taken c.self.inside.books c.self.inside.monitor c.self.invariant c.args.self.now c.self.view_is c.args.build c.args.act.now c.in-Peek.granule
+    peeked_taken c.self.inside.ledger c.self.inside.monitor c.self.invariant c.args.self.now c.self.view_is c.args.build c.args.act.now c.in-Peek.granule
     c.in-Peek.offset c.in-Peek.byte c.in-Peek.is c.requires.leased
 
 pub returns-in-Ok-clause-no_step : goal.returns-in-Ok-clause-no_step
 returns-in-Ok-clause-no_step g c =
     no_step c.args.self.now c.args.build c.args.act.now _
-    (byte_said c.self.inside.books c.self.inside.monitor c.self.invariant c.args.self.now c.self.view_is c.args.build c.args.act.now c.in-Peek.granule
+    (byte_said c.self.inside.ledger c.self.inside.monitor c.self.invariant c.args.self.now c.self.view_is c.args.build c.args.act.now c.in-Peek.granule
     c.in-Peek.offset c.in-Peek.byte c.in-Ok.found c.in-Peek.is c.in-Ok.ensures.byte)
 
 pub returns-in-Err-clause-no_step : goal.returns-in-Err-clause-no_step
 returns-in-Err-clause-no_step g c =
-    no_read c.self.inside.books c.self.inside.monitor c.self.invariant c.args.self.now c.self.view_is c.args.build c.args.act.now c.in-Peek.granule
+    no_read c.self.inside.ledger c.self.inside.monitor c.self.invariant c.args.self.now c.self.view_is c.args.build c.args.act.now c.in-Peek.granule
     c.in-Peek.offset c.in-Peek.byte c.in-Err.field-0 c.in-Peek.is c.in-Err.ensures.answer
 
 pub returns-in-Realm-clause-no_step : goal.returns-in-Realm-clause-no_step
 returns-in-Realm-clause-no_step g c =
     no_step c.args.self.now c.args.build c.args.act.now c.is_none.result
-    (none_said c.self.inside.books c.self.inside.monitor c.self.invariant c.args.self.now c.self.view_is c.args.build c.args.act.now c.in-Realm.rd
+    (none_said c.self.inside.ledger c.self.inside.monitor c.self.invariant c.args.self.now c.self.view_is c.args.build c.args.act.now c.in-Realm.rd
     c.in-Realm.root c.in-Realm.vmid c.realm.result c.is_none.result c.in-Realm.is c.realm.ensures.value c.is_none.ensures)
 
 pub returns-in-Some-clause-no_step : goal.returns-in-Some-clause-no_step

@@ -2,7 +2,7 @@ use Rattle.std.proofs.Common.{◌≡◌, ◌+◌, ◌<◌, false, Some, sym, sub
 use Rattle.granule_addr.specs.Root.{start_count}
 use Rattle.realm_model.specs.World.{is_leased_to}
 use Rattle.rmi_monitor.proofs.Starting.{all_start, one_does_not}
-use Rattle.build_books.specs.View.{world_of}
+use Rattle.host_ledger.specs.View.{world_of}
 use Rattle.realm_host.proofs.host.Host.leases_tables.Goals as goal
 
 pub returns-then-not-leases_number : goal.returns-then-not-leases_number

@@ -1,6 +1,6 @@
 use Rattle.std.proofs.Common.{◌≡◌, ℕ, ◌+◌, ◌<◌, Some, true}
 use Rattle.realm_model.specs.World.{is_leased_to}
-use Rattle.build_books.specs.View.{world_of}
+use Rattle.host_ledger.specs.View.{world_of}
 use Rattle.realm_host.proofs.host.Host.leases_tables.Given as goal
 
 abbrev pub invariant-loop-number : goal.invariant-loop-number

@@ -2,7 +2,7 @@ use Rattle.std.proofs.Common.{◌≤◌, drop, length, sym, ap, ◌∙◌, subst
 use Rattle.std.specs.List.{list_any}
 use Rattle.realm_model.specs.Running.{is_running}
 use Rattle.realm_model.specs.World.{realm_of}
-use Rattle.build_books.specs.View.{world_of, open_of}
+use Rattle.host_ledger.specs.View.{world_of, open_of}
 use Rattle.realm_host.specs.Abort.{IsDown}
 use Rattle.realm_host.proofs.Calls.{enough, above_is, open_way, back_at}
 use Rattle.realm_host.proofs.host.Host.rollback_to.Goals as goal

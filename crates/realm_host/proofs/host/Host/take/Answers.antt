@@ -1,7 +1,7 @@
 use Rattle.std.proofs.Common.{sym, ap, ◌∙◌, length}
 use Rattle.std.specs.Prelude.{is_some}
 use Rattle.std.proofs.lemmas.Option.{same_Some}
-use Rattle.build_books.specs.View.{HostView, pages_of_build}
+use Rattle.host_ledger.specs.View.{HostView, pages_of_build}
 use Rattle.realm_host.proofs.Taken.{new_is, room_of, low_of, told_none, told_some}
 use Rattle.realm_host.proofs.host.Host.take.Goals as goal
 

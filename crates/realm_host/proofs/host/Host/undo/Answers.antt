@@ -2,7 +2,7 @@ use Rattle.std.proofs.Common.{◌≡◌, ◌-◌, ◌∙◌, ℕ, false, None, l
 use Rattle.std.specs.Prelude.{IsSome, nat_lt}
 use Rattle.std.specs.List.{last_or}
 use Rattle.realm_model.specs.History.{IsLegal}
-use Rattle.build_books.specs.View.{HostView, open_of}
+use Rattle.host_ledger.specs.View.{HostView, open_of}
 use Rattle.realm_host.proofs.Aborts.{last_undone}
 use Rattle.realm_host.proofs.Pairs.{leads_back}
 use Rattle.realm_host.proofs.There.{build_there}

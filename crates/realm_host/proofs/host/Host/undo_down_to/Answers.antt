@@ -1,7 +1,7 @@
 use Rattle.std.proofs.Common.{◌≡◌, length, refl, sym, ap, ◌∙◌, subst, arith}
 use Rattle.realm_model.specs.History.{IsLegal}
-use Rattle.build_books.specs.Marks.{mark_while}
-use Rattle.build_books.specs.View.{HostView, open_of, is_aborting, mark_of}
+use Rattle.host_ledger.specs.Marks.{mark_while}
+use Rattle.host_ledger.specs.View.{HostView, open_of, is_aborting, mark_of}
 use Rattle.realm_host.proofs.Aborts.{never_refused, goes_down, is_down}
 use Rattle.realm_host.proofs.host.Host.undo_down_to.Goals as goal
 
@@ -13,7 +13,7 @@ loop-init g c = record {
   opened = refl;
   rests = c.requires.rest;
   low = subst (λ (h : HostView). mark_while (length (open_of h c.args.build)) (mark_of h c.args.build) ≡ mark_of h c.args.build) c.self.view_is
-      (ap (λ n. mark_while n (mark_of c.self.inside.books c.args.build)) (sym c.open_count-end.ensures.value) ∙ c.open_count-end.ensures.low);
+      (ap (λ n. mark_while n (mark_of c.self.inside.ledger c.args.build)) (sym c.open_count-end.ensures.value) ∙ c.open_count-end.ensures.low);
   idle = λ none.
       ap (λ (h : HostView). is_aborting h c.args.build) (sym c.self.view_is)
       ∙ c.open_count-end.ensures.idle (c.open_count-end.ensures.value ∙ ap (λ (h : HostView). length (open_of h c.args.build)) c.self.view_is ∙ none);

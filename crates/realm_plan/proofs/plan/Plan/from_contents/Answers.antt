@@ -1,7 +1,7 @@
 use Rattle.std.proofs.Common.{◌≡◌, ℕ, List, map, length, Vec, vec_len, Global, sym, ◌∙◌}
 use Rattle.std.proofs.lemmas.List.{length-map}
 use Rattle.std.proofs.lemmas.Result.{err_from_is_err_and}
-use Rattle.plan_steps.specs.declared.step.PlanStep.{PlanStep}
+use Rattle.realm_plan.specs.declared.step.PlanStep.{PlanStep}
 use Rattle.realm_plan.specs.ContentsView.{contents_view}
 use Rattle.realm_plan.proofs.InOrder.{fails_at_builds, fails_at_order, fails_at_numbers, fails_at_lengths, plan_read}
 use Rattle.realm_plan.proofs.plan.Plan.from_contents.Goals as goal

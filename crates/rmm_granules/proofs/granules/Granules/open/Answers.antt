@@ -1,7 +1,7 @@
 use Rattle.std.proofs.Common.{◌≡◌, ◌≤◌, ℕ, Bool, List, length, replicate, false, sym, ap, ◌∙◌, subst, arith}
 use Rattle.std.proofs.lemmas.List.{length-replicate}
-use Rattle.rmm_model.specs.declared.granule.Granule.{Granule}
-use Rattle.rmm_model.specs.declared.granule.GranuleState.TheVariants.{Undelegated}
+use Rattle.rmm_model.specs.declared.granule.RmmGranule.{RmmGranule}
+use Rattle.rmm_model.specs.declared.granule.RmmGranuleState.TheVariants.{Undelegated}
 use Rattle.rmm_model.specs.Granule.{of_no_realm}
 use Rattle.rmm_model.specs.Machine.{HasTables}
 use Rattle.rmm_granules.specs.Inside.{machine_of, no_vmids}
@@ -14,7 +14,7 @@ invariant_of-result g c =
     let pages = c.pages.ensures in
     let sized = g.met.S.PageStore.sized c.args.store in
     let few = sized.few_pages in
-    let count : length c.in-Ok.granules.items ≡ c.pages.result = ap (λ (l : List Granule). length l) granules ∙ length-replicate c.pages.result (of_no_realm Undelegated) in
+    let count : length c.in-Ok.granules.items ≡ c.pages.result = ap (λ (l : List RmmGranule). length l) granules ∙ length-replicate c.pages.result (of_no_realm Undelegated) in
     let bytes = ap (λ (l : List (List ℕ)). length l) c.take_all.ensures.bytes in
     let set = ap (λ (l : List Bool). length l) c.in-Ok.ensures.set in
     record {
@@ -29,7 +29,7 @@ pub returns-in-Ok : goal.returns-in-Ok
 unfolding no_vmids
 returns-in-Ok g c =
     let s = c.args.platform in
-    ap (λ (l : List Granule). machine_of s l c.in-Ok.vmids.items (g.S.PageStore.page_bytes c.take_all.new.store)) c.in-Ok.ensures.granules
+    ap (λ (l : List RmmGranule). machine_of s l c.in-Ok.vmids.items (g.S.PageStore.page_bytes c.take_all.new.store)) c.in-Ok.ensures.granules
     ∙ ap (λ (l : List Bool). machine_of s (replicate c.pages.result (of_no_realm Undelegated)) l (g.S.PageStore.page_bytes c.take_all.new.store)) c.in-Ok.ensures.set
     ∙ ap (λ (l : List (List ℕ)). machine_of s (replicate c.pages.result (of_no_realm Undelegated)) no_vmids l) c.take_all.ensures.bytes
     ∙ ap (λ (n : ℕ). machine_of s (replicate n (of_no_realm Undelegated)) no_vmids (g.S.PageStore.page_bytes c.args.store)) c.pages.ensures

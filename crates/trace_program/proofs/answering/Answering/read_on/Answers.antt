@@ -2,7 +2,7 @@ use Rattle.std.proofs.Common.{◌≡◌, ◌<◌, [], take, length, arith}
 use Rattle.std.proofs.lemmas.Result.{err_from_is_err_and}
 use Rattle.trace_program.proofs.Underway.{underway_more, underway_at_end, stopped_here, stopped_in_part}
 use Rattle.trace_program.proofs.answering.Answering.read_on.Goals as goal
-use Rattle.told_device.proofs.Read.{keeps_same}
+use Rattle.checked_io.proofs.Read.{keeps_same}
 
 pub returns-in_err-n-clause-err : goal.returns-in_err-n-clause-err
 returns-in_err-n-clause-err g c = λ begin start u.

@@ -3,7 +3,7 @@ use Rattle.std.proofs.lemmas.Result.{err_from_is_err_and}
 use Rattle.std.proofs.lemmas.Bool.{ne_eqb}
 use Rattle.trace_program.proofs.SoFar.{so_far_more, so_far_line, line_stopped, stopped}
 use Rattle.trace_program.proofs.answering.Answering.take_byte.Goals as goal
-use Rattle.told_device.proofs.Read.{keeps_same}
+use Rattle.checked_io.proofs.Read.{keeps_same}
 
 pub returns-in_err-end_line-clause-err : goal.returns-in_err-end_line-clause-err
 returns-in_err-end_line-clause-err g c = λ start read s.

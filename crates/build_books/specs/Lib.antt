@@ -1,8 +1,0 @@
-pub mod Marks
-pub mod View
-pub mod Codes
-pub mod Recs
-pub mod Vmids
-pub mod Booted
-pub mod Desk
-pub mod Kept

@@ -1,7 +1,0 @@
--- The RECs of a build's realm, as a stack.
-use Rattle.std.specs.Prelude.{ℕ, ◌<◌, List, length}
-use Rattle.realm_acts.specs.RecsOpen.{number_at}
-
--- the number is above those of all RECs
-abbrev pub IsAbove : List (ℕ × ℕ) → ℕ → Type 0
-IsAbove recs number = (i : ℕ) → i < length recs → number_at recs i < number

@@ -1,8 +1,0 @@
-use Rattle.std.proofs.Common.{ap}
-use Rattle.builders.specs.Seats.{SeatView}
-use Rattle.builders.proofs.Telling.{answer_more}
-use Rattle.builders.proofs.teller.SeatTellerTeller.check_back.Goals as goal
-
-pub returns-clause-told : goal.returns-clause-told
-returns-clause-told g c =
-    answer_more g.L.Ledgers.opened _ _ _ (ap (λ (s : SeatView). s.build) c.check_back.ensures.seat) (c.check_back.ensures.told, c.check_back.ensures.seat)

@@ -1,0 +1,23 @@
+-- What passes between a worker and its teller.
+use Rattle.std.specs.Prelude.{ℕ, Bool, true, false, Result, Ok, Err}
+use Rattle.host_ledger.specs.declared.mark.Mark.{Mark}
+use Rattle.host_commands.specs.declared.cmd.Cmd.{Cmd}
+use Rattle.host_commands.specs.declared.refusal.Refusal.{Refusal}
+use Rattle.host_commands.specs.declared.reply.Reply.{Reply}
+use Rattle.host_commands.specs.declared.undo_reply.Undone.{Undone}
+
+-- A question with the teller's answer: a command, an undo, a mark, or how many acts are above a mark.
+pub data Exchange : Type 0 where
+  Did : Cmd → Result Reply Refusal → Exchange
+  Undid : Result Undone Refusal → Exchange
+  KeptMark : Result Mark Refusal → Exchange
+  CheckedBack : Mark → Result ℕ Refusal → Exchange
+
+-- Accepted commands and undos are events of the build. Marks are no events.
+abbrev pub is_event : Exchange → Bool
+is_event (Did cmd (Ok reply)) = true
+is_event (Did cmd (Err refusal)) = false
+is_event (Undid (Ok undone)) = true
+is_event (Undid (Err refusal)) = false
+is_event (KeptMark result) = false
+is_event (CheckedBack mark result) = false

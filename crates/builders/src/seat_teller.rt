@@ -1,0 +1,60 @@
+//! A seat of a shared host, as a worker sees it.
+ghost use Rattle.std.specs.Prelude.{◌+◌, ◌*◌};
+ghost use Rattle.builders.specs.Answered.{AreAnswered};
+ghost use Rattle.builders.specs.Seats.{new_seat};
+
+use crate::ledgers::Ledgers;
+use crate::seat::Seat;
+use crate::shared::Shared;
+use crate::{Gate, Stuck, Teller};
+use granule_addr::BuildId;
+use page_arena::PageStore;
+use realm_host::{Cmd, Mark, Refusal, Reply, Undone};
+use std::sync::Wait;
+
+/// A seat, and the host that its build's worker asks. Each question takes the lock once and is answered by the host; the
+/// accepted ones are the events of the seat's trail.
+#[derive(Drop)]
+pub struct SeatTeller<'a, R: Wait, S: PageStore, L: Ledgers> {
+    pub rt: &'a R,
+    pub shared: &'a Shared<S, L>,
+    pub seat: &'a mut Seat<L>,
+}
+
+impl<'a, R: Wait, S: PageStore, L: Ledgers> Teller for SeatTeller<'a, R, S, L> {
+    // the exchanges of the seat since it was new
+    ghost tells = { λ teller exchanges. AreAnswered L.opened (new_seat teller.seat.now.build) exchanges teller.seat.now };
+
+    // the name of the seat, and its build, so that both stay
+    ghost loan = { λ teller. 8 * teller.seat.ghost_name + teller.seat.now.build };
+
+    fn ask(&mut self, cmd: &Cmd) -> Result<Reply, Refusal> {
+        self.shared.call(self.rt, self.seat, cmd.clone())
+    }
+
+    fn undo(&mut self) -> Result<Undone, Refusal> {
+        self.shared.undo(self.rt, self.seat)
+    }
+
+    fn mark(&mut self) -> Result<Mark, Refusal> {
+        self.shared.mark(self.rt, self.seat)
+    }
+
+    fn check_back(&mut self, mark: Mark) -> Result<u16, Refusal> {
+        self.shared.check_back(self.rt, self.seat, mark)
+    }
+}
+
+/// A gate that lets every turn pass.
+#[derive(Clone, Copy, Debug, PartialEq, Eq)]
+pub struct OpenGate;
+
+impl Gate for OpenGate {
+    ghost passes = { λ gate build turn. Unit {0} };
+
+    ghost stops = { λ gate build turn. ⊥ };
+
+    fn pass(&self, _build: BuildId, _turn: usize) -> Result<(), Stuck> {
+        Ok(())
+    }
+}

@@ -1,0 +1,132 @@
+//! Lines of a reader.
+ghost use Rattle.std.specs.Prelude.{◌≡◌, ◌<◌, [], ◌∷◌, length, true, false, is_err, ◌↔◌, Err, IfOk, OnOk};
+ghost use Rattle.std.specs.Io.KnownBytes.{Consumes, IsAtEnd, prepend_known};
+ghost use Rattle.checked_io.specs.Lines.{IsNext};
+ghost use Rattle.checked_io.specs.declared.lines.LineError.TheVariants.{Device};
+
+use crate::{DeviceFailed, Told};
+use std::io::Read;
+use std::marker::Model;
+
+/// Why there is no next line.
+#[derive(Clone, Copy)]
+pub enum LineError {
+    /// Allocation failed.
+    Memory,
+    /// A read failed.
+    Device,
+}
+
+impl From<DeviceFailed> for LineError {
+    ghost from_gives = { λ _ error. error ≡ Device };
+
+    fn from(_error: DeviceFailed) -> LineError {
+        LineError::Device
+    }
+}
+
+/// What comes next.
+#[derive(Clone, Copy)]
+pub enum Next {
+    /// A line, which was read.
+    Line,
+    /// A line that is longer than it may be.
+    TooLong,
+    /// The end of the input.
+    End,
+}
+
+/// What was read of an input and not yet taken.
+#[derive(Drop)]
+pub struct Lines {
+    buffer: [u8; 4096],
+    start: usize,
+    end: usize,
+}
+
+impl Model for Lines {
+    ghost use Rattle.std.specs.Prelude.{ℕ, ◌≤◌, List, drop, take};
+
+    ghost Value = { List ℕ };
+
+    ghost view = { λ l. drop l.start (take l.end l.buffer) };
+
+    ghost invariant = { λ l. (l.start ≤ l.end) × (l.end ≤ 4096) };
+}
+
+impl Lines {
+    /// Before anything was read.
+    pub fn new() -> Lines
+        ensures { result ≡ [] }
+    {
+        Lines {
+            buffer: [0; 4096],
+            start: 0,
+            end: 0,
+        }
+    }
+
+    // Reads on where nothing is left, and returns whether there is a byte to take.
+    fn fill<R: Read>(&mut self, input: &mut Told<R>) -> Result<bool, DeviceFailed>
+        requires { input.old.failed ≡ false }
+        ensures told { input.new.failed ≡ is_err result }
+        ensures keeps { OnOk result (Consumes (prepend_known self.old (R.remaining input.old.device)) (prepend_known self.new (R.remaining input.new.device)) []) }
+        ensures some { IfOk result (λ some. some ≡ true → 0 < length self.new) }
+        ensures end { IfOk result (λ some. some ≡ false → IsAtEnd (prepend_known self.new (R.remaining input.new.device))) }
+    {
+        if self.start < self.end {
+            return Ok(true);
+        }
+        let n = input.read(&mut self.buffer)?;
+        self.start = 0;
+        self.end = n;
+        Ok(n > 0)
+    }
+
+    // The first byte of what is left.
+    fn take_byte(&mut self) -> u8
+        requires { 0 < length self.old }
+        ensures { self.old ≡ result ∷ self.new }
+    {
+        let byte = self.buffer[self.start];
+        self.start += 1;
+        byte
+    }
+
+    /// Reads the next line, if there is one of no more than `most` bytes. Its line feed is no part of it.
+    ///
+    /// `Device` is given exactly where a read failed, and `Memory` only where allocation failed.
+    pub fn next_line<R: Read>(
+        &mut self,
+        input: &mut Told<R>,
+        most: u16,
+        line: &mut Vec<u8>,
+    ) -> Result<Next, LineError>
+        requires { input.old.failed ≡ false }
+        ensures told { (input.new.failed ≡ true) ↔ (result ≡ Err Device) }
+        ensures next { IfOk result (λ next. IsNext most (prepend_known self.old (R.remaining input.old.device)) next line.new.items
+            (prepend_known self.new (R.remaining input.new.device))) }
+    {
+        line.clear();
+        for _ in 0..u32::from(most) + 1 {
+            if !self.fill(input)? {
+                return Ok(if line.is_empty() {
+                    Next::End
+                } else {
+                    Next::Line
+                });
+            }
+            let byte = self.take_byte();
+            if byte == b'\n' {
+                return Ok(Next::Line);
+            }
+            if line.len() >= usize::from(most) {
+                return Ok(Next::TooLong);
+            }
+            let Ok(()) = line.push(byte) else {
+                return Err(LineError::Memory);
+            };
+        }
+        unreachable!()
+    }
+}

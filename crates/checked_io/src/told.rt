@@ -1,0 +1,154 @@
+//! A device that tells whether it has failed. Nothing outside of this module calls the device or sets what is told.
+ghost use Rattle.std.specs.Prelude.{◌≡◌, ◌+◌, ◌-◌, ◌^◌, ◌<◌, ◌≤◌, ◌↔◌, min, false, true, is_err, IfOk, IfSome, OnOk, OnErr, Err, length};
+ghost use Rattle.std.specs.Io.{ReadsAtMost, WritesAtMost};
+ghost use Rattle.std.specs.Io.KnownBytes.{Appends, Keeps, ReadConsumes, WriteAppends};
+ghost use Rattle.checked_io.specs.Whole.{AppendsFront};
+
+use std::alloc::Global;
+use std::io::{ErrorKind, Read, Write};
+use std::marker::Model;
+
+/// A call of the device failed.
+#[derive(Clone, Copy)]
+pub struct DeviceFailed;
+
+/// A reader or a writer, and what is told of it.
+#[derive(Drop)]
+pub struct Told<D> {
+    device: D,
+    failed: bool,
+    is_closed: bool,
+    reads: u64,
+}
+
+impl<D> Model for Told<D> {
+    ghost use Rattle.std.specs.Prelude.{◌≡◌, true};
+    ghost use Rattle.checked_io.specs.Told.{ToldView};
+
+    ghost Value = { ToldView D };
+
+    ghost view = { λ t. record { device = t.device; failed = t.failed; is_closed = t.is_closed; reads = t.reads } };
+
+    ghost invariant = { λ t. t.is_closed ≡ true → t.failed ≡ true };
+}
+
+impl<D> Told<D> {
+    /// A device whose calls have not failed.
+    pub fn new(device: D) -> Told<D>
+        ensures { result ≡ record { device = device; failed = false; is_closed = false; reads = 0 } }
+    {
+        Told {
+            device,
+            failed: false,
+            is_closed: false,
+            reads: 0,
+        }
+    }
+
+    /// Whether a call of the device has failed.
+    pub fn has_failed(&self) -> bool
+        ensures { result ≡ self.now.failed }
+    {
+        self.failed
+    }
+
+    /// Whether a write failed because nobody reads what is written: a pipe whose other end is closed.
+    pub fn is_closed(&self) -> bool
+        ensures value { result ≡ self.now.is_closed }
+        ensures failed { result ≡ true → self.now.failed ≡ true }
+    {
+        self.is_closed
+    }
+
+    /// The device, to look at.
+    pub fn device(&self) -> &D
+        ensures { result.now ≡ self.now.device }
+    {
+        &self.device
+    }
+
+    // Notes a failure, and whether it is that of a closed pipe.
+    fn fail(&mut self, is_closed: bool) -> DeviceFailed
+        ensures { self.new ≡ record self.old { failed = true; is_closed = is_closed } }
+    {
+        self.failed = true;
+        self.is_closed = is_closed;
+        DeviceFailed
+    }
+
+    /// How often the device was asked to read, up to the greatest `u64`.
+    pub fn reads(&self) -> u64
+        ensures { result ≡ self.now.reads }
+    {
+        self.reads
+    }
+}
+
+impl<R: Read> Told<R> {
+    /// Reads once. Every error of the device is a failure, and an `Err` is told in `failed`.
+    pub fn read(&mut self, buf: &mut [u8]) -> Result<usize, DeviceFailed>
+        requires { self.old.failed ≡ false }
+        ensures told { self.new.failed ≡ is_err result }
+        ensures counted { self.new.reads ≡ min (self.old.reads + 1) (2 ^ 64 - 1) }
+        ensures not_lowered { self.old.reads ≤ self.new.reads }
+        ensures bound { ReadsAtMost result buf.new }
+        ensures bytes { ReadConsumes (R.remaining self.old.device) (R.remaining self.new.device) result buf.new }
+    {
+        self.reads = self.reads.saturating_add(1);
+        match self.device.read(buf) {
+            Ok(n) => Ok(n),
+            Err(_) => Err(self.fail(false)),
+        }
+    }
+}
+
+impl<W: Write> Told<W> {
+    /// Writes once, some of the bytes where there are any. Every error of the device is a failure, and so is a write
+    /// that takes none of them; an `Err` is told in `failed`.
+    pub fn write(&mut self, buf: &[u8]) -> Result<usize, DeviceFailed>
+        requires { self.old.failed ≡ false }
+        ensures told { self.new.failed ≡ is_err result }
+        ensures counted { self.new.reads ≡ self.old.reads }
+        ensures bound { WritesAtMost result buf.now }
+        ensures some { IfOk result (λ n. 0 < length buf.now → 0 < n) }
+        ensures bytes { WriteAppends (W.contents self.old.device) (W.contents self.new.device) result buf.now }
+    {
+        match self.device.write(buf) {
+            Ok(n) if n > 0 || buf.is_empty() => Ok(n),
+            Ok(_) => Err(self.fail(false)),
+            Err(error) => Err(self.fail(error.kind() == ErrorKind::BrokenPipe)),
+        }
+    }
+
+    /// Flushes. Every error of the device is a failure, and an `Err` is told in `failed`.
+    pub fn flush(&mut self) -> Result<(), DeviceFailed>
+        requires { self.old.failed ≡ false }
+        ensures told { self.new.failed ≡ is_err result }
+        ensures counted { self.new.reads ≡ self.old.reads }
+        ensures bytes { Keeps (W.contents self.old.device) (W.contents self.new.device) }
+    {
+        match self.device.flush() {
+            Ok(()) => Ok(()),
+            Err(error) => Err(self.fail(error.kind() == ErrorKind::BrokenPipe)),
+        }
+    }
+
+    /// Writes all of the text, and flushes once. At an `Err` a prefix of the text was written.
+    pub fn write_whole(&mut self, text: &[u8]) -> Result<(), DeviceFailed>
+        requires { self.old.failed ≡ false }
+        ensures told { self.new.failed ≡ is_err result }
+        ensures counted { self.new.reads ≡ self.old.reads }
+        ensures ok { OnOk result (Appends (W.contents self.old.device) (W.contents self.new.device) text.now) }
+        ensures err { OnErr result (AppendsFront (W.contents self.old.device) (W.contents self.new.device) text.now) }
+    {
+        let mut rest = text;
+        while !rest.is_empty() {
+            let Ok(n) = self.write(rest) else {
+                return Err(DeviceFailed);
+            };
+            let (_, after) = rest.split_at(n);
+            rest = after;
+        }
+        self.flush()
+    }
+}

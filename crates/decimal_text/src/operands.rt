@@ -1,0 +1,117 @@
+//! Operands: as many numbers as a word takes, each in the range of its type.
+ghost use Rattle.std.specs.Prelude.{◌≡◌, ℕ, nat_le, ◌&&◌, if◌then◌else◌, Some, None};
+ghost use Rattle.decimal_text.specs.Rows.{one, two, three, four};
+ghost use Rattle.decimal_text.specs.Written.{u8, u16, u32};
+
+/// What a number of a word can be.
+pub trait Operand: Copy {
+    ghost maximum: { ℕ };
+
+    ghost of: { ℕ → Self };
+
+    /// The operand that is the number, where the number is at most the maximum.
+    fn from_number(number: u32) -> Option<Self>
+        ensures { result ≡ (if nat_le number maximum then Some (of number) else None) };
+}
+
+impl Operand for u8 {
+    ghost maximum = { u8 };
+
+    ghost of = { λ n. n };
+
+    fn from_number(number: u32) -> Option<u8> {
+        u8::try_from(number).ok()
+    }
+}
+
+impl Operand for u16 {
+    ghost maximum = { u16 };
+
+    ghost of = { λ n. n };
+
+    fn from_number(number: u32) -> Option<u16> {
+        u16::try_from(number).ok()
+    }
+}
+
+impl Operand for u32 {
+    ghost maximum = { u32 };
+
+    ghost of = { λ n. n };
+
+    fn from_number(number: u32) -> Option<u32> {
+        Some(number)
+    }
+}
+
+fn both<A: Operand, B: Operand>(first: u32, second: u32) -> Option<(A, B)>
+    ensures { result ≡ (if nat_le first A.maximum && nat_le second B.maximum
+        then Some (A.of first, B.of second) else None) }
+{
+    A::from_number(first).zip(B::from_number(second))
+}
+
+/// The operand, where there is one number, and it is in its range.
+pub fn one_operand<A: Operand>(numbers: &[u32]) -> Option<A>
+    ensures { result ≡ one A.maximum (λ k. A.of k) numbers.now }
+{
+    match numbers {
+        [first] => A::from_number(*first),
+        _ => None,
+    }
+}
+
+/// The operands, where there are two numbers, and each is in its range.
+pub fn two_operands<A: Operand, B: Operand>(numbers: &[u32]) -> Option<(A, B)>
+    ensures { result ≡ two A.maximum B.maximum (λ k l. (A.of k, B.of l)) numbers.now }
+{
+    match numbers {
+        [first, second] => both(*first, *second),
+        _ => None,
+    }
+}
+
+/// The operands, where there are three numbers, and each is in its range.
+pub fn three_operands<A: Operand, B: Operand, C: Operand>(numbers: &[u32]) -> Option<(A, B, C)>
+    ensures { result ≡ three A.maximum B.maximum C.maximum (λ k l m. (A.of k, B.of l, C.of m)) numbers.now }
+{
+    let [first, second, third] = numbers else {
+        return None;
+    };
+    let (first, second) = both(*first, *second)?;
+    let third = C::from_number(*third)?;
+    Some((first, second, third))
+}
+
+/// The operands, where there are four numbers, and each is in its range.
+pub fn four_operands<A: Operand, B: Operand, C: Operand, D: Operand>(
+    numbers: &[u32],
+) -> Option<(A, B, C, D)>
+    ensures { result ≡ four A.maximum B.maximum C.maximum D.maximum
+        (λ k l m n. (A.of k, B.of l, C.of m, D.of n)) numbers.now }
+{
+    let [first, second, third, fourth] = numbers else {
+        return None;
+    };
+    let (first, second) = both(*first, *second)?;
+    let (third, fourth) = both(*third, *fourth)?;
+    Some((first, second, third, fourth))
+}
+
+/// What is made of operands, where they are found: the value of the kind whose fields they are, in their order, or any
+/// other value. This is a macro for a `match`, since a closure for each would be one more function to prove.
+#[macro_export]
+macro_rules! made_of {
+    ($found:expr => $type:ident::$kind:ident { $($field:ident),+ }) => {
+        match $found {
+            Some(($($field),+)) => Some($type::$kind { $($field),+ }),
+            None => None,
+        }
+    };
+    ($found:expr, $operands:pat => $made:expr) => {
+        match $found {
+            Some($operands) => Some($made),
+            None => None,
+        }
+    };
+}

@@ -1,0 +1,3 @@
+pub mod Performing
+pub mod Mirror
+pub mod Blocks

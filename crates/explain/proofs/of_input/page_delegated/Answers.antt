@@ -1,0 +1,5 @@
+use Rattle.std.proofs.Common.{arith}
+use Rattle.explain.proofs.of_input.page_delegated.Goals as goal
+
+pub returns : goal.returns
+returns g c = grind arith

@@ -1,0 +1,15 @@
+-- The pages that the checks of a command tell of.
+use Rattle.std.specs.Prelude.{ℕ, ◌+◌, nat_le, List, ◌∷◌, if◌then◌else◌}
+use Rattle.std.specs.List.{range_with_len}
+use Rattle.host_commands.specs.Needs.{operands, tables_named}
+use Rattle.host_commands.specs.declared.cmd.Cmd.{Cmd}
+use Rattle.host_commands.specs.declared.cmd.Cmd.TheVariants.{Realm}
+
+-- how many starting tables are told of: only the first, where no pages have the numbers of the last ones
+abbrev pub tables_within : ℕ → ℕ → ℕ
+tables_within root width = if nat_le (root + tables_named width) 65536 then tables_named width else 1
+
+-- the pages that a command names, in the order in which they are written
+abbrev pub pages_named : Cmd → List ℕ
+pages_named (Realm rd root width) = rd ∷ range_with_len root (tables_within root width)
+pages_named cmd = operands cmd

@@ -1,0 +1,57 @@
+//! A check, with the numbers that it reads.
+ghost use Rattle.std.specs.Prelude.{◌≡◌, ◌∷◌, ◌++◌, [], OnOk};
+ghost use Rattle.std.specs.List.{cons_option};
+ghost use Rattle.explain.specs.RmiChecks.{rmi_check};
+
+use crate::host_facts::{BuildFact, RoomFact, UndoFact};
+use crate::rmi_facts::{InputFact, RealmFact, RecFact, WalkFact};
+use realm_host::{Refusal, Rmi};
+use std::alloc::AllocError;
+
+/// The fact that a check requires, and the numbers that it reads.
+#[derive(Clone, Copy)]
+pub enum Fact {
+    Build(BuildFact),
+    Room(RoomFact),
+    Undo(UndoFact),
+    Input(InputFact),
+    Realm(RealmFact),
+    Rec(RecFact),
+    Walk(WalkFact),
+}
+
+/// A check: the fact that it requires, whether it fails, and the refusal that it gives then.
+#[derive(Clone, Copy)]
+pub struct Check {
+    pub fact: Fact,
+    pub fails: bool,
+    pub refusal: Refusal,
+}
+
+/// A check of the RMM, with its answer if the check fails.
+pub(crate) fn rmi_check(fact: Fact, fails: bool, rmi: Rmi) -> Check
+    ensures { result ≡ rmi_check fact fails rmi }
+{
+    Check {
+        fact,
+        fails,
+        refusal: Refusal::Rmi(rmi),
+    }
+}
+
+/// Adds a check to others.
+pub(crate) fn add(checks: &mut Vec<Check>, check: Check) -> Result<(), AllocError>
+    ensures { OnOk result (checks.new.items ≡ checks.old.items ++ check ∷ []) }
+{
+    checks.extend_from_slice(&[check])
+}
+
+/// Adds a check to others, if there is one.
+pub(crate) fn add_some(checks: &mut Vec<Check>, check: Option<Check>) -> Result<(), AllocError>
+    ensures { OnOk result (checks.new.items ≡ checks.old.items ++ cons_option check []) }
+{
+    match check {
+        Some(check) => add(checks, check),
+        None => Ok(()),
+    }
+}

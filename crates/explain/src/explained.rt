@@ -1,0 +1,25 @@
+//! A turn of a run, and why it is refused.
+use crate::check::Check;
+use host_commands::Step;
+
+/// Why a turn is refused.
+#[derive(Drop)]
+pub struct Explanation {
+    /// The step that the build asked for.
+    pub step: Step,
+    /// The checks of the step up to the first that fails, which is the last of these.
+    pub checks: Vec<Check>,
+    /// The check that fails, in words.
+    pub error: String,
+    /// A step that helps, in words; empty if nothing does.
+    pub help: String,
+}
+
+/// A turn of a run.
+#[derive(Drop)]
+pub struct ExplainedTurn {
+    /// The line of the turn, as a replay prints it.
+    pub line: String,
+    /// Why the turn is refused, if it is.
+    pub reason: Option<Explanation>,
+}

@@ -1,0 +1,133 @@
+//! The runs of a plan, with the checks of each turn that is refused.
+ghost use Rattle.std.specs.Prelude.{◌≡◌, ◌<◌, IfOk, map, option_map, vec_len};
+ghost use Rattle.realm_plan.specs.Asked.{asked};
+ghost use Rattle.realm_plan.specs.PlanView.{plan_view};
+ghost use Rattle.explain.specs.Explained.{up_to_failing, reason_for, report_of, idle_report, report_of_reason, IsExplainedStep, IsExplainedTurn, IsExplainedRun};
+
+use crate::check::{Check, add};
+use crate::explained::{ExplainedTurn, Explanation};
+use crate::of_step::step_checks;
+use crate::words::words_of;
+use granule_addr::BuildId;
+use page_arena::PageStore;
+use plan_replay::{PlanCursor, TurnAnswer, plan_turn, push_turn, step_after};
+use realm_host::Host;
+use realm_plan::{Plan, PlanStep, push_idle};
+use std::alloc::{AllocError, Global};
+
+// The build at a place of a plan.
+pub(crate) fn id_of(place: usize) -> BuildId
+    requires { place < 8 }
+    ensures { result ≡ place }
+{
+    BuildId::new(place as u8).unwrap()
+}
+
+// The checks up to the first that fails.
+fn up_to_failing(alloc: Global, checks: &[Check]) -> Result<Vec<Check>, AllocError>
+    ensures { IfOk result (λ front. front.items ≡ up_to_failing checks.now) }
+{
+    let mut front = Vec::new(alloc);
+    for check in checks {
+        add(&mut front, *check)?;
+        if check.fails {
+            return Ok(front);
+        }
+    }
+    Ok(front)
+}
+
+// Why a step is refused, if it is. A refusal changes nothing, so that its words may be found on the host after it.
+fn reason_for<S: PageStore>(
+    alloc: Global,
+    host: &Host<S>,
+    build: BuildId,
+    step: &PlanStep,
+    answer: &TurnAnswer,
+    checks: &[Check],
+) -> Result<Option<Explanation>, AllocError>
+    ensures { IfOk result (λ reason. option_map report_of_reason reason ≡ reason_for answer.now (asked step.now) checks.now) }
+{
+    match answer {
+        TurnAnswer::Refused(_) => {
+            let checks = up_to_failing(alloc, checks)?;
+            let (error, help) = words_of(alloc, host, build, &step.asked(), &checks)?;
+            Ok(Some(Explanation {
+                step: step.asked(),
+                checks,
+                error,
+                help,
+            }))
+        }
+        _ => Ok(None),
+    }
+}
+
+// One turn of a build's step.
+fn explain_step<S: PageStore>(
+    alloc: Global,
+    host: &mut Host<S>,
+    build: BuildId,
+    place: &mut PlanCursor,
+    step: &PlanStep,
+) -> Result<ExplainedTurn, AllocError>
+    requires { place.old.done < 1024 }
+    ensures { IfOk result (λ turn. IsExplainedStep host.old build place.old step.now host.new place.new (report_of turn)) }
+{
+    let checks = step_checks(alloc, host, build, place, &step.asked())?;
+    let answer = plan_turn(host, build, place, step);
+    place.move_on();
+    let mut line = String::new(alloc);
+    push_turn(&mut line, build, step, answer)?;
+    let reason = reason_for(alloc, host, build, step, &answer, &checks)?;
+    Ok(ExplainedTurn { line, reason })
+}
+
+// A turn of a build that has no step left.
+fn idle_turn(alloc: Global, build: BuildId) -> Result<ExplainedTurn, AllocError>
+    ensures { IfOk result (λ turn. report_of turn ≡ idle_report build) }
+{
+    let mut line = String::new(alloc);
+    push_idle(&mut line, build)?;
+    Ok(ExplainedTurn { line, reason: None })
+}
+
+// One turn of a build: its next step, if one is left.
+fn explain_turn<S: PageStore>(
+    alloc: Global,
+    host: &mut Host<S>,
+    plan: &Plan,
+    build: usize,
+    places: &mut [PlanCursor; 8],
+) -> Result<ExplainedTurn, AllocError>
+    requires { build < vec_len plan.now.builds }
+    ensures { IfOk result (λ turn. IsExplainedTurn (plan_view plan.now) (record { host = host.old; places = places.old }) build
+        (record { host = host.new; places = places.new }) (report_of turn)) }
+{
+    let id = id_of(build);
+    let mut place = places[build];
+    let Some(step) = step_after(plan, build, place.done) else {
+        return idle_turn(alloc, id);
+    };
+    let turn = explain_step(alloc, host, id, &mut place, step)?;
+    places[build] = place;
+    Ok(turn)
+}
+
+/// Runs a plan, and returns its turns: the line of each, and the checks of each that is refused, up to the first that
+/// fails. At an `Err` allocation failed.
+pub fn explain_turns<S: PageStore>(
+    alloc: Global,
+    host: &mut Host<S>,
+    plan: &Plan,
+) -> Result<Vec<ExplainedTurn>, AllocError>
+    ensures { IfOk result (λ turns. IsExplainedRun (plan_view plan.now) host.old host.new (map report_of turns.items)) }
+{
+    let mut turns = Vec::new(alloc);
+    let mut places = [PlanCursor::first(); 8];
+    for build in &plan.order {
+        let turn = explain_turn(alloc, host, plan, build.number() as usize, &mut places)?;
+        turns.push(turn)?;
+    }
+    Ok(turns)
+}

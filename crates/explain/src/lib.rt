@@ -1,0 +1,44 @@
+//! The evaluated checks of a step that is refused, and words for the one that fails.
+//!
+//! A `Check` of a step's turn has the fact that it requires, whether it fails on the host as it is, and the refusal that
+//! it gives then. `step_checks` makes the checks of a step in their order. `law` says for which refusals the first that
+//! fails is the one that the host gives. `explain_turns` runs a plan as `plan_replay` does, and keeps the checks of each
+//! turn that is refused, up to the first that fails. These are proved; the words (`error`, `help`, `passed`) are tested.
+#![tactic(auto)]
+
+mod check;
+mod error;
+mod event;
+mod explained;
+mod explaining;
+mod help;
+mod help_pages;
+mod help_realm;
+mod host_facts;
+pub mod law;
+mod names;
+mod of_block;
+mod of_build;
+mod of_command;
+mod of_input;
+mod of_realm;
+mod of_rec;
+mod of_step;
+mod of_walk;
+mod operands;
+mod passed;
+mod readings;
+mod rmi_facts;
+mod roles;
+mod unfinished;
+mod words;
+
+pub use check::{Check, Fact};
+pub use event::event_words;
+pub use explained::{ExplainedTurn, Explanation};
+pub use explaining::explain_turns;
+pub use host_facts::{BuildFact, RoomFact, UndoFact};
+pub use of_step::step_checks;
+pub use rmi_facts::{InputFact, RealmFact, RecFact, WalkFact};
+pub use unfinished::{UnfinishedAbort, unfinished_aborts, unfinished_lines};
+pub use words::reason_lines;

@@ -1,0 +1,68 @@
+//! Whether a block is free: refusal 11.
+ghost use Rattle.std.specs.Prelude.{◌≡◌, ◌+◌, ◌<◌, ◌≤◌};
+ghost use Rattle.explain.specs.OfBlock.{is_unleased, are_unleased, is_free_at, has_block, block_check};
+
+use crate::check::{Check, Fact};
+use crate::host_facts::RoomFact;
+use granule_addr::{Gran, Order};
+use page_arena::PageStore;
+use realm_host::{Host, Refusal};
+
+// Whether the granule of that number is one of the machine, and nobody leases it.
+fn is_unleased<S: PageStore>(host: &Host<S>, number: u16) -> bool
+    ensures { result ≡ is_unleased host.now number }
+{
+    // (no machine has more pages than granules have numbers)
+    let _history = host.history();
+    match Gran::new(number, host.pages()) {
+        Some(granule) => host.ledger().holder(granule).is_none(),
+        None => false,
+    }
+}
+
+// Whether the `count` granules from `first` on are inside the machine, and nobody leases one.
+fn are_unleased<S: PageStore>(host: &Host<S>, first: u16, count: u16) -> bool
+    requires { first + count ≤ 65536 }
+    ensures { result ≡ are_unleased host.now first count }
+{
+    for number in 0..count {
+        if !is_unleased(host, first + number) {
+            return false;
+        }
+    }
+    true
+}
+
+// Whether a block of an order begins at the granule, and is free.
+fn is_free_at<S: PageStore>(host: &Host<S>, order: Order, first: u16) -> bool
+    requires { first < 4096 }
+    ensures { result ≡ is_free_at host.now order first }
+{
+    let count = order.size();
+    first % count == 0 && are_unleased(host, first, count)
+}
+
+/// Whether an aligned block of an order is free.
+pub(crate) fn has_block<S: PageStore>(host: &Host<S>, order: Order) -> bool
+    ensures { result ≡ has_block host.now order }
+{
+    let _history = host.history();
+    for first in 0..host.pages() {
+        if is_free_at(host, order, first) {
+            return true;
+        }
+    }
+    false
+}
+
+/// Refusal 11: an aligned block of the order is free.
+pub(crate) fn block_check<S: PageStore>(host: &Host<S>, order: Order) -> Check
+    ensures { result ≡ block_check host.now order }
+{
+    let free = host.free_count();
+    Check {
+        fact: Fact::Room(RoomFact::Block(order.number(), free)),
+        fails: !has_block(host, order),
+        refusal: Refusal::NoBlock(order),
+    }
+}

@@ -1,0 +1,181 @@
+//! The checks that the host makes of a build: refusals 1 to 10 and 12, as far as they apply to a command.
+ghost use Rattle.std.specs.Prelude.{◌≡◌, ◌++◌, [], OnOk, map};
+ghost use Rattle.std.specs.List.{cons_option};
+ghost use Rattle.explain.specs.OfBuild.{build_there, not_aborting, checks_of_build, checks_of_order, page_there, checks_of_realm, checks_of_journal, room_left, room_check, checks_of_vmid, needs_checks};
+
+use crate::check::{Check, Fact, add, add_some};
+use crate::host_facts::{BuildFact, RoomFact};
+use granule_addr::BuildId;
+use host_commands::{BuildsView, Needs, RealmRequirement};
+use page_arena::PageStore;
+use realm_host::{Cmd, Host, Refusal};
+use realm_model::JOURNAL_ROOM;
+use std::alloc::AllocError;
+
+/// Refusal 1: there is such a build.
+pub(crate) fn build_there<S: PageStore>(host: &Host<S>, build: BuildId) -> Check
+    ensures { result ≡ build_there host.now build }
+{
+    let builds = host.build_count();
+    Check {
+        fact: Fact::Build(BuildFact::There(builds)),
+        fails: build.number() >= builds,
+        refusal: Refusal::NoBuild,
+    }
+}
+
+/// Refusal 2: the build is not in abort.
+pub(crate) fn not_aborting<S: PageStore>(host: &Host<S>, build: BuildId) -> Check
+    ensures { result ≡ not_aborting host.now build }
+{
+    Check {
+        fact: Fact::Build(BuildFact::NotAborting),
+        fails: host.is_aborting(build),
+        refusal: Refusal::Aborting,
+    }
+}
+
+/// Refusals 1 and 2: the build is there, and it is not in abort.
+pub(crate) fn checks_of_build<S: PageStore>(host: &Host<S>, build: BuildId) -> [Check; 2]
+    ensures { result ≡ checks_of_build host.now build }
+{
+    [build_there(host, build), not_aborting(host, build)]
+}
+
+// Refusal 3: a block is not too large.
+fn order_check(cmd: &Cmd) -> Option<Check>
+    ensures { cons_option result [] ≡ checks_of_order cmd.now }
+{
+    match cmd {
+        Cmd::Take { order } => Some(Check {
+            fact: Fact::Build(BuildFact::Order(*order)),
+            fails: *order > 9,
+            refusal: Refusal::BadOrder,
+        }),
+        _ => None,
+    }
+}
+
+// Refusal 4: the build has the page.
+fn page_there<S: PageStore>(host: &Host<S>, build: BuildId, page: u16) -> Check
+    ensures { result ≡ page_there host.now build page }
+{
+    let granule = host.page_granule(build, page);
+    Check {
+        fact: Fact::Build(BuildFact::Page(page, granule, host.page_count(build))),
+        fails: granule.is_none(),
+        refusal: Refusal::NotLeased(page),
+    }
+}
+
+// Adds 4: the build has all pages.
+fn add_pages<S: PageStore>(
+    host: &Host<S>,
+    build: BuildId,
+    pages: &[u16],
+    checks: &mut Vec<Check>,
+) -> Result<(), AllocError>
+    ensures { OnOk result (checks.new.items ≡ checks.old.items ++ map (page_there host.now build) pages.now) }
+{
+    for &page in pages {
+        add(checks, page_there(host, build, page))?;
+    }
+    Ok(())
+}
+
+// Refusals 5 and 6: the build has a realm, or none.
+fn realm_check<S: PageStore>(
+    host: &Host<S>,
+    build: BuildId,
+    wants: RealmRequirement,
+) -> Option<Check>
+    ensures { cons_option result [] ≡ checks_of_realm host.now build wants }
+{
+    let rd = host.rd(build);
+    match wants {
+        RealmRequirement::Either => None,
+        RealmRequirement::NoRealm => Some(Check {
+            fact: Fact::Build(BuildFact::NoRealm(rd)),
+            fails: rd.is_some(),
+            refusal: Refusal::RealmThere,
+        }),
+        RealmRequirement::Realm => Some(Check {
+            fact: Fact::Build(BuildFact::Realm(rd)),
+            fails: !rd.is_some(),
+            refusal: Refusal::NoRealm,
+        }),
+    }
+}
+
+// Refusal 9: one more act may be open.
+fn journal_check<S: PageStore>(host: &Host<S>, build: BuildId, paired: bool) -> Option<Check>
+    ensures { cons_option result [] ≡ checks_of_journal host.now build paired }
+{
+    if !paired {
+        return None;
+    }
+    let open = host.open_acts(build).len();
+    Some(Check {
+        fact: Fact::Room(RoomFact::Journal(open)),
+        fails: open >= JOURNAL_ROOM as usize,
+        refusal: Refusal::JournalFull,
+    })
+}
+
+// How much of its room a build has left; 0 where there is no such build.
+fn room_left<S: PageStore>(host: &Host<S>, build: BuildId) -> u16
+    ensures { result ≡ room_left host.now build }
+{
+    if build.number() < host.build_count() {
+        host.ledger().room_left(build)
+    } else {
+        0
+    }
+}
+
+// Refusal 10: the build has `needed` entries of its room left.
+fn room_check<S: PageStore>(host: &Host<S>, build: BuildId, needed: u16) -> Check
+    ensures { result ≡ room_check host.now build needed }
+{
+    let left = room_left(host, build);
+    Check {
+        fact: Fact::Room(RoomFact::History(left, needed)),
+        fails: left < needed,
+        refusal: Refusal::HistoryFull,
+    }
+}
+
+// Refusal 12: a VMID is free.
+fn vmid_check<S: PageStore>(host: &Host<S>, wanted: bool) -> Option<Check>
+    ensures { cons_option result [] ≡ checks_of_vmid host.now wanted }
+{
+    if !wanted {
+        return None;
+    }
+    let lowest = host.ledger().lowest_vmid();
+    Some(Check {
+        fact: Fact::Room(RoomFact::Vmid(lowest)),
+        fails: !lowest.is_some(),
+        refusal: Refusal::NoVmid,
+    })
+}
+
+/// Adds the checks of a command by its needs: 1 to 6, 9, 10 and 12, as far as they apply to it.
+pub(crate) fn add_needs<S: PageStore>(
+    host: &Host<S>,
+    build: BuildId,
+    cmd: &Cmd,
+    pages: &[u16],
+    checks: &mut Vec<Check>,
+) -> Result<(), AllocError>
+    ensures { OnOk result (checks.new.items ≡ checks.old.items ++ needs_checks host.now build cmd.now pages.now) }
+{
+    let needs = cmd.needs();
+    checks.extend_from_slice(&checks_of_build(host, build))?;
+    add_some(checks, order_check(cmd))?;
+    add_pages(host, build, pages, checks)?;
+    add_some(checks, realm_check(host, build, needs.realm))?;
+    add_some(checks, journal_check(host, build, needs.paired))?;
+    add(checks, room_check(host, build, needs.room))?;
+    add_some(checks, vmid_check(host, needs.vmid))
+}

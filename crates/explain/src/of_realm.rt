@@ -1,0 +1,134 @@
+//! Checks of a realm that is to be made, and of the state of one that is there. RMM 1.0, RMI_REALM_CREATE, Realm attributes.
+ghost use Rattle.std.specs.Prelude.{◌≡◌, ◌++◌, ◌∷◌, ◌≤◌, OnOk, length};
+ghost use Rattle.explain.specs.OfRealm.{state_of_realm, state_check, realm_new, realm_active, follow, are_adjacent, begins_right, width_check, apart_check, start_checks, realm_create_checks};
+
+use crate::check::{Check, Fact, add, rmi_check};
+use crate::of_input::{add_delegated, input_check};
+use crate::rmi_facts::RealmFact;
+use granule_addr::{BuildId, Gran, IpaWidth};
+use page_arena::PageStore;
+use realm_host::{Host, RealmState, Rmi};
+use realm_model::RealmState::{Active, New};
+use std::alloc::AllocError;
+
+// The state of a build's realm.
+fn state_of_realm<S: PageStore>(host: &Host<S>, build: BuildId) -> Option<RealmState>
+    ensures { result ≡ state_of_realm host.now build }
+{
+    match host.realm_view(build) {
+        Some((state, _vmid)) => Some(state),
+        None => None,
+    }
+}
+
+// A check of the state that was found, against the one that is wanted.
+fn state_check(found: Option<RealmState>, wanted: RealmState, fails: bool) -> Check
+    ensures { result ≡ state_check found wanted fails }
+{
+    let fact = Fact::Realm(RealmFact::State(wanted, found));
+    rmi_check(fact, fails, Rmi::REALM)
+}
+
+/// The realm of a build is NEW.
+pub(crate) fn realm_new<S: PageStore>(host: &Host<S>, build: BuildId) -> Check
+    ensures { result ≡ realm_new host.now build }
+{
+    let found = state_of_realm(host, build);
+    state_check(found, New, !matches!(found, Some(New)))
+}
+
+/// The realm of a build is ACTIVE.
+pub(crate) fn realm_active<S: PageStore>(host: &Host<S>, build: BuildId) -> Check
+    ensures { result ≡ realm_active host.now build }
+{
+    let found = state_of_realm(host, build);
+    state_check(found, Active, !matches!(found, Some(Active)))
+}
+
+// Whether the granules are the one with number `first` and those behind it, in their order.
+fn follow(first: u16, granules: &[Gran]) -> bool
+    requires { first ≤ 4096 }
+    ensures { result ≡ follow first granules.now }
+{
+    let mut next = first;
+    let mut rest = granules;
+    'granules: while let Some((granule, others)) = rest.split_first() {
+        if granule.number() != next {
+            return false;
+        }
+        next += 1;
+        rest = others;
+    }
+    true
+}
+
+// Whether each granule is the next one after the one before it.
+fn are_adjacent(tables: &[Gran]) -> bool
+    ensures { result ≡ are_adjacent tables.now }
+{
+    match tables.split_first() {
+        Some((first, rest)) => follow(first.number() + 1, rest),
+        None => true,
+    }
+}
+
+// Whether the first of the granules is a multiple of their count.
+fn begins_right(tables: &[Gran]) -> bool
+    ensures { result ≡ begins_right tables.now }
+{
+    match tables.first() {
+        Some(first) => first.number() as usize % tables.len() == 0,
+        None => true,
+    }
+}
+
+// A realm may have that IPA width.
+fn width_check(width: u8) -> Check
+    ensures { result ≡ width_check width }
+{
+    input_check(
+        Fact::Realm(RealmFact::Width(width)),
+        IpaWidth::new(width).is_none(),
+    )
+}
+
+// The RD is not one of the starting tables.
+fn apart_check(rd: Gran, tables: &[Gran]) -> Check
+    ensures { result ≡ apart_check rd tables.now }
+{
+    input_check(Fact::Realm(RealmFact::Apart), tables.contains(&rd))
+}
+
+// The checks of the starting tables, but for their states.
+fn add_tables(rd: Gran, tables: &[Gran], checks: &mut Vec<Check>) -> Result<(), AllocError>
+    ensures { OnOk result (checks.new.items ≡ checks.old.items ++ start_checks rd tables.now) }
+{
+    checks.extend_from_slice(&[
+        input_check(Fact::Realm(RealmFact::Adjacent), !are_adjacent(tables)),
+        input_check(
+            Fact::Realm(RealmFact::Multiple(tables.len())),
+            !begins_right(tables),
+        ),
+        apart_check(rd, tables),
+    ])
+}
+
+/// Adds the checks of RMI_REALM_CREATE, of an RD page, starting tables from a page on, and the granules of all of them.
+#[tactic(auto, unfolding(crate::specs::OfRealm::realm_create_checks))]
+pub(crate) fn add_realm_create<S: PageStore>(
+    host: &Host<S>,
+    build: BuildId,
+    width: u8,
+    pages: &[u16],
+    granules: &[Gran],
+    checks: &mut Vec<Check>,
+) -> Result<(), AllocError>
+    ensures { OnOk result (checks.new.items ≡ checks.old.items ++ realm_create_checks host.now build width pages.now granules.now) }
+{
+    let Some((rd, tables)) = granules.split_first() else {
+        return Ok(());
+    };
+    add(checks, width_check(width))?;
+    add_tables(*rd, tables, checks)?;
+    add_delegated(host, build, pages, checks)
+}

@@ -1,0 +1,140 @@
+//! The checks of the turn of a step.
+ghost use Rattle.std.specs.Prelude.{◌≡◌, ◌∷◌, ◌++◌, [], OnOk, IfOk, Some};
+ghost use Rattle.explain.specs.Steps.{undo_checks, running_of, begin_checks, mark_checks, back_checks, step_checks};
+
+use crate::check::{Check, Fact, add};
+use crate::host_facts::UndoFact;
+use crate::of_build::{build_there, checks_of_build, not_aborting};
+use crate::of_command::add_command;
+use granule_addr::BuildId;
+use host_commands::Step;
+use page_arena::PageStore;
+use plan_replay::PlanCursor;
+use realm_host::{Host, Mark, Refusal};
+use std::alloc::{AllocError, Global};
+
+// Refusals 1, 7 and 8 of an undo.
+fn undo<S: PageStore>(host: &Host<S>, build: BuildId) -> [Check; 3]
+    ensures { result ≡ undo_checks host.now build }
+{
+    let open = host.open_acts(build).len();
+    [
+        build_there(host, build),
+        Check {
+            fact: Fact::Undo(UndoFact::Open(open)),
+            fails: open < 1,
+            refusal: Refusal::NothingToUndo,
+        },
+        Check {
+            fact: Fact::Undo(UndoFact::NewestRests),
+            fails: host.is_newest_running(build),
+            refusal: Refusal::RecRunning,
+        },
+    ]
+}
+
+// How many RECs of a build run; none where there is no such build.
+fn running_of<S: PageStore>(host: &Host<S>, build: BuildId) -> u16
+    ensures { result ≡ running_of host.now build }
+{
+    if build.number() < host.build_count() {
+        host.ledger().running(build)
+    } else {
+        0
+    }
+}
+
+// Refusals 1, 2 and 8 of an abort that begins.
+fn begin<S: PageStore>(host: &Host<S>, build: BuildId) -> [Check; 3]
+    ensures { result ≡ begin_checks host.now build }
+{
+    let running = running_of(host, build);
+    [
+        build_there(host, build),
+        not_aborting(host, build),
+        Check {
+            fact: Fact::Undo(UndoFact::AllRest(running)),
+            fails: 0 < running,
+            refusal: Refusal::RecRunning,
+        },
+    ]
+}
+
+// Refusal 7 of a way back: the build has a mark, and it is still kept.
+fn has_mark(fails: bool) -> Check
+    ensures { result ∷ [] ≡ mark_checks fails }
+{
+    Check {
+        fact: Fact::Undo(UndoFact::Mark),
+        fails,
+        refusal: Refusal::NothingToUndo,
+    }
+}
+
+// Refusals 1, 2, 7 and 8 of a way back to a mark.
+fn back<S: PageStore>(host: &Host<S>, build: BuildId, mark: Mark) -> [Check; 4]
+    ensures { result ≡ back_checks host.now build (Some mark) }
+{
+    let answer = host.check_back(build, mark);
+    [
+        build_there(host, build),
+        not_aborting(host, build),
+        has_mark(matches!(answer, Err(Refusal::NothingToUndo))),
+        Check {
+            fact: Fact::Undo(UndoFact::AboveRests),
+            fails: matches!(answer, Err(Refusal::RecRunning)),
+            refusal: Refusal::RecRunning,
+        },
+    ]
+}
+
+// Adds the checks of a way back to the build's mark, if it has one.
+fn add_back<S: PageStore>(
+    host: &Host<S>,
+    build: BuildId,
+    mark: Option<Mark>,
+    checks: &mut Vec<Check>,
+) -> Result<(), AllocError>
+    ensures { OnOk result (checks.new.items ≡ checks.old.items ++ back_checks host.now build mark) }
+{
+    match mark {
+        Some(mark) => checks.extend_from_slice(&back(host, build, mark)),
+        None => add(checks, has_mark(true)),
+    }
+}
+
+// Adds the checks of the next turn of a step.
+#[tactic(auto, unfolding(crate::specs::Steps::step_checks))]
+fn add_step<S: PageStore>(
+    host: &Host<S>,
+    build: BuildId,
+    place: &PlanCursor,
+    step: &Step,
+    checks: &mut Vec<Check>,
+) -> Result<(), AllocError>
+    ensures { OnOk result (checks.new.items ≡ checks.old.items ++ step_checks host.now build place.now step.now) }
+{
+    match step {
+        Step::Ask(cmd) => add_command(host, build, cmd, checks),
+        Step::Mark => checks.extend_from_slice(&checks_of_build(host, build)),
+        Step::Abort if place.left == 0 => checks.extend_from_slice(&begin(host, build)),
+        Step::Back if place.left == 0 => add_back(host, build, place.mark, checks),
+        _ => checks.extend_from_slice(&undo(host, build)),
+    }
+}
+
+/// The checks of the next turn of a build's step, in their order. The place says whether undos are left of the step, and
+/// which mark the build has.
+pub fn step_checks<S: PageStore>(
+    alloc: Global,
+    host: &Host<S>,
+    build: BuildId,
+    place: &PlanCursor,
+    step: &Step,
+) -> Result<Vec<Check>, AllocError>
+    ensures { IfOk result (λ checks. checks.items ≡ step_checks host.now build place.now step.now) }
+{
+    let mut checks = Vec::new(alloc);
+    add_step(host, build, place, step, &mut checks)?;
+    Ok(checks)
+}

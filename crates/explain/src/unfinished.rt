@@ -1,0 +1,75 @@
+//! Aborts that are under way when a run ends.
+ghost use Rattle.std.specs.Prelude.{◌≡◌, ◌++◌, [], IfOk, OnOk};
+ghost use Rattle.std.specs.List.{cons_option, filter_map, range_with_len};
+ghost use Rattle.explain.specs.Unfinished.{unfinished_abort};
+
+use crate::explaining::id_of;
+use crate::roles::Many;
+use crate::words::push_line;
+use granule_addr::BuildId;
+use page_arena::PageStore;
+use realm_host::Host;
+use std::alloc::{AllocError, Global};
+
+/// An abort that is under way: its build, and how many operations are still open, each of which needs a turn.
+#[derive(Clone, Copy)]
+pub struct UnfinishedAbort {
+    pub build: BuildId,
+    pub turns: usize,
+}
+
+// The abort of a build, if it is under way.
+fn unfinished_abort<S: PageStore>(host: &Host<S>, build: BuildId) -> Option<UnfinishedAbort>
+    ensures { result ≡ unfinished_abort host.now build }
+{
+    if !host.is_aborting(build) {
+        return None;
+    }
+    Some(UnfinishedAbort {
+        build,
+        turns: host.open_acts(build).len(),
+    })
+}
+
+// Adds an abort to others, if it is under way.
+fn add_if(
+    aborts: &mut Vec<UnfinishedAbort>,
+    abort: Option<UnfinishedAbort>,
+) -> Result<(), AllocError>
+    ensures { OnOk result (aborts.new.items ≡ aborts.old.items ++ cons_option abort []) }
+{
+    match abort {
+        Some(abort) => aborts.extend_from_slice(&[abort]),
+        None => Ok(()),
+    }
+}
+
+/// The aborts that are under way, in the order of their builds.
+pub fn unfinished_aborts<S: PageStore>(
+    alloc: Global,
+    host: &Host<S>,
+) -> Result<Vec<UnfinishedAbort>, AllocError>
+    ensures { IfOk result (λ aborts. aborts.items ≡ filter_map (unfinished_abort host.now) (range_with_len 0 8)) }
+{
+    let mut aborts = Vec::new(alloc);
+    for place in 0..8 {
+        add_if(&mut aborts, unfinished_abort(host, id_of(place)))?;
+    }
+    Ok(aborts)
+}
+
+/// The lines of aborts that are under way: what each lacks, and what helps.
+pub fn unfinished_lines(alloc: Global, aborts: &[UnfinishedAbort]) -> Result<String, AllocError> {
+    let mut text = String::new(alloc);
+    for abort in aborts {
+        let build = abort.build.number();
+        let more = Many(abort.turns, "more turn", "more turns");
+        let error = format!(in alloc; "the abort of build {build} needs {more} in `order`")?;
+        push_line(&mut text, "error", &error)?;
+        let help = format!(in alloc;
+            "add {more} of build {build} to `order`; `realmview order` does it"
+        )?;
+        push_line(&mut text, "help", &help)?;
+    }
+    Ok(text)
+}

@@ -1,0 +1,21 @@
+-- What the checks of a command see of a host.
+use Rattle.std.specs.Prelude.{◌≡◌, ℕ, List, map, Bool, Option, Some, slice_get}
+
+-- How many builds there are; for each build, whether it is in abort, its pages, whether it has a realm, how many acts
+-- it has open, and how much of its room is left; and whether a VMID is free.
+pub record BuildsSummary : Type 0 where
+  pub builds : ℕ
+  pub aborting : ℕ → Bool
+  pub pages : ℕ → List ℕ
+  pub realm : ℕ → Bool
+  pub opened : ℕ → ℕ
+  pub room_left : ℕ → ℕ
+  pub vmid : Bool
+
+-- the granule of a build's page
+abbrev pub granule_of_page : BuildsSummary → ℕ → ℕ → Option ℕ
+granule_of_page view build page = slice_get (view.pages build) page
+
+-- the granules are those of a build's pages, each of them there
+abbrev pub AreGranulesOf : BuildsSummary → ℕ → List ℕ → List ℕ → Type 0
+AreGranulesOf view build pages granules = map (granule_of_page view build) pages ≡ map (λ granule. Some granule) granules

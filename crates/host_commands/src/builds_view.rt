@@ -1,0 +1,44 @@
+//! What the checks of a command look at.
+ghost use Rattle.std.specs.Prelude.{◌≡◌, ◌<◌, nat_lt, IsSome};
+ghost use Rattle.host_commands.specs.BuildsSummary.{BuildsSummary, granule_of_page};
+
+use granule_addr::{BuildId, Gran};
+
+/// What a host keeps of its builds, as far as the checks of a command look at it.
+pub trait BuildsView {
+    ghost seen: { Self → BuildsSummary };
+
+    /// Whether there is such a build.
+    fn has_build(&self, build: BuildId) -> bool
+        ensures { result ≡ nat_lt build (seen self.now).builds };
+
+    /// Whether the build is in abort.
+    fn is_aborting(&self, build: BuildId) -> bool
+        requires { build < (seen self.now).builds }
+        ensures { result ≡ (seen self.now).aborting build };
+
+    /// The granule of a build's page. No build has more pages than the largest machine.
+    fn page(&self, build: BuildId, page: u16) -> Option<Gran>
+        requires { build < (seen self.now).builds }
+        ensures value { result ≡ granule_of_page (seen self.now) build page }
+        ensures few { IsSome result → page < 4096 };
+
+    /// Whether the build has a realm.
+    fn has_realm(&self, build: BuildId) -> bool
+        requires { build < (seen self.now).builds }
+        ensures { result ≡ (seen self.now).realm build };
+
+    /// How many acts the build has open.
+    fn open_count(&self, build: BuildId) -> u16
+        requires { build < (seen self.now).builds }
+        ensures { result ≡ (seen self.now).opened build };
+
+    /// How much of its room the build has left.
+    fn room_left(&self, build: BuildId) -> u16
+        requires { build < (seen self.now).builds }
+        ensures { result ≡ (seen self.now).room_left build };
+
+    /// Whether a VMID is free.
+    fn has_vmid(&self) -> bool
+        ensures { result ≡ (seen self.now).vmid };
+}

@@ -1,0 +1,77 @@
+//! What a command needs of its build.
+ghost use Rattle.std.specs.Prelude.{◌≡◌, ◌≤◌};
+ghost use Rattle.host_commands.specs.Needs.{needs_of, needs_but_vmid, tables_named};
+
+use crate::Cmd;
+use granule_addr::IpaWidth;
+
+/// Whether a command wants its build to have a realm.
+#[derive(Clone, Copy)]
+pub enum RealmRequirement {
+    Either,
+    Realm,
+    NoRealm,
+}
+
+/// What a command needs of its build, a row of the table.
+#[derive(Clone, Copy)]
+pub struct Needs {
+    /// whether there has to be a realm
+    pub realm: RealmRequirement,
+    /// whether the act stays open, and so wants an entry in the journal
+    pub paired: bool,
+    /// how many entries of the build's room it takes: for its event, and for the reverse or the exit that it will want
+    pub room: u16,
+    /// whether it picks a VMID
+    pub vmid: bool,
+}
+
+/// The number of starting tables that a command of this width names: as many as a realm of that width has, and one where
+/// no realm has that width.
+pub fn tables_named(width: u8) -> u16
+    ensures value { result ≡ tables_named width }
+    ensures few { result ≤ 16 }
+{
+    IpaWidth::new(width).map_or(1, |width| width.start_count())
+}
+
+// Needs but for a VMID.
+fn but_vmid(realm: RealmRequirement, paired: bool, room: u16) -> Needs
+    ensures { result ≡ needs_but_vmid realm paired room }
+{
+    Needs {
+        realm,
+        paired,
+        room,
+        vmid: false,
+    }
+}
+
+impl Cmd {
+    /// What the command needs of its build.
+    #[tactic(auto, unfolding(crate::specs::Needs::needs_of))]
+    pub fn needs(&self) -> Needs
+        ensures { result ≡ needs_of self.now }
+    {
+        match self {
+            Cmd::Take { .. } | Cmd::Delegate { .. } => but_vmid(RealmRequirement::Either, true, 2),
+            Cmd::Fill { .. } | Cmd::Peek { .. } => but_vmid(RealmRequirement::Either, false, 1),
+            Cmd::Realm { .. } => Needs {
+                realm: RealmRequirement::NoRealm,
+                paired: true,
+                room: 2,
+                vmid: true,
+            },
+            Cmd::Rtt { .. } | Cmd::Data { .. } | Cmd::Unknown { .. } | Cmd::Rec { .. } => {
+                but_vmid(RealmRequirement::Realm, true, 2)
+            }
+            Cmd::Ripas { .. } | Cmd::Activate | Cmd::Poke { .. } => but_vmid(
+                RealmRequirement::Realm,
+                false,
+                1,
+            ),
+            Cmd::Enter { .. } => but_vmid(RealmRequirement::Realm, false, 2),
+            Cmd::Exit { .. } => but_vmid(RealmRequirement::Realm, false, 0),
+        }
+    }
+}

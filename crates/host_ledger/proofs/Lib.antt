@@ -1,0 +1,16 @@
+pub mod Totals
+pub mod Halving
+pub mod Worlds
+pub mod Made
+pub mod RealmFollows
+pub mod RecsFollow
+pub mod RoomFollows
+pub mod VmidsFollow
+pub mod PagesFollow
+pub mod PointsFollow
+pub mod Summaries
+pub mod Grown
+pub mod Pointed
+pub mod Readings
+pub mod Empty
+pub mod HoldersFollow

@@ -1,0 +1,13 @@
+-- A host at the start.
+use Rattle.std.specs.Prelude.{ℕ, [], replicate, false, None}
+use Rattle.host_ledger.specs.View.{HostView}
+
+-- nothing has happened, no build is in abort, and none has a mark
+abbrev pub booted : ℕ → ℕ → ℕ → ℕ → ℕ → HostView
+booted pages vmids aux builds capacity = record {
+  limits = record { pages = pages; vmids = vmids; aux = aux; builds = builds };
+  capacity = capacity;
+  history = [];
+  aborting = replicate builds false;
+  marks = replicate builds None;
+}

@@ -1,0 +1,169 @@
+-- What is kept beside a history, and that it is what the history says.
+use Rattle.std.specs.Prelude.{◌≡◌, ℕ, nat_lt, ◌+◌, ◌-◌, ◌*◌, ◌^◌, ◌<◌, ◌≤◌, true, false, ◌&&◌, List, [], ◌∷◌, ◌++◌, map, take, Option, Some, None, length, slice_get, vec_capacity}
+use Rattle.std.specs.List.{All}
+use Rattle.std.specs.Global.{Vec}
+use Rattle.granule_addr.specs.Vmids.{is_used}
+use Rattle.leases.specs.Stacks.{Stacks, stack_of}
+use Rattle.leases.specs.Vmids.{Vmids}
+use Rattle.realm_model.specs.declared.act.Act.{Act}
+use Rattle.realm_model.specs.declared.act.Act.TheVariants.{Take, UnTake, Realm, UnRealm, Rec, UnRec, Enter, Exit}
+use Rattle.realm_model.specs.declared.act.Event.{Event}
+use Rattle.realm_model.specs.Act.{block, is_paired}
+use Rattle.realm_model.specs.World.{World, realm_of}
+use Rattle.realm_model.specs.Step.{step}
+use Rattle.realm_model.specs.History.{acts_of, open_entries, pages_of, IsInTurn, IsLegal}
+use Rattle.realm_model.specs.Marks.{IsValidMark}
+use Rattle.realm_model.specs.Running.{running_count}
+use Rattle.realm_model.specs.Room.{room_taken}
+use Rattle.realm_model.specs.Stack.{pushed}
+use Rattle.realm_model.specs.Undoing.{by}
+use Rattle.realm_model.specs.Places.{rd_of}
+use Rattle.realm_model.specs.RecsOpen.{recs_open}
+use Rattle.realm_model.specs.VmidsUsed.{is_vmid_used}
+use Rattle.host_ledger.specs.declared.build.Build.{Build}
+use Rattle.host_ledger.specs.declared.mark.Mark.{Mark}
+use Rattle.host_ledger.specs.Marks.{point_of, mark_while}
+use Rattle.host_ledger.specs.Recs.{IsAbove}
+use Rattle.host_ledger.specs.View.{HostView, world_of, open_of, used, is_aborting, mark_of}
+
+-- what is kept of a build that has no events
+abbrev pub new_build : Build
+new_build = record { journal = []; events = 0; realm = None; recs = []; running = 0; aborting = false; mark = None }
+
+-- ---- after an act of the build
+
+-- the RD of its realm
+abbrev pub rd_after : Option ℕ → Act → Option ℕ
+rd_after rd (Realm d root vmid) = Some d
+rd_after rd (UnRealm d root vmid) = None
+rd_after rd _ = rd
+
+-- the RECs there: a new one comes last, and the last one goes first
+abbrev pub recs_after : List (ℕ × ℕ) → Act → List (ℕ × ℕ)
+recs_after recs (Rec granule auxiliaries number) = recs ++ (number, granule) ∷ []
+recs_after recs (UnRec granule auxiliaries number) = take (length recs - 1) recs
+recs_after recs _ = recs
+
+-- how many of them run
+abbrev pub running_after : ℕ → Act → ℕ
+running_after running (Enter number) = running + 1
+running_after running (Exit number) = running - 1
+running_after running _ = running
+
+-- its pages: those of a block that is taken come last, those of one given back are gone
+abbrev pub pages_after : List ℕ → Act → List ℕ
+pages_after pages (Take order first) = pages ++ block order first
+pages_after pages (UnTake order first) = take (length pages - 2 ^ order) pages
+pages_after pages _ = pages
+
+-- the build leaves abort once nothing is open, and its mark is dropped once fewer acts are open than at the mark
+abbrev pub points_after : Build → Build
+points_after build = record build {
+  aborting = build.aborting && nat_lt 0 (length build.journal);
+  mark = mark_while (length build.journal) build.mark;
+}
+
+abbrev pub build_after : Build → Act → Build
+build_after build act = points_after (record build {
+  journal = pushed build.journal act;
+  events = build.events + 1;
+  realm = rd_after build.realm act;
+  recs = recs_after build.recs act;
+  running = running_after build.running act;
+})
+
+-- ---- what can be followed
+
+-- a REC that is made has room and a number above the others', and a REC that exits runs
+abbrev pub CanFollowRec : Build → Act → Type 0
+CanFollowRec build (Rec granule auxiliaries number) = (length build.recs < 512) × IsAbove build.recs number
+CanFollowRec build (Exit number) = 1 ≤ build.running
+CanFollowRec build _ = Unit {0}
+
+-- there is room for what is open after the act, and the numbers stay small
+pub record CanFollow (build : Build) (act : Act) : Type 0 where
+  pub entries : length (pushed build.journal act) ≤ 512
+  pub events : build.events < 16384
+  pub running : build.running ≤ 16384
+  pub rec : CanFollowRec build act
+
+-- the pages of a block that is taken have room, and those of a block that is given back are there
+abbrev pub CanFollowPages : Stacks → ℕ → Act → Type 0
+CanFollowPages leases build (Take order first) = (length (stack_of leases build) + 2 ^ order ≤ leases.room) × (first + 2 ^ order ≤ 4096)
+CanFollowPages leases build (UnTake order first) = 2 ^ order ≤ length (stack_of leases build)
+CanFollowPages leases build _ = Unit {0}
+
+-- the block that is taken or given back lies inside the machine
+abbrev pub CanFollowHolders : List (Option ℕ) → Act → Type 0
+CanFollowHolders leases (Take order first) = first + 2 ^ order ≤ length leases
+CanFollowHolders leases (UnTake order first) = first + 2 ^ order ≤ length leases
+CanFollowHolders leases _ = Unit {0}
+
+-- ---- what is recorded
+
+-- An act of a build can be recorded: it is in turn and a step, the build has the room that the act takes, if it takes
+-- any, and where the act has a reverse, the build can have one more act open.
+pub record CanRecord (host : HostView) (build : ℕ) (act : Act) : Type 0 where
+  pub turn : IsInTurn host.history (by build act)
+  pub next : World
+  pub stepped : step host.limits (world_of host) (by build act) ≡ Some next
+  pub room : 0 < room_taken act → used host build + room_taken act ≤ host.capacity
+  pub few_open : is_paired act ≡ true → length (open_of host build) < 512
+
+-- ---- what is kept
+
+-- what the fields stand for
+abbrev pub ledger_of : List Build → Stacks → Vmids → ℕ → ℕ → List Event → HostView
+ledger_of builds leases vmids aux capacity history = record {
+  limits = record { pages = leases.room; vmids = vmids.vmids; aux = aux; builds = length builds };
+  capacity = capacity;
+  history = history;
+  aborting = map (λ (build : Build). build.aborting) builds;
+  marks = map (λ (build : Build). build.mark) builds;
+}
+
+-- What is kept of a build is what a history has of it and what the world has of its realm.
+pub record IsBuildOf (history : List Event) (world : World) (number : ℕ) (build : Build) : Type 0 where
+  pub journal : build.journal ≡ open_entries number history
+  pub events : build.events ≡ length (acts_of number history)
+  pub realm : build.realm ≡ rd_of number world
+  pub recs : build.recs ≡ recs_open number history
+  pub running : build.running ≡ running_count (realm_of number world)
+
+-- The build has used no more than its room, and has never had more open than its journal can hold.
+pub record HasRoom (host : HostView) (build : ℕ) : Type 0 where
+  pub used : used host build ≤ host.capacity
+  pub few_open : (n : ℕ) → length (open_entries build (take n host.history)) ≤ 512
+
+-- A mark that is kept of a build is its own. Since it was made, the build has never had fewer acts open than at it.
+pub record IsMarkOf (host : HostView) (build : ℕ) (mark : Mark) : Type 0 where
+  pub of_build : mark.build ≡ build
+  pub stands : IsValidMark (point_of mark) host.history
+
+-- There is a flag and a place for a mark of each build.
+pub record AreOfEach (host : HostView) : Type 0 where
+  pub aborts : length host.aborting ≡ host.limits.builds
+  pub marks : length host.marks ≡ host.limits.builds
+
+-- A build in abort has something open, and its mark stands, where it has one.
+pub record PointsHold (host : HostView) (build : ℕ) : Type 0 where
+  pub in_abort : is_aborting host build ≡ true → 0 < length (open_of host build)
+  pub marked : (mark : Mark) → mark_of host build ≡ Some mark → IsMarkOf host build mark
+
+-- The history is legal. What is kept of each build is what the history has of it; each granule is held by the build
+-- that leases it; a VMID is in use exactly where a realm has it; and there is memory for all that there is room for. A
+-- build in abort has something open, and marks stand.
+pub record IsKept (host : HostView) (builds : List Build) (leases : Stacks) (holders : List (Option ℕ)) (vmids : Vmids) (events : Vec Event) : Type 0 where
+  pub legal : IsLegal host.limits host.history
+  pub few_builds : host.limits.builds ≤ 8
+  pub few_pages : host.limits.pages ≤ 4096
+  pub few_events : host.capacity ≤ 16384
+  pub as_many_stacks : length leases.stacks ≡ host.limits.builds
+  pub builds_are : (number : ℕ) (build : Build) → slice_get builds number ≡ Some build → IsBuildOf host.history (world_of host) number build
+  pub stacks_are : (number : ℕ) → number < host.limits.builds → stack_of leases number ≡ pages_of number host.history
+  pub holders_are : holders ≡ (world_of host).leases
+  pub vmids_are : (vmid : ℕ) → is_used vmids.used vmid ≡ is_vmid_used (world_of host).machine vmid
+  pub room : (number : ℕ) → number < host.limits.builds → HasRoom host number
+  pub points : (number : ℕ) → number < host.limits.builds → PointsHold host number
+  pub of_builds : All (λ event. event.build < host.limits.builds) host.history
+  pub memory : host.limits.builds * host.capacity ≤ vec_capacity events

@@ -1,0 +1,17 @@
+-- Marks: points of builds that they can go back to.
+use Rattle.std.specs.Prelude.{ℕ, nat_le, Bool, ◌&&◌, ◌==◌, cond, Option, Some, None}
+use Rattle.host_ledger.specs.declared.mark.Mark.{Mark}
+use Rattle.realm_model.specs.Marks as marks
+
+-- as a point of its build in a history
+abbrev pub point_of : Mark → marks.Mark
+point_of mark = record { build = mark.build; depth = mark.length; place = mark.place }
+
+-- the same point of the same build
+abbrev pub is_same_mark : Mark → Mark → Bool
+is_same_mark a b = a.build == b.build && (a.length == b.length && a.place == b.place)
+
+-- a mark is dropped where fewer acts are open than at it
+abbrev pub mark_while : ℕ → Option Mark → Option Mark
+mark_while opened None = None
+mark_while opened (Some mark) = cond (nat_le mark.length opened) (Some mark) None

@@ -1,0 +1,350 @@
+//! The history, and what is kept beside it.
+ghost use Rattle.std.specs.Prelude.{◌≡◌, ℕ, ◌<◌, ◌≤◌, [], length, drop, replicate, true, false, nat_lt, Some, None, IfOk, IfSome, option_map, slice_index_or};
+ghost use Rattle.std.specs.Bool.{OnFalse};
+ghost use Rattle.std.specs.List.{last_or};
+ghost use Rattle.realm_model.specs.History.{acts_of, IsLegal, Noninterference};
+ghost use Rattle.realm_model.specs.Act.{is_paired};
+ghost use Rattle.realm_model.specs.StepLaw.{leases_after};
+ghost use Rattle.realm_model.specs.World.{realm_of, is_leased_to};
+ghost use Rattle.realm_model.specs.Running.{running_count};
+ghost use Rattle.realm_model.specs.Places.{rd_of, rec_granule, IsPlaceOf};
+ghost use Rattle.leases.specs.Stacks.{stack_of, with_stack};
+ghost use Rattle.host_ledger.specs.Marks.{mark_while};
+ghost use Rattle.host_ledger.specs.View.{world_of, open_of, used, pages_of_build, granule_of_page, is_aborting, mark_of, mark_now, with_mark, begun, with_event};
+ghost use Rattle.host_ledger.specs.Kept.{new_build, pages_after, CanFollowPages, CanFollowHolders, CanRecord, HasRoom, IsMarkOf, AreOfEach, PointsHold};
+ghost use Rattle.host_ledger.specs.Vmids.{lowest_vmid, CanFollowVmids, IsVmidsAfter};
+ghost use Rattle.host_ledger.specs.Booted.{booted};
+
+use crate::build::Build;
+use crate::mark::Mark;
+use granule_addr::{BuildId, Gran, RecNo, Vmid};
+use leases::{Holders, Leases, VmidPool};
+use realm_model::{Act, Event, RealmAndRec};
+use std::alloc::{AllocError, Global};
+use std::marker::Model;
+
+/// The events of all builds in their order, and what they leave of each build.
+#[derive(Drop)]
+pub struct HostLedger {
+    history: Vec<Event>,
+    pub(crate) builds: Vec<Build>,
+    pub(crate) leases: Leases,
+    holders: Holders,
+    vmids: VmidPool,
+    aux: u8,
+    capacity: u16,
+}
+
+impl Model for HostLedger {
+    ghost use Rattle.host_ledger.specs.View.{HostView};
+    ghost use Rattle.host_ledger.specs.Codes.{host_code};
+    ghost use Rattle.host_ledger.specs.Kept.{ledger_of, IsKept};
+
+    ghost Value = { HostView };
+
+    ghost coded = { host_code };
+
+    ghost view = { λ b. ledger_of b.builds.items b.leases b.vmids b.aux b.capacity b.history.items };
+
+    ghost invariant = { λ b. IsKept (ledger_of b.builds.items b.leases b.vmids b.aux b.capacity b.history.items) b.builds.items b.leases b.holders b.vmids b.history };
+}
+
+// What is kept of `count` builds that have no events.
+fn new_builds(alloc: Global, count: u8) -> Result<Vec<Build>, AllocError>
+    ensures { IfOk result (λ builds. builds.items ≡ replicate count new_build) }
+{
+    let mut builds = Vec::with_capacity(alloc, count as usize)?;
+    for _i in 0..count {
+        builds.push(Build::build(alloc)?)?;
+    }
+    Ok(builds)
+}
+
+// The pages of a build follow an act: those of a block that is taken go on top, those of one given back are gone.
+fn follow_pages(leases: &mut Leases, build: BuildId, act: &Act)
+    requires there { build < length leases.old.stacks }
+    requires can_follow { CanFollowPages leases.old build act.now }
+    ensures { leases.new ≡ with_stack leases.old build (pages_after (stack_of leases.old build) act.now) }
+{
+    match act {
+        Act::Take { order, first } => leases.push_block(build, *first, *order),
+        Act::UnTake { order, .. } => leases.pop_block(build, *order),
+        _ => {}
+    }
+}
+
+// The holders of the granules follow an act of a build: the build leases the granules of a block that it takes, and
+// nobody leases those of a block that it gives back.
+fn follow_holders(holders: &mut Holders, build: BuildId, act: &Act)
+    requires { CanFollowHolders holders.old act.now }
+    ensures { holders.new ≡ leases_after build act.now holders.old }
+{
+    match act {
+        Act::Take { order, first } => holders.lease(build, *first, *order),
+        Act::UnTake { order, first } => holders.give_back(*first, *order),
+        _ => {}
+    }
+}
+
+// The VMIDs in use follow an act: the VMID of a realm that is made is in use, and that of a realm that ends is free.
+fn follow_vmids(vmids: &mut VmidPool, act: &Act)
+    requires { CanFollowVmids vmids.old act.now }
+    ensures { IsVmidsAfter act.now vmids.old vmids.new }
+{
+    match act {
+        Act::Realm { vmid, .. } => {
+            vmids.claim(*vmid);
+        }
+        Act::UnRealm { vmid, .. } => vmids.give_back(*vmid),
+        _ => {}
+    }
+}
+
+impl HostLedger {
+    /// Returns the books of `builds` builds that have no events, with room for `capacity` events of each, over a
+    /// machine of `pages` pages and `vmids` VMIDs, with `aux` auxiliaries of a REC.
+    pub fn build(
+        alloc: Global,
+        pages: u16,
+        vmids: u8,
+        aux: u8,
+        builds: u8,
+        capacity: u16,
+    ) -> Result<HostLedger, AllocError>
+        requires few_builds { builds ≤ 8 }
+        requires few_pages { pages ≤ 4096 }
+        requires few_events { capacity ≤ 16384 }
+        ensures { IfOk result (λ ledger. ledger ≡ booted pages vmids aux builds capacity) }
+    {
+        let leases = Leases::build(alloc, builds, pages)?;
+        let holders = Holders::build(alloc, pages)?;
+        let kept = new_builds(alloc, builds)?;
+        let history = Vec::with_capacity(alloc, builds as usize * capacity as usize)?;
+        Ok(HostLedger {
+            history,
+            builds: kept,
+            leases,
+            holders,
+            vmids: VmidPool::new(vmids),
+            aux,
+            capacity,
+        })
+    }
+
+    /// The events so far: a legal history. No build has used more than its room in it, or had more than 512 acts open at any
+    /// time. A build in abort has something open, and marks stand. Each build can be left out of the history.
+    pub fn history(&self) -> &[Event]
+        ensures events { result.now ≡ self.now.history }
+        ensures legal { IsLegal self.now.limits self.now.history }
+        ensures room { (build : ℕ) → HasRoom self.now build }
+        ensures each { AreOfEach self.now }
+        ensures points { (build : ℕ) → PointsHold self.now build }
+        ensures no_trace { (build : ℕ) → Noninterference self.now.limits self.now.history build }
+    {
+        self.history.as_slice()
+    }
+
+    /// How much room each build has in the history.
+    pub fn capacity(&self) -> u16
+        ensures value { result ≡ self.now.capacity }
+        ensures few { result ≤ 16384 }
+    {
+        self.capacity
+    }
+
+    /// How many builds there are.
+    pub fn build_count(&self) -> u8
+        ensures value { result ≡ self.now.limits.builds }
+        ensures few { result ≤ 8 }
+    {
+        self.builds.len() as u8
+    }
+
+    /// Whether there is such a build.
+    pub fn has_build(&self, build: BuildId) -> bool
+        ensures there { result ≡ nat_lt build self.now.limits.builds }
+        ensures none { OnFalse result (acts_of build self.now.history ≡ []) }
+        ensures no_realm { OnFalse result (realm_of build (world_of self.now) ≡ None) }
+        ensures no_abort { OnFalse result (is_aborting self.now build ≡ false) }
+        ensures no_mark { OnFalse result (mark_of self.now build ≡ None) }
+    {
+        (build.number() as usize) < self.builds.len()
+    }
+
+    /// Returns how much of its room a build has used: one for each of its events, one more for each act that it has open,
+    /// and one more for each of its RECs that runs.
+    pub fn used(&self, build: BuildId) -> u16
+        requires { build < self.now.limits.builds }
+        ensures value { result ≡ used self.now build }
+        ensures fits { result ≤ self.now.capacity }
+    {
+        let kept = &self.builds[build.number() as usize];
+        kept.events + kept.journal.len() + kept.running
+    }
+
+    /// Returns how many acts a build has open. A build with a mark has at least as many open as at the mark, and a
+    /// build with none open is not in abort.
+    pub fn open_count(&self, build: BuildId) -> u16
+        requires { build < self.now.limits.builds }
+        ensures value { result ≡ length (open_of self.now build) }
+        ensures fits { result ≤ 512 }
+        ensures idle { result ≡ 0 → is_aborting self.now build ≡ false }
+        ensures low { mark_while result (mark_of self.now build) ≡ mark_of self.now build }
+    {
+        self.builds[build.number() as usize].journal.len()
+    }
+
+    /// The newest act that a build has open.
+    pub fn newest(&self, build: BuildId) -> Option<&Act>
+        requires { build < self.now.limits.builds }
+        ensures value { option_map (λ act. act.now) result ≡ last_or None (open_of self.now build) }
+        ensures paired { IfSome result (λ act. is_paired act.now ≡ true) }
+    {
+        let kept = &self.builds[build.number() as usize];
+        kept.journal.newest()
+    }
+
+    /// The acts that a build has open above the first `count`, the newest last.
+    pub fn open_above(&self, build: BuildId, count: u16) -> &[Act]
+        requires there { build < self.now.limits.builds }
+        requires enough { count ≤ length (open_of self.now build) }
+        ensures { result.now ≡ drop count (open_of self.now build) }
+    {
+        self.builds[build.number() as usize].journal.above(count)
+    }
+
+    /// The mark that is kept of a build.
+    pub fn mark(&self, build: BuildId) -> Option<Mark>
+        requires { build < self.now.limits.builds }
+        ensures value { result ≡ mark_of self.now build }
+        ensures stands { IfSome result (IsMarkOf self.now build) }
+    {
+        self.builds[build.number() as usize].mark
+    }
+
+    /// The RD of a build's realm.
+    pub fn realm(&self, build: BuildId) -> Option<Gran>
+        requires { build < self.now.limits.builds }
+        ensures value { result ≡ rd_of build (world_of self.now) }
+        ensures inside { IfSome result (λ rd. rd < self.now.limits.pages) }
+    {
+        self.builds[build.number() as usize].realm
+    }
+
+    /// The granule of the REC of that number in a build's realm.
+    pub fn rec(&self, build: BuildId, number: RecNo) -> Option<Gran>
+        requires { build < self.now.limits.builds }
+        ensures { result ≡ rec_granule (realm_of build (world_of self.now)) number }
+    {
+        let kept = &self.builds[build.number() as usize];
+        kept.recs.granule(number)
+    }
+
+    /// Where an act of a build is performed: the RD of the build's realm, and the REC there that the act names.
+    pub fn place(&self, build: BuildId, act: &Act) -> RealmAndRec
+        requires { build < self.now.limits.builds }
+        ensures { IsPlaceOf (world_of self.now) build act.now result }
+    {
+        let rec = match act {
+            Act::UnRec { number, .. }
+            | Act::Enter { number }
+            | Act::Exit { number }
+            | Act::Poke { number, .. } => self.rec(build, *number),
+            _ => None,
+        };
+        RealmAndRec {
+            realm: self.realm(build),
+            rec,
+        }
+    }
+
+    /// How many RECs of a build's realm run.
+    pub fn running(&self, build: BuildId) -> u16
+        requires { build < self.now.limits.builds }
+        ensures { result ≡ running_count (realm_of build (world_of self.now)) }
+    {
+        self.builds[build.number() as usize].running
+    }
+
+    /// Returns the lowest VMID that no realm has, or `None` if each is a realm's.
+    pub fn lowest_vmid(&self) -> Option<Vmid>
+        ensures { result ≡ lowest_vmid self.now }
+    {
+        self.vmids.lowest_free()
+    }
+
+    /// The granule of a build's page.
+    pub fn page(&self, build: BuildId, page: u16) -> Option<Gran>
+        requires { build < self.now.limits.builds }
+        ensures value { result ≡ granule_of_page self.now build page }
+        ensures inside { IfSome result (λ granule. granule < self.now.limits.pages) }
+    {
+        self.leases.page(build, page)
+    }
+
+    /// How many pages a build has.
+    pub fn page_count(&self, build: BuildId) -> u16
+        requires { build < self.now.limits.builds }
+        ensures { result ≡ length (pages_of_build self.now build) }
+    {
+        self.leases.count(build)
+    }
+
+    /// Whether the granule is one of the machine's, and the build leases it.
+    pub fn is_leased_by(&self, granule: Gran, build: BuildId) -> bool
+        ensures { result ≡ is_leased_to (Some build) (world_of self.now).leases granule }
+    {
+        self.holders.is_held_by(granule, build)
+    }
+
+    /// The build that leases the granule; `None` where nobody does, or where the machine has no such granule.
+    pub fn holder(&self, granule: Gran) -> Option<BuildId>
+        ensures { result ≡ slice_index_or (world_of self.now).leases granule None }
+    {
+        self.holders.holder(granule)
+    }
+
+    /// Puts a build into abort, if it has anything open.
+    pub fn begin_abort(&mut self, build: BuildId)
+        requires { build < self.old.limits.builds }
+        ensures begun { self.new ≡ begun self.old build }
+        ensures flag { is_aborting self.new build ≡ nat_lt 0 (length (open_of self.old build)) }
+    {
+        self.builds[build.number() as usize].begin_abort();
+    }
+
+    /// The mark of a build's point now.
+    pub fn mark_now(&self, build: BuildId) -> Mark
+        requires { build < self.now.limits.builds }
+        ensures { result ≡ mark_now self.now build }
+    {
+        Mark {
+            build,
+            length: self.open_count(build),
+            place: self.history.len() as u32,
+        }
+    }
+
+    /// Keeps a mark of the point at which a build is now, in place of an older mark.
+    pub fn keep_mark(&mut self, build: BuildId, mark: &Mark)
+        requires there { build < self.old.limits.builds }
+        requires now { mark.now ≡ mark_now self.old build }
+        ensures kept { self.new ≡ with_mark self.old build mark.now }
+        ensures told { mark_of self.new build ≡ Some mark.now }
+    {
+        self.builds[build.number() as usize].mark = Some(*mark);
+    }
+
+    /// Records an act of a build as the last event. No memory is taken.
+    pub fn record(&mut self, build: BuildId, act: Act)
+        requires there { build < self.old.limits.builds }
+        requires can { CanRecord self.old build act }
+        ensures { self.new ≡ with_event self.old build act }
+    {
+        follow_pages(&mut self.leases, build, &act);
+        follow_holders(&mut self.holders, build, &act);
+        follow_vmids(&mut self.vmids, &act);
+        self.builds[build.number() as usize].follow(&act);
+        self.history.push_reserved(Event { build, act });
+    }
+}

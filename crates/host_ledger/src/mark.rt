@@ -1,0 +1,36 @@
+//! Points of a build.
+ghost use Rattle.std.specs.Prelude.{◌≡◌};
+ghost use Rattle.host_ledger.specs.Marks.{is_same_mark};
+
+use granule_addr::BuildId;
+
+/// A point of a build that it can go back to: how many acts it had open, and the place in the history.
+#[derive(Clone, Copy, Debug, PartialEq, Eq)]
+pub struct Mark {
+    pub(crate) build: BuildId,
+    pub(crate) length: u16,
+    pub(crate) place: u32,
+}
+
+impl Mark {
+    /// How many acts the build had open.
+    pub fn length(&self) -> u16
+        ensures { result ≡ self.now.length }
+    {
+        self.length
+    }
+
+    /// How many events the history had.
+    pub fn place(&self) -> u32
+        ensures { result ≡ self.now.place }
+    {
+        self.place
+    }
+
+    /// Whether the two are the same point of the same build.
+    pub fn is(self, other: Mark) -> bool
+        ensures { result ≡ is_same_mark self other }
+    {
+        self.build == other.build && self.length == other.length && self.place == other.place
+    }
+}

@@ -1,0 +1,57 @@
+//! Which slot has the bytes of a page.
+ghost use Rattle.std.specs.Prelude.{◌≡◌, ◌+◌, ◌<◌, ◌≤◌, length, replicate, get_or, set, IfOk};
+ghost use Rattle.page_arena.specs.Slots.{IsSlots};
+
+use std::alloc::{AllocError, Global};
+
+/// For each page, the slot that has its bytes: slot 0, which has the zeros of all pages that were never written, or a
+/// slot of its own. A page gets its own when it is first written: the next one that is not used yet.
+#[derive(Drop)]
+pub(crate) struct Slots {
+    of: Vec<u16>,
+    used: u16,
+    ghost own: { IsSlots of.items used },
+}
+
+impl Slots {
+    /// `pages` pages that were never written.
+    pub(crate) fn build(alloc: Global, pages: usize) -> Result<Slots, AllocError>
+        ensures { IfOk result (λ slots. (slots.of.items ≡ replicate pages 0) × (slots.used ≡ 1)) }
+    {
+        Ok(Slots {
+            of: vec![in alloc; 0; pages]?,
+            used: 1,
+        })
+    }
+
+    /// How many pages there are.
+    pub(crate) fn count(&self) -> usize
+        ensures { result ≡ length self.now.of.items }
+    {
+        self.of.len()
+    }
+
+    /// The slot of a page.
+    pub(crate) fn slot(&self, page: usize) -> usize
+        requires { page < length self.now.of.items }
+        ensures { result ≡ get_or self.now.of.items page 0 }
+    {
+        self.of[page] as usize
+    }
+
+    /// Gives a page that shares slot 0 the next slot. There is one for each page.
+    pub(crate) fn own(&mut self, page: usize) -> usize
+        requires inside { page < length self.old.of.items }
+        requires shared { get_or self.old.of.items page 0 ≡ 0 }
+        requires few { length self.old.of.items ≤ 4096 }
+        ensures slot { result ≡ self.old.used }
+        ensures room { result ≤ length self.old.of.items }
+        ensures of { self.new.of.items ≡ set self.old.of.items page self.old.used }
+        ensures used { self.new.used ≡ self.old.used + 1 }
+    {
+        let slot = self.used;
+        self.of[page] = slot;
+        self.used += 1;
+        slot as usize
+    }
+}

@@ -1,0 +1,31 @@
+//! Findings on a plan: its errors, or its likely slips, each in words and with its place.
+//!
+//! Values to values: nothing here reads a device or knows a host. Whether bytes are a plan is for `realm_plan` to say, and its
+//! fault is always among the errors. Everything else here finds words and places. A walk over the text finds keys, steps and
+//! turns with their places; each module has one kind of mistake.
+#![tactic(auto)]
+
+mod builds;
+mod cursor;
+mod document;
+mod excerpt;
+mod finding;
+mod forms;
+mod judging;
+mod keys;
+mod law;
+mod lints;
+mod message_text;
+mod nearest;
+mod needs;
+mod order;
+mod outline;
+mod plain;
+mod report;
+mod step_text;
+mod syntax;
+mod value;
+mod walk;
+
+pub use law::places_lie_inside;
+pub use report::LintReport;

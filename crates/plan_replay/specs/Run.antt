@@ -1,0 +1,107 @@
+-- The runs of a plan, and what is printed of one.
+use Rattle.std.specs.Prelude.{◌≡◌, ℕ, List, [], ◌∷◌, ◌++◌, length, replicate, sum, Option, Some, None, slice_get, slice_index, slice_index_or, slice_set, option_and_then}
+use Rattle.std.specs.List.{flat_map, range_with_len}
+use Rattle.host_ledger.specs.View.{HostView, world_of, pages_of_build}
+use Rattle.realm_host.specs.Readings.{realm_at}
+use Rattle.realm_model.specs.Machine.{cell_at}
+use Rattle.realm_model.specs.World.{free_set}
+use Rattle.realm_model.specs.declared.states.RealmState.{RealmState}
+use Rattle.realm_plan.specs.Asked.{asked}
+use Rattle.realm_plan.specs.Lines.{idle_line, page_line, realm_line, free_line}
+use Rattle.realm_plan.specs.declared.step.PlanStep.{PlanStep}
+use Rattle.realm_plan.specs.Plan.{Plan}
+use Rattle.plan_replay.specs.Place.{first_place, moved_on}
+use Rattle.plan_replay.specs.Text.{turn_line}
+use Rattle.plan_replay.specs.Turn.{IsStepTurn}
+use Rattle.plan_replay.specs.declared.answer.TurnAnswer.{TurnAnswer}
+use Rattle.plan_replay.specs.declared.place.PlanCursor.{PlanCursor}
+
+-- ---- runs
+
+-- How far a run is: the host, and where each build is in its plan.
+pub record Position : Type 0 where
+  pub host : HostView
+  pub places : List PlanCursor
+
+-- What is told of a turn: the build, and its step with the answer, or nothing where it has no step left.
+pub record Turn : Type 0 where
+  pub build : ℕ
+  pub told : Option (PlanStep × TurnAnswer)
+
+-- no build has done a step
+abbrev pub start : HostView → Position
+start host = record { host = host; places = replicate 8 first_place }
+
+abbrev pub place_of : List PlanCursor → ℕ → PlanCursor
+place_of places build = slice_index_or places build first_place
+
+-- the step of a build that comes after `done` others, if there is one
+abbrev pub step_after : Plan → ℕ → ℕ → Option PlanStep
+step_after plan build done = option_and_then (λ steps. slice_get steps done) (slice_get plan.builds build)
+
+-- Without a step nothing changes. A step has its turn, with an answer that the host may give, and is used up once no undo of
+-- it is left; until then the build's next turn is the step's again.
+abbrev pub IsTurnOf : Option PlanStep → Position → Turn → Position → Type 0
+IsTurnOf None from turn to = (turn.told ≡ None) × (to ≡ from)
+IsTurnOf (Some step) from turn to =
+    (answer : TurnAnswer)
+    × (after : PlanCursor)
+    × (turn.told ≡ Some (step, answer))
+    × IsStepTurn from.host turn.build (place_of from.places turn.build) (asked step) answer to.host after
+    × (to.places ≡ slice_set from.places turn.build (moved_on after))
+
+abbrev pub IsTurn : Plan → Position → Turn → Position → Type 0
+IsTurn plan from turn to = IsTurnOf (step_after plan turn.build (place_of from.places turn.build).done) from turn to
+
+-- The turns of these builds, one after the other.
+abbrev pub AreTurns : Plan → List ℕ → Position → List Turn → Position → Type 0
+AreTurns plan [] from [] to = to ≡ from
+AreTurns plan (build ∷ order) from (turn ∷ turns) to =
+    (turn.build ≡ build) × (between : Position) × IsTurn plan from turn between × AreTurns plan order between turns to
+AreTurns plan _ from _ to = ⊥
+
+-- ---- what is printed
+
+abbrev pub reported_text : ℕ → Option (PlanStep × TurnAnswer) → List ℕ
+reported_text build None = idle_line build
+reported_text build (Some told) = turn_line build told.0 told.1
+
+abbrev pub turn_text : Turn → List ℕ
+turn_text turn = reported_text turn.build turn.told
+
+-- the line of a build's page
+abbrev pub page_text : HostView → ℕ → ℕ → List ℕ
+page_text host build page =
+    let cell = cell_at (world_of host).machine (slice_index (pages_of_build host build) page) in
+    page_line build page cell.state (sum cell.bytes)
+
+-- the lines of a build's pages, in rising number
+abbrev pub pages_text : HostView → ℕ → List ℕ
+pages_text host build = flat_map (page_text host build) (range_with_len 0 (length (pages_of_build host build)))
+
+-- the line of a build's realm, where it has one
+abbrev pub realm_text : ℕ → Option (RealmState × ℕ) → List ℕ
+realm_text build None = []
+realm_text build (Some realm) = realm_line build realm.0 realm.1
+
+abbrev pub build_text : HostView → ℕ → List ℕ
+build_text host build = pages_text host build ++ realm_text build (realm_at (world_of host) build)
+
+-- The map: the pages of each build in rising number, then its realm, and last how many pages nobody leases.
+abbrev pub map_text : HostView → List ℕ
+map_text host = flat_map (build_text host) (range_with_len 0 8) ++ free_line (length (free_set (world_of host)))
+
+-- The turn of a build leads here, and its line was appended.
+pub record IsReportedTurn (plan : Plan) (from : Position) (build : ℕ) (to : Position) (old new : List ℕ) : Type 0 where
+  pub turn : Turn
+  pub of_build : turn.build ≡ build
+  pub is_turn : IsTurn plan from turn to
+  pub appended : new ≡ old ++ turn_text turn
+
+-- Some run of the plan's turns, each answer one that the host may give, leads here, and its lines were appended.
+pub record IsReportedRun (plan : Plan) (from to : HostView) (old new : List ℕ) : Type 0 where
+  pub turns : List Turn
+  pub end : Position
+  pub is_run : AreTurns plan plan.order (start from) turns end
+  pub host : end.host ≡ to
+  pub appended : new ≡ old ++ flat_map turn_text turns

@@ -1,0 +1,39 @@
+//! What turns tell, and how.
+use host_commands::{Refusal, Reply};
+use realm_host::Kind;
+use realm_plan::{KindWord, RefusalText, ReplyText};
+use std::fmt;
+
+/// What a turn tells of its step.
+#[derive(Clone, Copy)]
+pub enum TurnAnswer {
+    /// The command was accepted.
+    Replied(Reply),
+    /// The build's point is kept, with that many acts open.
+    Marked(u16),
+    /// An act was undone; if in an abort or a way back, more are to come.
+    Undone(Kind),
+    /// The last act of an abort or of a way back was undone.
+    Ended(Kind),
+    /// An abort or a way back had nothing to undo.
+    Nothing,
+    Refused(Refusal),
+}
+
+impl fmt::Display for TurnAnswer {
+    ghost use Rattle.std.specs.Prelude.{Some};
+    ghost use Rattle.plan_replay.specs.Text.{answer_text};
+
+    ghost output = { λ a. Some (answer_text a) };
+
+    fn fmt<W: fmt::Write>(&self, f: &mut fmt::Formatter<W>) -> fmt::Result {
+        match *self {
+            TurnAnswer::Replied(reply) => write!(f, "{}", ReplyText(reply)),
+            TurnAnswer::Marked(length) => write!(f, "ok {length}"),
+            TurnAnswer::Undone(kind) => write!(f, "ok {}", KindWord(kind)),
+            TurnAnswer::Ended(kind) => write!(f, "done {}", KindWord(kind)),
+            TurnAnswer::Nothing => f.write_str("done"),
+            TurnAnswer::Refused(refusal) => write!(f, "no {}", RefusalText(refusal)),
+        }
+    }
+}

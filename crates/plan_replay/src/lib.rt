@@ -1,0 +1,24 @@
+//! The runs of a plan on a host: its turns, their lines, and the map of the host in the end.
+//!
+//! A turn asks the host for the next step of its build, and tells the step as it stands in the plan, with the host's own
+//! answer (`specs/Turn.antt`, `specs/Run.antt`, `specs/Text.antt`). An abort and a way back take a turn for each act that they
+//! undo. What a plan is and how a step is spelled is `realm_plan`'s; nothing here reads or writes a device.
+#![tactic(auto)]
+
+mod answer;
+mod build_id;
+pub mod law;
+mod lines;
+mod map;
+mod place;
+mod room;
+mod run;
+mod turn;
+
+pub use answer::TurnAnswer;
+pub use lines::push_turn;
+pub use map::{map_text, push_map};
+pub use place::PlanCursor;
+pub use room::text_for;
+pub use run::{run_turns, step_after, take_turn};
+pub use turn::plan_turn;

@@ -1,0 +1,77 @@
+//! The turns of a plan, and their lines.
+ghost use Rattle.std.specs.Prelude.{◌≡◌, ◌<◌, OnOk, IfSome, string_bytes, vec_len, option_map};
+ghost use Rattle.realm_plan.specs.PlanView.{plan_view};
+ghost use Rattle.plan_replay.specs.Run.{step_after as nth_step, IsTurn, IsReportedTurn, IsReportedRun};
+
+use crate::answer::TurnAnswer;
+use crate::build_id::id_of;
+use crate::lines::push_turn;
+use crate::place::PlanCursor;
+use crate::turn::plan_turn;
+use page_arena::PageStore;
+use realm_host::Host;
+use realm_plan::{Plan, PlanStep, push_idle};
+use std::alloc::AllocError;
+
+/// The step of a build that comes after `done` others; None where it has no more.
+pub fn step_after(plan: &Plan, build: usize, done: usize) -> Option<&PlanStep>
+    ensures value { option_map (λ step. step.now) result ≡ nth_step (plan_view plan.now) build done }
+    ensures few { IfSome result (λ _. done < 1024) }
+{
+    match plan.builds.get(build) {
+        Some(steps) => steps.get(done),
+        None => None,
+    }
+}
+
+/// One turn of a build: its next step, if one is left, with what the host answered.
+pub fn take_turn<'a, S: PageStore>(
+    host: &mut Host<S>,
+    plan: &'a Plan,
+    places: &mut [PlanCursor; 8],
+    build: usize,
+) -> Option<(&'a PlanStep, TurnAnswer)>
+    requires { build < vec_len plan.now.builds }
+    ensures { IsTurn (plan_view plan.now) (record { host = host.old; places = places.old })
+        (record { build = build; told = option_map (λ told. (told.0.now, told.1)) result }) (record { host = host.new; places = places.new }) }
+{
+    let mut place = places[build];
+    let step = step_after(plan, build, place.done)?;
+    let answer = plan_turn(host, id_of(build), &mut place, step);
+    place.move_on();
+    places[build] = place;
+    Some((step, answer))
+}
+
+// One turn of a build, and its line.
+fn turn<S: PageStore>(
+    host: &mut Host<S>,
+    plan: &Plan,
+    places: &mut [PlanCursor; 8],
+    build: usize,
+    text: &mut String,
+) -> Result<(), AllocError>
+    requires { build < vec_len plan.now.builds }
+    ensures { OnOk result (IsReportedTurn (plan_view plan.now) (record { host = host.old; places = places.old }) build
+        (record { host = host.new; places = places.new }) (string_bytes text.old) (string_bytes text.new)) }
+{
+    match take_turn(host, plan, places, build) {
+        Some((step, answer)) => push_turn(text, id_of(build), step, answer),
+        None => push_idle(text, id_of(build)),
+    }
+}
+
+/// Does the turns of a plan, and appends their lines. At an `Err` allocation failed.
+pub fn run_turns<S: PageStore>(
+    host: &mut Host<S>,
+    plan: &Plan,
+    text: &mut String,
+) -> Result<(), AllocError>
+    ensures { OnOk result (IsReportedRun (plan_view plan.now) host.old host.new (string_bytes text.old) (string_bytes text.new)) }
+{
+    let mut places = [PlanCursor::first(); 8];
+    for build in &plan.order {
+        turn(host, plan, &mut places, build.number() as usize, text)?;
+    }
+    Ok(())
+}

@@ -1,0 +1,166 @@
+//! The turn of a step.
+ghost use Rattle.std.specs.Prelude.{◌≡◌};
+ghost use Rattle.realm_plan.specs.Asked.{asked};
+ghost use Rattle.plan_replay.specs.Turn.{to_go_back, IsCommandTurn, IsUndoTurn, IsMarkTurn, IsOneOfMany, IsTurnOfMany, IsToAbort, IsAbortTurn, IsStepTurn};
+
+use crate::answer::TurnAnswer;
+use crate::place::PlanCursor;
+use granule_addr::BuildId;
+use host_commands::Step;
+use page_arena::PageStore;
+use realm_host::{Cmd, Host, Refusal};
+use realm_plan::PlanStep;
+
+fn command_turn<S: PageStore>(host: &mut Host<S>, build: BuildId, cmd: &Cmd) -> TurnAnswer
+    ensures { IsCommandTurn host.old build cmd.now result host.new }
+{
+    match host.ask(build, cmd) {
+        Ok(reply) => TurnAnswer::Replied(reply),
+        Err(refusal) => TurnAnswer::Refused(refusal),
+    }
+}
+
+fn undo_turn<S: PageStore>(host: &mut Host<S>, build: BuildId) -> TurnAnswer
+    ensures { IsUndoTurn host.old build result host.new }
+{
+    match host.undo(build) {
+        Ok(undone) => TurnAnswer::Undone(undone.kind),
+        Err(refusal) => TurnAnswer::Refused(refusal),
+    }
+}
+
+fn mark_turn<S: PageStore>(host: &mut Host<S>, build: BuildId, place: &mut PlanCursor) -> TurnAnswer
+    ensures { IsMarkTurn host.old build place.old result host.new place.new }
+{
+    match host.mark(build) {
+        Ok(mark) => {
+            place.mark = Some(mark);
+            TurnAnswer::Marked(mark.length())
+        }
+        Err(refusal) => TurnAnswer::Refused(refusal),
+    }
+}
+
+// One undo, with `left` more to come.
+fn one_of_many<S: PageStore>(
+    host: &mut Host<S>,
+    build: BuildId,
+    place: &mut PlanCursor,
+    left: u16,
+) -> TurnAnswer
+    ensures { IsOneOfMany host.old build place.old left result host.new place.new }
+{
+    match host.undo(build) {
+        Ok(undone) => {
+            place.left = left;
+            if left == 0 {
+                TurnAnswer::Ended(undone.kind)
+            } else {
+                TurnAnswer::Undone(undone.kind)
+            }
+        }
+        Err(refusal) => {
+            place.left = 0;
+            TurnAnswer::Refused(refusal)
+        }
+    }
+}
+
+// The turn of a step that has `count` acts to undo, or is refused.
+fn turn_of_many<S: PageStore>(
+    host: &mut Host<S>,
+    build: BuildId,
+    place: &mut PlanCursor,
+    count: Result<u16, Refusal>,
+) -> TurnAnswer
+    ensures { IsTurnOfMany count host.old build place.old result host.new place.new }
+{
+    match count {
+        Ok(0) => TurnAnswer::Nothing,
+        Ok(count) => one_of_many(host, build, place, count - 1),
+        Err(refusal) => TurnAnswer::Refused(refusal),
+    }
+}
+
+// How many acts an abort has to undo. Its first turn begins it.
+fn to_abort<S: PageStore>(
+    host: &mut Host<S>,
+    build: BuildId,
+    place: &PlanCursor,
+) -> Result<u16, Refusal>
+    ensures { IsToAbort host.old build place.now result host.new }
+{
+    if place.left == 0 {
+        host.begin_abort(build)
+    } else {
+        Ok(place.left)
+    }
+}
+
+fn abort_turn<S: PageStore>(
+    host: &mut Host<S>,
+    build: BuildId,
+    place: &mut PlanCursor,
+) -> TurnAnswer
+    ensures { IsAbortTurn host.old build place.old result host.new place.new }
+{
+    let count = to_abort(host, build, place);
+    turn_of_many(host, build, place, count)
+}
+
+// How many acts a way back has to undo. Its first turn asks for those above the build's last mark.
+fn to_go_back<S: PageStore>(
+    host: &Host<S>,
+    build: BuildId,
+    place: &PlanCursor,
+) -> Result<u16, Refusal>
+    ensures { result ≡ to_go_back host.now build place.now }
+{
+    if place.left > 0 {
+        return Ok(place.left);
+    }
+    match place.mark {
+        Some(mark) => host.check_back(build, mark),
+        None => Err(Refusal::NothingToUndo),
+    }
+}
+
+fn back_turn<S: PageStore>(host: &mut Host<S>, build: BuildId, place: &mut PlanCursor) -> TurnAnswer
+    ensures { IsTurnOfMany (to_go_back host.old build place.old) host.old build place.old result host.new place.new }
+{
+    let count = to_go_back(host, build, place);
+    turn_of_many(host, build, place, count)
+}
+
+// The turn of a build's step, and what it tells.
+fn step_turn<S: PageStore>(
+    host: &mut Host<S>,
+    build: BuildId,
+    place: &mut PlanCursor,
+    step: &Step,
+) -> TurnAnswer
+    ensures { IsStepTurn host.old build place.old step.now result host.new place.new }
+{
+    match step {
+        Step::Ask(cmd) => command_turn(host, build, cmd),
+        Step::Undo => undo_turn(host, build),
+        Step::Abort => abort_turn(host, build, place),
+        Step::Mark => mark_turn(host, build, place),
+        Step::Back => back_turn(host, build, place),
+    }
+}
+
+/// The turn of a step of a build's plan, and what it tells. The place says afterwards how many undos of the step are left.
+pub fn plan_turn<S: PageStore>(
+    host: &mut Host<S>,
+    build: BuildId,
+    place: &mut PlanCursor,
+    step: &PlanStep,
+) -> TurnAnswer
+    ensures { IsStepTurn host.old build place.old (asked step.now) result host.new place.new }
+{
+    match step {
+        PlanStep::Whole(step) => step_turn(host, build, place, step),
+        PlanStep::WidthLeftOut { .. } => step_turn(host, build, place, &step.asked()),
+    }
+}

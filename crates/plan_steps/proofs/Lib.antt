@@ -1,5 +1,0 @@
--- words and their numbers
-pub mod Auxiliaries
-pub mod StepMeans
-pub mod StepSpells
-pub mod StepTexts

@@ -1,4 +1,0 @@
-pub mod Steps
-pub mod Puts
-pub mod Rows
-pub mod InSlots

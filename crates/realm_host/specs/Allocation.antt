@@ -1,0 +1,53 @@
+-- What is picked for a command, the act that it asks for then, and what comes of it.
+use Rattle.std.specs.Prelude.{◌≡◌, ℕ, List, ◌∷◌, map, Option, Err, unwrap_or, slice_index}
+use Rattle.std.specs.List.{filter_map}
+use Rattle.realm_model.specs.declared.act.Act.{Act}
+use Rattle.realm_model.specs.declared.rmi.Rmi.{Rmi}
+use Rattle.realm_model.specs.Command.Granule.{host_peek}
+use Rattle.realm_model.specs.Machine.{seen, cell_at}
+use Rattle.realm_model.specs.Update.{Outcome}
+use Rattle.realm_model.specs.World.{realm_of}
+use Rattle.realm_model.specs.Step.{used_vmids}
+use Rattle.realm_model.specs.Running.{next_number}
+use Rattle.host_commands.specs.declared.cmd.Cmd.{Cmd}
+use Rattle.host_commands.specs.declared.cmd.Cmd.TheVariants.{Peek}
+use Rattle.host_commands.specs.declared.allocated.Allocated.{Allocated}
+use Rattle.host_commands.specs.Needs.{operands}
+use Rattle.host_commands.specs.Acts.{act_of}
+use Rattle.host_commands.specs.Laws.{outcome_of_act}
+use Rattle.host_ledger.specs.View.{HostView, world_of, granule_of_page}
+use Rattle.host_ledger.specs.Vmids.{lowest_vmid}
+
+-- the granules of the pages that a command names, in their order
+abbrev pub granules_named : HostView → ℕ → Cmd → List ℕ
+granules_named host build cmd = filter_map (λ page. granule_of_page host build page) (operands cmd)
+
+-- the byte that a Peek reads; 0 for any other command
+abbrev pub byte_read : HostView → Cmd → List ℕ → ℕ
+byte_read host (Peek page offset) (granule ∷ others) = slice_index (cell_at (world_of host).machine granule).bytes offset
+byte_read host _ _ = 0
+
+-- the lowest VMID that no realm has, the next number of the build's realm, and the byte that is there; a number that
+-- does not matter where there is none
+abbrev pub allocated_for : HostView → ℕ → Cmd → List ℕ → Allocated
+allocated_for host build cmd granules = record {
+  vmid = unwrap_or (lowest_vmid host) 1;
+  number = next_number (realm_of build (world_of host));
+  byte = byte_read host cmd granules;
+}
+
+-- the act of a command but a Take, its page numbers turned into granules by the build's pages
+abbrev pub act_asked : HostView → ℕ → Cmd → Option Act
+act_asked host build cmd =
+    act_of cmd (granules_named host build cmd) (allocated_for host build cmd (granules_named host build cmd))
+
+-- what comes of that act in the world
+abbrev pub outcome_asked : HostView → ℕ → Cmd → Outcome
+outcome_asked host build cmd =
+    outcome_of_act host.limits (used_vmids (world_of host).machine) (act_asked host build cmd) (realm_of build (world_of host))
+    (map (seen (world_of host).machine) (granules_named host build cmd))
+
+-- the monitor refuses to read the byte of a Peek
+abbrev pub IsPeekRefused : HostView → Cmd → List ℕ → Rmi → Type 0
+IsPeekRefused host (Peek page offset) (granule ∷ others) rmi = host_peek (seen (world_of host).machine granule) ≡ Err rmi
+IsPeekRefused host _ _ rmi = ⊥

@@ -1,0 +1,12 @@
+use Rattle.std.proofs.Common.{ℕ}
+use Rattle.decimal_text.specs.Written.{u8}
+use Rattle.decimal_text.proofs.Rows.{three_mapped}
+use Rattle.host_commands.specs.declared.cmd.Cmd.TheVariants.{Realm}
+use Rattle.realm_plan.specs.declared.operands.Page.{Page}
+use Rattle.realm_plan.specs.Steps.{whole}
+use Rattle.realm_plan.specs.StepsWritten.{page}
+use Rattle.realm_plan.proofs.command.whole_realm.Goals as goal
+
+pub returns-in-Some-made_of : goal.returns-in-Some-made_of
+returns-in-Some-made_of c =
+    three_mapped (λ (it : Page × Page × ℕ). whole (Realm it.0.0 it.1.0 it.2)) page page u8 (λ k l m. (record { 0 = k }, record { 0 = l }, m)) c.args.numbers.now _ c.in-Some-made_of.ensures

@@ -1,0 +1,11 @@
+-- What a step asks of the host.
+use Rattle.host_commands.specs.declared.cmd.Cmd.TheVariants.{Realm}
+use Rattle.host_commands.specs.declared.cmd.Step.{Step}
+use Rattle.host_commands.specs.declared.cmd.Step.TheVariants.{Ask}
+use Rattle.realm_plan.specs.declared.step.PlanStep.{PlanStep}
+use Rattle.realm_plan.specs.declared.step.PlanStep.TheVariants.{Whole, WidthLeftOut}
+
+-- a width that is left out is 39
+abbrev pub asked : PlanStep → Step
+asked (Whole step) = step
+asked (WidthLeftOut rd root) = Ask (Realm rd root 39)

@@ -1,0 +1,156 @@
+//! The step that a word and its numbers are.
+ghost use Rattle.std.specs.Prelude.{◌≡◌, codes};
+ghost use Rattle.decimal_text.specs.Rows.{none, one};
+ghost use Rattle.decimal_text.specs.Written.{u16};
+ghost use Rattle.realm_plan.specs.declared.step.PlanStep.TheVariants.{Whole};
+ghost use Rattle.realm_plan.specs.Steps.{page_step_at, short_realm_at, whole_realm_at, realm_of_numbers, realm_step_at, table_step_at, rec_of_numbers, rec_step_at, way_back_step_at, step_at};
+
+use crate::operands::{MOST_PAGE, Offset, Page};
+use crate::step::PlanStep;
+use decimal_text::{
+    Operand, four_operands, made_of, one_operand, three_operands, two_operands, up_to,
+};
+use granule_addr::RecNo;
+use host_commands::{Cmd, Step};
+
+/// The most auxiliary pages of a REC.
+const MOST_AUXILIARIES: usize = 16;
+
+// The step that asks for the command.
+macro_rules! ask {
+    ($kind:ident { $($field:tt)* }) => {
+        PlanStep::Whole(Step::Ask(Cmd::$kind { $($field)* }))
+    };
+}
+
+fn page_step(word: &str, numbers: &[u32]) -> Option<PlanStep>
+    ensures { result ≡ page_step_at word.now numbers.now }
+{
+    match word {
+        "take" => made_of!(one_operand(numbers), order => ask!(Take { order })),
+        "fill" =>
+            made_of!(two_operands(numbers), (Page(page), value) => ask!(Fill { page, value })),
+        "peek" =>
+            made_of!(two_operands(numbers), (Page(page), Offset(offset)) => ask!(Peek { page, offset })),
+        "delegate" => made_of!(one_operand(numbers), Page(page) => ask!(Delegate { page })),
+        _ => None,
+    }
+}
+
+// A realm whose width is left out.
+fn short_realm(numbers: &[u32]) -> Option<PlanStep>
+    ensures { result ≡ short_realm_at numbers.now }
+{
+    made_of!(two_operands(numbers), (Page(rd), Page(root)) => PlanStep::WidthLeftOut { rd, root })
+}
+
+fn whole_realm(numbers: &[u32]) -> Option<PlanStep>
+    ensures { result ≡ whole_realm_at numbers.now }
+{
+    made_of!(three_operands(numbers), (Page(rd), Page(root), width) => ask!(Realm { rd, root, width }))
+}
+
+fn realm(numbers: &[u32]) -> Option<PlanStep>
+    ensures { result ≡ realm_of_numbers numbers.now }
+{
+    short_realm(numbers).or_else(|| whole_realm(numbers))
+}
+
+fn realm_step(word: &str, numbers: &[u32]) -> Option<PlanStep>
+    ensures { result ≡ realm_step_at word.now numbers.now }
+{
+    match word {
+        "realm" => realm(numbers),
+        "activate" => word_alone(Step::Ask(Cmd::Activate), numbers),
+        _ => None,
+    }
+}
+
+fn table_step(word: &str, numbers: &[u32]) -> Option<PlanStep>
+    ensures { result ≡ table_step_at word.now numbers.now }
+{
+    match word {
+        "rtt" =>
+            made_of!(three_operands(numbers), (Page(page), ipa, level) => ask!(Rtt { page, ipa, level })),
+        "ripas" => made_of!(two_operands(numbers), (ipa, count) => ask!(Ripas { ipa, count })),
+        "data" =>
+            made_of!(three_operands(numbers), (Page(page), ipa, Page(source)) => ask!(Data { page, ipa, source })),
+        "unknown" =>
+            made_of!(two_operands(numbers), (Page(page), ipa) => ask!(Unknown { page, ipa })),
+        _ => None,
+    }
+}
+
+// A REC, and its auxiliary pages.
+fn rec(numbers: &[u32]) -> Option<PlanStep>
+    ensures { result ≡ rec_of_numbers numbers.now }
+{
+    let [page, more @ ..] = numbers else {
+        return None;
+    };
+    let Page(page) = Page::from_number(*page)?;
+    let auxiliaries = up_to::<MOST_AUXILIARIES>(more, MOST_PAGE)?;
+    Some(ask!(Rec { page, auxiliaries }))
+}
+
+fn rec_number(numbers: &[u32]) -> Option<RecNo>
+    ensures { result ≡ one u16 (λ number. number) numbers.now }
+{
+    made_of!(one_operand(numbers), number => RecNo::new(number))
+}
+
+fn poke(numbers: &[u32]) -> Option<PlanStep>
+    ensures { result ≡ rec_step_at (codes "poke") numbers.now }
+{
+    made_of!(four_operands(numbers), (number, ipa, Offset(offset), value) => ask!(Poke {
+        number: RecNo::new(number),
+        ipa,
+        offset,
+        value,
+    }))
+}
+
+fn rec_step(word: &str, numbers: &[u32]) -> Option<PlanStep>
+    ensures { result ≡ rec_step_at word.now numbers.now }
+{
+    match word {
+        "rec" => rec(numbers),
+        "enter" => made_of!(rec_number(numbers), number => ask!(Enter { number })),
+        "exit" => made_of!(rec_number(numbers), number => ask!(Exit { number })),
+        "poke" => poke(numbers),
+        _ => None,
+    }
+}
+
+// The step, if it is written as a word alone.
+fn word_alone(step: Step, numbers: &[u32]) -> Option<PlanStep>
+    ensures { result ≡ none (Whole step) numbers.now }
+{
+    match numbers {
+        [] => Some(PlanStep::Whole(step)),
+        _ => None,
+    }
+}
+
+fn way_back_step(word: &str, numbers: &[u32]) -> Option<PlanStep>
+    ensures { result ≡ way_back_step_at word.now numbers.now }
+{
+    match word {
+        "undo" => word_alone(Step::Undo, numbers),
+        "abort" => word_alone(Step::Abort, numbers),
+        "mark" => word_alone(Step::Mark, numbers),
+        "back" => word_alone(Step::Back, numbers),
+        _ => None,
+    }
+}
+
+/// The step that the word and its numbers are.
+pub fn step(word: &str, numbers: &[u32]) -> Option<PlanStep>
+    ensures { result ≡ step_at word.now numbers.now }
+{
+    page_step(word, numbers)
+        .or_else(|| realm_step(word, numbers))
+        .or_else(|| table_step(word, numbers))
+        .or_else(|| rec_step(word, numbers))
+        .or_else(|| way_back_step(word, numbers))
+}

@@ -1,0 +1,93 @@
+//! Lines of an output that tell no answer. Each is appended whole; at an `Err` the text may have got a part of it.
+ghost use Rattle.std.specs.Prelude.{◌≡◌, ◌++◌, OnOk, string_bytes};
+ghost use Rattle.realm_plan.specs.Lines.{state_word, sum_numbers, realm_word, idle_line, page_line, realm_line, free_line};
+
+use crate::numbers::{MOST_NUMBERS, one};
+use arrayvec::ArrayVec;
+use decimal_text::NumbersText;
+use granule_addr::{BuildId, Vmid};
+use realm_model::{GranuleState, RealmState};
+use std::alloc::AllocError;
+
+/// The name of a granule's state. RMM 1.0, Granule state.
+pub fn state_word(state: GranuleState) -> &'static str
+    ensures { result.now ≡ state_word state }
+{
+    match state {
+        GranuleState::Undelegated => "UNDELEGATED",
+        GranuleState::Delegated => "DELEGATED",
+        GranuleState::Rd => "RD",
+        GranuleState::Rec => "REC",
+        GranuleState::RecAux => "REC_AUX",
+        GranuleState::Data => "DATA",
+        GranuleState::Rtt => "RTT",
+    }
+}
+
+// The sum of a granule's bytes, where it is told.
+fn sum_numbers(state: GranuleState, sum: u32) -> ArrayVec<u32, MOST_NUMBERS>
+    ensures { result.items ≡ sum_numbers state sum }
+{
+    match state {
+        GranuleState::Undelegated | GranuleState::Data => one(sum),
+        _ => ArrayVec::new(),
+    }
+}
+
+/// The name of a realm's state. RMM 1.0, Realm state.
+pub fn realm_word(state: RealmState) -> &'static str
+    ensures { result.now ≡ realm_word state }
+{
+    match state {
+        RealmState::New => "NEW",
+        RealmState::Active => "ACTIVE",
+    }
+}
+
+/// Appends the line of a turn of a build that has no step left.
+pub fn push_idle(text: &mut String, build: BuildId) -> Result<(), AllocError>
+    ensures { OnOk result (string_bytes text.new ≡ string_bytes text.old ++ idle_line build) }
+{
+    writeln!(text, "{} - idle", build.number())
+}
+
+/// Appends the line of a build's page in the map. The sum of its bytes is told where it is UNDELEGATED or DATA.
+pub fn push_page(
+    text: &mut String,
+    build: BuildId,
+    page: u16,
+    state: GranuleState,
+    sum: u32,
+) -> Result<(), AllocError>
+    ensures { OnOk result (string_bytes text.new ≡ string_bytes text.old ++ page_line build page state sum) }
+{
+    let build = build.number();
+    let word = state_word(state);
+    let numbers = sum_numbers(state, sum);
+    writeln!(
+        text,
+        "{build} page {page} {word}{}",
+        NumbersText(numbers.as_slice())
+    )
+}
+
+/// Appends the line of a build's realm in the map.
+pub fn push_realm(
+    text: &mut String,
+    build: BuildId,
+    state: RealmState,
+    vmid: Vmid,
+) -> Result<(), AllocError>
+    ensures { OnOk result (string_bytes text.new ≡ string_bytes text.old ++ realm_line build state vmid) }
+{
+    let build = build.number();
+    let word = realm_word(state);
+    writeln!(text, "{build} realm {word} vmid {}", vmid.number())
+}
+
+/// Appends the last line of the map: how many pages nobody leases.
+pub fn push_free(text: &mut String, count: u16) -> Result<(), AllocError>
+    ensures { OnOk result (string_bytes text.new ≡ string_bytes text.old ++ free_line count) }
+{
+    writeln!(text, "free {count}")
+}

@@ -1,0 +1,47 @@
+//! What the numbers of a step can be, besides all those of a type.
+use decimal_text::Operand;
+use granule_addr::PageOff;
+
+/// The greatest number of a build's page, as many as the largest machine has.
+pub const MOST_PAGE: u16 = 4095;
+
+/// The greatest offset in a page.
+const MOST_OFFSET: u32 = 4095;
+
+/// The number of a build's page.
+#[derive(Clone, Copy)]
+pub struct Page(pub u16);
+
+impl Operand for Page {
+    ghost use Rattle.realm_plan.specs.StepsWritten.{page};
+
+    ghost maximum = { page };
+
+    ghost of = { λ n. record { 0 = n } };
+
+    fn from_number(number: u32) -> Option<Page> {
+        if number > u32::from(MOST_PAGE) {
+            return None;
+        }
+        Some(Page(number as u16))
+    }
+}
+
+/// The offset of a byte in a page.
+#[derive(Clone, Copy)]
+pub struct Offset(pub PageOff);
+
+impl Operand for Offset {
+    ghost use Rattle.realm_plan.specs.StepsWritten.{page_offset};
+
+    ghost maximum = { page_offset };
+
+    ghost of = { λ n. record { 0 = n } };
+
+    fn from_number(number: u32) -> Option<Offset> {
+        if number > MOST_OFFSET {
+            return None;
+        }
+        Some(Offset(PageOff::new(number as u16)?))
+    }
+}

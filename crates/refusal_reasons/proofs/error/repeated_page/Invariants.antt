@@ -1,5 +1,0 @@
-use Rattle.std.proofs.Common.{length}
-use Rattle.refusal_reasons.proofs.error.repeated_page.Given as goal
-
-abbrev pub decreases-pages : goal.decreases-pages
-decreases-pages l = length l.rest

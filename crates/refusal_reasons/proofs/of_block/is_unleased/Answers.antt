@@ -1,5 +1,0 @@
-use Rattle.std.proofs.Common.{arith}
-use Rattle.refusal_reasons.proofs.of_block.is_unleased.Goals as goal
-
-pub returns-in-Some : goal.returns-in-Some
-returns-in-Some g c = grind arith

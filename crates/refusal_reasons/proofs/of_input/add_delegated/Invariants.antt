@@ -1,6 +1,0 @@
-use Rattle.std.proofs.Common.{◌≡◌, ◌++◌, map, take}
-use Rattle.refusal_reasons.specs.OfInput.{page_delegated}
-use Rattle.refusal_reasons.proofs.of_input.add_delegated.Given as goal
-
-abbrev pub invariant-loop-page : goal.invariant-loop-page
-invariant-loop-page g l = l.checks.items ≡ l.fn.checks.items ++ map (page_delegated l.host l.build) (take l.page-index l.pages)

@@ -1,5 +1,0 @@
-use Rattle.std.proofs.Common.{refl}
-use Rattle.refusal_reasons.proofs.of_input.input_check.Goals as goal
-
-pub returns : goal.returns
-returns c = refl

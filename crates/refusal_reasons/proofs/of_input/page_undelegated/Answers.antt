@@ -1,5 +1,0 @@
-use Rattle.std.proofs.Common.{arith}
-use Rattle.refusal_reasons.proofs.of_input.page_undelegated.Goals as goal
-
-pub returns : goal.returns
-returns g c = grind arith

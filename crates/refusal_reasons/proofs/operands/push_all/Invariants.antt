@@ -1,5 +1,0 @@
-use Rattle.std.proofs.Common.{◌≡◌, ◌++◌, take}
-use Rattle.refusal_reasons.proofs.operands.push_all.Given as goal
-
-abbrev pub invariant-loop-page : goal.invariant-loop-page
-invariant-loop-page l = l.pages.items ≡ l.fn.pages.items ++ take l.page-index l.more

@@ -1,0 +1,49 @@
+//! The GIC fields of a run page: gicv3_hcr, and behind it 16 list registers.
+ghost use Rattle.std.specs.Prelude.{◌≡◌, ◌<◌, length};
+ghost use Rattle.rmi_abi.specs.Gic as gic;
+
+use page_arena::word_in;
+
+/// The GIC fields that a host gives at an entry. RMM 1.0, RmiRecEnter.
+pub struct GicFields;
+
+impl GicFields {
+    /// gicv3_hcr of a run page.
+    pub fn hcr(page: &[u8]) -> u64
+        requires { length page.now ≡ 4096 }
+        ensures { result ≡ gic.gicv3_hcr_in page.now }
+    {
+        word_in(page, 96)
+    }
+
+    /// List register `k` of a run page.
+    pub fn lr(page: &[u8], k: u8) -> u64
+        requires page { length page.now ≡ 4096 }
+        requires below { k < 16 }
+        ensures { result ≡ gic.gicv3_lr_in page.now k }
+    {
+        word_in(page, 97 + k as usize)
+    }
+
+    /// Whether a host may set gicv3_hcr so.
+    pub fn is_hcr(hcr: u64) -> bool
+        ensures { result ≡ gic.is_gicv3_hcr hcr }
+    {
+        hcr % 2 == 0 && hcr / 0x100 % 0x40 == 0 && hcr / 0x8000 == 0
+    }
+
+    /// Whether a host may set list register `k` as a run page has it. `num_lrs` is the number of the last one that there
+    /// is.
+    pub fn is_lr(num_lrs: u8, page: &[u8], k: u8) -> bool
+        requires page { length page.now ≡ 4096 }
+        requires below { k < 16 }
+        ensures { result ≡ gic.is_gicv3_lr num_lrs page.now k }
+    {
+        let lr = GicFields::lr(page, k);
+        if k <= num_lrs {
+            lr / 0x2000_0000_0000_0000 % 2 == 0
+        } else {
+            lr == 0
+        }
+    }
+}

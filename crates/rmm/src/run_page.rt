@@ -1,0 +1,127 @@
+//! Registers of a REC in its page and in its run page.
+ghost use Rattle.std.specs.Prelude.{◌≡◌, ◌+◌, ◌<◌, ◌≤◌, length};
+ghost use Rattle.rmi_abi.specs.Gic.{is_gicv3_lr};
+ghost use Rattle.rmm_model.specs.Machine.{granule_count, page_in};
+ghost use Rattle.rmm_model.specs.Command.RecCreate.{all_from};
+ghost use Rattle.rmm_model.specs.Command.RecEnter as entering;
+
+use crate::host::host_granule;
+use granule_addr::Gran;
+use page_arena::{PageStore, word_in};
+use rmi_abi::{GicFields, RecExit, RmmSettings};
+use rmm_granules::Granules;
+
+// Words `first` to `first + count` of a page become words `place` to `place + count` of another one.
+fn copy_words<S: PageStore>(
+    granules: &mut Granules<S>,
+    from: Gran,
+    first: u16,
+    to: Gran,
+    place: u16,
+    count: u16,
+)
+    requires from { from < granule_count granules.old }
+    requires to { to < granule_count granules.old }
+    requires first { first + count ≤ 512 }
+    requires place { place + count ≤ 512 }
+    ensures machine { granules.new ≡ entering.with_copied granules.old from first to place count }
+    ensures count { granule_count granules.new ≡ granule_count granules.old }
+{
+    for k in 0..count {
+        let word = word_in(granules.page(from), (first + k) as usize);
+        granules.set_word(to, place + k, word);
+    }
+}
+
+// The general-purpose registers of a REC are those that the host gives.
+pub fn copy_gprs<S: PageStore>(granules: &mut Granules<S>, g: Gran, run: Gran)
+    requires inside { g < granule_count granules.old }
+    requires run { run < granule_count granules.old }
+    ensures machine { granules.new ≡ entering.with_gprs granules.old g run }
+    ensures count { granule_count granules.new ≡ granule_count granules.old }
+{
+    copy_words(granules, run, 64, g, 0, 31);
+}
+
+// ---- GIC fields
+
+// A REC has the GIC fields of its run page, if they are checked.
+#[tactic(auto, unfolding(rmm_model::specs::Command::RecEnter::with_gic))]
+pub fn copy_gic<S: PageStore>(granules: &mut Granules<S>, g: Gran, run: Gran)
+    requires inside { g < granule_count granules.old }
+    requires run { run < granule_count granules.old }
+    ensures machine { granules.new ≡ entering.with_gic granules.old g run }
+    ensures count { granule_count granules.new ≡ granule_count granules.old }
+{
+    if granules.settings().checks_gic {
+        copy_words(granules, run, 96, g, 192, 17);
+    }
+}
+
+// The run page of a REC has its GIC fields, if they are checked.
+#[tactic(auto, unfolding(rmm_model::specs::Command::RecEnter::with_exit_gic))]
+fn write_gic<S: PageStore>(granules: &mut Granules<S>, g: Gran, run: Gran)
+    requires inside { g < granule_count granules.old }
+    requires run { run < granule_count granules.old }
+    ensures machine { granules.new ≡ entering.with_exit_gic granules.old g run }
+    ensures count { granule_count granules.new ≡ granule_count granules.old }
+{
+    if granules.settings().checks_gic {
+        copy_words(granules, g, 192, run, 352, 17);
+    }
+}
+
+// Whether a host may set the list registers as a run page has them.
+fn are_lrs(num_lrs: u8, page: &[u8]) -> bool
+    requires { length page.now ≡ 4096 }
+    ensures { result ≡ all_from (is_gicv3_lr num_lrs page.now) 0 16 }
+{
+    for k in 0..16u8 {
+        if !GicFields::is_lr(num_lrs, page, k) {
+            return false;
+        }
+    }
+    true
+}
+
+// Whether the GIC fields of a run page are checked, and a host may not set them so.
+#[tactic(auto, unfolding(rmm_model::specs::Command::RecEnter::is_gic_wrong))]
+fn refuses_gic(settings: &RmmSettings, page: &[u8]) -> bool
+    requires { length page.now ≡ 4096 }
+    ensures { result ≡ entering.is_gic_wrong settings.now page.now }
+{
+    settings.checks_gic && !(GicFields::is_hcr(GicFields::hcr(page)) && are_lrs(settings.lrs, page))
+}
+
+// Whether the GIC fields of a granule are checked, and a host may not set them so.
+pub fn is_gic_wrong<S: PageStore>(granules: &Granules<S>, run: Gran) -> bool
+    requires { run < granule_count granules.now }
+    ensures { result ≡ entering.is_gic_wrong granules.now.settings (page_in granules.now run) }
+{
+    refuses_gic(granules.settings(), granules.page(run))
+}
+
+// ---- exits
+
+// Writes an exit into a page.
+fn write_exit<S: PageStore>(granules: &mut Granules<S>, page: Gran, exit: &RecExit)
+    requires { page < granule_count granules.old }
+    ensures machine { granules.new ≡ entering.with_exit_words granules.old page exit.now 256 }
+    ensures count { granule_count granules.new ≡ granule_count granules.old }
+{
+    for k in 0..256u16 {
+        granules.set_word(page, 256 + k, exit.word(256 + k));
+    }
+}
+
+// Writes an exit of a REC into the run page at an address, if that is a page of the host.
+pub fn write_run<S: PageStore>(granules: &mut Granules<S>, g: Gran, run: u64, exit: &RecExit)
+    requires { g < granule_count granules.old }
+    ensures machine { granules.new ≡ entering.with_exit granules.old g run exit.now }
+    ensures count { granule_count granules.new ≡ granule_count granules.old }
+{
+    if let Some(page) = host_granule(granules, run) {
+        write_exit(granules, page, exit);
+        write_gic(granules, g, page);
+    }
+}

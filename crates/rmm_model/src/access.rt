@@ -1,0 +1,89 @@
+//! Sizes of a guest's accesses.
+ghost use Rattle.std.specs.Prelude.{◌≡◌, ◌+◌, ◌≤◌, length};
+ghost use Rattle.rmm_model.specs.Access as accesses;
+
+use page_arena::word_in;
+
+/// The size of an access. Arm Architecture Reference Manual, SAS of ISS encoding for an exception from a Data Abort.
+#[derive(Clone, Copy, Debug, PartialEq, Eq)]
+pub enum AccessSize {
+    Byte,
+    Halfword,
+    Word,
+    Doubleword,
+}
+
+impl AccessSize {
+    /// The size of that many bytes; a number that is none is one byte.
+    pub fn of(bytes: u64) -> AccessSize
+        ensures { result ≡ accesses.access_size bytes }
+    {
+        match bytes {
+            2 => AccessSize::Halfword,
+            4 => AccessSize::Word,
+            8 => AccessSize::Doubleword,
+            _ => AccessSize::Byte,
+        }
+    }
+
+    /// SAS of a data abort, at its place in ESR_EL2.
+    pub fn syndrome(self) -> u64
+        ensures value { result ≡ accesses.syndrome self }
+        ensures below { result ≤ 0xC0_0000 }
+    {
+        match self {
+            AccessSize::Byte => 0,
+            AccessSize::Halfword => 0x40_0000,
+            AccessSize::Word => 0x80_0000,
+            AccessSize::Doubleword => 0xC0_0000,
+        }
+    }
+
+    /// As many of the low bytes of a value as an access has.
+    pub fn low(self, value: u64) -> u64
+        ensures { result ≡ accesses.low_bytes self value }
+    {
+        match self {
+            AccessSize::Byte => value % 0x100,
+            AccessSize::Halfword => value % 0x1_0000,
+            AccessSize::Word => value % 0x1_0000_0000,
+            AccessSize::Doubleword => value,
+        }
+    }
+
+    /// The value that an access at an address reads from its page.
+    #[tactic(auto, unfolding(crate::specs::Access::value_in))]
+    pub fn read(self, page: &[u8], ipa: u64) -> u64
+        requires { length page.now ≡ 4096 }
+        ensures { result ≡ accesses.value_in page.now self ipa }
+    {
+        let offset = (ipa % 4096) as usize;
+        match self {
+            AccessSize::Byte => page[offset] as u64,
+            AccessSize::Halfword => two_bytes(page, offset / 2 * 2),
+            AccessSize::Word => four_bytes(page, offset / 4 * 4),
+            AccessSize::Doubleword => word_in(page, offset / 8),
+        }
+    }
+}
+
+// The value of two bytes of a page.
+#[tactic(auto, unfolding(crate::specs::Access::two_bytes_in))]
+fn two_bytes(page: &[u8], offset: usize) -> u64
+    requires page { length page.now ≡ 4096 }
+    requires inside { offset + 2 ≤ 4096 }
+    ensures value { result ≡ accesses.two_bytes_in page.now offset }
+    ensures below { result ≤ 0xFFFF }
+{
+    page[offset] as u64 + page[offset + 1] as u64 * 0x100
+}
+
+// The value of four bytes of a page.
+#[tactic(auto, unfolding(crate::specs::Access::four_bytes_in))]
+fn four_bytes(page: &[u8], offset: usize) -> u64
+    requires page { length page.now ≡ 4096 }
+    requires inside { offset + 4 ≤ 4096 }
+    ensures { result ≡ accesses.four_bytes_in page.now offset }
+{
+    two_bytes(page, offset) + two_bytes(page, offset + 2) * 0x1_0000
+}

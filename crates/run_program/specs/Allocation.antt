@@ -1,0 +1,15 @@
+-- What an act holds of what was picked for it.
+use Rattle.std.specs.Prelude.{ℕ}
+use Rattle.host_commands.specs.declared.allocated.Allocated.{Allocated}
+use Rattle.realm_model.specs.declared.act.Act.{Act}
+use Rattle.realm_model.specs.declared.act.Act.TheVariants.{Peek, Realm, Rec}
+
+abbrev pub allocation : ℕ → ℕ → ℕ → Allocated
+allocation vmid number byte = record { vmid = vmid; number = number; byte = byte }
+
+-- what was picked for an act; what the act does not hold may be anything
+abbrev pub allocated_in : Act → Allocated
+allocated_in (Realm rd root vmid) = allocation vmid 0 0
+allocated_in (Rec granule auxiliaries number) = allocation 1 number 0
+allocated_in (Peek granule offset byte) = allocation 1 0 byte
+allocated_in _ = allocation 1 0 0

@@ -1,5 +1,0 @@
-use Rattle.told_device.proofs.Nexts.{first_of_part}
-use Rattle.told_device.proofs.lines.Lines.take_byte.Goals as goal
-
-pub returns : goal.returns
-returns c = first_of_part c.self.inside.buffer c.self.inside.start c.self.inside.end c.args.self.now c.self.view_is c.requires

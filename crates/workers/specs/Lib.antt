@@ -1,6 +1,0 @@
-pub mod Exchange
-pub mod Standing
-pub mod Asked
-pub mod Report
-pub mod Stretch
-pub mod Events
