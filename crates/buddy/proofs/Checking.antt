@@ -1,4 +1,4 @@
--- One order is looked at: a block in hand is split, or a block comes to hand, or there is none of that order.
+-- The visit of one order: a block in hand is split, or a block comes to hand, or there is none of that order.
 use Rattle.std.proofs.Common.{◌≡◌, ◌≢◌, ℕ, ◌+◌, ◌%◌, ◌^◌, ◌<◌, ◌≤◌, ◌↔◌, Bool, true, false, List, length, set, inl, inr, refl, sym, ap, subst, ◌∙◌, arith}
 use Rattle.std.specs.Prelude.{IsTrue}
 use Rattle.std.specs.Bool.{OnTrue}

@@ -1,4 +1,4 @@
--- A block in hand is joined by its other half, or goes back.
+-- The merge of a block in hand with its other half, or its return to the lists.
 use Rattle.std.proofs.Common.{◌≡◌, ◌≢◌, ℕ, ◌+◌, ◌<◌, ◌≤◌, Bool, List, length, set, inl, inr, subst, arith}
 use Rattle.std.proofs.lemmas.List.{get_or-set_same}
 use Rattle.std.proofs.lemmas.Nat.{pow_pos}

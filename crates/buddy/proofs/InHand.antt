@@ -1,4 +1,4 @@
--- A block in hand is split and merged.
+-- The split and the merge of a block in hand.
 use Rattle.std.proofs.Common.{◌≡◌, ◌≢◌, ℕ, ◌+◌, ◌^◌, ◌<◌, ◌≤◌, Bool, true, false, List, length, set, sym, subst, ◌∙◌, arith}
 use Rattle.std.proofs.lemmas.Nat.{pow_pos}
 use Rattle.page_arena.specs.Block.{IsFreeBlock, IsTakenBlock, with_taken, with_given}

@@ -1,4 +1,4 @@
--- A block is cut out of the first one of the lowest order that has one.
+-- The cut of a block out of the first one of the lowest order that has one.
 use Rattle.std.proofs.Common.{◌≡◌, ℕ, ◌+◌, ◌%◌, ◌^◌, ◌<◌, ◌≤◌, Bool, true, List, length, inl, inr, subst, arith}
 use Rattle.std.specs.Prelude.{Option, None, Some, IfNone}
 use Rattle.std.proofs.Math.Pow.{pow_mono}

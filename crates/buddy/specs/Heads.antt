@@ -1,9 +1,9 @@
--- Which granules head a free block, and of which order.
+-- The heads of free blocks: for each granule the order of the block that it heads.
 use Rattle.std.specs.Prelude.{◌≡◌, ℕ, ◌+◌, ◌*◌, ◌/◌, ◌^◌, ◌≤◌, ◌==◌, ◌↔◌, Bool, List, map, length, filter, slice_index_or, bit_xor}
 use Rattle.std.specs.List.{list_any, range_with_len}
 use Rattle.buddy.specs.MaximalBlock.{IsMaximalBlock}
 
--- the head of a granule: one more than the order of the block that the granule heads, or 0 where it heads none
+-- the head of a granule: one more than the order of the block that the granule heads, or 0 if it heads none
 abbrev pub head_at : List ℕ → ℕ → ℕ
 head_at heads granule = slice_index_or heads granule 0
 
@@ -28,7 +28,7 @@ pub record AreMaximal (heads : List ℕ) (flags : List Bool) : Type 0 where
   pub sized : length heads ≡ length flags
   pub each : (order first : ℕ) → (head_at heads first ≡ order + 1) ↔ IsMaximalBlock flags order first
 
--- The heads of a machine, and how many of its granules are free.
+-- The heads of a machine, with the number of its free granules.
 pub record IsIndex (count : ℕ) (heads : List ℕ) : Type 0 where
   pub few : length heads ≤ 4096
   pub lists : AreMaximal heads (held heads)

@@ -4,7 +4,7 @@ use Rattle.page_arena.specs.Block.{IsFreeBlock, with_taken}
 use Rattle.buddy.specs.MaximalBlock.{IsMaximalBlock}
 use Rattle.buddy.specs.Heads.{start_at, AreMaximal}
 
--- a granule lies in a block
+-- a granule is inside a block
 abbrev pub LiesIn : ℕ → ℕ → ℕ → Type 0
 LiesIn granule order first = (first ≤ granule) × (granule < first + 2 ^ order)
 
@@ -17,7 +17,7 @@ pub record InHand (heads : List ℕ) (flags : List Bool) (order first : ℕ) : T
 abbrev pub AllBelow : List Bool → ℕ → ℕ → Type 0
 AllBelow flags granule order = (larger start : ℕ) → IsMaximalBlock flags larger start → LiesIn granule larger start → larger < order
 
--- `found` tells whether the maximal block that holds the granule is of order `order` or above. If it is, the part of it
+-- `found` says whether the maximal block that holds the granule is of order `order` or above. If it is, the part of it
 -- of order `order` that holds the granule is in hand.
 pub record HasChecked (heads : List ℕ) (flags : List Bool) (granule order : ℕ) (found : Bool) : Type 0 where
   pub in_hand : found ≡ true → (order ≤ 9) × InHand heads flags order (start_at granule order)

@@ -3,12 +3,12 @@ use Rattle.std.specs.Prelude.{◌≡◌, ℕ, ◌+◌, ◌^◌, ◌<◌, ◌≤�
 use Rattle.std.specs.Int.{bit_at}
 use Rattle.buddy.specs.Heads.{head_at}
 
--- the number at a place
+-- the number at an index
 abbrev pub at : List ℕ → ℕ → ℕ
 at xs i = slice_index_or xs i 0
 
--- The list of an order begins at its first, goes on by `next`, goes back by `prev`, and has the heads of that order, each
--- once: `prev` leads up in rank to the first. A number that no granule has leads nowhere.
+-- The list of an order begins at its first, goes on by `next`, goes back by `prev`, and has the heads of that order,
+-- each once. `prev` leads up in rank to the first. A number that no granule has ends a list.
 pub record IsLinked (count : ℕ) (heads next prev firsts : List ℕ) : Type 0 where
   pub sized : (length heads ≡ count) × (length next ≡ count) × (length prev ≡ count) × (length firsts ≡ 10)
   pub few : count ≤ 4096
@@ -26,7 +26,7 @@ pub record IsLinked (count : ℕ) (heads next prev firsts : List ℕ) : Type 0 w
 abbrev pub HasHead : List ℕ → ℕ → Type 0
 HasHead heads order = (g : ℕ) × (head_at heads g ≡ order + 1)
 
--- the mask has ten bits: that of an order is set where the order's list has a block
+-- the mask has ten bits: that of an order is set if the order's list has a block
 pub record IsMask (mask : ℕ) (heads : List ℕ) : Type 0 where
   pub ten : mask < 2 ^ 10
   pub each : (order : ℕ) → order < 10 → (bit_at mask order ≡ 1) ↔ HasHead heads order

@@ -2,11 +2,11 @@
 use Rattle.std.specs.Prelude.{◌≡◌, ℕ, ◌+◌, ◌^◌, ◌<◌, ◌≤◌, Bool, List}
 use Rattle.page_arena.specs.Block.{IsFreeBlock}
 
--- a block lies in another one
+-- a block is inside another one
 abbrev pub LiesWithin : ℕ → ℕ → ℕ → ℕ → Type 0
 LiesWithin order first larger start = (start ≤ first) × (first + 2 ^ order ≤ start + 2 ^ larger)
 
--- A free block of order at most 9 that lies in no larger one.
+-- A free block of order at most 9 that is inside no larger one.
 pub record IsMaximalBlock (flags : List Bool) (order first : ℕ) : Type 0 where
   pub low : order ≤ 9
   pub free : IsFreeBlock flags order first

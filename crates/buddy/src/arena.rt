@@ -1,4 +1,4 @@
-//! Raw pages under free lists by order.
+//! A store of raw pages with a list of free blocks for each order: the buddy allocator.
 ghost use Rattle.std.specs.Prelude.{◌≡◌, ◌≢◌, ℕ, ◌+◌, ◌%◌, ◌^◌, ◌<◌, ◌≤◌, ◌↔◌, ◌⊎◌, true, false, length, filter, replicate, slice_set, IsTrue, IfOk, IfSome, IfNone, IsErrOf};
 ghost use Rattle.std.specs.Bool.{OnTrue, OnFalse};
 ghost use Rattle.granule_addr.specs.Page.{page_of, zero_page};
@@ -24,7 +24,7 @@ pub struct BuddyArena {
 }
 
 impl BuddyArena {
-    /// A store of `pages` pages, all free and zero. `BadSize` comes exactly where `pages` is not 1 to 4,096; the only
+    /// A store of `pages` pages, all free and zero. `BadSize` comes exactly when `pages` is not 1 to 4,096; the only
     /// other error is `Memory`.
     pub fn build(alloc: Global, pages: u16) -> Result<BuddyArena, BuildError>
         ensures bad_size { IsErrOf result BuildError.BadSize ↔ ((pages < 1) ⊎ (4096 < pages)) }
@@ -41,7 +41,7 @@ impl BuddyArena {
         })
     }
 
-    /// Whether a block is one of those that the lists hold: a free block that lies in no larger one.
+    /// Whether a block is one of those in the lists: a free block that is inside no larger one.
     pub fn is_free_block(&self, order: Order, first: Gran) -> bool
         ensures { IsTrue result ↔
             IsMaximalBlock (⟦<BuddyArena as PageStore>⟧.free_flags self.now) order first }
@@ -50,7 +50,7 @@ impl BuddyArena {
             .is_free_block(order.number() as usize, first.number() as usize)
     }
 
-    /// How many orders the last `take`, `take_at` or `give` looked at: one at each turn of its loop.
+    /// The number of orders that the last `take`, `take_at` or `give` visited: one at each turn of its loop.
     pub fn visits(&self) -> u8
         ensures { result ≡ self.now.visits }
     {
@@ -73,9 +73,8 @@ impl PageStore for BuddyArena {
         self.index.count()
     }
 
-    /// The block is cut from the head of the first list that serves, from that of its order up. The visits are one for each
-    /// order up to that of the list, which is the smallest order that has a block. Where no order has one, there are no
-    /// visits.
+    /// Takes the first block of the first list that has one, from the list of the order up. The visits are one for each
+    /// order up to that of the list. If no order has a block, there are no visits.
     fn take(&mut self, order: Order) -> Option<Gran>
         ensures first { result ≡ first_block self.old.index.lists order }
         ensures block { IfSome result (IsFreeBlock self.old.index.flags order) }
@@ -94,8 +93,8 @@ impl PageStore for BuddyArena {
         Gran::new(first as u16, MOST_PAGES)
     }
 
-    /// The visits are one for each order from 9 down to that of the block, whether the block is taken or not. Where the
-    /// block is not aligned, there are no visits.
+    /// Takes the block at that granule, if it is free. The visits are one for each order from 9 down to that of the
+    /// block, whether the block is taken or not. If the block is not aligned, there are no visits.
     fn take_at(&mut self, order: Order, first: Gran) -> bool
         ensures answer { IsTrue result ↔ IsFreeBlock self.old.index.flags order first }
         ensures taken { OnTrue result (self.new.index.flags ≡ with_taken self.old.index.flags order first) }
@@ -110,7 +109,8 @@ impl PageStore for BuddyArena {
         taken
     }
 
-    /// The visits are one for each order from that of the block up to that of the maximal block that it ends in.
+    /// Gives a block back. The visits are one for each order from that of the block up to that of the maximal block
+    /// that it becomes part of.
     fn give(&mut self, first: Gran, order: Order)
         requires { IsTakenBlock self.old.index.flags order first }
         ensures given { self.new.index.flags ≡ with_given self.old.index.flags order first }

@@ -1,4 +1,4 @@
-//! Blocks are cut out of larger ones, and merged.
+//! The splitting and merging of free blocks.
 ghost use Rattle.std.specs.Prelude.{◌≡◌, ◌≢◌, ℕ, ◌+◌, ◌^◌, ◌%◌, ◌<◌, ◌≤◌, ◌↔◌, Bool, true, List, length, IsTrue, IfSome, IfNone};
 ghost use Rattle.std.specs.Bool.{OnTrue, OnFalse};
 ghost use Rattle.page_arena.specs.Block.{IsFreeBlock, IsTakenBlock, with_taken, with_given};
@@ -17,7 +17,7 @@ fn order_of(number: usize) -> Order
     Order::new(number as u8).unwrap()
 }
 
-/// How many granules a block of an order has.
+/// The number of granules of a block of an order.
 pub(crate) fn size_of(order: usize) -> u16
     requires { order < 10 }
     ensures size { result ≡ 2 ^ order }
@@ -45,7 +45,7 @@ fn other_half(first: usize, order: usize) -> usize
     buddy_of(first, order_of(order)) as usize
 }
 
-// Looks at one order. A block that is in hand is split, and the half without the granule is put back.
+// Visits one order. A block that is being split is halved, and the half without the granule is put back.
 fn check_order(lists: &mut FreeLists, granule: usize, order: usize, found: bool) -> bool
     ghost flags: { List Bool }
     requires granule { granule < 4096 }
@@ -67,8 +67,8 @@ fn check_order(lists: &mut FreeLists, granule: usize, order: usize, found: bool)
     true
 }
 
-/// Cuts a block out of the free block that holds it, whose order is at most `top`. Answers whether there is such a
-/// block, and how many orders were looked at.
+/// Cuts a block out of the free block that holds it, whose order is at most `top`. Returns whether there is such a
+/// block, and the number of orders visited.
 pub(crate) fn cut_out(lists: &mut FreeLists, first: usize, order: usize, top: usize) -> (bool, u8)
     ghost flags: { List Bool }
     requires orders { (order ≤ top) × (top ≤ 9) }
@@ -92,7 +92,7 @@ pub(crate) fn cut_out(lists: &mut FreeLists, first: usize, order: usize, top: us
     (found, turns)
 }
 
-// The other half of the block of the next order, where it is free and whole.
+// The other half of the block of the next order, if it is free and whole.
 fn free_buddy(lists: &FreeLists, first: usize, order: usize) -> Option<usize>
     requires first { first < 4096 }
     requires order { order < 10 }
@@ -108,7 +108,7 @@ fn free_buddy(lists: &FreeLists, first: usize, order: usize) -> Option<usize>
     None
 }
 
-/// Puts a block back, merged with each other half that is free and whole. Answers how many orders were looked at.
+/// Puts a block back, merged with each other half that is free and whole. Returns the number of orders visited.
 pub(crate) fn give_to(lists: &mut FreeLists, first: usize, order: usize) -> u8
     ghost flags: { List Bool }
     requires few { length flags ≤ 4096 }

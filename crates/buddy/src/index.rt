@@ -1,4 +1,4 @@
-//! Which granules are free.
+//! The index of free granules: a flag for each, and lists of the maximal free blocks.
 ghost use Rattle.std.specs.Prelude.{◌≡◌, ◌≢◌, ℕ, ◌+◌, ◌%◌, ◌^◌, ◌<◌, ◌≤◌, ◌↔◌, true, length, filter, replicate, IsTrue, IfOk, IfSome, IfNone, option_map};
 ghost use Rattle.std.specs.Bool.{OnTrue, OnFalse};
 ghost use Rattle.page_arena.specs.Block.{IsFreeBlock, IsTakenBlock, with_taken, with_given};
@@ -29,7 +29,7 @@ impl Model for FreeIndex {
 }
 
 impl FreeIndex {
-    /// All free. The lowest blocks come first in the lists.
+    /// An index in which all granules are free. The lowest blocks come first in the lists.
     pub(crate) fn build(alloc: Global, granules: u16) -> Result<FreeIndex, AllocError>
         requires { granules ≤ 4096 }
         ensures { IfOk result (λ index. index.flags ≡ replicate granules true) }
@@ -46,7 +46,7 @@ impl FreeIndex {
         })
     }
 
-    /// How many are free.
+    /// The number of free granules.
     pub(crate) fn count(&self) -> u16
         ensures { result ≡ length (filter (λ flag. flag) self.now.flags) }
     {
@@ -61,8 +61,8 @@ impl FreeIndex {
         self.lists.head(first) as usize == order + 1
     }
 
-    /// Takes a block out of a free one of the smallest order that has one: the first of its list. Answers how many orders
-    /// were looked at, too.
+    /// Takes a block out of a free one of the smallest order that has one: the first of its list. Returns the number of
+    /// orders visited, too.
     pub(crate) fn take(&mut self, order: usize) -> Option<(usize, u8)>
         requires { order < 10 }
         ensures first { option_map (λ r. r.0) result ≡ first_block self.old.lists order }
@@ -80,7 +80,7 @@ impl FreeIndex {
         Some((first, turns))
     }
 
-    /// Takes that block, where it is free. Answers how many orders were looked at, too.
+    /// Takes the block at that granule, if it is free. Returns the number of orders visited, too.
     pub(crate) fn take_at(&mut self, order: usize, first: usize) -> (bool, u8)
         requires order { order < 10 }
         requires first { first < 4096 }
@@ -100,7 +100,7 @@ impl FreeIndex {
         (taken, turns)
     }
 
-    /// Gives a block back. Answers how many orders were looked at.
+    /// Gives a block back. Returns the number of orders visited.
     pub(crate) fn give(&mut self, first: usize, order: usize) -> u8
         requires order { order < 10 }
         requires block { IsTakenBlock self.old.flags order first }

@@ -1,9 +1,9 @@
 //! A store of raw pages with a list of free blocks for each order.
 //!
-//! The lists have the maximal free blocks: those that lie in no larger one. A block is cut out of one of the smallest
-//! order that will do, and is merged as it is given back. Links stand in a side table, by number, since free pages are
-//! zero; a mask of ten bits says which lists have a block. So no call searches a list, and all loops are over orders,
-//! but for the clearing of pages.
+//! The lists have the maximal free blocks: those that are inside no larger one. A block is cut out of one of the
+//! smallest order that is large enough, and is merged as it is given back. The links are in a table beside the pages,
+//! by number, since free pages are zero. A mask of ten bits says which lists have a block. So no call searches a list,
+//! and all loops are over orders, but for the clearing of pages.
 #![tactic(auto)]
 
 mod arena;

@@ -1,4 +1,4 @@
-//! Links between the heads of one order.
+//! The doubly linked lists of free blocks, one for each order.
 ghost use Rattle.std.specs.Prelude.{◌≡◌, ℕ, ◌+◌, ◌<◌, ◌≤◌, length, replicate, slice_set, IfOk, IfSome, IfNone};
 ghost use Rattle.buddy.specs.Heads.{head_at};
 ghost use Rattle.buddy.specs.Links.{HasHead, at};
@@ -7,7 +7,7 @@ use granule_addr::MOST_PAGES;
 use std::alloc::{AllocError, Global};
 use std::marker::Model;
 
-// The number that leads nowhere: no granule has it.
+// The number of no granule: the end of a list.
 const NOWHERE: u16 = MOST_PAGES;
 
 /// A list for each order, linked both ways by number, beside the pages and not in them: free pages are zero. Seen as
@@ -49,7 +49,7 @@ impl Links {
         })
     }
 
-    /// One more than the order of the block that the granule heads; 0 where it heads none.
+    /// One more than the order of the block that the granule heads; 0 if it heads none.
     pub(crate) fn head(&self, granule: usize) -> u8
         ensures { result ≡ head_at self.now.heads granule }
     {
@@ -60,7 +60,7 @@ impl Links {
         }
     }
 
-    /// The first of the list of an order.
+    /// The first block of the list of an order.
     pub(crate) fn first(&self, order: usize) -> Option<usize>
         requires { order < 10 }
         ensures first { IfSome result (λ first. first ≡ at self.now.firsts order) }

@@ -1,4 +1,4 @@
-//! The heads of the free blocks, in a list for each order.
+//! The lists of free blocks by order, with a mask of those that have one.
 ghost use Rattle.std.specs.Prelude.{◌≡◌, ℕ, ◌+◌, ◌<◌, ◌≤◌, ◌≢◌, length, replicate, slice_set, IfOk, IfSome, IfNone};
 ghost use Rattle.buddy.specs.Heads.{head_at};
 ghost use Rattle.buddy.specs.Links.{HasHead, at};
@@ -8,7 +8,7 @@ use std::alloc::{AllocError, Global};
 use std::marker::Model;
 
 /// Lists of blocks by order, and a mask of the orders that have one. Seen as the table of heads, and the first block of
-/// each list. The head of a granule is one more than the order of the block that it heads, or 0 where it heads none.
+/// each list. The head of a granule is one more than the order of the block that it heads, or 0 if it heads none.
 #[derive(Drop)]
 pub(crate) struct FreeLists {
     links: Links,
@@ -36,7 +36,7 @@ impl FreeLists {
         Ok(FreeLists { links, mask: 0 })
     }
 
-    /// One more than the order of the block that the granule heads; 0 where it heads none.
+    /// One more than the order of the block that the granule heads; 0 if it heads none.
     pub(crate) fn head(&self, granule: usize) -> u8
         ensures { result ≡ head_at self.now.heads granule }
     {

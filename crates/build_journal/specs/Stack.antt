@@ -1,9 +1,9 @@
--- Stacks of acts.
+-- Stacks of operations.
 use Rattle.std.specs.Prelude.{Bool, List}
 use Rattle.std.specs.List.{list_all}
 use Rattle.realm_model.specs.declared.act.Act.{Act}
 use Rattle.realm_model.specs.Act.{is_paired}
 
--- each act has a reverse
+-- each operation has a reverse
 abbrev pub are_paired : List Act → Bool
 are_paired acts = list_all is_paired acts

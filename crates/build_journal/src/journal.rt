@@ -1,4 +1,4 @@
-//! The stack of what a build has open.
+//! The stack of the operations that a build has open.
 ghost use Rattle.std.specs.Prelude.{◌≡◌, ◌≤◌, [], length, drop, IfOk, IfSome, option_map, true};
 ghost use Rattle.std.specs.List.{last_or};
 ghost use Rattle.realm_model.specs.Act.{is_paired};
@@ -8,7 +8,7 @@ use realm_model::{Act, JOURNAL_ROOM};
 use std::alloc::{AllocError, Global};
 use std::marker::Model;
 
-/// The acts that a build has open, the newest last. All its memory is taken when it is built.
+/// The operations that a build has open, the newest last. All its memory is taken when it is built.
 #[derive(Drop)]
 pub struct Journal {
     entries: Vec<Act>,
@@ -42,8 +42,8 @@ impl Journal {
         self.entries.len() as u16
     }
 
-    /// Follows an act of the build: one that has a reverse is put on top, a reverse takes the top off, and no other act
-    /// changes anything.
+    /// Follows an operation of the build: one that has a reverse is put on top, a reverse takes the top off, and no
+    /// other operation changes anything.
     pub fn follow(&mut self, act: &Act)
         requires { length (pushed self.old act.now) ≤ 512 }
         ensures { self.new ≡ pushed self.old act.now }
@@ -55,7 +55,7 @@ impl Journal {
         }
     }
 
-    /// The newest act.
+    /// The newest operation.
     pub fn newest(&self) -> Option<&Act>
         ensures value { option_map (λ a. a.now) result ≡ last_or None (self.now) }
         ensures paired { IfSome result (λ a. is_paired a.now ≡ true) }
@@ -63,7 +63,7 @@ impl Journal {
         self.entries.last()
     }
 
-    /// The acts above the first `count`.
+    /// The operations above the first `count`.
     pub fn above(&self, count: u16) -> &[Act]
         requires { count ≤ length self.now }
         ensures { result.now ≡ drop count self.now }

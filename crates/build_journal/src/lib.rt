@@ -1,4 +1,4 @@
-//! What a build has open: a stack of the acts that can be reversed, and the reverse of each.
+//! The journal of a build: a stack of its open operations, and the reverse of each operation.
 #![tactic(auto)]
 
 mod journal;

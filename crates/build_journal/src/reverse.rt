@@ -1,10 +1,11 @@
-//! Reverses of acts.
+//! Reverses of operations.
 ghost use Rattle.std.specs.Prelude.{◌≡◌, ◌↔◌, Some, true};
 ghost use Rattle.realm_model.specs.Act as acts;
 
 use realm_model::{Act, clone_granules};
 
-/// The reverse of an act, or None where the act has none. The two kinds of data acts have the same reverse.
+/// The reverse of an operation, or None if the operation has none. The two kinds of data operations have the same
+/// reverse.
 #[tactic(auto, unfolding(realm_model::specs::Act::reverse_of))]
 pub fn reverse_of(act: &Act) -> Option<Act>
     ensures { result ≡ acts.reverse_of act.now }

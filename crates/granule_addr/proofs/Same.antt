@@ -1,4 +1,4 @@
--- Lists of one thing.
+-- Lists of one repeated value.
 use Rattle.std.proofs.Common.{◌≡◌, ℕ, zero, suc, replicate, get_or, refl}
 
 -- a list of one thing has it at each place

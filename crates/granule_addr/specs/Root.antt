@@ -4,11 +4,11 @@ use Rattle.std.specs.List.{range_with_len}
 use Rattle.granule_addr.specs.Ipa.{is_width, served_count, space_of, start_index}
 use Rattle.granule_addr.specs.declared.root.Root.{Root}
 
--- how many starting tables an address space of that width needs: 1, 2, 4, 8 or 16
+-- the number of starting tables that an address space of that width needs: 1, 2, 4, 8 or 16
 abbrev pub start_count : ℕ → ℕ
 start_count width = 2 ^ (width - 39)
 
--- how many IPA granules these tables serve
+-- the number of IPA granules that these tables serve
 abbrev pub served_space : ℕ → ℕ
 served_space width = start_count width * served_count 1
 

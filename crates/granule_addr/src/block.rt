@@ -1,4 +1,4 @@
-//! Blocks of granules.
+//! Blocks of granules, and their orders.
 ghost use Rattle.std.specs.Prelude.{◌≡◌, ◌*◌, ◌/◌, ◌^◌, ◌<◌, ◌≤◌, nat_le, Some, None, if◌then◌else◌, bit_xor};
 
 use crate::Gran;
@@ -34,7 +34,7 @@ impl Order {
         self.0
     }
 
-    /// How many granules a block of this order has.
+    /// The number of granules of a block of this order.
     pub fn size(self) -> u16
         ensures value { result ≡ 2 ^ self }
         ensures some { 0 < result }

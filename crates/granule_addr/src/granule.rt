@@ -1,4 +1,4 @@
-//! Granules of the machine.
+//! Numbers of the machine's granules.
 ghost use Rattle.std.specs.Prelude.{◌≡◌, ◌<◌, ◌&&◌, nat_lt, Some, None, if◌then◌else◌};
 
 use std::marker::Model;
@@ -23,7 +23,7 @@ impl Model for Gran {
 }
 
 impl Gran {
-    /// The granule of that number, where a machine of `pages` pages has it.
+    /// The granule of that number, if a machine of `pages` pages has it.
     pub fn new(number: u16, pages: u16) -> Option<Gran>
         ensures { result ≡ (if nat_lt number 4096 && nat_lt number pages then Some number else None) }
     {

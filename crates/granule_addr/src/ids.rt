@@ -1,4 +1,4 @@
-//! Names of builds, realms and RECs.
+//! Numbers of builds, realms and RECs.
 ghost use Rattle.std.specs.Prelude.{◌≡◌, ◌<◌, ◌≤◌, nat_lt, nat_le, Some, None, if◌then◌else◌};
 
 use std::marker::Model;

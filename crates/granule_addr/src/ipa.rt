@@ -23,7 +23,7 @@ impl Model for IpaGran {
 }
 
 impl IpaGran {
-    /// The IPA granule of that number, where an address space of that width has it.
+    /// The IPA granule of that number, if an address space of that width has it.
     pub fn new(number: u32, width: u8) -> Option<IpaGran>
         ensures { result ≡ (if is_width width && is_in_space number width then Some number else None) }
     {
@@ -50,7 +50,7 @@ pub fn is_protected(ipa: IpaGran, width: IpaWidth) -> bool
     ipa.number() < 1 << (width.number() - 13)
 }
 
-/// Which of a table's 512 entries covers the IPA granule.
+/// The index of a table's entry that covers the IPA granule, among 512.
 pub fn index_at(ipa: IpaGran, level: Level) -> u16
     ensures value { result ≡ entry_index level ipa }
     ensures below { result < 512 }
@@ -64,7 +64,7 @@ pub fn index_at(ipa: IpaGran, level: Level) -> u16
     index as u16
 }
 
-/// Which of a realm's starting tables, counted from 0, covers the IPA granule. RMM 1.0, RTT walk.
+/// The index of the realm's starting table that covers the IPA granule, counted from 0. RMM 1.0, RTT walk.
 pub fn start_table(ipa: IpaGran) -> u16
     ensures value { result ≡ start_index ipa }
     ensures below { result < 16 }

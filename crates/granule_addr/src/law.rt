@@ -1,4 +1,4 @@
-//! What holds of the numbers for all widths.
+//! A theorem on the starting tables of all widths.
 ghost use Rattle.std.specs.Prelude.{ℕ};
 ghost use Rattle.granule_addr.specs.Root.{ServesSpace};
 

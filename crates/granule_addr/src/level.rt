@@ -30,7 +30,7 @@ impl Level {
         }
     }
 
-    /// The level where a walk starts.
+    /// The level at which a walk starts.
     pub fn start() -> Level
         ensures { result ≡ 1 }
     {

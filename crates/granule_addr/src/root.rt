@@ -1,8 +1,8 @@
-//! Where a realm's translation starts.
+//! The root of a realm's translation.
 use crate::{Gran, IpaWidth};
 
-/// The starting tables of a realm, by the first of them and the width of its address space, which says how many adjacent
-/// granules they are. RMM 1.0, Realm attributes: RTT base address and IPA width.
+/// The starting tables of a realm: the first of them, and the width of the address space, which gives the number of
+/// adjacent granules. RMM 1.0, Realm attributes: RTT base address and IPA width.
 #[derive(Clone, Copy, Debug, PartialEq, Eq)]
 pub struct Root {
     pub first: Gran,

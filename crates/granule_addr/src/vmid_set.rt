@@ -20,7 +20,7 @@ impl Model for VmidSet {
 }
 
 impl VmidSet {
-    /// The set that has none.
+    /// The empty set.
     pub fn new() -> VmidSet
         ensures { (vmid : ℕ) → is_used result vmid ≡ false }
     {
@@ -36,14 +36,14 @@ impl VmidSet {
         self.flags[vmid.number() as usize]
     }
 
-    /// The set has the VMID from now on.
+    /// Adds the VMID to the set.
     pub fn insert(&mut self, vmid: Vmid)
         ensures { IsMarked self.old self.new vmid true }
     {
         self.flags[vmid.number() as usize] = true;
     }
 
-    /// The set has the VMID no more.
+    /// Removes the VMID from the set.
     pub fn remove(&mut self, vmid: Vmid)
         ensures { IsMarked self.old self.new vmid false }
     {

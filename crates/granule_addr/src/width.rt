@@ -5,7 +5,7 @@ ghost use Rattle.granule_addr.specs.Root.{start_count};
 
 use std::marker::Model;
 
-/// The IPA width of a realm, 39 to 43 bits. RMM 1.0, Realm attributes; which widths there are is this profile's own.
+/// The IPA width of a realm, 39 to 43 bits. RMM 1.0, Realm attributes; the range is this profile's own.
 #[derive(Clone, Copy, Debug, PartialEq, Eq)]
 pub struct IpaWidth(u8);
 
@@ -48,7 +48,7 @@ impl IpaWidth {
         self.0
     }
 
-    /// How many starting tables an address space of this width needs: 1, 2, 4, 8 or 16.
+    /// The number of starting tables that an address space of this width needs: 1, 2, 4, 8 or 16.
     pub fn start_count(self) -> u16
         ensures value { result ≡ start_count self }
         ensures some { 0 < result }

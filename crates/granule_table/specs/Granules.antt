@@ -4,7 +4,7 @@ use Rattle.realm_model.specs.declared.states.GranuleState.{GranuleState}
 use Rattle.realm_model.specs.declared.states.GranuleState.TheVariants.{Undelegated}
 use Rattle.granule_table.specs.declared.granule.Granule.{Granule}
 
--- a granule of the host's, of no realm
+-- an UNDELEGATED granule of no realm
 abbrev pub undelegated : Granule
 undelegated = record { state = Undelegated; realm = None }
 

@@ -1,8 +1,8 @@
-//! What is kept of a granule.
+//! The attributes of a granule.
 use granule_addr::Gran;
 use realm_model::GranuleState;
 
-/// What the monitor keeps of a granule. RMM 1.0, Granule attributes.
+/// The attributes that the RMM keeps of a granule. RMM 1.0, Granule attributes.
 #[derive(Clone, Copy, Debug, PartialEq, Eq)]
 pub struct Granule {
     pub state: GranuleState,
@@ -11,7 +11,7 @@ pub struct Granule {
 }
 
 impl Granule {
-    /// A granule of the host's, of no realm, as each one is at the start.
+    /// An UNDELEGATED granule of no realm, as each one is at the start.
     pub const UNDELEGATED: Granule = Granule {
         state: GranuleState::Undelegated,
         realm: None,

@@ -1,4 +1,4 @@
-//! The granules of a machine.
+//! The table of a machine's granules.
 ghost use Rattle.std.specs.Prelude.{◌≡◌, ◌<◌, ◌≤◌, ◌↔◌, length, replicate, IsTrue, IfOk, slice_set};
 ghost use Rattle.std.specs.Bool.{OnTrue, OnFalse};
 ghost use Rattle.granule_table.specs.Granules.{granule_at, undelegated};
@@ -38,7 +38,7 @@ impl GranuleTable {
         Ok(GranuleTable { granules })
     }
 
-    /// How many granules there are.
+    /// The number of granules.
     pub fn pages(&self) -> u16
         ensures value { result ≡ length self.now }
         ensures some { 1 ≤ result }
@@ -64,7 +64,7 @@ impl GranuleTable {
     }
 
     /// Moves a granule from one state to another, for that realm or for none. `false`, with nothing changed, comes
-    /// exactly where the granule is not in the first state.
+    /// exactly when the granule is not in the first state.
     pub fn shift(
         &mut self,
         granule: Gran,

@@ -1,4 +1,4 @@
--- What a stack is after a block is pushed, and what the list of stacks is after one is written.
+-- A stack after a block is pushed, and the list of stacks after one is written.
 use Rattle.std.proofs.Common.{◌≡◌, ℕ, ◌+◌, ◌<◌, ◌≤◌, List, [], ◌∷◌, ◌++◌, length, take, get_or, set, vec_len, vec_capacity}
 use Rattle.std.proofs.Common.{Bool, true, false, if◌then◌else◌, Option, Some, None, sym, ap, ◌∙◌, subst, arith, append_assoc}
 use Rattle.std.proofs.lemmas.List.{length-map, get_or-map, map-set, take_more_set}

@@ -1,4 +1,4 @@
--- Laws of a stack that a block is pushed to.
+-- Theorems on a stack that a block is pushed to.
 use Rattle.std.specs.Prelude.{◌≡◌, ℕ, ◌+◌, ◌^◌, List, length}
 use Rattle.std.specs.List.{range_with_len}
 use Rattle.std.proofs.Common.{ap, ◌∙◌, length-append}

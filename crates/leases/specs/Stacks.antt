@@ -3,7 +3,7 @@ use Rattle.std.specs.Prelude.{ℕ, ◌-◌, ◌^◌, ◌≤◌, ◌++◌, List, 
 use Rattle.std.specs.List.{range_with_len}
 use Rattle.std.specs.Global.{Vec}
 
--- The pages of each build, in the order of taking, and how many each build has room for.
+-- The pages of each build, in the order of taking, and the most that each build can have.
 pub record Stacks : Type 0 where
   pub stacks : List (List ℕ)
   pub room : ℕ

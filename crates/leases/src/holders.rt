@@ -1,4 +1,4 @@
-//! Which build leases each granule of a machine.
+//! The build that leases each granule of a machine.
 ghost use Rattle.std.specs.Prelude.{◌≡◌, ◌+◌, ◌^◌, ◌≤◌, length, replicate, Some, None, IfOk, slice_index_or};
 ghost use Rattle.std.specs.List.{range_with_len};
 ghost use Rattle.realm_model.specs.StepLaw.{set_each};
@@ -8,7 +8,7 @@ use granule_addr::{BuildId, Gran, Order};
 use std::alloc::{AllocError, Global};
 use std::marker::Model;
 
-/// The build that leases each granule, by the granule's number; `None` where nobody leases it.
+/// The build that leases each granule, by the granule's number; `None` if nobody leases it.
 #[derive(Drop)]
 pub struct Holders {
     of: Vec<Option<BuildId>>,
@@ -32,7 +32,7 @@ impl Holders {
         })
     }
 
-    /// The build leases the granules of a block from now on.
+    /// Leases the granules of a block to the build.
     pub fn lease(&mut self, build: BuildId, first: Gran, order: Order)
         requires { first + 2 ^ order ≤ length self.old }
         ensures { self.new ≡ set_each (Some build) (range_with_len first (2 ^ order)) self.old }
@@ -40,7 +40,7 @@ impl Holders {
         self.set_run(first.number(), order.size(), Some(build));
     }
 
-    /// Nobody leases the granules of a block from now on.
+    /// Ends the lease of the granules of a block.
     pub fn give_back(&mut self, first: Gran, order: Order)
         requires { first + 2 ^ order ≤ length self.old }
         ensures { self.new ≡ set_each None (range_with_len first (2 ^ order)) self.old }
@@ -55,7 +55,7 @@ impl Holders {
         matches!(self.of.get(granule.number() as usize), Some(Some(holder)) if *holder == build)
     }
 
-    /// The build that leases the granule; `None` where nobody does, or where the machine has no such granule.
+    /// The build that leases the granule; `None` if nobody does, or if the machine has no such granule.
     pub fn holder(&self, granule: Gran) -> Option<BuildId>
         ensures { result ≡ slice_index_or self.now granule None }
     {

@@ -1,4 +1,4 @@
-//! Blocks on a stack.
+//! Blocks of granules on a stack.
 ghost use Rattle.std.specs.Prelude.{◌≡◌, ◌+◌, ◌^◌, ◌≤◌, vec_len, vec_capacity};
 ghost use Rattle.leases.specs.Stacks.{pushed, popped};
 
@@ -14,7 +14,7 @@ pub fn push_run(stack: &mut Vec<Gran>, first: Gran, order: Order)
     let start = stack.len();
     stack.resize(start + order.size() as usize, first).unwrap();
     let number = first.number();
-    // (written in their places, and not pushed: so no page waits for the length that the one before it left)
+    // (written at their indexes, and not pushed: so no page waits for the length that the one before it left)
     for k in 0..order.size() {
         stack[start + k as usize] = Gran::new(number + k, MOST_PAGES).unwrap();
     }

@@ -25,7 +25,7 @@ impl Model for Leases {
 }
 
 impl Leases {
-    /// The leases of `builds` builds, which have no pages yet, with room for `pages` pages of each.
+    /// The leases of `builds` builds, which have no pages yet, with capacity for `pages` pages of each.
     pub fn build(alloc: Global, builds: u8, pages: u16) -> Result<Leases, AllocError>
         requires { pages ≤ 4096 }
         ensures { IfOk result (λ leases.
@@ -61,7 +61,7 @@ impl Leases {
         pop_run(&mut self.stacks[build.number() as usize], order);
     }
 
-    /// A build's page `k`; `None` comes exactly where it has no such page.
+    /// Page `k` of a build; `None` comes exactly when it has no such page.
     pub fn page(&self, build: BuildId, k: u16) -> Option<Gran>
         requires { build < length self.now.stacks }
         ensures { result ≡ slice_get (stack_of self.now build) k }
@@ -70,7 +70,7 @@ impl Leases {
         stack.get(k as usize).copied()
     }
 
-    /// How many pages a build has.
+    /// The number of pages of a build.
     pub fn count(&self, build: BuildId) -> u16
         requires { build < length self.now.stacks }
         ensures value { result ≡ length (stack_of self.now build) }

@@ -1,4 +1,4 @@
-//! The VMIDs that realms have.
+//! The pool of VMIDs.
 ghost use Rattle.std.specs.Prelude.{◌≡◌, ℕ, true, false, IfSome, IfNone};
 ghost use Rattle.std.specs.Bool.{OnTrue, OnFalse};
 ghost use Rattle.granule_addr.specs.Vmids.{is_used};
@@ -34,7 +34,7 @@ impl VmidPool {
         }
     }
 
-    /// The lowest VMID that is free; `None` comes exactly where none is.
+    /// The lowest VMID that is free; `None` comes exactly when none is.
     pub fn lowest_free(&self) -> Option<Vmid>
         ensures lowest { IfSome result (IsLowestFree self.now) }
         ensures none { IfNone result ((vmid : ℕ) → is_free self.now vmid ≡ false) }
@@ -48,7 +48,7 @@ impl VmidPool {
         None
     }
 
-    /// The VMID is in use from now on. `false`, with nothing changed, comes exactly where it is not free.
+    /// Claims the VMID, which is in use from now on. `false`, with nothing changed, comes exactly when it is not free.
     pub fn claim(&mut self, vmid: Vmid) -> bool
         ensures answer { result ≡ is_free self.old vmid }
         ensures claimed { OnTrue result (IsClaimed self.old self.new vmid true) }
@@ -61,7 +61,7 @@ impl VmidPool {
         true
     }
 
-    /// The VMID is in use no more.
+    /// Gives the VMID back, which is in use no more.
     pub fn give_back(&mut self, vmid: Vmid)
         ensures { IsClaimed self.old self.new vmid false }
     {

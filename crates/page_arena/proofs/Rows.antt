@@ -1,13 +1,14 @@
--- What a row owns is taken apart and put together, at its two parameters. Assumes `Logic`.
+-- The ownership of a row, taken apart and put together, at its two parameters. Assumes `Logic`.
 --     Starts, Owner, start_val, owner_val      the two structs, and the machine values that they are
 --     found            the item at an index.        begins_below      where it begins is a number of the machine
 --     null_lends, null_owns        nothing lies at null
 --     shows_one        one item of those that a `&` shows
 --     item_out, item_in        an item leaves the row, and another comes back in its place
 --     Pair, pair       two items leave, and another comes back in the place of the second
---     Place, place     a place that can be written: inside, or behind the last item
+--     Place, place     a place that can be written: inside, or after the last item
 --     fresh, all_room      a new row, with no item;  the whole row is room
---     closed, Rest, one_back, PairRest, pair_back      the row behind a `&mut`, with other items: all of them, all but one, all but two
+--     closed, Rest, one_back, PairRest, pair_back      the row after a `&mut`, with other items: all of them, all but
+--                                                      one, all but two
 --     Others           the tokens of the parameters' lifetimes
 use Rattle.page_arena.proofs.Steps.{◌≡◌, refl, sym, ap, ◌∙◌, List, [], ◌∷◌, ◌++◌, ℕ, zero, suc, ◌+◌, ◌-◌, ◌*◌, ◌<◌, ◌≤◌, ◌^◌, arith, length}
 use Rattle.page_arena.proofs.Steps.{get_or, set, length-set, Ura, full_share, ent, sep, never, sem, Logic, Lft, Fml, Ty, Val, ftrue}
@@ -152,7 +153,8 @@ module _ (E : El) {M : Type 1} {𝓤 : Ura M} (𝓛 : Logic 𝓤) (t : Ty → Pt
         use2 𝓛 (‵ (part_at (Array (R E) (length xs)) full_share (set xs i y) b o)) (put_in E 𝓛 (length xs) xs i y b o lt refl) $
         by ! (same_many xs (set xs i y) (length-set xs i y))
 
-  -- two items, one for reading and one for writing: what is owned besides, and the way back with another in the second place
+  -- two items, one for reading and one for writing: what is owned besides, and the way back with another in the second
+  -- place
   pub record Pair (xs : List (el_x E)) (i j : ℕ) : Type 1 where
     pub besides : Fml
     pub out : (d : el_x E) → ent 𝓤 (sem 𝓛 (All xs)) (sep 𝓤 (sem 𝓛 (one i (get_or xs i d))) (sep 𝓤 (sem 𝓛 (one j (get_or xs j d))) (sem 𝓛 besides)))

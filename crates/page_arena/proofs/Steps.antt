@@ -1,4 +1,4 @@
--- The words that the walks go by, gathered from where the logic has them.
+-- The steps of the logic that the proofs of pointers use.
 pub use mathlib.Core.Path.{◌≡◌, refl, sym, ap, subst, ◌∙◌}
 pub use mathlib.Core.List.{List, [], ◌∷◌, ◌++◌}
 pub use Prim.Native.Nat.{ℕ, zero, suc, ◌+◌, ◌-◌, ◌*◌, ◌^◌, ◌<◌, ◌≤◌}

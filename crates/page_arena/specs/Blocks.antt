@@ -1,4 +1,4 @@
--- Laws of blocks that are taken and given back.
+-- Theorems on blocks that are taken and given back.
 use Rattle.std.specs.Prelude.{◌≡◌, ℕ, ◌+◌, ◌^◌, ◌<◌, ◌≤◌, ◌⊎◌, Bool, true, false, List, length}
 use Rattle.std.proofs.Common.{◌∙◌, arith}
 use Rattle.std.proofs.lemmas.Nat.{pow_pos}
@@ -36,7 +36,7 @@ module _ (flags : List Bool) (order first : ℕ) (block : IsFreeBlock flags orde
   pub length-with_taken : length (with_taken flags order first) ≡ length flags
   length-with_taken = length-with_run flags first (2 ^ order) false block.inside
 
-  -- the first granule of the block, another one of it, and one beside it
+  -- the first granule of the block, another one of it, and one outside it
   pub is_free-with_taken_first : is_free (with_taken flags order first) first ≡ false
   is_free-with_taken_first = let some = pow_pos order in get_or-with_run_inside flags first (2 ^ order) false block.inside first false (omega arith) (omega arith)
 
@@ -54,7 +54,7 @@ module _ (flags : List Bool) (order first : ℕ) (block : IsTakenBlock flags ord
   pub length-with_given : length (with_given flags order first) ≡ length flags
   length-with_given = length-with_run flags first (2 ^ order) true block.inside
 
-  -- a granule of the block, and one beside it
+  -- a granule of the block, and one outside it
   pub is_free-with_given_inside : (granule : ℕ) → first ≤ granule → granule < first + 2 ^ order → is_free (with_given flags order first) granule ≡ true
   is_free-with_given_inside granule low high = get_or-with_run_inside flags first (2 ^ order) true block.inside granule false low high
 

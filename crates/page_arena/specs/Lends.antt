@@ -1,4 +1,4 @@
--- The items of a row, and what it ends as, once a `&mut` to one of them has ended.
+-- A row with a mutable borrow of one of its items, and the row after the borrow.
 use Rattle.std.specs.Prelude.{◌≡◌, ℕ, ◌<◌, List, length, slice_set}
 use Rattle.std.specs.Borrow.{Fml, RattleType, MutBor, Lends}
 use Rattle.std.specs.declared.alloc.Allocator.{Ghosts}

@@ -1,4 +1,4 @@
--- What the pages end as, once a `&mut` to one has ended.
+-- The pages after a mutable borrow of one of them.
 use Rattle.std.specs.Prelude.{ℕ, List, slice_set}
 use Rattle.std.specs.Borrow.{Fml, MutBor, Array, u8, Lends}
 use Rattle.page_arena.specs.contracts.pages.RawPages.{the_row}

@@ -3,7 +3,8 @@ use Rattle.std.specs.Prelude.{ℕ, ◌+◌, ◌%◌, ◌^◌, ◌==◌, ◌&&◌
 use Rattle.std.specs.List.{find, list_all, range_with_len}
 use Rattle.page_arena.specs.Page.{is_free}
 
--- whether a free block of an order begins at a granule: it is aligned, inside the machine, and each of its granules is free
+-- whether a free block of an order begins at a granule: it is aligned, inside the machine, and each of its granules is
+-- free
 unfoldable pub begins_free_block : List Bool → ℕ → ℕ → Bool
 begins_free_block flags order first =
     first % 2 ^ order == 0 && (nat_le (first + 2 ^ order) (length flags) && list_all (is_free flags) (range_with_len first (2 ^ order)))

@@ -1,4 +1,4 @@
--- What a row owns, and what a `&` to it holds, at items of the type R.
+-- The ownership of a row, and of a shared borrow of it, with items of the type R.
 use Rattle.std.specs.Prelude.{ℕ, ◌+◌, ◌*◌, ◌^◌, ◌<◌, List, ◌∷◌, ◌++◌, length, take, drop}
 use Rattle.std.specs.Mem.{type_size}
 use Rattle.core.specs.Allocator.{block_with_items}
@@ -9,7 +9,7 @@ use denote.RawPtr.{Ptr}
 use denote.Array.{Array}
 use denote.Struct.Lending.{lent_at}
 
--- An allocation with room for `room` items, which begins with the items; `right` is the right to give it back.
+-- An allocation with capacity for `room` items, which begins with the items; `right` is the right to give it back.
 abbrev pub row_owns : (Ty → Ptr → Fml) → (R : RattleType) → Ptr → ℕ → List R.Denot → Fml
 row_owns right R at room items = block_with_items right R at (length items) room items
 
@@ -20,6 +20,6 @@ row_lends R at items = lent_at (Array R (length items)) at items
 abbrev pub Reaches : RattleType → ℕ → Type 0
 Reaches R count = (count * type_size R < 2 ^ 63) × (count < 2 ^ 63)
 
--- the items with `item` at an index: instead of the item there, or behind the last
+-- the items with `item` at an index: in place of the item there, or after the last
 abbrev pub put_at : {X : Type 0} → List X → ℕ → X → List X
 put_at items index item = take index items ++ item ∷ drop (index + 1) items

@@ -1,4 +1,4 @@
--- Laws of a list that is written from one place on, as flags and pages are by a take or a give.
+-- Theorems on a list that is overwritten from an index on, as flags and pages are by a take or a give.
 use Rattle.std.specs.Prelude.{◌≡◌, ℕ, ◌+◌, ◌-◌, ◌<◌, ◌≤◌, ◌⊎◌, List, [], ◌∷◌, ◌++◌, length, take, drop, replicate, get_or, set}
 use Rattle.std.proofs.Common.{sym, ap, ◌∙◌, inl, inr, ⊎_elim, arith, length-append, append-nil, append_assoc, take-append-drop}
 use Rattle.std.proofs.lemmas.List.{length-drop, length-replicate, length-take-le, drop_more, set_at, replicate_more}
@@ -6,19 +6,19 @@ use Rattle.std.proofs.lemmas.List.{get_or_append_left, get_or-append_right, get_
 use Rattle.std.proofs.lemmas.Bool.{cases_lt}
 use Rattle.page_arena.specs.Block.{with_run}
 
--- a place is in a run, or below it, or above
+-- an index is in a run, or below it, or above
 pub inside_or_outside : (first count i : ℕ) → ((first ≤ i) × (i < first + count)) ⊎ ((i < first) ⊎ (first + count ≤ i))
 inside_or_outside first count i =
     ⊎_elim (λ below. inr (inl below)) (λ low. ⊎_elim (λ high. inl (low, high)) (λ above. inr (inr above)) (cases_lt i (first + count))) (cases_lt i first)
 
--- a run of no places
+-- a run of no items
 pub with_run_none : {X : Type 0} (xs : List X) (first : ℕ) (x : X) → with_run xs first 0 x ≡ xs
 unfolding with_run
 with_run_none xs first x =
     let same : first + 0 ≡ first = omega arith in
     rw (same, append-nil) (take-append-drop first xs)
 
--- a run of one more place
+-- a run of one more item
 pub with_run_more : {X : Type 0} (xs : List X) (first count : ℕ) (x : X) → first + count < length xs → set (with_run xs first count x) (first + count) x ≡ with_run xs first (count + 1) x
 unfolding with_run
 with_run_more xs first count x within =
@@ -45,7 +45,7 @@ module _ {X : Type 0} (xs : List X) (first count : ℕ) (x : X) (fits : first + 
       length-append (take first xs ++ replicate count x) (drop (first + count) xs)
       ∙ (let a = fronts in let b = length-drop (first + count) xs in omega arith)
 
-  -- a place of the run
+  -- an index inside the run
   pub get_or-with_run_inside : (i : ℕ) (d : X) → first ≤ i → i < first + count → get_or (with_run xs first count x) i d ≡ x
   unfolding with_run
   get_or-with_run_inside i d low high =
@@ -53,7 +53,7 @@ module _ {X : Type 0} (xs : List X) (first count : ℕ) (x : X) (fits : first + 
       ∙ get_or-append_right (take first xs) (replicate count x) first i d front low
       ∙ get_or-replicate count (i - first) x d (omega arith)
 
-  -- a place beside the run
+  -- an index outside the run
   pub get_or-with_run_outside : (i : ℕ) (d : X) → (i < first) ⊎ (first + count ≤ i) → get_or (with_run xs first count x) i d ≡ get_or xs i d
   unfolding with_run
   get_or-with_run_outside i d (inl below) =

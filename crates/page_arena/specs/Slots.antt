@@ -1,12 +1,12 @@
--- For each page, the slot that has its bytes.
+-- The slot of each page's bytes.
 use Rattle.std.specs.Prelude.{◌≡◌, ◌≢◌, ℕ, zero, suc, ◌<◌, List, [], ◌∷◌, length, map, get_or}
 use Rattle.granule_addr.specs.Page.{zero_page}
 
--- the pages, where `items` are the bytes of each slot
+-- the pages, if `items` are the bytes of each slot
 unfoldable pub pages_in : List (List ℕ) → List ℕ → List (List ℕ)
 pages_in items slots = map (λ slot. get_or items slot zero_page) slots
 
--- how many pages have a slot of their own
+-- the number of pages that have a slot of their own
 unfoldable pub owners : List ℕ → ℕ
 owners [] = 0
 owners (zero ∷ slots) = owners slots

@@ -1,10 +1,10 @@
--- The pages are one row of slots.
+-- The invariant of the pages: one row of slots.
 use Rattle.std.specs.Prelude.{◌≡◌, ℕ, ◌+◌, ◌≤◌, List, length, get_or}
 use Rattle.granule_addr.specs.Page.{zero_page}
 use denote.RawPtr.{Ptr}
 
--- The row begins at its start, was made by this allocator, has room for one slot more than there are pages, and has the
--- slots that are used; the first of them has zeros.
+-- The row begins at its start, was allocated by this allocator, has capacity for one slot more than there are pages,
+-- and has the slots that are used. The first of them has zeros.
 pub record IsWhole {A : Type 0} (first at : Ptr) (slots : List ℕ) (used room : ℕ) (items : List (List ℕ)) (alloc from : A) : Type 0 where
   pub place : at ≡ first
   pub owner : from ≡ alloc

@@ -1,4 +1,4 @@
--- Laws of the words of pages: with them nothing above has to see bytes.
+-- Theorems on the words of pages: with them no crate above depends on bytes.
 use Rattle.std.specs.Prelude.{◌≡◌, ◌≢◌, ℕ, ◌+◌, ◌-◌, ◌*◌, ◌^◌, ◌<◌, ◌≤◌, ◌⊎◌, List, [], ◌++◌, length, take, drop, replicate, get_or, slice_range}
 use Rattle.std.specs.Int.{from_le_bytes, to_le_bytes, w64}
 use Rattle.std.proofs.Common.{refl, sym, ap, ◌∙◌, inl, inr, ⊎_elim, arith, length-append, append_assoc}
@@ -109,7 +109,7 @@ module _ (pages : List (List ℕ)) (granule i word : ℕ) (inside : granule < le
       (λ beside. ap (λ page. word_of_page page j) (get_or-set_other pages granule other _ [] beside))
       (cases_eq other granule)
 
--- another page, and how many pages there are
+-- another page, and the number of pages
 pub page_at-with_word_other : (pages : List (List ℕ)) (granule i word other : ℕ) → other ≢ granule → page_at (with_word pages granule i word) other ≡ page_at pages other
 page_at-with_word_other pages granule i word other ne = get_or-set_other pages granule other _ [] ne
 

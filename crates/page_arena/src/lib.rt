@@ -1,12 +1,12 @@
-//! Stores of pages: the memory that granules are, and which of it is free.
+//! Stores of pages: the memory of granules, and the set of free ones.
 //!
-//! A store is seen as a list of pages of 4,096 bytes and a flag for each page, whichever store it is. A block of pages
-//! is taken, written and read, and given back cleared; no call but `build` takes memory. Everything above is proved
-//! once for any `PageStore`. A store asks of its caller that pages are taken before they are written or given back.
+//! Any store is seen as a list of pages of 4,096 bytes and a flag for each page. A block of pages is taken, written and
+//! read, and given back cleared. No call but `build` takes memory. The crates above are proved once for any
+//! `PageStore`. A store requires of its caller that pages are taken before they are written or given back.
 //!
-//! `RawPages` are the pages of a machine in one allocation. A page that was never written costs nothing: all such pages are
-//! borrowed as one page of zeros, and a page gets a place when it is first written. Pointers are in the six functions of
-//! `row.rt`.
+//! `RawPages` are the pages of a machine in one allocation. A page that was never written costs nothing: all such pages
+//! are borrowed as one page of zeros, and a page gets a slot when it is first written. Pointers are in the six
+//! functions of `row.rt`.
 #![tactic(auto)]
 
 mod build_error;

@@ -1,4 +1,4 @@
-//! The pages of a machine.
+//! The pages of a machine in one allocation.
 ghost use Rattle.std.specs.Prelude.{◌≡◌, ◌≢◌, ◌+◌, ◌<◌, ◌≤◌, ◌↔◌, ◌⊎◌, length, replicate, get_or, slice_set, IfOk, IsErrOf};
 ghost use Rattle.std.specs.Borrow.{sem};
 ghost use Rattle.granule_addr.specs.Page.{page_of, zero_page};
@@ -14,8 +14,8 @@ use granule_addr::MOST_PAGES;
 use std::alloc::{AllocError, Global};
 use std::marker::Model;
 
-/// All pages of a machine, of 4,096 bytes each, in one allocation that is given back at the end. The bytes of a page lie
-/// in its slot; the slots that are used come first, and nothing is written yet behind them.
+/// All pages of a machine, of 4,096 bytes each, in one allocation that is given back at the end. The bytes of a page
+/// are in its slot. The slots that are used come first, and nothing is written yet after them.
 pub struct RawPages {
     start: Start<[u8; 4096]>,
     slots: Slots,
@@ -38,7 +38,7 @@ impl Model for RawPages {
 impl RawPages {
     ghost use Rattle.page_arena.specs.LendsPage.{lends_page};
 
-    /// `pages` pages of zeros. `BadSize` comes exactly where `pages` is not 1 to 4,096; the only other error is
+    /// `pages` pages of zeros. `BadSize` comes exactly when `pages` is not 1 to 4,096; the only other error is
     /// `Memory`.
     pub fn build(alloc: Global, pages: u16) -> Result<RawPages, BuildError>
         ensures bad_size { IsErrOf result BuildError.BadSize ↔ ((pages < 1) ⊎ (4096 < pages)) }
@@ -58,7 +58,7 @@ impl RawPages {
         self.slots.count() as u16
     }
 
-    /// Lends a page.
+    /// A page, by reference.
     pub fn page(&self, index: usize) -> &[u8; 4096]
         requires { index < length self.now }
         ensures { result.now ≡ page_at self.now index }
@@ -66,7 +66,7 @@ impl RawPages {
         self.row.get(self.start, self.slots.slot(index))
     }
 
-    /// Lends a page for writing.
+    /// A page, by mutable reference.
     pub fn page_mut(&mut self, index: usize) -> &mut [u8; 4096]
         requires { index < length self.old }
         ensures* writes_back { sem 𝓛 (lends_page self.entry index result) }

@@ -1,4 +1,4 @@
-//! The plainest store: vectors and a scan.
+//! The plainest store of pages: vectors, and a scan for a free block.
 ghost use Rattle.std.specs.Prelude.{◌≡◌, ◌↔◌, ◌<◌, ◌⊎◌, true, replicate, IfOk, IsErrOf};
 ghost use Rattle.granule_addr.specs.Page.{zero_page};
 ghost use Rattle.page_arena.specs.Page.{IsSized};
@@ -23,7 +23,7 @@ pub struct PlainStore {
 }
 
 impl PlainStore {
-    /// A store of `pages` pages, all free and zero. `BadSize` comes exactly where `pages` is not 1 to 4,096; the only
+    /// A store of `pages` pages, all free and zero. `BadSize` comes exactly when `pages` is not 1 to 4,096; the only
     /// other error is `Memory`.
     pub fn build(alloc: Global, pages: u16) -> Result<PlainStore, BuildError>
         ensures bad_size { IsErrOf result BuildError.BadSize ↔ ((pages < 1) ⊎ (4096 < pages)) }

@@ -1,4 +1,4 @@
-//! Items side by side in one allocation. Pointers stand in the six functions of this file and nowhere else.
+//! Items side by side in one allocation. All pointers of the crate are in the six functions of this file.
 ghost use Rattle.std.specs.Prelude.{◌≡◌, ◌≢◌, ◌<◌, ◌≤◌, ℕ, List, [], length, get_or, IfOk, ⊤};
 ghost use Rattle.std.specs.Borrow.{sem};
 ghost use denote.RawPtr.{Ptr};
@@ -8,7 +8,7 @@ use std::alloc::{AllocError, Allocator};
 use std::marker::{Model, PhantomData, Send, Sync};
 use std::mem::{align_of, size_of};
 
-/// Where a row begins. It owns nothing.
+/// The start of a row. It owns nothing.
 pub(crate) struct Start<T> {
     first: *mut T,
 }
@@ -29,7 +29,7 @@ unsafe impl<T> Send for Start<T> {}
 
 unsafe impl<T> Sync for Start<T> {}
 
-/// The owner of a row: of its items, of the room behind them, and of the right to give the allocation back. It takes
+/// The owner of a row: of its items, of the memory after them, and of the right to give the allocation back. It takes
 /// no space.
 pub(crate) struct Row<T, A: Allocator> {
     mark: PhantomData<*const (T, A)>,
@@ -47,7 +47,7 @@ impl<T, A: Allocator> Model for Row<T, A> {
 
 unsafe impl<T: Send, A: Allocator + Send> Send for Row<T, A> {}
 
-/// A row with room for `room` items, and none yet.
+/// A row with capacity for `room` items, and none yet.
 pub(crate) fn allocate<T, A: Allocator>(
     alloc: &A,
     room: usize,
@@ -83,7 +83,7 @@ pub(crate) fn release<T, A: Allocator>(alloc: &A, start: Start<T>, room: usize, 
 impl<T, A: Allocator> Row<T, A> {
     ghost use Rattle.page_arena.specs.Lends.{HasItem, lends_item};
 
-    /// Lends an item.
+    /// An item, by reference.
     pub(crate) fn get(&self, start: Start<T>, index: usize) -> &T
         requires { HasItem T.row start self.now index }
         ensures { result.now ≡ get_or self.now.items index result.now }
@@ -91,7 +91,7 @@ impl<T, A: Allocator> Row<T, A> {
         unsafe { &*start.first.add(index) }
     }
 
-    /// Lends an item for writing.
+    /// An item, by mutable reference.
     pub(crate) fn get_mut(&mut self, start: Start<T>, index: usize) -> &mut T
         requires { HasItem T.row start self.old index }
         ensures* writes_back { sem 𝓛 (lends_item T.row A.row A.Allocator self.entry index result) }
@@ -100,7 +100,7 @@ impl<T, A: Allocator> Row<T, A> {
         unsafe { &mut *start.first.add(index) }
     }
 
-    /// Lends an item for reading and another one for writing.
+    /// An item by reference, and another one by mutable reference.
     pub(crate) fn two(&mut self, start: Start<T>, read: usize, write: usize) -> (&T, &mut T)
         requires { HasItem T.row start self.old read × HasItem T.row start self.old write × (read ≢ write) }
         ensures* writes_back { sem 𝓛 (lends_item T.row A.row A.Allocator self.entry write result.1) }
@@ -109,7 +109,7 @@ impl<T, A: Allocator> Row<T, A> {
         unsafe { (&*start.first.add(read), &mut *start.first.add(write)) }
     }
 
-    /// Writes an item at an index: instead of the item there, or behind the last.
+    /// Writes an item at an index: in place of the item there, or after the last.
     pub(crate) fn put(&mut self, start: Start<T>, index: usize, item: T)
         requires { (start.first ≡ self.old.at) × (index ≤ length self.old.items) × (index < self.old.room) × Reaches T.row self.old.room }
         ensures { (self.new.at ≡ self.old.at) × (self.new.room ≡ self.old.room) × (self.new.alloc ≡ self.old.alloc) × (self.new.items ≡ put_at self.old.items index item) }

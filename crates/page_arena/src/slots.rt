@@ -1,4 +1,4 @@
-//! Which slot has the bytes of a page.
+//! The slot of each page's bytes.
 ghost use Rattle.std.specs.Prelude.{◌≡◌, ◌+◌, ◌<◌, ◌≤◌, length, replicate, get_or, set, IfOk};
 ghost use Rattle.page_arena.specs.Slots.{IsSlots};
 
@@ -24,7 +24,7 @@ impl Slots {
         })
     }
 
-    /// How many pages there are.
+    /// The number of pages.
     pub(crate) fn count(&self) -> usize
         ensures { result ≡ length self.now.of.items }
     {

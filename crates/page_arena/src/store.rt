@@ -1,4 +1,4 @@
-//! What a store of pages is.
+//! The trait of stores of pages.
 ghost use Rattle.std.specs.Prelude.{◌≡◌, ◌≢◌, ℕ, ◌+◌, ◌^◌, ◌<◌, ◌≤◌, ◌↔◌, Bool, true, false, List, length, filter, Option, IsTrue, IfSome, IfNone, slice_set};
 ghost use Rattle.std.specs.Bool.{OnTrue, OnFalse};
 ghost use Rattle.granule_addr.specs.Page.{page_of, zero_page};
@@ -18,18 +18,18 @@ pub trait PageStore {
     /// For each page, whether it is free.
     ghost free_flags: { Self → List Bool };
 
-    /// For each order, the free block that the store takes next, or `None` where there is none.
+    /// For each order, the free block that the store takes next, or `None` if there is none.
     ghost choice: { Self → ℕ → Option ℕ };
 
-    /// How many pages there are.
+    /// The number of pages.
     fn pages(&self) -> u16
         ensures { result ≡ length (page_bytes self.now) };
 
-    /// How many pages are free.
+    /// The number of free pages.
     fn free_count(&self) -> u16
         ensures { result ≡ length (filter (λ flag. flag) (free_flags self.now)) };
 
-    /// Takes a free block: the store's choice. `None` comes exactly where there is none.
+    /// Takes a free block: the store's choice. `None` comes exactly when there is none.
     fn take(&mut self, order: Order) -> Option<Gran>
         ensures first { result ≡ choice self.old order }
         ensures block { IfSome result (IsFreeBlock (free_flags self.old) order) }
@@ -40,7 +40,8 @@ pub trait PageStore {
         ensures unchanged { IfNone result (free_flags self.new ≡ free_flags self.old) }
         ensures bytes { page_bytes self.new ≡ page_bytes self.old };
 
-    /// Takes that block. `false`, with nothing changed, comes exactly where it is not aligned, inside and free.
+    /// Takes the block at that granule. `false`, with nothing changed, comes exactly when it is not aligned, not inside
+    /// the machine, or not free.
     fn take_at(&mut self, order: Order, first: Gran) -> bool
         ensures answer { IsTrue result ↔ IsFreeBlock (free_flags self.old) order first }
         ensures taken { OnTrue result

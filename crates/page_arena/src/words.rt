@@ -1,4 +1,4 @@
-//! Words in a page.
+//! Words of a page's bytes.
 ghost use Rattle.std.specs.Prelude.{◌≡◌, ◌<◌, length};
 ghost use Rattle.page_arena.specs.Word.{word_of_page, page_with_word};
 

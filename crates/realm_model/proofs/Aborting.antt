@@ -1,4 +1,4 @@
--- A build at rest stays at rest while it is undone, whatever others do.
+-- A build at rest, which stays at rest while it is undone, whatever others do.
 use Rattle.std.proofs.Common.{◌≡◌, ℕ, true, false, ⊎_elim, List, [], ◌∷◌, ◌++◌, reverse, Some, None, sym, ap, ◌∙◌, subst}
 use Rattle.std.specs.Prelude.{not, ◌==◌}
 use Rattle.std.specs.List.{All}

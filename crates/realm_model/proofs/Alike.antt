@@ -1,4 +1,4 @@
--- Two commands that change alike: the same granules, to cells that own the same.
+-- Two commands with like updates: of the same granules, to cells that own the same.
 use Rattle.std.proofs.Common.{◌≡◌, ℕ, Bool, true, false, cond, List, [], ◌∷◌, ◌++◌, map, set, Some, Ok, Err, refl, sym, ap, ◌∙◌, subst}
 use Rattle.std.specs.Prelude.{◌==◌}
 use Rattle.std.specs.FinMap.{get}

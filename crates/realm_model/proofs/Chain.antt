@@ -1,4 +1,4 @@
--- The newest open act of a build can be undone, whatever came after it: from laws of single steps.
+-- The undo of a build's newest open operation, whatever came after it: from theorems on single steps.
 use Rattle.std.proofs.Common.{◌≡◌, ◌≢◌, ℕ, suc, ◌+◌, ◌≤◌, true, false, List, [], ◌∷◌, ◌++◌, length, take, reverse, Some, None, arith, refl, sym, ap, ◌∙◌, subst}
 use Rattle.std.specs.Prelude.{◌==◌, option_and_then}
 use Rattle.std.specs.List.{last_or}
@@ -18,8 +18,8 @@ use Rattle.realm_model.proofs.Stack.{paired, pushed_other, back, pushed_back, ki
 use Rattle.realm_model.proofs.Lists.{reverse_more, last-reverse, front_push, last_push}
 use Rattle.realm_model.proofs.Growth.{open_entries-own, open_entries-other, takes_away}
 
--- What single steps owe. `Same u w`: the worlds own the same to the build, whatever bytes, RIPAS, measurements and states of
--- RECs are. `Sound w`: what every reachable world keeps
+-- The obligations of single steps. `Same u w`: the worlds own the same to the build, whatever bytes, RIPAS,
+-- measurements and states of RECs are. `Sound w`: what every reachable world keeps
 pub record Laws (limits : Limits) (b : ℕ) (Same : World → World → Type 0) (Sound : World → Type 0) : Type 0 where
   pub itself : (w : World) → Same w w
   pub chain : (u v w : World) → Same u v → Same v w → Same u w
@@ -156,7 +156,8 @@ module _ (limits : Limits) (b : ℕ) (Same : World → World → Type 0) (Sound 
       let no_stack : k.0 ≡ [] = sym (reverse-reverse k.0) ∙ ap reverse (sym k.1.open_is ∙ none) in
       subst (λ st. Chain limits b Same Sound laws (opening limits) [] st w) no_stack k.1.chained
 
-  -- Where an act is open, a world before the newest one and the world right after it are known, which owns the same as the world now
+  -- If an operation is open, a world before the newest one and the world right after it are known, which owns the same
+  -- as the world now
   pub record Newest (act : Act) (w : World) : Type 0 where
     pub before : World
     pub after_it : World

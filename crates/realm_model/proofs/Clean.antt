@@ -1,4 +1,4 @@
--- A free granule is blank, and stays so.
+-- Free granules, which are blank and stay so.
 use Rattle.std.proofs.Common.{◌≡◌, ℕ, List, [], ◌∷◌, set, Option, Some, None, refl, sym, ap, ◌∙◌, subst}
 use Rattle.std.specs.Prelude.{slice_get}
 use Rattle.realm_model.specs.Machine.{Cell, blank, cell_at}

@@ -1,4 +1,4 @@
--- Once nothing of a build is open, the world is that of the history without it.
+-- The world once nothing of a build is open, which is that of the history without it.
 use Rattle.std.proofs.Common.{◌≡◌, ℕ, zero, suc, Bool, true, false, cond, not, List, [], ◌∷◌, map, Option, Some, None, refl, sym, ap, ◌∙◌}
 use Rattle.std.specs.Prelude.{◌==◌, option_map, replicate}
 use Rattle.realm_model.specs.declared.act.Event.{Event}

@@ -1,5 +1,5 @@
 -- Small histories, computed.
--- what they are told with
+-- the functions that build them
 pub mod Worlds
 -- pages of two builds
 pub mod Granules

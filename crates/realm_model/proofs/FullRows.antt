@@ -1,4 +1,4 @@
--- The commands keep the rows of a realm full: none of the starting tables or of a table is missing.
+-- The rows of a realm, which the commands keep full: none of the starting tables or of a table is missing.
 use Rattle.std.proofs.Common.{◌/◌, ◌≡◌, ◌≢◌, ℕ, zero, suc, ◌+◌, ◌-◌, ◌*◌, ◌<◌, ◌≤◌, Bool, true, false, cond, not, inl, inr, Some, None, refl, sym, ap, ◌∙◌, subst, arith}
 use Rattle.std.specs.Prelude.{option_map, is_some, ◌==◌}
 use Rattle.std.specs.FinMap.{get, insert, empty, get-empty}

@@ -1,4 +1,4 @@
--- An event that goes in one world goes in another that differs in the part of another build alone, where it takes nothing of
+-- An event in two worlds that differ in the part of another build alone: it is accepted in both, if it takes nothing of
 -- that part.
 use Rattle.std.proofs.Common.{◌≡◌, ◌≢◌, ℕ, true, false, cond, ◌||◌, not, List, [], ◌∷◌, map, Option, Some, None, Ok, refl, sym, ap, ◌∙◌}
 use Rattle.std.specs.Prelude.{◌==◌, slice_get, option_map}

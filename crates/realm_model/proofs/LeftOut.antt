@@ -1,4 +1,4 @@
--- A build can be left out of a history.
+-- The theorem that a build can be left out of a history.
 use Rattle.std.proofs.Common.{◌≡◌, ◌≢◌, ℕ, zero, suc, Bool, true, false, cond, not, List, [], ◌∷◌, ◌++◌, map, Option, Some, None, refl, sym, ap, ◌∙◌, subst}
 use Rattle.std.specs.Prelude.{◌==◌, option_map, option_and_then, is_some, filter, replicate}
 use Rattle.std.specs.List.{last_or}

@@ -1,4 +1,4 @@
--- A machine keeps as many granules as it has, whatever comes of a command.
+-- The number of a machine's granules, which no command changes.
 use Rattle.std.proofs.Common.{◌≡◌, List, [], ◌∷◌, length, Ok, Err, refl, ◌∙◌}
 use Rattle.std.proofs.lemmas.List.{length-set}
 use Rattle.realm_model.specs.Machine.{Machine}

@@ -1,4 +1,4 @@
--- Every reached world keeps realms and the granules that they name linked.
+-- The links between realms and the granules that they name, in every reached world.
 use Rattle.std.proofs.Common.{◌<◌, ◌++◌, arith, ◌≡◌, ℕ, ◌+◌, ◌-◌, true, false, cond, inl, inr, List, [], ◌∷◌, ◌++◌, map, Option, Some, None, refl, sym, ap, ◌∙◌, subst, arith}
 use Rattle.std.specs.Prelude.{option_map, is_some, ◌==◌}
 use Rattle.std.specs.Ordering.{nat_cmp, eq_by_cmp}

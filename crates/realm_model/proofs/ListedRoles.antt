@@ -1,4 +1,4 @@
--- Granules of a list that have the roles of their places in it: auxiliaries of a REC, starting tables of a realm.
+-- Granules of a list that have the roles of their indexes in it: auxiliaries of a REC, starting tables of a realm.
 use Rattle.std.proofs.Common.{◌≡◌, ℕ, zero, suc, ◌+◌, true, false, cond, ◌||◌, List, [], ◌∷◌, Option, Some, None, refl, sym, ap, ◌∙◌, arith}
 use Rattle.std.specs.Prelude.{◌==◌, option_map, slice_get}
 use Rattle.std.proofs.lemmas.Bool.{eq-eqb, ne_eqb}

@@ -1,4 +1,5 @@
--- What the open acts of a build made: an act adds what it makes, and a reverse removes what the act made that it takes back.
+-- The lists that the open operations of a build make: an operation adds its own part, and a reverse removes that of the
+-- operation that it reverses.
 use Rattle.std.proofs.Common.{◌≡◌, ℕ, true, false, List, [], ◌∷◌, ◌++◌, Some, sym, ap, ◌∙◌}
 use Rattle.std.specs.List.{flat_map}
 use Rattle.std.proofs.lemmas.List.{append-nil}

@@ -1,4 +1,4 @@
--- Finite maps by number and by place: when two keys are one, and values that look the same.
+-- Finite maps by number and by place: equality of keys, and of values that look the same.
 use Rattle.std.proofs.Common.{◌≡◌, ℕ, true, false, cond, Some, Ordering, refl, sym, ap, ◌∙◌}
 use Rattle.std.specs.Prelude.{option_map}
 use Rattle.std.specs.declared.cmp.Ordering.TheVariants.{Less, Equal, Greater}

@@ -1,4 +1,4 @@
--- The making of a realm: what it changes, and what its checks say where they all hold.
+-- The creation of a realm: its updates, and the consequences if all its checks hold.
 use Rattle.std.proofs.Common.{◌≡◌, ◌≤◌, ◌%◌, ℕ, true, false, cond, ◌&&◌, ◌||◌, not, List, [], ◌∷◌, map, Some, refl, sym, ap, ◌∙◌}
 use Rattle.std.specs.Prelude.{◌==◌, nat_le}
 use Rattle.std.specs.List.{list_all}

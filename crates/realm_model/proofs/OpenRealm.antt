@@ -1,4 +1,4 @@
--- The realm of a build is that of its open Realm act.
+-- The realm of a build, which is that of its open Realm operation.
 use Rattle.std.proofs.Common.{◌≡◌, ℕ, true, false, cond, inl, inr, ⊎_elim, List, [], ◌∷◌, ◌++◌, length, map, Option, Some, None, refl, sym, ap, ◌∙◌, subst, arith}
 use Rattle.std.specs.Prelude.{filter, is_some}
 use Rattle.std.proofs.lemmas.Bool.{cases_eq}

@@ -1,4 +1,4 @@
--- What comes of a command: what holds of its updates where it is not refused, and the way past each check.
+-- The outcome of a command: the conditions of its updates if it is not refused, and the way past each check.
 use Rattle.std.proofs.Common.{◌≡◌, ℕ, Bool, true, false, cond, List, Some, None, Ok, Err, refl, ap, subst}
 use Rattle.std.specs.FinMap.{get}
 use Rattle.realm_model.specs.declared.rmi.Rmi.{Rmi}

@@ -1,4 +1,4 @@
--- What an act makes of ownership depends on ownership alone.
+-- The ownership after an operation, which depends on the ownership before alone.
 use Rattle.std.proofs.Common.{◌≡◌, ℕ, suc, ◌-◌, Bool, true, false, cond, ◌&&◌, ◌||◌, List, [], ◌∷◌, map, length, pred, Option, Some, None, Ok, refl, sym, ap, ◌∙◌, subst, arith}
 use Rattle.std.specs.Prelude.{is_some, ◌==◌, option_map}
 use Rattle.std.specs.Cmp.{nat_cmp_total}

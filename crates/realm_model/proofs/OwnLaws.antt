@@ -1,4 +1,4 @@
--- The laws of single steps, for what a world owns to one build.
+-- The theorems on single steps, for the part of a world that one build owns.
 use Rattle.std.proofs.Common.{ℕ, refl, sym, subst}
 use Rattle.realm_model.specs.Machine.{Limits}
 use Rattle.realm_model.specs.World.{World, part_of}

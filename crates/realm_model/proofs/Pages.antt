@@ -1,4 +1,4 @@
--- The pages of a build: how they grow, and that they are the granules that it leases.
+-- The pages of a build: their growth, and that they are the granules that it leases.
 use Rattle.std.proofs.Common.{◌≡◌, ◌≢◌, ℕ, zero, suc, ◌^◌, ◌<◌, Bool, true, false, cond, ◌||◌, List, [], ◌∷◌, ◌++◌, get_or, Option, Some, None, refl, sym, ap, ◌∙◌, subst}
 use Rattle.std.specs.Prelude.{slice_get, ◌==◌, replicate}
 use Rattle.std.specs.Option.{option_eq}

@@ -1,4 +1,4 @@
--- An act has a kind where it has a reverse.
+-- The kind of an operation, which it has if it has a reverse.
 use Rattle.std.proofs.Common.{◌≡◌, refl}
 use Rattle.std.specs.Prelude.{is_some}
 use Rattle.realm_model.specs.declared.act.Act.{Act}

@@ -1,4 +1,4 @@
--- The realm of a build in a reached world: whether it has one, and how many RECs of it run.
+-- The realm of a build in a reached world: whether it has one, and the number of its RECs that run.
 use Rattle.std.proofs.Common.{◌≡◌, ℕ, suc, true, false, cond, ◌&&◌, ◌⊎◌, inl, inr, List, [], ◌∷◌, length, Option, Some, None, refl, sym, ap, ◌∙◌}
 use Rattle.std.specs.Prelude.{is_some, filter}
 use Rattle.std.specs.FinMap.{get}

@@ -1,4 +1,4 @@
--- What every reached world keeps of the part of a build.
+-- The invariants of a build's part in every reached world.
 use Rattle.std.specs.Prelude.{◌≡◌, ℕ, ◌%◌, ◌<◌, true, Some, None, is_some}
 use Rattle.std.specs.FinMap.{get}
 use Rattle.granule_addr.specs.Ipa.{is_width}
@@ -33,7 +33,8 @@ pub record IsSoundPart (world : World) : Type 0 where
 abbrev pub IsSoundFor : ℕ → World → Type 0
 IsSoundFor build world = IsSoundPart (part_of world build)
 
--- each granule that a realm names is in the state of its role, and of the realm, and none is named twice; and no other is
+-- each granule that a realm names is in the state of its role, and of the realm, and none is named twice; and no other
+-- is
 pub record IsLinked (cells : ℕ → Cell) : Type 0 where
   pub roles : ℕ → Role
   pub names : (rd : ℕ) (realm : RealmRow) → (cells rd).descriptor ≡ Some realm → (role : Role) (to : ℕ × GranuleState) → target realm role ≡ Some to

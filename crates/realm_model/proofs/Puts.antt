@@ -1,4 +1,4 @@
--- No act but those of blocks changes a lease.
+-- Leases, which no operation but those of blocks changes.
 use Rattle.std.proofs.Common.{◌≡◌, ℕ, Bool, true, false, List, map, Option, Some, None, refl}
 use Rattle.std.specs.List.{list_all}
 use Rattle.granule_addr.specs.Root.{starting_tables}

@@ -1,4 +1,4 @@
--- What holds of every world that a history leads to: from what holds of the part of each build.
+-- The invariant of every world that a history leads to, from that of the part of each build.
 use Rattle.std.proofs.Common.{◌≡◌, ℕ, true, false, cond, not, List, Option, Some, None, refl, sym, ap, ◌∙◌, subst}
 use Rattle.std.specs.Prelude.{is_some, slice_get}
 use Rattle.std.proofs.lemmas.Bool.{eq-eqb}

@@ -1,4 +1,4 @@
--- What holds of every history and of every world that one leads to, by their events.
+-- The induction over the events of a history, for all histories and the worlds that they lead to.
 use Rattle.std.proofs.Common.{◌≡◌, ℕ, List, [], ◌∷◌, length, Option, Some, None, Ok, Err, refl, sym, ◌∙◌, subst, ◌++◌}
 use Rattle.std.proofs.lemmas.Option.{same_Some, option_and_then_some}
 use Rattle.std.proofs.lemmas.List.{length-set, length-replicate, append_assoc, append-nil}

@@ -1,4 +1,4 @@
--- A guest's write reaches a granule that its own build leases.
+-- The granule of a guest's write, which its own build leases.
 use Rattle.std.proofs.Common.{◌≡◌, ℕ, zero, suc, true, false, cond, not, List, [], ◌∷◌, map, Option, Some, None, refl, sym, ap, ◌∙◌, subst}
 use Rattle.std.specs.Prelude.{◌==◌, slice_get, option_map}
 use Rattle.std.proofs.lemmas.Bool.{eqb-true}

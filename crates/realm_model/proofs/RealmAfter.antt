@@ -1,4 +1,4 @@
--- What an act of a build makes of its realm.
+-- The realm of a build after one of its operations.
 use Rattle.std.proofs.Common.{◌≡◌, ℕ, ◌+◌, Bool, true, false, cond, not, List, [], ◌∷◌, ◌++◌, map, Option, Some, None, refl, sym, ap, ◌∙◌, subst}
 use Rattle.std.specs.Prelude.{◌==◌}
 use Rattle.std.specs.FinMap.{get, insert, remove, len, empty_of_len, get-empty}

@@ -1,4 +1,4 @@
--- A realm is made, or is gone.
+-- The roles of granules as a realm is created or destroyed.
 use Rattle.std.proofs.Common.{◌≡◌, ℕ, ◌*◌, true, false, cond, inl, inr, List, ◌∷◌, Option, Some, None, refl, sym, ap, ◌∙◌}
 use Rattle.std.specs.Prelude.{is_some, ◌==◌, option_map}
 use Rattle.std.specs.Ordering.{nat_cmp}

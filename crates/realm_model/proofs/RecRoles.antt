@@ -1,4 +1,4 @@
--- A REC and its auxiliaries come to a realm, or leave it.
+-- The roles of granules as a REC and its auxiliaries come to a realm, or leave it.
 use Rattle.std.proofs.Common.{◌≡◌, ℕ, true, false, cond, ◌||◌, ◌⊎◌, inl, inr, List, [], ◌∷◌, ◌++◌, map, Option, Some, None, refl, sym, ap, ◌∙◌}
 use Rattle.std.specs.Prelude.{is_some, ◌==◌, option_map, slice_get}
 use Rattle.std.specs.List.{list_all}

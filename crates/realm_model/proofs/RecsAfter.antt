@@ -1,4 +1,4 @@
--- What an act of a build makes of the RECs of its realm.
+-- The RECs of a build's realm after one of its operations.
 use Rattle.std.proofs.Common.{◌≡◌, ℕ, ◌+◌, ◌<◌, ◌==◌, Bool, true, false, cond, inl, inr, List, [], ◌∷◌, ◌++◌, map, Option, Some, None, refl, sym, ap, ◌∙◌, subst}
 use Rattle.std.specs.Prelude.{option_map, is_some}
 use Rattle.std.specs.Ordering.{eq_by_cmp, nat_cmp}

@@ -1,4 +1,4 @@
--- No REC of a build runs exactly where none is counted.
+-- The count of RECs that run, which is 0 exactly when no REC of a build runs.
 use Rattle.std.proofs.Common.{◌≡◌, ℕ, ◌<◌, false, List, Option, Some, None, refl, ap, ◌∙◌, arith}
 use Rattle.std.specs.FinMap.{get}
 use Rattle.std.specs.List.{range_with_len}

@@ -1,4 +1,5 @@
--- A reverse act, after its pair and whatever else the build owns the same through: its command, and where that leads.
+-- A reverse operation after its pair, and after anything through which the build owns the same: its command, and the
+-- world after it.
 use Rattle.std.proofs.Common.{◌≡◌, ℕ, ◌+◌, ◌-◌, ◌*◌, ◌<◌, ◌≤◌, Bool, true, false, cond, ◌&&◌, ◌||◌, not, List, [], ◌∷◌, ◌++◌, map, Option, Some, None, Ok, refl, sym, ap, ◌∙◌, subst, arith, lit≤}
 use Rattle.std.specs.Prelude.{option_map, ◌==◌, nat_eq}
 use Rattle.std.specs.List.{list_all}

@@ -193,7 +193,8 @@ module _ (w : World) (sound : IsSoundPart w) where
                 ] refl
           ] refl (sym (ap (λ (c : Cell). is_role_state c.state) (split g)) ∙ h)
 
-      -- The realm names what it named, and besides fresh granules that were the host's. What it names no longer is changed.
+      -- The realm names what it named, and besides fresh granules that were the host's. What it names no longer is
+      -- changed.
       pub changed : (fresh : ℕ → Option Role) → ((k : ℕ) (q : Role) → fresh k ≡ Some q → is_host_state (now k).state ≡ true)
           → ((p : Role) (to : ℕ × GranuleState) → target e1 p ≡ Some to →
           ((target d p ≡ Some to) × (fresh to.0 ≡ None → old.roles to.0 ≡ p → is_in to.0 (map granule_of us) ≡ false))

@@ -1,4 +1,4 @@
--- Rows by their kind, and what they lead to.
+-- Rows by their kind, and the granules that they lead to.
 use Rattle.std.proofs.Common.{◌≡◌, ℕ, ◌≤◌, true, false, Option, Some, None, refl, ap, subst, arith}
 use Rattle.std.specs.Prelude.{option_map}
 use Rattle.std.specs.FinMap.{get}

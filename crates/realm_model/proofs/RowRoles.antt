@@ -1,4 +1,4 @@
--- A granule comes under a row of a realm, or leaves from under one.
+-- The roles of granules as one comes under a row of a realm, or leaves it.
 use Rattle.std.proofs.Common.{◌≡◌, ℕ, true, false, cond, ◌||◌, ◌⊎◌, inl, inr, [], ◌∷◌, Option, Some, None, refl, sym, ap, ◌∙◌}
 use Rattle.std.specs.Prelude.{is_some, ◌==◌, option_map}
 use Rattle.std.specs.FinMap.{get, insert}

@@ -1,4 +1,4 @@
--- Rows of a realm: what stands at a place after rows were put or dropped.
+-- Rows of a realm: the row at a place after rows were put or dropped.
 use Rattle.std.proofs.Common.{subst, ◌≡◌, ◌≢◌, ℕ, zero, suc, ◌+◌, ◌*◌, ◌^◌, ◌<◌, ◌≤◌, Bool, true, false, cond, ◌&&◌, not, Option, Some, None, lit≤, refl, sym, ap, ◌∙◌, arith, ◌⊎◌, inl, inr}
 use Rattle.std.specs.Prelude.{option_map, ◌==◌, nat_le, nat_lt}
 use Rattle.std.specs.Ordering.{eq_by_cmp}

@@ -1,4 +1,4 @@
--- What a derived `==` says: it decides `≡` where those of the fields do.
+-- Derived `==`, which decides `≡` if those of the fields do.
 use Rattle.std.proofs.Common.{◌≡◌, ◌&&◌, List, [], ◌∷◌, Bool, true, false, inl, inr, refl, ap, nat_eq}
 use Rattle.std.proofs.lemmas.Bool.Decides.{Decides-eqb, Decides-and}
 use Rattle.std.proofs.lemmas.Slice.Eq.{bytes_eq-Decides}

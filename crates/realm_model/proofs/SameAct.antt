@@ -1,4 +1,4 @@
--- What the derived `==` of acts says, by the fields of each.
+-- The derived `==` of operations, by the fields of each.
 use Rattle.std.proofs.Common.{◌&&◌, ℕ, nat_eq}
 use Rattle.std.specs.Str.{bytes_eq}
 use Rattle.arrayvec.specs.declared.array_vec.ArrayVec.{ArrayVec}

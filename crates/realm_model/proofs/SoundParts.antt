@@ -1,4 +1,4 @@
--- Every reached world keeps the part of each build sound.
+-- The part of each build, which is sound in every reached world.
 use Rattle.std.proofs.Common.{◌≡◌, ℕ, zero, suc, Bool, true, false, cond, List, [], ◌∷◌, map, length, pred, Option, Some, None, Ok, Err, refl, sym, ap, ◌∙◌, subst, arith}
 use Rattle.std.specs.Prelude.{is_some, ◌==◌, replicate}
 use Rattle.std.proofs.lemmas.Bool.{and_parts, eqb-true, eqb-false}

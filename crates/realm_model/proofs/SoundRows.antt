@@ -1,4 +1,4 @@
--- The commands keep the rows of a realm in shape.
+-- The rows of a realm, which the commands keep in shape.
 use Rattle.std.proofs.Common.{lit≤, ◌/◌, ◌≡◌, ◌≢◌, ℕ, ◌+◌, ◌-◌, ◌*◌, ◌<◌, ◌≤◌, Bool, true, false, cond, ◌&&◌, ◌||◌, not, ◌⊎◌, inl, inr, Option, Some, None, refl, sym, ap, ◌∙◌, subst, arith}
 use Rattle.std.specs.Prelude.{option_map, is_some, ◌==◌, nat_le, nat_lt}
 use Rattle.std.specs.FinMap.{get, insert, empty, get-empty}

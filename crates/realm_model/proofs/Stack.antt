@@ -1,4 +1,4 @@
--- What is unmatched is what a stack holds that grows by a paired act and loses its top by a reverse one.
+-- The unmatched operations as a stack, which grows by a paired operation and loses its top by a reverse one.
 use Rattle.std.proofs.Common.{◌≡◌, ℕ, zero, suc, pred, ◌+◌, ◌-◌, ◌≤◌, Bool, true, false, cond, not, ◌&&◌, ◌||◌, List, [], ◌∷◌, ◌++◌, length, take, refl, sym, ap, ◌∙◌, arith}
 use Rattle.std.specs.Prelude.{filter, fold, ◌==◌}
 use Rattle.std.proofs.lemmas.Bool.{eq-eqb, ne_eqb}

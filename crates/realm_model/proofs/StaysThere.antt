@@ -1,4 +1,4 @@
--- What a build has where it opens acts, it has after them: its granules, and the VMID of its realm.
+-- The granules of a build and the VMID of its realm, which it still has after it opens operations.
 use Rattle.std.proofs.Common.{◌≡◌, ℕ, true, false, cond, List, [], ◌∷◌, Option, Some, None, refl, sym, ap, ◌∙◌, subst}
 use Rattle.std.specs.Prelude.{slice_get}
 use Rattle.std.proofs.lemmas.Option.{slice_get_within}

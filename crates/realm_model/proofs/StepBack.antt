@@ -1,4 +1,4 @@
--- What a step asked for and did, read back from its command.
+-- The conditions and the effect of a step, read back from its command.
 use Rattle.std.proofs.Common.{◌≡◌, ℕ, true, List, map, Some, Ok, Err, refl, sym, ap, ◌∙◌}
 use Rattle.std.specs.Prelude.{nat_lt}
 use Rattle.std.specs.List.{list_all}

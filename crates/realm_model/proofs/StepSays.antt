@@ -1,4 +1,4 @@
--- A step is what it says: the guards in its updates add nothing.
+-- The exactness of a step: the guards in its updates add nothing.
 use Rattle.std.proofs.Common.{◌≡◌, ◌≢◌, ℕ, zero, suc, ◌+◌, ◌^◌, ◌<◌, true, cond, List, [], ◌∷◌, map, set, Option, Some, None, Ok, Err, refl, sym, ap, ◌∙◌, arith}
 use Rattle.std.specs.Prelude.{slice_get}
 use Rattle.std.specs.List.{All, list_all, range_with_len}

@@ -1,4 +1,4 @@
--- The events of a build alone lead to its part of the world, and a world is what its parts are.
+-- The events of a build alone, which lead to its part of the world; and a world as the sum of its parts.
 use Rattle.std.proofs.Common.{◌≡◌, ℕ, Bool, true, false, cond, not, List, [], ◌∷◌, ◌++◌, map, Option, Some, None, refl, sym, ap, ◌∙◌, subst, ◌<◌, ◌≤◌, arith}
 use Rattle.std.specs.Prelude.{◌==◌, option_map, option_and_then, is_some}
 use Rattle.std.specs.List.{last_or}

@@ -1,4 +1,4 @@
--- All that a build has open can be undone, the newest first.
+-- The undo of all that a build has open, the newest first.
 use Rattle.std.proofs.Common.{◌≡◌, ℕ, suc, true, false, cond, not, List, [], ◌∷◌, ◌++◌, length, map, reverse, Some, None, refl, sym, ap, ◌∙◌, subst}
 use Rattle.std.specs.Prelude.{◌==◌, option_map}
 use Rattle.std.specs.List.{last_or, list_any}

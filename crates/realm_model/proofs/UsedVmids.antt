@@ -1,4 +1,4 @@
--- The VMIDs in use: of which realms they are, and what of them the outcome of an act asks.
+-- The VMIDs in use: the realms that have them, and the part of them that an operation's outcome depends on.
 use Rattle.std.proofs.Common.{◌≡◌, ℕ, zero, suc, Bool, true, false, cond, ◌||◌, not, List, [], ◌∷◌, Option, Some, None, Ok, refl, sym, ap, ◌∙◌}
 use Rattle.std.specs.Prelude.{◌==◌, option_map}
 use Rattle.std.specs.List.{cons_option}

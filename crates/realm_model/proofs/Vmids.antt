@@ -1,4 +1,4 @@
--- Every reached world keeps the VMIDs of realms in range, and each of one realm alone.
+-- The VMIDs of realms in every reached world: in range, and each of one realm alone.
 use Rattle.std.proofs.Common.{◌≡◌, ◌≢◌, ℕ, ◌≤◌, true, false, cond, ◌⊎◌, inl, inr, List, [], ◌∷◌, map, replicate, Option, Some, None, refl, sym, ap, ◌∙◌, subst}
 use Rattle.std.specs.Prelude.{◌==◌, is_some}
 use Rattle.std.proofs.lemmas.Bool.{eqb-true}

@@ -1,4 +1,4 @@
--- Where a walk ends.
+-- The end of a walk.
 use Rattle.std.proofs.Common.{◌≡◌, ℕ, zero, suc, ◌≤◌, Some, None, refl, sym, ap, ◌∙◌, arith}
 use Rattle.std.proofs.lemmas.Option.{same_Some}
 use Rattle.realm_model.specs.Rows.{Row, Rows, Walk, walk, row_at}

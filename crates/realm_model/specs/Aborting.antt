@@ -11,7 +11,7 @@ use Rattle.realm_model.specs.Running.{IsAtRest}
 use Rattle.realm_model.specs.History.{erase, acts_of, open_entries, replay}
 use Rattle.realm_model.specs.Undoing.{reverses, IsUndoneNext}
 
--- an event of another build, or a reverse: what may come while a build is undone
+-- an event of another build, or a reverse: the events that may come while a build is undone
 abbrev pub IsOthersOrReverse : ℕ → Event → Type 0
 IsOthersOrReverse build event = event.build ≡ build → IsTrue (is_reverse event.act)
 
@@ -24,15 +24,15 @@ StaysAtRest limits world build event next =
 pub record IsAborting (limits : Limits) (history later : List Event) (build : ℕ) (world : World) : Type 0 where
   -- the build is at rest;
   pub rest : IsAtRest (realm_of build world)
-  -- the newest act that it has open can be undone next;
+  -- the newest operation that it has open can be undone next;
   pub next : (act : Act) → last_or None (open_entries build (history ++ later)) ≡ Some act → IsUndoneNext limits (history ++ later) build act
   -- its events since, and then the reverses of what is open, are the reverses of all that was open, the newest first;
   pub undone : acts_of build later ++ reverses (reverse (open_entries build (history ++ later))) ≡ reverses (reverse (open_entries build history))
-  -- and with nothing open, the world is that of what others did, before and since.
+  -- and with nothing open, the world is that of the others' events, before and since.
   pub others : erase build (history ++ later) ≡ erase build history ++ erase build later
   pub no_trace : open_entries build (history ++ later) ≡ [] → replay limits (erase build history ++ erase build later) ≡ Some world
 
--- an abort goes on like this where the build is at rest when it begins
+-- an abort goes on like this if the build is at rest when it begins
 abbrev pub AbortGoesOn : Limits → List Event → List Event → ℕ → World → World → Type 0
 AbortGoesOn limits history later build begun world =
     IsAtRest (realm_of build begun) → All (IsOthersOrReverse build) later → IsAborting limits history later build world

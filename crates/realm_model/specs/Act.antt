@@ -1,4 +1,4 @@
--- Acts: the granules that they name, and pairs of an act and its reverse.
+-- Operations: the granules that they name, and pairs of an operation and its reverse.
 use Rattle.std.specs.Prelude.{ℕ, ◌^◌, List, [], ◌∷◌, Bool, true, false, Option, Some, None, is_some}
 use Rattle.std.specs.List.{range_with_len}
 use Rattle.granule_addr.specs.Root.{starting_tables}
@@ -10,7 +10,7 @@ use Rattle.realm_model.specs.declared.act.Act.TheVariants.{Rtt, UnRtt, Ripas, Da
 abbrev pub block : ℕ → ℕ → List ℕ
 block order first = range_with_len first (2 ^ order)
 
--- the granules that an act names
+-- the granules that an operation names
 unfoldable pub named : Act → List ℕ
 named (Take order first) = block order first
 named (UnTake order first) = block order first
@@ -33,20 +33,20 @@ named (Enter number) = []
 named (Exit number) = []
 named (Poke number ipa offset value) = []
 
--- the act is a command of the monitor: it leases no block, and gives none back
+-- the operation is a command of the RMM: it leases no block, and gives none back
 abbrev pub is_command : Act → Bool
 is_command (Take order first) = false
 is_command (UnTake order first) = false
 is_command _ = true
 
--- who leases the granules that an act of a build names: nobody for a Take, else the build
+-- the build that leases the granules that an operation of a build names: none for a Take, else the build itself
 abbrev pub holder : ℕ → Act → Option ℕ
 holder build (Take order first) = None
 holder build _ = Some build
 
 -- ---- pairs
 
--- The reverse of an act that has one. Data and Unknown have the same reverse.
+-- The reverse of an operation that has one. Data and Unknown have the same reverse.
 unfoldable pub reverse_of : Act → Option Act
 reverse_of (Take order first) = Some (UnTake order first)
 reverse_of (Delegate granule) = Some (Undelegate granule)
@@ -57,11 +57,11 @@ reverse_of (Unknown granule ipa) = Some (UnData granule ipa)
 reverse_of (Rec granule auxiliaries number) = Some (UnRec granule auxiliaries number)
 reverse_of _ = None
 
--- the act has a reverse
+-- the operation has a reverse
 abbrev pub is_paired : Act → Bool
 is_paired act = is_some (reverse_of act)
 
--- the act is the reverse of another
+-- the operation is the reverse of another
 unfoldable pub is_reverse : Act → Bool
 is_reverse (UnTake order first) = true
 is_reverse (Undelegate granule) = true

@@ -9,47 +9,47 @@ use Rattle.realm_model.specs.Act.{block, reverse_of, is_paired, is_reverse}
 use Rattle.realm_model.specs.World.{World, opening, without}
 use Rattle.realm_model.specs.Step.{step}
 
--- The history without the events of a build, the others in their order.
+-- The history without the events of a build, the others in sequence.
 abbrev pub erase : ℕ → List Event → List Event
 erase build history = filter (λ event. not (event.build == build)) history
 
--- the events of a build, in their order
+-- the events of a build, in sequence
 abbrev pub events_of : ℕ → List Event → List Event
 events_of build history = filter (λ event. event.build == build) history
 
--- the acts of a build, in their order
+-- the operations of a build, in sequence
 abbrev pub acts_of : ℕ → List Event → List Act
 acts_of build history = map (λ event. event.act) (events_of build history)
 
--- ---- what is open: a reverse act matches the latest paired act before it such that between the two there are as many
--- ---- paired as reverse acts
+-- ---- what is open: a reverse operation matches the latest paired one before it such that between the two there are
+-- ---- as many paired as reverse operations
 
--- as many paired as reverse acts
+-- as many paired as reverse operations
 abbrev pub is_balanced : List Act → Bool
 is_balanced acts = length (filter is_paired acts) == length (filter is_reverse acts)
 
--- a paired act stands in the list, with as many paired as reverse acts after it
+-- the list has a paired operation, with as many paired as reverse operations after it
 abbrev pub has_nearer : List Act → Bool
 has_nearer [] = false
 has_nearer (act ∷ acts) = (is_paired act && is_balanced acts) || has_nearer acts
 
--- An act that stands before `between` is matched by a reverse act in the rest: between the two there are as many paired
--- as reverse acts, and this holds of no later paired act.
+-- An operation before `between` is matched by a reverse operation in the rest: between the two there are as many paired
+-- as reverse operations, and this holds of no later paired one.
 abbrev pub is_matched : List Act → List Act → Bool
 is_matched between [] = false
 is_matched between (act ∷ rest) =
     (is_reverse act && is_balanced between && not (has_nearer between)) || is_matched (between ++ act ∷ []) rest
 
--- the paired acts that nothing matches, in order
+-- the paired operations that nothing matches, in sequence
 abbrev pub unmatched : List Act → List Act
 unmatched [] = []
 unmatched (act ∷ acts) = cond (is_paired act && not (is_matched [] acts)) (act ∷ unmatched acts) (unmatched acts)
 
--- What a build has open: its paired acts that nothing has reversed.
+-- What a build has open: its paired operations that nothing has reversed.
 unfoldable pub open_entries : ℕ → List Event → List Act
 open_entries build history = unmatched (acts_of build history)
 
--- the pages that an open act holds: those of a block that was taken
+-- the pages that an open operation holds: those of a block that was taken
 abbrev pub pages_held : Act → List ℕ
 pages_held (Take order first) = block order first
 pages_held _ = []
@@ -71,7 +71,7 @@ replay limits history = after limits history (opening limits)
 
 -- ---- legal histories
 
--- a reverse act after a history is that of the newest act that its build has open
+-- a reverse operation after a history is that of the newest operation that its build has open
 abbrev pub IsInTurn : List Event → Event → Type 0
 IsInTurn before event =
     IsTrue (is_reverse event.act) → option_and_then reverse_of (last_or None (open_entries event.build before)) ≡ Some event.act
@@ -81,7 +81,7 @@ abbrev pub AllInTurn : List Event → List Event → Type 0
 AllInTurn before [] = Unit {0}
 AllInTurn before (event ∷ events) = IsInTurn before event × AllInTurn (before ++ event ∷ []) events
 
--- A legal history: each event is a step, and each reverse is that of its build's newest open act.
+-- A legal history: each event is a step, and each reverse is that of its build's newest open operation.
 pub record IsLegal (limits : Limits) (history : List Event) : Type 0 where
   pub steps : IsSome (replay limits history)
   pub in_turn : AllInTurn [] history

@@ -1,5 +1,5 @@
--- What the order of events can change: a build's events alone, two histories with the same events of each build, and two
--- events of different builds.
+-- The schedule of events, and what it can change: a build's events alone, two histories with the same events of each
+-- build, and two events of different builds.
 use Rattle.std.specs.Prelude.{◌≡◌, ◌≢◌, ◌↔◌, ◌⊎◌, ℕ, List, [], ◌∷◌, ◌++◌, option_map}
 use Rattle.std.specs.List.{Contains}
 use Rattle.realm_model.specs.declared.act.Act.{Act}
@@ -16,13 +16,13 @@ IsLegalAlone limits history build =
     IsLegal limits (events_of build history)
     × (replay limits (events_of build history) ≡ option_map (λ world. part_of world build) (replay limits history))
 
--- Two histories have the same events of each build, each build's in the same order.
+-- Two histories have the same events of each build, each build's in the same sequence.
 abbrev pub HasSameEvents : List Event → List Event → Type 0
 HasSameEvents history other = (build : ℕ) → events_of build history ≡ events_of build other
 
 -- ---- two events of different builds
 
--- the granules that an act takes, and those that it gives back
+-- the granules that an operation takes, and those that it gives back
 abbrev pub granules_taken : Act → List ℕ
 granules_taken (Take order first) = block order first
 granules_taken _ = []
@@ -31,7 +31,7 @@ abbrev pub granules_given_back : Act → List ℕ
 granules_given_back (UnTake order first) = block order first
 granules_given_back _ = []
 
--- the VMID that an act takes, and the one that it gives back
+-- the VMID that an operation takes, and the one that it gives back
 abbrev pub vmids_taken : Act → List ℕ
 vmids_taken (Realm rd root vmid) = vmid ∷ []
 vmids_taken _ = []
@@ -44,12 +44,12 @@ vmids_given_back _ = []
 abbrev pub Meet : List ℕ → List ℕ → Type 0
 Meet xs ys = (x : ℕ) × Contains xs x × Contains ys x
 
--- An act gives back a granule or a VMID that another takes.
+-- An operation gives back a granule or a VMID that another takes.
 abbrev pub GivesTo : Act → Act → Type 0
 GivesTo act taker =
     Meet (granules_given_back act) (granules_taken taker) ⊎ Meet (vmids_given_back act) (vmids_taken taker)
 
--- Where one event can be followed by another: the other can come first unless it takes what the one gives back, and either
+-- If one event can be followed by another, the other can come first, unless it takes what the one gives back. Either
 -- way the world is the same.
 pub record Commute (limits : Limits) (history : List Event) (one other : Event) : Type 0 where
   pub other_first : IsLegal limits (history ++ other ∷ one ∷ []) ↔ ¬ GivesTo one.act other.act

@@ -1,4 +1,4 @@
--- What is left of a history without a build: others have what they had, and each of its events is accepted anew.
+-- The rest of a history without a build: others keep their room, and each of its events is accepted anew.
 use Rattle.std.specs.Prelude.{◌≡◌, ◌≢◌, ℕ, ◌+◌, ◌<◌, ◌≤◌, true, List, [], ◌∷◌, ◌++◌, length, take, Some}
 use Rattle.realm_model.specs.declared.act.Event.{Event}
 use Rattle.realm_model.specs.Machine.{Limits}
@@ -17,8 +17,9 @@ pub record KeepsItsRoom (history : List Event) (world : World) (build other : �
 abbrev pub OthersKeepTheirRoom : List Event → World → ℕ → ℕ → Type 0
 OthersKeepTheirRoom history world build other = build ≢ other → KeepsItsRoom history world build other
 
--- An event is accepted after a history where each build has room for `capacity` and at most `most` acts open: it is in
--- turn and a step, its build has the room that it takes, and can have its act open where that has a reverse.
+-- An event is accepted after a history in which the room of each build is `capacity` events and at most `most` open
+-- operations. It is in turn and a step, its build has the room that it takes, and can have its operation open if that
+-- has a reverse.
 pub record IsAccepted (limits : Limits) (capacity most : ℕ) (before : List Event) (event : Event) : Type 0 where
   pub world : World
   pub world_is : replay limits before ≡ Some world
@@ -34,12 +35,13 @@ AllAccepted limits capacity most before [] = Unit {0}
 AllAccepted limits capacity most before (event ∷ events) =
     IsAccepted limits capacity most before event × AllAccepted limits capacity most (before ++ event ∷ []) events
 
--- No build but the one that is left out has used more than its room, or had more than `most` acts open at any time.
+-- No build but the one that is left out has used more than its room, or had more than `most` operations open at any
+-- time.
 pub record OthersHaveRoom (capacity most : ℕ) (history : List Event) (world : World) (build : ℕ) : Type 0 where
   pub used : (other : ℕ) → build ≢ other → used_room other history world ≤ capacity
   pub few_open : (other n : ℕ) → build ≢ other → length (open_entries other (take n history)) ≤ most
 
--- Where the other builds have room, each event of what is left is accepted in turn, from nothing on.
+-- If the other builds have room, each event of what is left is accepted in turn, from nothing on.
 abbrev pub WhatIsLeftIsAccepted : Limits → ℕ → ℕ → List Event → World → ℕ → Type 0
 WhatIsLeftIsAccepted limits capacity most history world build =
     OthersHaveRoom capacity most history world build → AllAccepted limits capacity most [] (erase build history)

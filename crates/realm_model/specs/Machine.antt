@@ -1,4 +1,4 @@
--- What the monitor keeps of granules, realms and RECs. RMM 1.0, Granule, Realm and REC attributes.
+-- The attributes of granules, realms and RECs. RMM 1.0, Granule, Realm and REC attributes.
 use Rattle.std.specs.Prelude.{ℕ, List, map, Option, Some, None, slice_index_or}
 use Rattle.std.specs.FinMap.{FinMap}
 use Rattle.std.specs.Ordering.{nat_cmp}
@@ -10,7 +10,7 @@ use Rattle.realm_model.specs.declared.states.RealmState.{RealmState}
 use Rattle.realm_model.specs.declared.states.RecState.{RecState}
 use Rattle.realm_model.specs.Rows.{Rows}
 
--- How many pages, VMIDs, auxiliary granules of a REC and builds a machine has.
+-- The numbers of pages, VMIDs, auxiliary granules of a REC and builds of a machine.
 pub record Limits : Type 0 where
   pub pages : ℕ
   pub vmids : ℕ
@@ -23,8 +23,8 @@ pub record RecRow : Type 0 where
   pub auxiliaries : List ℕ
   pub state : RecState
 
--- A realm: state, VMID, starting tables and IPA width, the number of its next REC, measurement, RECs by number, translation.
--- RMM 1.0, Realm attributes.
+-- A realm: state, VMID, starting tables and IPA width, the number of its next REC, measurement, RECs by number,
+-- translation. RMM 1.0, Realm attributes.
 pub record RealmRow : Type 0 where
   pub state : RealmState
   pub vmid : ℕ
@@ -34,15 +34,15 @@ pub record RealmRow : Type 0 where
   pub recs : FinMap nat_cmp RecRow
   pub rows : Rows
 
--- A granule: its state, the RD of the realm that it belongs to, and the bytes of its page.
--- The row of a realm stands at its RD granule, and nowhere else. The page of a table, an RD or a REC counts as zero.
+-- A granule: its state, the RD of the realm that it belongs to, and the bytes of its page. The row of a realm is in the
+-- cell of its RD granule, and in no other. The page of a table, an RD or a REC counts as zero.
 pub record Cell : Type 0 where
   pub state : GranuleState
   pub realm : Option ℕ
   pub bytes : List ℕ
   pub descriptor : Option RealmRow
 
--- a granule as nobody has it
+-- an UNDELEGATED granule of no realm, zero
 abbrev pub blank : Cell
 blank = record { state = Undelegated; realm = None; bytes = zero_page; descriptor = None }
 
@@ -61,7 +61,7 @@ Machine = List Cell
 abbrev pub cell_at : Machine → ℕ → Cell
 cell_at machine granule = slice_index_or machine granule blank
 
--- A granule as a command that names it sees it.
+-- A granule as the command that names it sees it.
 pub record Seen : Type 0 where
   pub number : ℕ
   pub cell : Cell

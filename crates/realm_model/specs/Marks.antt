@@ -1,4 +1,4 @@
--- Marks: points of a build that it can be rolled back to.
+-- Marks: points of a build to which it can be rolled back.
 use Rattle.std.specs.Prelude.{◌≡◌, ◌↔◌, ℕ, ◌≤◌, List, [], ◌∷◌, ◌++◌, length, map, reverse, take, drop, false, Some}
 use Rattle.std.specs.List.{list_any}
 use Rattle.realm_model.specs.declared.act.Act.{Act}
@@ -10,7 +10,7 @@ use Rattle.realm_model.specs.Ownership.{OwnsSame}
 use Rattle.realm_model.specs.Running.{is_running}
 use Rattle.realm_model.specs.Undoing.{by, reverses}
 
--- a point of a build: how much it had open, and the place in the history
+-- a point of a build: the number of operations it had open, and the place in the history
 pub record Mark : Type 0 where
   pub build : ℕ
   pub depth : ℕ
@@ -19,13 +19,13 @@ pub record Mark : Type 0 where
 abbrev pub mark_at : ℕ → List Event → Mark
 mark_at build history = record { build = build; depth = length (open_entries build history); place = length history }
 
--- The mark was made in this history, and the build never had less open since.
+-- The mark is a point of this history, and the build never had less open since.
 pub record IsValidMark (mark : Mark) (history : List Event) : Type 0 where
   pub place : mark.place ≤ length history
   pub depth : length (open_entries mark.build (take mark.place history)) ≡ mark.depth
   pub since : (n : ℕ) → mark.place ≤ n → mark.depth ≤ length (open_entries mark.build (take n history))
 
--- after one more event it stands where it stood, unless less is open now
+-- after one more event it remains valid, unless less is open now
 abbrev pub StaysValid : Mark → List Event → Event → Type 0
 StaysValid mark history event =
     mark.place ≤ length history → IsValidMark mark (history ++ event ∷ []) ↔ (IsValidMark mark history × (mark.depth ≤ length (open_entries mark.build (history ++ event ∷ []))))
@@ -42,8 +42,8 @@ above mark history = drop mark.depth (open_entries mark.build history)
 abbrev pub rolling_back : Mark → List Event → List Event
 rolling_back mark history = map (by mark.build) (reverses (reverse (above mark history)))
 
--- What the build opened above the mark is undone, by one reverse for each act: the world owns the same as that of the
--- history without what the build did after the mark. Outside the build's part the two are equal in full.
+-- All that the build opened above the mark is undone, by one reverse for each operation. The world owns the same as
+-- that of the history without what the build did after the mark. Outside the build's part the two are equal in full.
 pub record IsRolledBack (limits : Limits) (mark : Mark) (history : List Event) : Type 0 where
   pub legal : IsLegal limits (history ++ rolling_back mark history)
   pub erased : IsLegal limits (erase_after mark.build mark.place history)
@@ -57,7 +57,7 @@ pub record IsRolledBack (limits : Limits) (mark : Mark) (history : List Event) :
   pub rest : without world mark.build ≡ without other mark.build
   pub left_open : open_entries mark.build (history ++ rolling_back mark history) ≡ open_entries mark.build (take mark.place history)
 
--- where the mark stands and no REC above it runs, the build can be rolled back to it
+-- if the mark is valid and no REC above it runs, the build can be rolled back to it
 abbrev pub CanRollBack : Limits → List Event → Mark → World → Type 0
 CanRollBack limits history mark world =
     IsValidMark mark history → list_any (is_running (realm_of mark.build world)) (above mark history) ≡ false → IsRolledBack limits mark history

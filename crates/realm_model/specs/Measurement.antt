@@ -1,9 +1,9 @@
--- What a realm's initial measurement is made of. RMM 1.0, Realm measurement; the bytes of an event are this profile's own.
+-- The initial measurement of a realm. RMM 1.0, Realm measurement; the bytes of an event are this profile's own.
 use Rattle.std.specs.Prelude.{ℕ, List, ◌∷◌, ◌++◌, replicate}
 use Rattle.std.specs.Int.{to_be_bytes, w32}
 use Rattle.sha2.specs.Sha256.{sha256}
 
--- as a realm has it when it is made
+-- the measurement of a new realm
 unfoldable pub zero_measurement : List ℕ
 zero_measurement = replicate 32 0
 
@@ -15,7 +15,7 @@ measurement_after old event = sha256 (old ++ event)
 unfoldable pub data_event : ℕ → List ℕ → List ℕ
 data_event ipa page = 1 ∷ to_be_bytes w32 ipa ++ sha256 page
 
--- pages that are RAM: 2, the first IPA granule, and how many
+-- pages that are RAM: 2, the first IPA granule, and their number
 unfoldable pub ripas_event : ℕ → ℕ → List ℕ
 ripas_event ipa count = 2 ∷ to_be_bytes w32 ipa ++ to_be_bytes w32 count
 

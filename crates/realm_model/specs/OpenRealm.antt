@@ -1,4 +1,4 @@
--- The realm of a build against the history of the build.
+-- The realm of a build as a function of the build's history.
 use Rattle.std.specs.Prelude.{◌≡◌, ◌≤◌, ◌↔◌, ◌==◌, ℕ, List, [], ◌∷◌, filter, length, Bool, true, false, IsTrue, Option, Some, None}
 use Rattle.std.specs.List.{list_any, Contains}
 use Rattle.realm_model.specs.declared.act.Act.{Act}
@@ -9,31 +9,31 @@ use Rattle.realm_model.specs.World.{World, realm_of}
 use Rattle.realm_model.specs.Step.{used_vmids}
 use Rattle.realm_model.specs.History.{acts_of, open_entries}
 
--- the act makes a realm
+-- the operation creates a realm
 abbrev pub makes_realm : Act → Bool
 makes_realm (Realm rd root vmid) = true
 makes_realm _ = false
 
--- the act that makes a realm as it stands at an RD
+-- the operation that creates a realm with the attributes of a row, at an RD
 abbrev pub maker : ℕ → RealmRow → Act
 maker rd realm = Realm rd realm.root realm.vmid
 
--- the act that makes a realm, if there is a realm
+-- the operation that creates a realm, if there is a realm
 abbrev pub makers : Option Seen → List Act
 makers None = []
 makers (Some rd) = elim rd.cell.descriptor [ Some realm ↦ maker rd.number realm ∷ [] | None ↦ [] ]
 
--- A build has a realm exactly where it has a Realm act open, one at most, and the realm's RD, starting
--- tables and VMID are that act's.
+-- A build has a realm exactly when it has a Realm operation open, one at most. The realm's RD, starting tables and VMID
+-- are those of the operation.
 abbrev pub RealmIsOpen : List Event → World → ℕ → Type 0
 RealmIsOpen history world build = filter makes_realm (open_entries build history) ≡ makers (realm_of build world)
 
--- the act makes a realm with the VMID
+-- the operation creates a realm with the VMID
 abbrev pub uses_vmid : ℕ → Act → Bool
 uses_vmid vmid (Realm rd root v) = v == vmid
 uses_vmid vmid _ = false
 
--- A VMID is in use exactly where a build has a Realm act with it open.
+-- A VMID is in use exactly when a build has a Realm operation with it open.
 abbrev pub VmidIsOpen : List Event → World → ℕ → Type 0
 VmidIsOpen history world vmid =
     Contains (used_vmids world.machine) vmid ↔ ((build : ℕ) × IsTrue (list_any (uses_vmid vmid) (open_entries build history)))

@@ -1,4 +1,4 @@
--- What comes of an act: the command that it stands for, and what its own fields say besides.
+-- The outcome of an operation: that of its command, and the conditions on its own fields.
 use Rattle.std.specs.Prelude.{ℕ, ◌-◌, ◌%◌, ◌^◌, ◌==◌, nat_eq, nat_le, nat_lt, List, [], ◌∷◌, map, Bool, true, false, ◌&&◌, Option, Some, None, Ok, Err, is_none, slice_index}
 use Rattle.std.specs.List.{list_all}
 use Rattle.std.specs.Option.{option_eq}
@@ -18,9 +18,9 @@ use Rattle.realm_model.specs.Command.Table.{rtt_create, rtt_destroy, rtt_init_ri
 use Rattle.realm_model.specs.Command.Data.{data_create, data_create_unknown, data_destroy}
 use Rattle.realm_model.specs.Command.Rec.{rec_create, rec_enter, rec_exit, rec_destroy, guest_write}
 
--- ---- the granules that a command wants, by how many they are
+-- ---- the granules that a command names, by their number
 
--- An act names as many granules as its command wants, so the refusals for too few never come.
+-- An operation names as many granules as its command takes, so the refusals for too few never come.
 
 abbrev pub on_one : List Seen → (Seen → Outcome) → Outcome
 on_one [] f = Err error_input
@@ -37,9 +37,9 @@ abbrev pub on_realm : Option Seen → (Seen → Outcome) → Outcome
 on_realm None f = Err error_input
 on_realm (Some rd) f = f rd
 
--- What comes of an act, by how many VMIDs there are and how many auxiliary granules a REC has, the VMIDs in use, the realm
--- of the act's build and the granules that it names.
--- Take and UnTake are no commands of the monitor: a block is leased, or it is given back.
+-- The outcome of an operation, by the number of VMIDs and of auxiliary granules of a REC, the VMIDs in use, the realm
+-- of the operation's build and the granules that it names. Take and UnTake are no commands of the RMM: a block is
+-- leased, or it is given back.
 unfoldable pub outcome_of : ℕ → ℕ → List ℕ → Act → Option Seen → List Seen → Outcome
 outcome_of vmids aux used (Take order first) realm gs = Ok (map (λ g. Lease g.number) gs)
 outcome_of vmids aux used (UnTake order first) realm gs = Ok (map (λ g. Free g.number) gs)
@@ -62,7 +62,7 @@ outcome_of vmids aux used (Enter number) realm gs = on_realm realm (λ rd. rec_e
 outcome_of vmids aux used (Exit number) realm gs = on_realm realm (λ rd. rec_exit rd number)
 outcome_of vmids aux used (Poke number ipa offset value) realm gs = on_realm realm (λ rd. guest_write rd number ipa offset value)
 
--- ---- what an act's own fields say besides
+-- ---- the conditions on an operation's own fields
 
 -- the build has a realm, and the test holds of its RD and its row
 abbrev pub realm_is : Option Seen → (Seen → RealmRow → Bool) → Bool
@@ -80,7 +80,8 @@ is_root a b = a.first == b.first && a.width == b.width
 abbrev pub leads_to : Option Row → ℕ → Bool
 leads_to row granule = elim row [ Some r ↦ option_eq nat_eq r.granule (Some granule) | None ↦ false ]
 
--- Numbers of an act that no command checks: a block begins where one may, values are bytes, offsets are inside a page.
+-- The ranges of an operation's numbers that no command checks: a block begins where one may, values are bytes, offsets
+-- are inside a page.
 abbrev pub is_in_range : Act → Bool
 is_in_range (Take order first) = is_block_start order first
 is_in_range (UnTake order first) = is_block_start order first
@@ -89,9 +90,9 @@ is_in_range (Peek granule offset byte) = nat_lt offset 4096
 is_in_range (Poke number ipa offset value) = nat_lt offset 4096 && nat_lt value 256
 is_in_range _ = true
 
--- What an act says of what is there, by the realm of its build and the granules that it names: a block that is given back
--- is UNDELEGATED. The byte of a Peek is the one seen. A build has one realm at most. A reverse names what its command takes
--- away. A REC gets the next number.
+-- The agreement of an operation's own fields with the machine, by the realm of its build and the granules that it
+-- names. A block that is given back is UNDELEGATED. The byte of a Peek is the one in the page. A build has one realm at
+-- most. A reverse names what its command removes. A REC gets the next number.
 unfoldable pub fits : Act → Option Seen → List Seen → Bool
 fits (UnTake order first) realm gs = list_all is_undelegated gs
 fits (Peek granule offset byte) realm gs = list_all (λ g. slice_index g.cell.bytes offset == byte) gs

@@ -1,4 +1,4 @@
--- Where an act of a build is performed: the RD of its realm, and the REC that it names.
+-- The place of a build's operation: the RD of its realm, and the REC that it names.
 use Rattle.std.specs.Prelude.{◌≡◌, ℕ, Option, Some, None, option_map, option_and_then}
 use Rattle.std.specs.FinMap.{get}
 use Rattle.realm_model.specs.declared.act.Act.{Act}
@@ -7,7 +7,7 @@ use Rattle.realm_model.specs.declared.place.RealmAndRec.{RealmAndRec}
 use Rattle.realm_model.specs.Machine.{RealmRow, RecRow, Seen}
 use Rattle.realm_model.specs.World.{World, realm_of}
 
--- the number of the REC that an act is about, which has to be there already
+-- the number of the REC that an operation names, which has to be there already
 abbrev pub rec_named : Act → Option ℕ
 rec_named (UnRec granule auxiliaries number) = Some number
 rec_named (Enter number) = Some number
@@ -25,12 +25,12 @@ rec_granule realm number =
 abbrev pub rd_of : ℕ → World → Option ℕ
 rd_of build world = option_map (λ (rd : Seen). rd.number) (realm_of build world)
 
--- where a number is given, `rec` is the granule of the realm's REC of that number, or None where there is none
+-- if a number is given, `rec` is the granule of the realm's REC of that number, or None if there is none
 abbrev pub IsRecOf : Option Seen → Option ℕ → Option ℕ → Type 0
 IsRecOf realm None rec = Unit {0}
 IsRecOf realm (Some number) rec = rec ≡ rec_granule realm number
 
--- the place of an act: the RD of its build's realm, and the REC there that the act names
+-- the place of an operation: the RD of its build's realm, and the REC there that the operation names
 pub record IsPlaceOf (world : World) (build : ℕ) (act : Act) (place : RealmAndRec) : Type 0 where
   pub realm : place.realm ≡ rd_of build world
   pub rec : IsRecOf (realm_of build world) (rec_named act) place.rec

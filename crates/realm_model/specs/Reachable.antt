@@ -1,4 +1,4 @@
--- What holds of every world that a history leads to.
+-- The invariant of every world that a history leads to.
 use Rattle.std.specs.Prelude.{◌≡◌, ◌%◌, ◌<◌, ◌≤◌, ℕ, true, Some, None, is_some, length, slice_get}
 use Rattle.std.specs.FinMap.{get}
 use Rattle.granule_addr.specs.Ipa.{is_width}
@@ -10,7 +10,7 @@ use Rattle.realm_model.specs.World.{World}
 use Rattle.realm_model.specs.Sound.{mapping_at, is_host_state, is_rd_state, IsSoundRows, IsFull, HasEmptyRows, IsZeroed}
 use Rattle.realm_model.specs.Roles.{Role, target, is_role_state, HasRole}
 
--- a realm stands at an RD granule
+-- an RD granule has a realm
 abbrev pub IsRealmAt : World → ℕ → RealmRow → Type 0
 IsRealmAt world rd realm = (cell_at world.machine rd).descriptor ≡ Some realm
 
@@ -23,7 +23,8 @@ pub record IsReachable (limits : Limits) (world : World) : Type 0 where
   pub free : (granule : ℕ) → slice_get world.leases granule ≡ Some None → cell_at world.machine granule ≡ blank
   pub host : (granule : ℕ) → is_host_state (cell_at world.machine granule).state ≡ true → (cell_at world.machine granule).realm ≡ None
   pub zero : IsZeroed (λ granule. cell_at world.machine granule)
-  -- A realm stands at each RD granule and nowhere else. The RD belongs to its own realm. A build has at most one realm.
+  -- Each RD granule has a realm, and no other granule has one. The RD belongs to its own realm. A build has at most one
+  -- realm.
   pub rds : (granule : ℕ) → is_some (cell_at world.machine granule).descriptor ≡ is_rd_state (cell_at world.machine granule).state
   pub itself : (rd : ℕ) (realm : RealmRow) → IsRealmAt world rd realm → (cell_at world.machine rd).realm ≡ Some rd
   pub one : (g h : ℕ) (realm other : RealmRow) → IsRealmAt world g realm → IsRealmAt world h other
@@ -34,10 +35,9 @@ pub record IsReachable (limits : Limits) (world : World) : Type 0 where
   -- A realm has one of the widths that realms may have, and its starting tables begin at a multiple of their count.
   pub width : (rd : ℕ) (realm : RealmRow) → IsRealmAt world rd realm → is_width realm.root.width ≡ true
   pub aligned : (rd : ℕ) (realm : RealmRow) → IsRealmAt world rd realm → realm.root.first % start_count realm.root.width ≡ 0
-  -- Rows have their shape, and a TABLE row above them. None of the starting tables or of a table is missing, so every walk
-  -- ends at a row.
-  -- Rows of unprotected IPAs are UNASSIGNED and EMPTY, and TABLE rows count as EMPTY.
-  -- The numbers of RECs are below the next.
+  -- Rows have their shape, and a TABLE row above them. None of the starting tables or of a table is missing, so every
+  -- walk ends at a row. Rows of unprotected IPAs are UNASSIGNED and EMPTY, and TABLE rows count as EMPTY. The numbers
+  -- of RECs are below the next.
   pub rows : (rd : ℕ) (realm : RealmRow) → IsRealmAt world rd realm → IsSoundRows realm.root.width (mapping_at realm.rows)
   pub full : (rd : ℕ) (realm : RealmRow) → IsRealmAt world rd realm → IsFull realm.root.width (mapping_at realm.rows)
   pub walks : (rd : ℕ) (realm : RealmRow) → IsRealmAt world rd realm → (ipa level : ℕ) → ipa < served_space realm.root.width → 1 ≤ level → is_some (walk realm.rows ipa level) ≡ true

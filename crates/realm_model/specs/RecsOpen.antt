@@ -1,4 +1,4 @@
--- The RECs of a build's realm, by what the build has open.
+-- The RECs of a build's realm, from the operations that the build has open.
 use Rattle.std.specs.Prelude.{◌≡◌, ◌<◌, ◌==◌, ℕ, List, [], ◌∷◌, cond, length, get_or, Option, Some, None}
 use Rattle.std.specs.List.{flat_map}
 use Rattle.realm_model.specs.declared.act.Act.{Act}
@@ -8,12 +8,12 @@ use Rattle.realm_model.specs.World.{World, realm_of}
 use Rattle.realm_model.specs.History.{open_entries}
 use Rattle.realm_model.specs.Places.{rec_granule}
 
--- the number and the granule of the REC that an act made
+-- the number and the granule of the REC that an operation created
 abbrev pub rec_made : Act → List (ℕ × ℕ)
 rec_made (Rec granule auxiliaries number) = (number, granule) ∷ []
 rec_made _ = []
 
--- the numbers and granules of the RECs that a build has open, in the order in which they were made
+-- the numbers and granules of the RECs that a build has open, in the order of their creation
 abbrev pub recs_open : ℕ → List Event → List (ℕ × ℕ)
 recs_open build history = flat_map rec_made (open_entries build history)
 

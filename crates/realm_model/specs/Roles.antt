@@ -1,4 +1,4 @@
--- How a realm names its granules, and the state that goes with each.
+-- The roles of granules in a realm, and the state that goes with each.
 use Rattle.std.specs.Prelude.{◌≡◌, ℕ, List, Bool, true, false, Option, Some, None, option_map, slice_get}
 use Rattle.std.specs.FinMap.{get}
 use Rattle.granule_addr.specs.Root.{starting_tables}
@@ -11,7 +11,7 @@ use Rattle.realm_model.specs.Machine.{RealmRow, Cell}
 use Rattle.realm_model.specs.Ownership.{Mapping, granules_of_rec}
 use Rattle.realm_model.specs.Sound.{mapping_at}
 
--- A role that a granule can have in a realm: a starting table, what a row leads to, a REC, or an auxiliary of a REC.
+-- A role that a granule can have in a realm: a starting table, the target of a row, a REC, or an auxiliary of a REC.
 pub data Role : Type 0 where
   AsStart : (index : ℕ) → Role
   AtRow : (place : ℕ × ℕ) → Role

@@ -1,4 +1,4 @@
--- The translation of a realm: which row covers an IPA granule. No table stands in it. RMM 1.0, Realm Translation Table.
+-- The translation of a realm: the row that covers an IPA granule. It has no tables. RMM 1.0, Realm Translation Table.
 use Rattle.std.specs.Prelude.{ℕ, zero, suc, ◌+◌, ◌-◌, ◌*◌, ◌/◌, ◌%◌, ◌==◌, ◌&&◌, ◌||◌, Bool, true, false, not, nat_lt, nat_le, Option, Some, None, if◌then◌else◌}
 use Rattle.std.specs.Ordering.{nat_cmp, on, then_cmp}
 use Rattle.std.specs.declared.cmp.Ordering.{Ordering}
@@ -10,14 +10,14 @@ use Rattle.realm_model.specs.declared.states.EntryState.TheVariants.{Unassigned,
 use Rattle.realm_model.specs.declared.states.Ripas.{Ripas}
 use Rattle.realm_model.specs.declared.states.Ripas.TheVariants.{Empty, Ram, Destroyed}
 
--- What stands at a place of the translation. RMM 1.0, RTT entry.
--- A row that is ASSIGNED or TABLE has the granule that it leads to. A TABLE row counts as EMPTY.
+-- An entry of the translation, at its place. RMM 1.0, RTT entry. A row that is ASSIGNED or TABLE has the granule that
+-- it leads to. A TABLE row counts as EMPTY.
 pub record Row : Type 0 where
   pub state : EntryState
   pub ripas : Ripas
   pub granule : Option ℕ
 
--- A place is a level and a first IPA granule. Places are in order of level, and then of granule.
+-- A place is a level and a first IPA granule. Places are sorted by level, and then by granule.
 abbrev pub place_cmp : ℕ × ℕ → ℕ × ℕ → Ordering
 place_cmp = then_cmp (on (λ p. p.0) nat_cmp) (on (λ p. p.1) nat_cmp)
 
@@ -31,7 +31,7 @@ row_at rows level ipa = get rows (level, first_covered level ipa)
 
 -- ---- walks. RMM 1.0, RTT walk
 
--- where a walk ends
+-- the end of a walk
 pub record Walk : Type 0 where
   pub level : ℕ
   pub row : Row
@@ -80,7 +80,7 @@ table_of row = if is_table row then row.granule else None
 abbrev pub data_of : Row → Option ℕ
 data_of row = if is_assigned row then row.granule else None
 
--- The RIPAS that stays where a page is unmapped. RMM 1.0, RMI_DATA_DESTROY.
+-- The RIPAS of an entry after its page is unmapped. RMM 1.0, RMI_DATA_DESTROY.
 abbrev pub unmapped_ripas : Ripas → Ripas
 unmapped_ripas Empty = Empty
 unmapped_ripas Ram = Destroyed
@@ -96,7 +96,7 @@ all_rows test rows level first (suc n) =
     elim (get rows (level, first + n * covered_count level)) [ Some row ↦ test row | None ↦ false ]
     && all_rows test rows level first n
 
--- the rows with `n` rows of the level from an IPA granule on, each made from what was there
+-- the rows with `n` rows of the level from an IPA granule on, each made from the row before
 unfoldable pub put_rows : (Option Row → Row) → Rows → ℕ → ℕ → ℕ → Rows
 put_rows change rows level first zero = rows
 put_rows change rows level first (suc n) =
@@ -111,21 +111,20 @@ drop_rows rows level first count =
 abbrev pub put_row : Rows → ℕ → ℕ → Row → Rows
 put_row rows level ipa row = insert rows (level, first_covered level ipa) row
 
--- ---- what commands make of the rows
+-- ---- the rows after commands
 
 -- The rows of a new realm of a width: 512 for each of its starting tables. RMM 1.0, RMI_REALM_CREATE.
 -- Rows of unprotected IPAs are like the others, which is this profile's own.
 unfoldable pub root_rows : ℕ → Rows
 root_rows width = put_rows (λ _. unassigned Empty) empty 1 0 (512 * start_count width)
 
--- The rows with one more table at an IPA granule: the row above leads to it, and its rows have the RIPAS that was
--- above.
--- RMM 1.0, RMI_RTT_CREATE.
+-- The rows with one more table at an IPA granule: the row above leads to it, and its rows have the RIPAS of the row
+-- above. RMM 1.0, RMI_RTT_CREATE.
 unfoldable pub with_table : Rows → ℕ → ℕ → ℕ → Ripas → Rows
 with_table rows level ipa granule ripas =
     put_rows (λ _. unassigned ripas) (put_row rows (level - 1) ipa (table granule)) level ipa 512
 
--- The rows without that table: its own are gone, and the row above is DESTROYED. RMM 1.0, RMI_RTT_DESTROY.
+-- The rows without that table: its own are removed, and the row above is DESTROYED. RMM 1.0, RMI_RTT_DESTROY.
 unfoldable pub without_table : Rows → ℕ → ℕ → Rows
 without_table rows level ipa =
     put_row (drop_rows rows level ipa (512 * covered_count level)) (level - 1) ipa (unassigned Destroyed)
@@ -147,13 +146,13 @@ with_ram rows ipa count = put_rows as_ram rows 3 ipa count
 abbrev pub has_root_table : ℕ → Rows → Bool
 has_root_table width rows = not (all_rows (λ row. not (is_table row)) rows 1 0 (512 * start_count width))
 
--- ---- where tables may stand. RMM 1.0, RMI_RTT_CREATE, input conditions
+-- ---- the places of tables. RMM 1.0, RMI_RTT_CREATE, input conditions
 
 -- a level below the root, and the first IPA granule of a table of that level
 abbrev pub is_table_place : ℕ → ℕ → Bool
 is_table_place ipa level = (level == 2 || level == 3) && ipa % covered_count (level - 1) == 0
 
--- ---- which pages one call makes RAM. RMM 1.0, RMI_RTT_INIT_RIPAS, input conditions
+-- ---- the pages that one call makes RAM. RMM 1.0, RMI_RTT_INIT_RIPAS, input conditions
 
 -- 1 to 512 pages from an IPA granule on, of one table of level 3
 abbrev pub is_page_run : ℕ → ℕ → Bool

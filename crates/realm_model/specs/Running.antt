@@ -18,7 +18,7 @@ is_rec_running (Some rec) = not (is_ready rec.state)
 abbrev pub rec_runs : Option Seen → ℕ → Bool
 rec_runs realm number = realm_is realm (λ rd row. is_rec_running (get row.recs number))
 
--- the REC that an act made runs
+-- the REC that an operation created runs
 abbrev pub is_running : Option Seen → Act → Bool
 is_running realm (Rec granule auxiliaries number) = rec_runs realm number
 is_running realm _ = false
@@ -28,7 +28,7 @@ abbrev pub next_number : Option Seen → ℕ
 next_number None = 0
 next_number (Some rd) = elim rd.cell.descriptor [ Some realm ↦ realm.next | None ↦ 0 ]
 
--- how many RECs of a build's realm run: each has a number below the next
+-- the number of RECs of a build's realm that run: each has a number below the next
 unfoldable pub running_count : Option Seen → ℕ
 running_count realm = length (filter (rec_runs realm) (range_with_len 0 (next_number realm)))
 
@@ -36,7 +36,7 @@ running_count realm = length (filter (rec_runs realm) (range_with_len 0 (next_nu
 abbrev pub IsAtRest : Option Seen → Type 0
 IsAtRest realm = running_count realm ≡ 0
 
--- a build's realm is at rest exactly where no REC runs, by any number
+-- a build's realm is at rest exactly when no REC runs, by any number
 abbrev pub RestIsOfAll : World → ℕ → Type 0
 RestIsOfAll world build =
     IsAtRest (realm_of build world) ↔ ((number : ℕ) → rec_runs (realm_of build world) number ≡ false)

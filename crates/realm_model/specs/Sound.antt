@@ -47,8 +47,8 @@ pub record IsSoundRows (width : ℕ) (rows : ℕ × ℕ → Option Mapping) : Ty
   pub shaped : (place : ℕ × ℕ) → IsShaped place.0 (rows place)
   pub below : (place : ℕ × ℕ) → is_some (rows place) ≡ true → has_table rows place ≡ true
 
--- the starting tables have a row for each of their places, and so has each table: at every place below a TABLE row there
--- is a row
+-- the starting tables have a row for each of their places, and so has each table: at every place below a TABLE row
+-- there is a row
 pub record IsFull (width : ℕ) (rows : ℕ × ℕ → Option Mapping) : Type 0 where
   pub root : (ipa : ℕ) → ipa < served_space width → is_some (rows (1, first_covered 1 ipa)) ≡ true
   pub tables : (level ipa : ℕ) → is_table_kind (rows (level, first_covered level ipa)) ≡ true → is_some (rows (level + 1, first_covered (level + 1) ipa)) ≡ true

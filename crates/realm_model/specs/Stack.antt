@@ -1,14 +1,14 @@
--- What is open, as a stack.
+-- The open operations of a build as a stack.
 use Rattle.std.specs.Prelude.{◌≡◌, ◌-◌, List, [], ◌∷◌, ◌++◌, cond, fold, length, take}
 use Rattle.realm_model.specs.declared.act.Act.{Act}
 use Rattle.realm_model.specs.Act.{is_paired, is_reverse}
 use Rattle.realm_model.specs.History.{unmatched}
 
--- A paired act goes on top, which is at the end. A reverse act takes the top away. No other act changes the stack.
+-- A paired operation goes on top, which is at the end. A reverse removes the top. No other operation changes the stack.
 unfoldable pub pushed : List Act → Act → List Act
 pushed stack act =
     cond (is_paired act) (stack ++ act ∷ []) (cond (is_reverse act) (take (length stack - 1) stack) stack)
 
--- the acts that nothing matches are those that are left on the stack
+-- the operations that nothing matches are those that are left on the stack
 abbrev pub MatchingIsAStack : List Act → Type 0
 MatchingIsAStack acts = unmatched acts ≡ fold pushed [] acts

@@ -1,4 +1,4 @@
--- One event.
+-- The step of one event.
 use Rattle.std.specs.Prelude.{ℕ, List, Bool, cond, ◌&&◌, nat_lt, map, Option, None, Ok, Err, option_map}
 use Rattle.std.specs.List.{list_all, filter_map}
 use Rattle.realm_model.specs.declared.act.Act.{Act}
@@ -13,17 +13,17 @@ use Rattle.realm_model.specs.World.{World, is_leased_to, realm_of, updated_all}
 abbrev pub used_vmids : Machine → List ℕ
 used_vmids machine = filter_map (λ (cell : Cell). option_map (λ (realm : RealmRow). realm.vmid) cell.descriptor) machine
 
--- the granules that an act names, as its command sees them
+-- the granules that an operation names, as its command sees them
 abbrev pub named_cells : World → Act → List Seen
 named_cells world act = map (seen world.machine) (named act)
 
--- what comes of an event's command in a world
+-- the outcome of an event's command in a world
 abbrev pub outcome_in : Limits → World → Event → Outcome
 outcome_in limits world event =
     outcome_of limits.vmids limits.aux (used_vmids world.machine) event.act (realm_of event.build world) (named_cells world event.act)
 
--- The build is there, it leases the granules named (for a Take, nobody does), the act's own numbers are in range, and
--- what the act says fits what is there.
+-- The build is there, and it leases the granules named (for a Take, nobody does). The operation's own numbers are in
+-- range, and its own fields agree with the machine.
 abbrev pub is_allowed : Limits → World → Event → Bool
 is_allowed limits world event =
     nat_lt event.build limits.builds
@@ -35,7 +35,7 @@ abbrev pub after_outcome : ℕ → Outcome → World → Option World
 after_outcome build (Ok updates) world = updated_all build updates world
 after_outcome build (Err rmi) world = None
 
--- The world after an event, where it is allowed and its command is not refused.
+-- The world after an event, if it is allowed and its command is not refused.
 unfoldable pub step : Limits → World → Event → Option World
 step limits world event =
     cond (is_allowed limits world event) (after_outcome event.build (outcome_in limits world event) world) None

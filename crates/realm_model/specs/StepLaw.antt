@@ -1,4 +1,4 @@
--- What a step asks of an event, and what it makes of the world, in plain words.
+-- The conditions and the effect of a step, one by one.
 use Rattle.std.specs.Prelude.{◌≡◌, ◌<◌, ◌↔◌, ℕ, List, [], ◌∷◌, IsTrue, Option, Some, None, Ok, slice_get, slice_set}
 use Rattle.std.specs.List.{All}
 use Rattle.realm_model.specs.declared.act.Act.{Act}
@@ -16,15 +16,17 @@ unfoldable pub set_each : {X : Type 0} → X → List ℕ → List X → List X
 set_each x [] xs = xs
 set_each x (place ∷ places) xs = set_each x places (slice_set xs place x)
 
--- The leases after an act of a build: a Take leases its block, an UnTake gives it back, no other act changes a lease.
+-- The leases after an operation of a build: a Take leases its block, an UnTake gives it back, no other operation
+-- changes a lease.
 abbrev pub leases_after : ℕ → Act → List (Option ℕ) → List (Option ℕ)
 leases_after build (Take order first) leases = set_each (Some build) (block order first) leases
 leases_after build (UnTake order first) leases = set_each None (block order first) leases
 leases_after build _ leases = leases
 
--- An event leads from one world to another: the build is there; each granule named is inside the machine and leased by
--- the build, or by nobody for a Take; the act's own numbers are in range, and what it says fits what is there; its
--- command is not refused. The machine is changed as the command says, and the leases as the act says.
+-- An event leads from one world to another. The build is there. Each granule named is inside the machine and leased by
+-- the build, or by nobody for a Take. The operation's own numbers are in range, and its own fields agree with the
+-- machine. Its command is not refused. The machine is changed as the command says, and the leases as the operation
+-- says.
 pub record IsStep (limits : Limits) (world : World) (event : Event) (next : World) : Type 0 where
   pub build : event.build < limits.builds
   pub granules : All (λ granule. slice_get world.leases granule ≡ Some (holder event.build event.act)) (named event.act)

@@ -1,4 +1,4 @@
--- What can be undone, and all of it undone.
+-- The undo of one operation, and of all that are open.
 use Rattle.std.specs.Prelude.{◌≡◌, ◌≢◌, ◌↔◌, ◌⊎◌, ℕ, List, [], ◌∷◌, ◌++◌, length, map, reverse, false, Some, None}
 use Rattle.std.specs.List.{last_or, Contains}
 use Rattle.realm_model.specs.declared.act.Act.{Act}
@@ -14,7 +14,7 @@ use Rattle.realm_model.specs.History.{erase, open_entries, pages_of, replay, IsL
 abbrev pub by : ℕ → Act → Event
 by build act = record { build = build; act = act }
 
--- the reverses of paired acts
+-- the reverses of paired operations
 abbrev pub reverses : List Act → List Act
 reverses [] = []
 reverses (act ∷ acts) = elim (reverse_of act) [ Some r ↦ r ∷ reverses acts | None ↦ reverses acts ]
@@ -23,15 +23,16 @@ reverses (act ∷ acts) = elim (reverse_of act) [ Some r ↦ r ∷ reverses acts
 abbrev pub undoing : ℕ → List Event → List Event
 undoing build history = map (by build) (reverses (reverse (open_entries build history)))
 
--- an act that is open, the newest of its build, is undone
+-- an operation that is open, the newest of its build, is undone
 pub record IsUndoneNext (limits : Limits) (history : List Event) (build : ℕ) (act : Act) : Type 0 where
   pub back : Act
   pub reverse_is : reverse_of act ≡ Some back
   pub legal : IsLegal limits (history ++ by build back ∷ [])
   pub left_open : open_entries build (history ++ by build back ∷ []) ++ act ∷ [] ≡ open_entries build history
 
--- All that a build has open is undone, by one reverse for each act: the world is that of the history without the build,
--- the one before without what the build had. The build's pages are free, what was free is, what others have stays.
+-- All that a build has open is undone, by one reverse for each operation. The world is that of the history without the
+-- build, the one before without what the build had. The build's pages are free, what was free is, what others have
+-- stays.
 pub record IsUndone (limits : Limits) (history : List Event) (build : ℕ) (world : World) : Type 0 where
   pub legal : IsLegal limits (history ++ undoing build history)
   pub all : length (undoing build history) ≡ length (open_entries build history)
@@ -44,38 +45,38 @@ pub record IsUndone (limits : Limits) (history : List Event) (build : ℕ) (worl
   pub free : (granule : ℕ) → Contains (free_set after) granule ↔ (Contains (free_set world) granule ⊎ Contains (pages_of build history) granule)
   pub others : (other : ℕ) → other ≢ build → part_of after other ≡ part_of world other
 
--- ---- laws, for every legal history and the world that it leads to
+-- ---- theorems, for every legal history and the world that it leads to
 
--- the newest open act of a build can be undone, whatever came between, unless it is a REC that runs
+-- the newest open operation of a build can be undone, whatever came between, unless it created a REC that runs
 abbrev pub NewestCanBeUndone : Limits → List Event → ℕ → World → Act → Type 0
 NewestCanBeUndone limits history build world act =
     last_or None (open_entries build history) ≡ Some act → is_running (realm_of build world) act ≡ false → IsUndoneNext limits history build act
 
--- where no REC of a build runs, all that it has open can be undone, and it leaves no trace
+-- if no REC of a build runs, all that it has open can be undone, and it leaves nothing behind
 abbrev pub AllCanBeUndone : Limits → List Event → ℕ → World → Type 0
 AllCanBeUndone limits history build world = IsAtRest (realm_of build world) → IsUndone limits history build world
 
--- where nothing of a build is open, the world is that of the history without it
+-- if nothing of a build is open, the world is that of the history without it
 abbrev pub NothingOpenIsNoninterference : Limits → List Event → ℕ → World → Type 0
 NothingOpenIsNoninterference limits history build world = open_entries build history ≡ [] → replay limits (erase build history) ≡ Some world
 
--- a reverse act is accepted, and leads back to a world that owns the same
+-- a reverse operation is accepted, and leads back to a world that owns the same
 pub record LeadsBack (limits : Limits) (build : ℕ) (world middle : World) (back : Act) : Type 0 where
   pub end : World
   pub stepped : step limits middle (by build back) ≡ Some end
   pub owns : OwnsSame world end
 
--- a paired act that is accepted can be taken back right after it
+-- a paired operation that is accepted can be reversed right after it
 abbrev pub PairLeadsBack : Limits → ℕ → World → Act → Act → World → Type 0
 PairLeadsBack limits build world act back middle =
     reverse_of act ≡ Some back → step limits world (by build act) ≡ Some middle → LeadsBack limits build world middle back
 
--- an act that has no reverse, and is no reverse, leads to a world that owns the same
+-- an operation that has no reverse, and is no reverse, leads to a world that owns the same
 abbrev pub OtherActOwnsSame : Limits → ℕ → World → Act → World → Type 0
 OtherActOwnsSame limits build world act next =
     is_paired act ≡ false → is_reverse act ≡ false → step limits world (by build act) ≡ Some next → OwnsSame world next
 
--- what an act makes of ownership depends on ownership alone
+-- the ownership after an operation depends on the ownership before alone
 abbrev pub OwnershipFollows : Limits → ℕ → Act → World → World → World → World → Type 0
 OwnershipFollows limits build act w v next other =
     OwnsSame w v → step limits w (by build act) ≡ Some next → step limits v (by build act) ≡ Some other → OwnsSame next other

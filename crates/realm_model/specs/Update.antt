@@ -1,4 +1,4 @@
--- What a command changes: one granule after another, each alone.
+-- The updates of a command: one granule after another, each alone.
 use Rattle.std.specs.Prelude.{ℕ, List, [], ◌∷◌, Option, Some, None, Result, Ok, Err, slice_set}
 use Rattle.realm_model.specs.declared.rmi.Rmi.{Rmi}
 use Rattle.realm_model.specs.Machine.{Cell, Machine, blank, cell_at}
@@ -10,7 +10,7 @@ pub data Update : Type 0 where
   Lease : (granule : ℕ) → Update
   Free : (granule : ℕ) → Update
 
--- What comes of a command: what it changes, or the first check that fails.
+-- The outcome of a command: its updates, or the first check that fails.
 abbrev pub Outcome : Type 0
 Outcome = Result (List Update) Rmi
 
@@ -26,7 +26,7 @@ cell_after (PutByte granule offset value) old = record old { bytes = slice_set o
 cell_after (Lease granule) old = old
 cell_after (Free granule) old = blank
 
--- who leases the granule before an update by a build, and after it
+-- the build that leases the granule before an update, and after it
 abbrev pub lease_before : ℕ → Update → Option ℕ
 lease_before build (Put granule cell) = Some build
 lease_before build (PutByte granule offset value) = Some build

@@ -1,4 +1,4 @@
--- The VMIDs in use before an act and after it. RMM 1.0, RMI_REALM_CREATE, RMI_REALM_DESTROY.
+-- The VMIDs in use before an operation and after it. RMM 1.0, RMI_REALM_CREATE, RMI_REALM_DESTROY.
 use Rattle.std.specs.Prelude.{◌≡◌, ◌≢◌, ℕ, List, Bool, true, false, Some}
 use Rattle.realm_model.specs.declared.act.Act.{Act}
 use Rattle.realm_model.specs.declared.act.Act.TheVariants.{Realm, UnRealm}
@@ -19,7 +19,7 @@ pub record IsUsedNow (old new : Machine) (vmid : ℕ) (used : Bool) : Type 0 whe
   pub one : is_vmid_used new vmid ≡ used
   pub others : (other : ℕ) → other ≢ vmid → is_vmid_used new other ≡ is_vmid_used old other
 
--- An act that makes a realm uses its VMID from then on, until the reverse of that act. No other act changes a VMID.
+-- An operation that creates a realm uses its VMID from then on, until its reverse. No other operation changes a VMID.
 abbrev pub VmidsFollow : Act → Machine → Machine → Type 0
 VmidsFollow (Realm rd root vmid) old new = IsUsedNow old new vmid true
 VmidsFollow (UnRealm rd root vmid) old new = IsUsedNow old new vmid false

@@ -1,4 +1,4 @@
--- The world: the machine, and who leases each granule.
+-- The world: the machine, and the lease of each granule.
 use Rattle.std.specs.Prelude.{ℕ, suc, List, [], ◌∷◌, Bool, false, ◌&&◌, not, ◌==◌, nat_eq, cond, Option, Some, None, is_some, slice_get, slice_set, map, filter, length, replicate}
 use Rattle.std.specs.List.{range_with_len}
 use Rattle.std.specs.Option.{option_eq}
@@ -61,7 +61,7 @@ each f [] cells = []
 each f (lease ∷ leases) [] = []
 each f (lease ∷ leases) (cell ∷ cells) = f lease cell ∷ each f leases cells
 
--- the granules of some builds are free and blank, and so the realms of these builds are gone
+-- the granules of some builds are free and blank, and so the realms of these builds are removed
 abbrev pub unleased : (Option ℕ → Bool) → Option ℕ → Option ℕ
 unleased hides lease = cond (hides lease) None lease
 
@@ -81,7 +81,7 @@ abbrev pub is_of_other : ℕ → Option ℕ → Bool
 is_of_other build None = false
 is_of_other build (Some other) = not (other == build)
 
--- The world without a build: what it leases is free and blank, and its realm is gone.
+-- The world without a build: what it leases is free and blank, and its realm is removed.
 abbrev pub without : World → ℕ → World
 without world build = masked (is_of build) world
 

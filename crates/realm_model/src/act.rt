@@ -1,11 +1,11 @@
-//! Events: what the accepted commands of builds did.
+//! Events: the accepted commands of builds.
 ghost use Rattle.std.specs.Prelude.{◌≡◌, ◌↔◌, true};
 
 use crate::kind::kind_of;
 use arrayvec::ArrayVec;
 use granule_addr::{BuildId, Gran, IpaGran, Level, Order, PageOff, RecNo, Root, Vmid};
 
-/// What one accepted command did, with the granules that it named and the answer that it got.
+/// One accepted command, with the granules that it named and the answer that it got.
 ///
 /// `UnTake`, `Undelegate`, `UnRealm`, `UnRtt`, `UnData` and `UnRec` are reverses. `UnData` is the reverse of `Data` and
 /// of `Unknown`.
@@ -99,7 +99,7 @@ pub enum Act {
         auxiliaries: ArrayVec<Gran, 16>,
         number: RecNo,
     },
-    /// RMI_REC_ENTER, up to where the REC runs
+    /// RMI_REC_ENTER, up to the point at which the REC runs
     Enter {
         number: RecNo,
     },
@@ -116,7 +116,7 @@ pub enum Act {
     },
 }
 
-/// An act of a build.
+/// An operation of a build.
 #[derive(PartialEq, Eq, Drop)]
 pub struct Event {
     pub build: BuildId,
@@ -124,7 +124,7 @@ pub struct Event {
 }
 
 impl Event {
-    /// Whether it is the same event: the same act, of the same build.
+    /// Whether it is the same event: the same operation, of the same build.
     pub fn is_same(&self, event: &Event) -> bool
         ensures { (result ≡ true) ↔ (self.now ≡ event.now) }
     {
@@ -132,7 +132,7 @@ impl Event {
     }
 }
 
-/// The same granules again. No memory is taken.
+/// A copy of the granules. No memory is taken.
 pub fn clone_granules(granules: &ArrayVec<Gran, 16>) -> ArrayVec<Gran, 16>
     ensures { result ≡ granules.now }
 {
@@ -147,14 +147,14 @@ impl Act {
     ghost use Rattle.std.specs.Prelude.{Some, None, if◌then◌else◌};
     ghost use Rattle.realm_model.specs.Act as acts;
 
-    /// Whether it is the same act: of the same kind, with the same granules and numbers.
+    /// Whether it is the same operation: of the same kind, with the same granules and numbers.
     pub fn is_same(&self, act: &Act) -> bool
         ensures { (result ≡ true) ↔ (self.now ≡ act.now) }
     {
         self == act
     }
 
-    /// The same act again. No memory is taken.
+    /// A copy of the operation. No memory is taken.
     #[tactic(auto, unfolding(crate::specs::Act::reverse_of))]
     pub fn clone(&self) -> Act
         ensures { result ≡ self.now }
@@ -214,7 +214,7 @@ impl Act {
         }
     }
 
-    // The same act again, where it has a reverse.
+    // A copy of the operation, if it has a reverse.
     #[tactic(auto, unfolding(crate::specs::Act::reverse_of))]
     fn clone_paired(&self) -> Option<Act>
         ensures { result ≡ (if acts.is_paired self.now then Some self.now else None) }
@@ -256,7 +256,7 @@ impl Act {
         Some(paired)
     }
 
-    /// Whether the act has a reverse.
+    /// Whether the operation has a reverse.
     #[tactic(auto, using(crate::proofs::PairedKinds::paired_by_kind))]
     pub fn is_paired(&self) -> bool
         ensures { result ≡ acts.is_paired self.now }
@@ -264,7 +264,7 @@ impl Act {
         kind_of(self).is_some()
     }
 
-    /// Whether the act is the reverse of another.
+    /// Whether the operation is the reverse of another.
     #[tactic(auto, unfolding(crate::specs::Act::is_reverse))]
     pub fn is_reverse(&self) -> bool
         ensures { result ≡ acts.is_reverse self.now }

@@ -1,10 +1,10 @@
-//! Kinds of acts that can be reversed.
+//! Kinds of operations that can be reversed.
 ghost use Rattle.std.specs.Prelude.{◌≡◌};
 ghost use Rattle.realm_model.specs.Kind.{act_kind};
 
 use crate::act::Act;
 
-/// The kind of an act that can be reversed.
+/// The kind of an operation that can be reversed.
 #[derive(Clone, Copy, Debug, PartialEq, Eq)]
 pub enum Kind {
     Take,
@@ -16,7 +16,7 @@ pub enum Kind {
     Rec,
 }
 
-/// The kind of an act, or None where the act has no reverse.
+/// The kind of an operation, or None if the operation has no reverse.
 pub fn kind_of(act: &Act) -> Option<Kind>
     ensures { result ≡ act_kind act.now }
 {

@@ -1,4 +1,4 @@
-//! Laws over every history.
+//! Theorems on every history.
 ghost use Rattle.std.specs.Prelude.{◌≡◌, ℕ, List, ◌++◌, Some};
 ghost use Rattle.realm_model.specs.declared.act.Act.{Act};
 ghost use Rattle.realm_model.specs.declared.act.Event.{Event};
@@ -35,18 +35,18 @@ pub fn schedule_does_not_matter()
     ensures { (limits : Limits) (history other : List Event) → IsLegal limits history → IsLegal limits other → HasSameEvents history other → replay limits history ≡ replay limits other }
 {}
 
-/// Two events of different builds that can follow one another can do so the other way round, unless the first gives back
-/// what the second takes; and they lead to the same world.
+/// Two events of different builds that can follow one another can do so the other way round, unless the first gives
+/// back the block that the second takes. They lead to the same world.
 pub fn events_of_two_builds_commute()
     ensures { (limits : Limits) (history : List Event) (one other : Event) → EventsCommute limits history one other }
 {}
 
-/// A step is what it says: it asks no more than `IsStep` does, in any world that a history leads to.
+/// A step is exact: it asks no more than `IsStep` does, in any world that a history leads to.
 pub fn step_is_exact()
     ensures { (limits : Limits) (history : List Event) (world : World) (event : Event) → replay limits history ≡ Some world → StepIsExact limits world event }
 {}
 
-/// What no reverse act matches is what is left on a stack of the paired acts.
+/// The paired operations without a matching reverse are those that are left on a stack of them.
 pub fn matching_is_a_stack()
     ensures { (acts : List Act) → MatchingIsAStack acts }
 {}
@@ -56,7 +56,7 @@ pub fn pages_are_leased()
     ensures { (limits : Limits) (history : List Event) (world : World) (build : ℕ) → IsLegal limits history → replay limits history ≡ Some world → PagesAreLeased limits history build world }
 {}
 
-/// What holds of every world that a history leads to.
+/// Every world that a history leads to is sound.
 pub fn reached_worlds_are_sound()
     ensures { (limits : Limits) (history : List Event) (world : World) → replay limits history ≡ Some world → IsReachable limits world }
 {}
@@ -66,18 +66,18 @@ pub fn numbers_are_few()
     ensures { (limits : Limits) (history : List Event) (world : World) (build : ℕ) → IsLegal limits history → replay limits history ≡ Some world → NumbersAreFew history world build }
 {}
 
-/// No REC of a build runs exactly where the count of those that run is 0.
+/// No REC of a build runs exactly when the count of those that run is 0.
 pub fn at_rest_is_none_running()
     ensures { (limits : Limits) (history : List Event) (world : World) (build : ℕ) → replay limits history ≡ Some world → RestIsOfAll world build }
 {}
 
-/// What an accepted event takes of the room of builds.
+/// The room of each build after an accepted event.
 pub fn room_is_taken()
     ensures { (limits : Limits) (history : List Event) (world : World) (event : Event) (next : World)
         → IsLegal limits history → replay limits history ≡ Some world → RoomIsTaken limits history world event next }
 {}
 
-/// The room that a build has used is the sum of what its acts took.
+/// The room that a build has used is the sum of the room of its operations.
 pub fn room_is_a_sum()
     ensures { (limits : Limits) (history : List Event) (world : World) (build : ℕ) → IsLegal limits history → replay limits history ≡ Some world → RoomIsSum history world build }
 {}
@@ -88,88 +88,91 @@ pub fn others_keep_their_room()
 {}
 
 /// Each event of a history without a build is accepted in turn, from nothing on, by a machine with the same limits and
-/// room, where each build can have as many acts open.
+/// room, on which each build can have as many operations open.
 pub fn what_is_left_is_accepted()
     ensures { (limits : Limits) (capacity most : ℕ) (history : List Event) (world : World) (build : ℕ)
         → IsLegal limits history → replay limits history ≡ Some world → WhatIsLeftIsAccepted limits capacity most history world build }
 {}
 
-/// The realm of a build is that of its open Realm act.
+/// The realm of a build is that of its open Realm operation.
 pub fn realms_are_open_acts()
     ensures { (limits : Limits) (history : List Event) (world : World) (build : ℕ) → IsLegal limits history → replay limits history ≡ Some world → RealmIsOpen history world build }
 {}
 
-/// The VMIDs in use are those of the Realm acts that builds have open.
+/// The VMIDs in use are those of the Realm operations that builds have open.
 pub fn vmids_are_of_open_acts()
     ensures { (limits : Limits) (history : List Event) (world : World) (vmid : ℕ) → IsLegal limits history → replay limits history ≡ Some world → VmidIsOpen history world vmid }
 {}
 
-/// A paired act can be taken back right after it, which leads back to a world that owns the same.
+/// A paired operation can be reversed right after it, which leads back to a world that owns the same.
 pub fn pairs_lead_back()
     ensures { (limits : Limits) (history : List Event) (world : World) (build : ℕ) (act back : Act) (middle : World)
         → replay limits history ≡ Some world → PairLeadsBack limits build world act back middle }
 {}
 
-/// An act that has no reverse, and is no reverse, leads to a world that owns the same.
+/// An operation that has no reverse, and is no reverse, leads to a world that owns the same.
 pub fn other_acts_own_the_same()
     ensures { (limits : Limits) (world : World) (build : ℕ) (act : Act) (next : World) → OtherActOwnsSame limits build world act next }
 {}
 
-/// What an act makes of ownership is a function of ownership and of the act's fields: worlds that own the same still do after it.
+/// The ownership after an operation is a function of the ownership before and of the operation's fields: worlds that
+/// own the same still do after it.
 pub fn ownership_follows()
     ensures { (limits : Limits) (history past : List Event) (world twin : World) (build : ℕ) (act : Act) (next other : World)
         → replay limits history ≡ Some world → replay limits past ≡ Some twin → OwnershipFollows limits build act world twin next other }
 {}
 
-/// The newest open act of a build can be undone, whatever others did since, unless it is a REC that runs.
+/// The newest open operation of a build can be undone, whatever others did since, unless it created a REC that runs.
 pub fn newest_can_be_undone()
     ensures { (limits : Limits) (history : List Event) (world : World) (build : ℕ) (act : Act)
         → IsLegal limits history → replay limits history ≡ Some world → NewestCanBeUndone limits history build world act }
 {}
 
-/// Where nothing of a build is open, the world is that of the history without it.
+/// If nothing of a build is open, the world is that of the history without it.
 pub fn nothing_open_is_noninterference()
     ensures { (limits : Limits) (history : List Event) (world : World) (build : ℕ) → IsLegal limits history → replay limits history ≡ Some world → NothingOpenIsNoninterference limits history build world }
 {}
 
-/// Where no REC of a build runs, all that it has open can be undone, newest first, and then it leaves no trace.
+/// If no REC of a build runs, all that it has open can be undone, newest first, and then it leaves nothing behind.
 pub fn all_can_be_undone()
     ensures { (limits : Limits) (history : List Event) (world : World) (build : ℕ) → IsLegal limits history → replay limits history ≡ Some world → AllCanBeUndone limits history build world }
 {}
 
-/// Where no REC of a build runs, none does after an event of another build or a reverse.
+/// If no REC of a build runs, none does after an event of another build or a reverse.
 pub fn builds_stay_at_rest()
     ensures { (limits : Limits) (history : List Event) (world : World) (build : ℕ) (event : Event) (next : World) → replay limits history ≡ Some world → StaysAtRest limits world build event next }
 {}
 
-/// From the begin of an abort to its end each undo is accepted, whatever others do, and then the build leaves no trace.
+/// From the begin of an abort to its end each undo is accepted, whatever others do, and then the build leaves nothing
+/// behind.
 pub fn aborts_go_on()
     ensures { (limits : Limits) (history later : List Event) (build : ℕ) (begun world : World)
         → IsLegal limits (history ++ later) → replay limits history ≡ Some begun → replay limits (history ++ later) ≡ Some world
         → AbortGoesOn limits history later build begun world }
 {}
 
-/// A mark stands when it is made.
+/// A build can go back to a mark at once.
 pub fn new_marks_stand()
     ensures { (build : ℕ) (history : List Event) → IsValidMark (mark_at build history) history }
 {}
 
-/// A mark stands on until the build has less open than at the mark.
+/// A mark remains valid until the build has less open than at the mark.
 pub fn marks_stand_on()
     ensures { (mark : Mark) (history : List Event) (event : Event) → StaysValid mark history event }
 {}
 
-/// A build can be rolled back to a mark that stands, where no REC that it made since runs.
+/// A build can be rolled back to a valid mark, if no REC that it created since runs.
 pub fn marks_can_be_rolled_back_to()
     ensures { (limits : Limits) (history : List Event) (world : World) (mark : Mark) → IsLegal limits history → replay limits history ≡ Some world → CanRollBack limits history mark world }
 {}
 
-/// The RECs of a build's realm are those of its open Rec acts, whose numbers rise.
+/// The RECs of a build's realm are those of its open Rec operations, whose numbers rise.
 pub fn recs_are_open_acts()
     ensures { (limits : Limits) (history : List Event) (world : World) (build : ℕ) → IsLegal limits history → replay limits history ≡ Some world → RecsAreOpen history world build }
 {}
 
-/// The VMIDs in use after an act are those before it, with that of a realm that is made, and without that of one that ends.
+/// The VMIDs in use after an operation are those before it, with that of a realm that is created, and without that of
+/// one that ends.
 pub fn vmids_follow_steps()
     ensures { (limits : Limits) (history : List Event) (world : World) (build : ℕ) (act : Act) (next : World)
         → IsLegal limits history → replay limits history ≡ Some world → VmidsFollowSteps limits history world build act next }

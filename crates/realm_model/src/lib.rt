@@ -1,8 +1,8 @@
-//! What a machine of realms does, as definitions: granules, realms and their translation, the commands of the
-//! monitor, events, histories, and the laws that hold of every history.
+//! The model of a machine of realms as definitions: granules, realms and their translation, the commands of the RMM,
+//! events, histories, and the theorems that hold of every history.
 //!
-//! `specs/` has the definitions, one subject a file. The types that contracts and code share are here, and the laws
-//! are the contracts of the functions in `law`, which do nothing.
+//! `specs/` has the definitions, one subject a file. The types that contracts and code share are here. The theorems are
+//! the contracts of the functions in `law`, which do nothing.
 #![tactic(auto)]
 
 mod act;

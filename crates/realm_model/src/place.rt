@@ -1,8 +1,9 @@
-//! Where acts of a build are performed.
+//! The realm and the REC of a build's operation.
 use granule_addr::Gran;
 
-/// The RD of a build's realm, and the granule of the REC that an act names by its number: `None` where there is no such
-/// realm or REC. So the monitor searches for neither. What `rec` is does not matter to an act that names no REC.
+/// The RD of a build's realm, and the granule of the REC that an operation names by its number: `None` if there is no
+/// such realm or REC. So the RMM searches for neither. The value of `rec` does not matter to an operation that names no
+/// REC.
 #[derive(Clone, Copy)]
 pub struct RealmAndRec {
     pub realm: Option<Gran>,

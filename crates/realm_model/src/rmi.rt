@@ -1,7 +1,7 @@
-//! What the monitor answers.
+//! The result words of the RMM.
 ghost use Rattle.std.specs.Prelude.{◌≡◌, ◌+◌, ◌*◌};
 
-/// Why a command is refused. RMM 1.0, RMI status codes.
+/// The reason why a command is refused. RMM 1.0, RMI status codes.
 #[derive(Clone, Copy, Debug, PartialEq, Eq)]
 pub enum Status {
     Input,

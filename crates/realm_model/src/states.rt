@@ -26,7 +26,8 @@ pub enum RecState {
     Running,
 }
 
-/// The state of an entry of a translation table: it leads to nothing, to a page or to a table. RMM 1.0, RTT entry state.
+/// The state of an entry of a translation table: it leads to nothing, to a page or to a table. RMM 1.0, RTT entry
+/// state.
 ///
 /// UNASSIGNED and ASSIGNED are also the HIPAS of what the entry maps; TABLE is no HIPAS.
 #[derive(Clone, Copy, Debug, PartialEq, Eq)]
@@ -36,7 +37,7 @@ pub enum EntryState {
     Table,
 }
 
-/// What a realm may expect at an IPA. RMM 1.0, RIPAS.
+/// The state of an IPA as its realm sees it. RMM 1.0, RIPAS.
 #[derive(Clone, Copy, Debug, PartialEq, Eq)]
 pub enum Ripas {
     Empty,

@@ -1,4 +1,4 @@
--- What a realm that has just been made says of itself.
+-- The attributes of a new realm.
 use Rattle.std.proofs.Common.{◌≡◌, ℕ, ap}
 use Rattle.std.specs.FinMap.{empty}
 use Rattle.granule_addr.specs.declared.root.Root.{Root}

@@ -1,8 +1,8 @@
-//! What the monitor keeps of a realm and of a REC, and the bytes that a realm's initial measurement is made of.
+//! The attributes of a realm and of a REC, and the bytes of a realm's initial measurement.
 //!
-//! A descriptor and a REC are each seen as a record of their attributes, from which the machine's row of a realm or of
-//! a REC is made. Each method says all that it changes. Nothing here takes memory or refuses a call: whether a command
-//! is allowed is for the caller to check. The sections named are those of the RMM specification 1.0 (DEN0137).
+//! A descriptor and a REC are each seen as a record of their attributes, which gives the machine's row of a realm or of
+//! a REC. Each method says all that it changes. Nothing here takes memory or refuses a call: the caller checks whether
+//! a command is allowed. The sections named are those of the RMM specification 1.0 (DEN0137).
 #![tactic(auto)]
 
 mod measurement;

@@ -13,7 +13,7 @@ use granule_addr::{RecNo, Root, Vmid};
 use realm_model::RealmState;
 use std::marker::Model;
 
-/// A realm descriptor: what the monitor keeps of a realm beside its RECs and its tables.
+/// A realm descriptor: the attributes of a realm beside its RECs and its tables.
 ///
 /// RMM 1.0, Realm attributes.
 #[derive(Debug, Drop)]
@@ -40,9 +40,9 @@ impl Model for RealmDesc {
 }
 
 impl RealmDesc {
-    /// A realm that has just been made: NEW, with no REC yet, and a measurement of 32 zero bytes.
+    /// A new realm: NEW, with no REC yet, and a measurement of 32 zero bytes.
     ///
-    /// `root` tells its starting tables. RMM 1.0, RMI_REALM_CREATE.
+    /// `root` has its starting tables. RMM 1.0, RMI_REALM_CREATE.
     #[tactic(auto, unfolding(realm_model::specs::Measurement::zero_measurement, realm_model::specs::Command::Realm::new_realm))]
     pub fn new(vmid: Vmid, root: Root) -> RealmDesc
         ensures row { realm_row result empty (root_rows root.width) ≡ new_realm vmid root }
@@ -63,14 +63,14 @@ impl RealmDesc {
         matches!(self.state, RealmState::New)
     }
 
-    /// NEW or ACTIVE. RMM 1.0, Realm state.
+    /// The state of the realm, NEW or ACTIVE. RMM 1.0, Realm state.
     pub fn state(&self) -> RealmState
         ensures { result ≡ self.now.state }
     {
         self.state
     }
 
-    /// The realm is ACTIVE from now on. The caller checks that it is NEW. RMM 1.0, RMI_REALM_ACTIVATE.
+    /// Activates the realm. The caller checks that it is NEW. RMM 1.0, RMI_REALM_ACTIVATE.
     pub fn activate(&mut self)
         ensures { self.new ≡ record self.old { state = Active } }
     {
@@ -84,7 +84,7 @@ impl RealmDesc {
         self.root
     }
 
-    /// The measurement of what the realm was made of so far. RMM 1.0, Realm measurement.
+    /// The measurement of the realm so far. RMM 1.0, Realm measurement.
     pub fn measurement(&self) -> &[u8; 32]
         ensures { result.now ≡ self.now.measurement }
     {
@@ -107,7 +107,7 @@ impl RealmDesc {
         self.next
     }
 
-    /// Answers the number of the realm's next REC, and raises it by one.
+    /// Returns the number of the realm's next REC, and raises it by one.
     ///
     /// RMM 1.0, RMI_REC_CREATE.
     pub fn next_rec(&mut self) -> RecNo

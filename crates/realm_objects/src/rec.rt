@@ -8,7 +8,7 @@ use granule_addr::{Gran, RecNo};
 use realm_model::RecState;
 use std::marker::Model;
 
-/// A realm execution context (REC): what the monitor keeps of one beside its granule.
+/// A realm execution context (REC): the attributes of one beside its granule.
 ///
 /// RMM 1.0, REC attributes.
 #[derive(Debug, Drop)]
@@ -31,7 +31,7 @@ impl Model for Rec {
 }
 
 impl Rec {
-    /// A REC that has just been made: READY, with that number in its realm and those auxiliary granules.
+    /// A new REC: READY, with that number in its realm and those auxiliary granules.
     ///
     /// RMM 1.0, RMI_REC_CREATE.
     pub fn new(number: RecNo, auxiliaries: ArrayVec<Gran, 16>) -> Rec
@@ -63,7 +63,7 @@ impl Rec {
         self.auxiliaries.as_slice()
     }
 
-    /// READY or RUNNING. RMM 1.0, REC state.
+    /// The state of the REC, READY or RUNNING. RMM 1.0, REC state.
     pub fn state(&self) -> RecState
         ensures { result ≡ self.now.state }
     {
@@ -77,14 +77,15 @@ impl Rec {
         matches!(self.state, RecState::Ready)
     }
 
-    /// The REC runs from now on. The caller checks that it is READY, and its realm ACTIVE. RMM 1.0, RMI_REC_ENTER.
+    /// Enters the REC, which runs from now on. The caller checks that it is READY, and its realm ACTIVE. RMM 1.0,
+    /// RMI_REC_ENTER.
     pub fn enter(&mut self)
         ensures { self.new ≡ record self.old { state = Running } }
     {
         self.state = RecState::Running;
     }
 
-    /// The REC stops running, and can be entered again. The caller checks that it is RUNNING. RMM 1.0, REC exit.
+    /// Stops the REC, which can be entered again. The caller checks that it is RUNNING. RMM 1.0, REC exit.
     pub fn exit(&mut self)
         ensures { self.new ≡ record self.old { state = Ready } }
     {

@@ -1,4 +1,4 @@
--- Pages of data under a table of level 3, measured, written by a guest, and gone.
+-- Pages of data under a table of level 3: measured, written by a guest, and destroyed.
 use Rattle.std.proofs.Common.{◌≡◌, ℕ, true, false, cond, ◌&&◌, List, [], ◌∷◌, ◌++◌, Some, None, set, refl, ap, ◌∙◌, lit≤}
 use Rattle.std.specs.FinMap.{get, insert, empty, get-insert, get-remove}
 use Rattle.std.specs.Cmp.{nat_cmp_total}
@@ -193,8 +193,8 @@ unmade = step_by eight _ _ (by 0 (UnRec 6 (record { items = 7 ∷ [] }) 0)) _
     (ap (λ o. elim o [ Some r ↦ r.granule == 6 && bytes_eq r.auxiliaries (7 ∷ []) | None ↦ false ]) (latest (running rec) (rec Ready)))
     (rec_there (active with_data stopped) 0 _ (rec Ready) (latest (running rec) (rec Ready))) refl
 
--- A page is gone: where it was RAM, it is DESTROYED. One of zeros comes, and the RIPAS stays; the realm is ACTIVE, and it is
--- not measured.
+-- A page is destroyed: if it was RAM, it is DESTROYED. One of zeros comes, and the RIPAS stays; the realm is ACTIVE,
+-- and it is not measured.
 module _ (rows : Rows) (ipa : ℕ) (ripas : RipasOf) (inside : is_protected_at ipa 39 ≡ true) where
   emptied : (bytes : List ℕ) → step eight (late (active (with_page rows ipa ripas) gone) (of_realm InData bytes) delegated delegated) (by 0 (UnData 4 ipa))
       ≡ Some (late (active (without_page rows ipa ripas) gone) delegated delegated delegated)

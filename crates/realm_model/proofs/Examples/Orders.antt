@@ -1,4 +1,4 @@
--- Two builds, in one order and in another.
+-- Two builds, in one schedule and in another.
 use Rattle.std.proofs.Common.{◌≡◌, zero, suc, List, [], ◌∷◌, Some, None, inl, inr, refl, sym, ◌∙◌, arith}
 use Rattle.granule_addr.specs.Page.{zero_page, page_of}
 use Rattle.realm_model.specs.declared.act.Act.TheVariants.{Take, UnTake, Fill, Delegate, Realm, UnRealm}

@@ -1,4 +1,4 @@
--- A REC that runs, stops and is gone, and with it all that its build had.
+-- A REC that runs, stops and is destroyed, and with it all that its build had.
 use Rattle.std.proofs.Common.{◌≡◌, ℕ, true, false, cond, ◌&&◌, ◌||◌, not, List, [], ◌∷◌, ◌++◌, length, Some, None, Err, refl, sym, ap, ◌∙◌}
 use Rattle.std.specs.Prelude.{◌==◌, is_some, option_and_then}
 use Rattle.std.specs.FinMap.{get, insert, empty, len, get-insert, get-remove, get-empty}

@@ -1,4 +1,4 @@
--- Two tables of one level: one is gone, and the rows of the other stay.
+-- Two tables of one level: one is destroyed, and the rows of the other stay.
 use Rattle.std.proofs.Common.{◌≡◌, ◌+◌, ◌*◌, true, false, Some, None, [], ◌∷◌, refl, ap, ◌∙◌, arith, lit≤}
 use Rattle.std.specs.FinMap.{get}
 use Rattle.std.specs.Option.{option_eq}

@@ -1,4 +1,4 @@
--- Checks of a command, in the order in which they are made.
+-- Checks of a command, in sequence.
 use Rattle.std.specs.Prelude.{ℕ, ◌==◌, List, [], ◌∷◌, Bool, true, false, cond, not, ◌&&◌, Some, None, Err}
 use Rattle.std.specs.List.{list_any}
 use Rattle.std.specs.FinMap.{get, insert}
@@ -33,11 +33,11 @@ error_rec = refused OfRec 0
 abbrev pub error_rtt : ℕ → Rmi
 error_rtt level = refused OfRtt level
 
--- where the check holds, the rest decides; else the command is refused with this refusal
+-- if the check holds, the rest decides; else the command is refused with this refusal
 unfoldable pub check : Bool → Rmi → Outcome → Outcome
 check holds rmi rest = cond holds rest (Err rmi)
 
--- ---- what is looked at
+-- ---- the tests
 
 abbrev pub is_undelegated : Seen → Bool
 is_undelegated g = elim g.cell.state [ Undelegated ↦ true | _ ↦ false ]
@@ -68,7 +68,7 @@ is_ready Running = false
 abbrev pub is_protected : RealmRow → ℕ → Bool
 is_protected realm ipa = is_protected_at ipa realm.root.width
 
--- ---- what is looked up
+-- ---- the lookups
 
 -- the realm of an RD granule: a granule that is no RD is an input error
 unfoldable pub with_realm : Seen → (RealmRow → Outcome) → Outcome
@@ -78,11 +78,11 @@ with_realm rd f = elim rd.cell.descriptor [ Some realm ↦ f realm | None ↦ Er
 unfoldable pub with_rec : RealmRow → ℕ → (RecRow → Outcome) → Outcome
 with_rec realm number f = elim (get realm.recs number) [ Some rec ↦ f rec | None ↦ Err error_input ]
 
--- Where a walk towards a level ends. In every world that a history leads to it ends at a row, so it is never refused.
+-- The end of a walk towards a level. In every world that a history leads to it ends at a row, so it is never refused.
 unfoldable pub with_end : Rows → ℕ → ℕ → (Walk → Outcome) → Outcome
 with_end rows ipa level f = elim (walk rows ipa level) [ Some end ↦ f end | None ↦ Err (error_rtt 0) ]
 
--- the row where the walk ends, if that is at the level
+-- the row at which the walk ends, if that is at the level
 abbrev pub with_row : Rows → ℕ → ℕ → (Row → Outcome) → Outcome
 with_row rows ipa level f = with_end rows ipa level (λ end. check (end.level == level) (error_rtt end.level) (f end.row))
 

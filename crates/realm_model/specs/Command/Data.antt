@@ -31,7 +31,7 @@ data_create_unknown rd g ipa =
     Ok (Put g.number (held Data rd.number)
     ∷ put_realm rd (record realm { rows = put_row realm.rows 3 ipa (assigned row.ripas g.number) }) ∷ []))))
 
--- A page leaves its realm and is DELEGATED; where it was RAM, it is DESTROYED. RMM 1.0, RMI_DATA_DESTROY.
+-- A page leaves its realm and is DELEGATED; if it was RAM, it is DESTROYED. RMM 1.0, RMI_DATA_DESTROY.
 abbrev pub data_destroy : Seen → ℕ → Outcome
 data_destroy rd ipa =
     with_realm rd (λ realm.

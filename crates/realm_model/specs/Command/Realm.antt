@@ -14,7 +14,7 @@ use Rattle.realm_model.specs.Machine.{RealmRow, Seen, left, held}
 use Rattle.realm_model.specs.Update.{Outcome, Put}
 use Rattle.realm_model.specs.Command.Check.{check, error_input, error_realm, is_delegated, is_apart_from, is_new, with_realm, put_realm}
 
--- a realm that has just been made
+-- a new realm
 unfoldable pub new_realm : ℕ → Root → RealmRow
 new_realm vmid root = record {
   state = New;
@@ -48,8 +48,8 @@ realm_activate rd =
     check (is_new realm.state) error_realm
     (Ok (put_realm rd (record realm { state = Active }) ∷ [])))
 
--- A realm with no REC and no table below its starting tables is gone; its RD and starting tables are DELEGATED.
--- RMM 1.0, RMI_REALM_DESTROY.
+-- A realm with no REC and no table below its starting tables is removed; its RD and starting tables are DELEGATED. RMM
+-- 1.0, RMI_REALM_DESTROY.
 abbrev pub realm_destroy : Seen → Outcome
 realm_destroy rd =
     with_realm rd (λ realm.

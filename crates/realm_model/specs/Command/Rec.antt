@@ -41,7 +41,7 @@ rec_exit rd number =
     check (not (is_ready rec.state)) error_rec
     (Ok (put_rec rd realm number (record rec { state = Ready }) ∷ []))))
 
--- A READY REC is gone; its granules are DELEGATED. Numbers are not used again. RMM 1.0, RMI_REC_DESTROY.
+-- A READY REC is removed; its granules are DELEGATED. Numbers are not used again. RMM 1.0, RMI_REC_DESTROY.
 abbrev pub rec_destroy : Seen → ℕ → Outcome
 rec_destroy rd number =
     with_realm rd (λ realm. with_rec realm number (λ rec.

@@ -1,4 +1,5 @@
--- A `&` to a row is made where one to its items is; the room and the right to give back are not lent. Assumes `Logic`.
+-- The shared borrow of a row, made of those of its items; the capacity and the right to give back are not borrowed.
+-- Assumes `Logic`.
 use mathlib.Core.Path.{sym, subst}
 use mathlib.Core.List.{[], ◌++◌}
 use lib.ListN.{length}

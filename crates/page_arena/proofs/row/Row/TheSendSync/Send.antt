@@ -1,4 +1,4 @@
--- A row crosses threads as its items and its allocator do.
+-- `Send` and `Sync` of a row, as its items and its allocator have them.
 use base.Shift.{Keyless}
 use mir.Syntax.{Ty, ty_array}
 use mir.Raw.{raw}

@@ -1,4 +1,4 @@
--- `get_mut` lends one item for writing, and the row follows it. Assumes `Logic`.
+-- `get_mut`: one item by mutable reference, whose changes the row follows. Assumes `Logic`.
 use Rattle.page_arena.proofs.Steps.{◌+◌, ◌*◌, ◌∙◌, ◌∷◌, ◌∵◌, ◌⊛◌, ◌$◌, !, Ended, GName, MutRef, Ptr, Stays, [], addr, alloc_all, at_ret, await, bin}
 use Rattle.page_arena.proofs.Steps.{blocks, done, drop, ends_at, enter, env, exec, fact, fat, fjoin, first, flft, fld, frame, free_all, fsplit, fsplit3}
 use Rattle.page_arena.proofs.Steps.{full_share, get, get_in, get_or, give_at, Goes-dropped, Goes-spent_ref, group, heard, id⊢, in_a_block, inst_fn}
