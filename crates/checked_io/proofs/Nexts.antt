@@ -1,4 +1,4 @@
--- What comes next of an input, from what was read of it.
+-- The next line of an input, from the bytes that were read of it.
 use Rattle.std.proofs.Common.{◌≡◌, ℕ, ◌+◌, ◌<◌, ◌==◌, false, List, [], ◌∷◌, ◌++◌, length, take, drop, get_or, length-drop}
 use Rattle.std.proofs.Common.{length-take, drop-cons, add-one, Option, Some, None, IfSome, refl, sym, ap, ◌∙◌, arith, subst}
 use mathlib.Core.List.{append-nil}

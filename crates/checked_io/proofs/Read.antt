@@ -1,4 +1,4 @@
--- What a reader still has, one read after another, and what stays as it is.
+-- The bytes that a reader has left, one read after another, and the state that stays as it is.
 use Rattle.std.proofs.Common.{ℕ, List, [], ◌++◌, Option, Some, None, refl, sym, ap, ◌∙◌, append_assoc}
 use Rattle.std.specs.Io.KnownBytes.{Keeps, Consumes}
 

@@ -1,4 +1,4 @@
--- What a writer holds, one write after another.
+-- The bytes that a writer has, one write after another.
 use Rattle.std.proofs.Common.{◌≡◌, ℕ, List, [], ◌++◌, take, drop, Option, Some, None, sym, ap, ◌∙◌}
 use mathlib.Core.List.{append_assoc, append-nil}
 use Rattle.std.proofs.lemmas.List.{take-append-drop}

@@ -4,7 +4,7 @@ use Rattle.std.specs.List.{slice_split}
 use Rattle.checked_io.specs.declared.lines.Next.{Next}
 use Rattle.checked_io.specs.declared.lines.Next.TheVariants.{Line, TooLong, End}
 
--- what stands between line feeds
+-- the parts between line feeds
 abbrev pub parts_of : List ℕ → List (List ℕ)
 parts_of bytes = slice_split (λ b. b == 10) bytes
 
@@ -21,7 +21,7 @@ without_empty_last (part ∷ next ∷ more) = part ∷ without_empty_last (next 
 abbrev pub lines_in : List ℕ → List (List ℕ)
 lines_in bytes = without_empty_last (parts_of bytes)
 
--- ---- what comes next, where it is known what the input has left
+-- ---- the next item, if it is known what the input has left
 
 -- a line was read
 abbrev pub IsLine : Option (List ℕ) → List ℕ → Option (List ℕ) → Type 0

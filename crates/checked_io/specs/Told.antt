@@ -1,4 +1,4 @@
--- What is seen of a reader or a writer.
+-- The view of a reader or a writer.
 use Rattle.std.specs.Prelude.{ℕ, Bool}
 
 pub record ToldView (D : Type 0) : Type 0 where
@@ -7,5 +7,5 @@ pub record ToldView (D : Type 0) : Type 0 where
   pub failed : Bool
   -- whether a write failed because nobody reads what is written
   pub is_closed : Bool
-  -- how often the device was asked to read, up to the greatest `u64`
+  -- the number of times the device was asked to read, up to the greatest `u64`
   pub reads : ℕ

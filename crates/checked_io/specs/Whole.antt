@@ -1,4 +1,4 @@
--- What was written of a text.
+-- The part of a text that was written.
 use Rattle.std.specs.Prelude.{◌≡◌, ℕ, List, ◌++◌, Option}
 use Rattle.std.specs.Io.KnownBytes.{Appends}
 

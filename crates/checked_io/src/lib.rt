@@ -1,7 +1,7 @@
-//! Readers and writers that tell whether they have failed.
+//! Readers and writers that remember whether a call has failed.
 //!
-//! Nothing outside of `Told` calls the device or sets what is told, so a caller's contract can say that it gives up for the
-//! device's sake exactly where the device has failed.
+//! Nothing outside of `Told` calls the device or sets the flag. So a caller's contract can say that it gives up for the
+//! device's sake exactly when the device has failed.
 #![tactic(auto)]
 
 mod lines;

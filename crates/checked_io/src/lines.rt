@@ -1,4 +1,4 @@
-//! Lines of a reader.
+//! The lines of a reader, one after the other.
 ghost use Rattle.std.specs.Prelude.{◌≡◌, ◌<◌, [], ◌∷◌, length, true, false, is_err, ◌↔◌, Err, IfOk, OnOk};
 ghost use Rattle.std.specs.Io.KnownBytes.{Consumes, IsAtEnd, prepend_known};
 ghost use Rattle.checked_io.specs.Lines.{IsNext};
@@ -8,7 +8,7 @@ use crate::{DeviceFailed, Told};
 use std::io::Read;
 use std::marker::Model;
 
-/// Why there is no next line.
+/// The reason why there is no next line.
 #[derive(Clone, Copy)]
 pub enum LineError {
     /// Allocation failed.
@@ -25,7 +25,7 @@ impl From<DeviceFailed> for LineError {
     }
 }
 
-/// What comes next.
+/// The next item of an input: a line, or its end.
 #[derive(Clone, Copy)]
 pub enum Next {
     /// A line, which was read.
@@ -36,7 +36,7 @@ pub enum Next {
     End,
 }
 
-/// What was read of an input and not yet taken.
+/// The bytes that were read of an input and not yet taken.
 #[derive(Drop)]
 pub struct Lines {
     buffer: [u8; 4096],
@@ -55,7 +55,7 @@ impl Model for Lines {
 }
 
 impl Lines {
-    /// Before anything was read.
+    /// An empty buffer, before anything was read.
     pub fn new() -> Lines
         ensures { result ≡ [] }
     {
@@ -66,7 +66,7 @@ impl Lines {
         }
     }
 
-    // Reads on where nothing is left, and returns whether there is a byte to take.
+    // Reads on if no byte is left, and returns whether there is a byte to take.
     fn fill<R: Read>(&mut self, input: &mut Told<R>) -> Result<bool, DeviceFailed>
         requires { input.old.failed ≡ false }
         ensures told { input.new.failed ≡ is_err result }
@@ -83,7 +83,7 @@ impl Lines {
         Ok(n > 0)
     }
 
-    // The first byte of what is left.
+    // Takes the first byte that is left.
     fn take_byte(&mut self) -> u8
         requires { 0 < length self.old }
         ensures { self.old ≡ result ∷ self.new }
@@ -95,7 +95,7 @@ impl Lines {
 
     /// Reads the next line, if there is one of no more than `most` bytes. Its line feed is no part of it.
     ///
-    /// `Device` is given exactly where a read failed, and `Memory` only where allocation failed.
+    /// `Device` comes exactly when a read failed, and `Memory` only if allocation failed.
     pub fn next_line<R: Read>(
         &mut self,
         input: &mut Told<R>,

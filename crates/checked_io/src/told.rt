@@ -1,4 +1,5 @@
-//! A device that tells whether it has failed. Nothing outside of this module calls the device or sets what is told.
+//! A reader or writer that remembers whether a call of it has failed. Nothing outside of this module calls the device
+//! or sets the flag.
 ghost use Rattle.std.specs.Prelude.{◌≡◌, ◌+◌, ◌-◌, ◌^◌, ◌<◌, ◌≤◌, ◌↔◌, min, false, true, is_err, IfOk, IfSome, OnOk, OnErr, Err, length};
 ghost use Rattle.std.specs.Io.{ReadsAtMost, WritesAtMost};
 ghost use Rattle.std.specs.Io.KnownBytes.{Appends, Keeps, ReadConsumes, WriteAppends};
@@ -12,7 +13,7 @@ use std::marker::Model;
 #[derive(Clone, Copy)]
 pub struct DeviceFailed;
 
-/// A reader or a writer, and what is told of it.
+/// A device, a reader or a writer, with a flag for its failure.
 #[derive(Drop)]
 pub struct Told<D> {
     device: D,
@@ -60,7 +61,7 @@ impl<D> Told<D> {
         self.is_closed
     }
 
-    /// The device, to look at.
+    /// The device, by reference.
     pub fn device(&self) -> &D
         ensures { result.now ≡ self.now.device }
     {
@@ -76,7 +77,7 @@ impl<D> Told<D> {
         DeviceFailed
     }
 
-    /// How often the device was asked to read, up to the greatest `u64`.
+    /// The number of times the device was asked to read, up to the greatest `u64`.
     pub fn reads(&self) -> u64
         ensures { result ≡ self.now.reads }
     {
@@ -85,7 +86,7 @@ impl<D> Told<D> {
 }
 
 impl<R: Read> Told<R> {
-    /// Reads once. Every error of the device is a failure, and an `Err` is told in `failed`.
+    /// Reads once. Every error of the device is a failure, and an `Err` sets `failed`.
     pub fn read(&mut self, buf: &mut [u8]) -> Result<usize, DeviceFailed>
         requires { self.old.failed ≡ false }
         ensures told { self.new.failed ≡ is_err result }
@@ -103,8 +104,8 @@ impl<R: Read> Told<R> {
 }
 
 impl<W: Write> Told<W> {
-    /// Writes once, some of the bytes where there are any. Every error of the device is a failure, and so is a write
-    /// that takes none of them; an `Err` is told in `failed`.
+    /// Writes once: some of the bytes, if there are any. Every error of the device is a failure, and so is a write that
+    /// takes none of the bytes. An `Err` sets `failed`.
     pub fn write(&mut self, buf: &[u8]) -> Result<usize, DeviceFailed>
         requires { self.old.failed ≡ false }
         ensures told { self.new.failed ≡ is_err result }
@@ -120,7 +121,7 @@ impl<W: Write> Told<W> {
         }
     }
 
-    /// Flushes. Every error of the device is a failure, and an `Err` is told in `failed`.
+    /// Flushes. Every error of the device is a failure, and an `Err` sets `failed`.
     pub fn flush(&mut self) -> Result<(), DeviceFailed>
         requires { self.old.failed ≡ false }
         ensures told { self.new.failed ≡ is_err result }

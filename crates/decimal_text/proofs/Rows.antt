@@ -1,4 +1,4 @@
--- What the rows of words make: a value of the row's word, whose numbers are in its ranges.
+-- The values of the rows of words: each has the row's word, and numbers in its ranges.
 use Rattle.std.proofs.Common.{◌≡◌, ℕ, ◌≤◌, List, [], ◌∷◌, cond, leb, ◌&&◌, Bool, true, false, Option, Some, None, option_map, refl, subst, inl, inr}
 use Rattle.std.specs.Option.{option_or, option_zip}
 use Rattle.std.specs.Str.{bytes_eq}

@@ -3,11 +3,11 @@ use Rattle.std.specs.Prelude.{ℕ, ◌==◌, List, [], ◌∷◌, ◌++◌, Opti
 use Rattle.std.specs.List.{slice_split}
 use Rattle.decimal_text.specs.Numbers.{spelled_numbers, numbers_of_digits}
 
--- the word, and each number in decimal behind one space
+-- the word, and each number in decimal after one space
 abbrev pub spelled : List ℕ → List ℕ → List ℕ
 spelled word numbers = word ++ spelled_numbers numbers
 
--- what a word and its numbers mean, for the fields of a text: the first is the word, and the others are numbers
+-- the meaning of a word and its numbers, for the fields of a text: the first is the word, and the others are numbers
 abbrev pub meaning_of_fields : {A : Type 0} → (List ℕ → List ℕ → Option A) → List (List ℕ) → Option A
 meaning_of_fields meaning [] = None
 meaning_of_fields meaning (word ∷ fields) = option_and_then (meaning word) (numbers_of_digits fields)

@@ -9,7 +9,7 @@ use Rattle.std.specs.Str.Parse.{digits_value}
 abbrev pub IsPlain : List ℕ → Type 0
 IsPlain bytes = (slice_index bytes 0 ≢ 43) × (slice_index bytes 0 ≡ 48 → length bytes ≡ 1)
 
--- each number in decimal behind one space
+-- each number in decimal after one space
 abbrev pub spelled_numbers : List ℕ → List ℕ
 spelled_numbers ns = flat_map (λ n. 32 ∷ decimal n) ns
 
@@ -17,7 +17,7 @@ spelled_numbers ns = flat_map (λ n. 32 ∷ decimal n) ns
 abbrev pub AreNumbers : ℕ → List ℕ → Type 0
 AreNumbers most ns = (length ns ≤ most) × AllByRecursion (λ n. n < 2 ^ 32) ns
 
--- what stands before the first space, and the rest from it on
+-- the part before the first space, and the rest from it on
 abbrev pub before_space : List ℕ → List ℕ
 before_space [] = []
 before_space (b ∷ bs) = if b == 32 then [] else b ∷ before_space bs

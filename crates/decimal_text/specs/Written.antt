@@ -1,4 +1,4 @@
--- What is written as a word and its numbers.
+-- The spelling of a word and its numbers, with their maxima.
 use Rattle.std.specs.Prelude.{ℕ, List}
 
 -- a word and its numbers, each with the greatest that it can be

@@ -1,7 +1,7 @@
-//! Numbers in a text: how a command spells a word and the numbers behind it.
+//! Decimal numbers in a text: the spelling of a word with its numbers, and the reading of it.
 //!
-//! A number is written in decimal, without a sign and without leading zeros, and one space stands before it. What is
-//! found in a text is what the text spells, and where nothing is found the text spells nothing.
+//! A number is written in decimal, without a sign and without leading zeros, and one space is before it. A function
+//! that returns a value returns the one that the text spells; if it returns none, the text spells none.
 #![tactic(auto)]
 
 mod number;

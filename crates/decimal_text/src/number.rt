@@ -1,11 +1,11 @@
-//! Numbers in decimal, without a sign and without leading zeros.
+//! The numbers of a text in decimal, without a sign and without leading zeros.
 ghost use Rattle.std.specs.Prelude.{◌≡◌, ◌≢◌, ◌↔◌, ℕ, ◌<◌, ◌^◌, List, IfSome, IfNone, IsTrue, IsUtf8};
 ghost use Rattle.std.specs.Fmt.{decimal};
 ghost use Rattle.decimal_text.specs.Numbers.{IsPlain, AreNumbers, spelled_numbers, before_space, from_space};
 
 use arrayvec::ArrayVec;
 
-/// Whether the text begins as a decimal does: with no sign, and with a zero only where the zero is all.
+/// Whether the text begins as a decimal does: with no sign, and with a zero only if the zero is all.
 fn is_plain(bytes: &[u8]) -> bool
     ensures { IsTrue result ↔ IsPlain bytes.now }
 {
@@ -39,7 +39,7 @@ pub fn cut_at_space(text: &str) -> (&str, &str)
     }
 }
 
-/// The numbers that the text spells, one space before each, where there are no more than `MOST`.
+/// The numbers that the text spells, one space before each, if there are no more than `MOST`.
 pub fn numbers_of<const MOST: usize>(text: &str) -> Option<ArrayVec<u32, MOST>>
     ensures found { IfSome result (λ v. AreNumbers MOST v.items × (text.now ≡ spelled_numbers v.items)) }
     ensures none { IfNone result ((ns : List ℕ) → AreNumbers MOST ns → text.now ≢ spelled_numbers ns) }

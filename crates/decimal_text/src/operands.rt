@@ -1,15 +1,15 @@
-//! Operands: as many numbers as a word takes, each in the range of its type.
+//! Operands of a word: as many numbers as it takes, each in the range of its type.
 ghost use Rattle.std.specs.Prelude.{◌≡◌, ℕ, nat_le, ◌&&◌, if◌then◌else◌, Some, None};
 ghost use Rattle.decimal_text.specs.Rows.{one, two, three, four};
 ghost use Rattle.decimal_text.specs.Written.{u8, u16, u32};
 
-/// What a number of a word can be.
+/// A type of numbers that can follow a word.
 pub trait Operand: Copy {
     ghost maximum: { ℕ };
 
     ghost of: { ℕ → Self };
 
-    /// The operand that is the number, where the number is at most the maximum.
+    /// The operand that is the number, if the number is at most the maximum.
     fn from_number(number: u32) -> Option<Self>
         ensures { result ≡ (if nat_le number maximum then Some (of number) else None) };
 }
@@ -51,7 +51,7 @@ fn both<A: Operand, B: Operand>(first: u32, second: u32) -> Option<(A, B)>
     A::from_number(first).zip(B::from_number(second))
 }
 
-/// The operand, where there is one number, and it is in its range.
+/// The operand, if there is one number, and it is in its range.
 pub fn one_operand<A: Operand>(numbers: &[u32]) -> Option<A>
     ensures { result ≡ one A.maximum (λ k. A.of k) numbers.now }
 {
@@ -61,7 +61,7 @@ pub fn one_operand<A: Operand>(numbers: &[u32]) -> Option<A>
     }
 }
 
-/// The operands, where there are two numbers, and each is in its range.
+/// The operands, if there are two numbers, and each is in its range.
 pub fn two_operands<A: Operand, B: Operand>(numbers: &[u32]) -> Option<(A, B)>
     ensures { result ≡ two A.maximum B.maximum (λ k l. (A.of k, B.of l)) numbers.now }
 {
@@ -71,7 +71,7 @@ pub fn two_operands<A: Operand, B: Operand>(numbers: &[u32]) -> Option<(A, B)>
     }
 }
 
-/// The operands, where there are three numbers, and each is in its range.
+/// The operands, if there are three numbers, and each is in its range.
 pub fn three_operands<A: Operand, B: Operand, C: Operand>(numbers: &[u32]) -> Option<(A, B, C)>
     ensures { result ≡ three A.maximum B.maximum C.maximum (λ k l m. (A.of k, B.of l, C.of m)) numbers.now }
 {
@@ -83,7 +83,7 @@ pub fn three_operands<A: Operand, B: Operand, C: Operand>(numbers: &[u32]) -> Op
     Some((first, second, third))
 }
 
-/// The operands, where there are four numbers, and each is in its range.
+/// The operands, if there are four numbers, and each is in its range.
 pub fn four_operands<A: Operand, B: Operand, C: Operand, D: Operand>(
     numbers: &[u32],
 ) -> Option<(A, B, C, D)>
@@ -98,8 +98,8 @@ pub fn four_operands<A: Operand, B: Operand, C: Operand, D: Operand>(
     Some((first, second, third, fourth))
 }
 
-/// What is made of operands, where they are found: the value of the kind whose fields they are, in their order, or any
-/// other value. This is a macro for a `match`, since a closure for each would be one more function to prove.
+/// The value of the kind whose fields the operands are, if they are in range: in their sequence, or any other value.
+/// This is a macro for a `match`, since a closure for each would be one more function to prove.
 #[macro_export]
 macro_rules! made_of {
     ($found:expr => $type:ident::$kind:ident { $($field:ident),+ }) => {

@@ -1,11 +1,11 @@
-//! Numbers in their ranges.
+//! Checks of numbers against their ranges.
 ghost use Rattle.std.specs.Prelude.{◌≡◌, IfSome, IfNone};
 ghost use Rattle.decimal_text.specs.Ranges.{AreAtMost};
 ghost use Rattle.decimal_text.specs.Rows.{up_to};
 
 use arrayvec::ArrayVec;
 
-/// The numbers, where there is one for each maximum, and each is at most that.
+/// The numbers, if there is one for each maximum, and each is at most that.
 pub fn at_most<const N: usize>(numbers: &[u32], maxima: [u32; N]) -> Option<[u32; N]>
     ensures found { IfSome result (λ ns. (numbers.now ≡ ns) × AreAtMost ns maxima.entry) }
     ensures none { IfNone result (AreAtMost numbers.now maxima.entry → ⊥) }
@@ -21,7 +21,7 @@ pub fn at_most<const N: usize>(numbers: &[u32], maxima: [u32; N]) -> Option<[u32
     Some(found)
 }
 
-/// The numbers, where there are no more than `MOST`, and each is at most the maximum.
+/// The numbers, if there are no more than `MOST`, and each is at most the maximum.
 pub fn up_to<const MOST: usize>(numbers: &[u32], maximum: u16) -> Option<ArrayVec<u16, MOST>>
     ensures { result ≡ up_to MOST maximum numbers.now }
 {

@@ -1,7 +1,7 @@
-//! Numbers as they are spelled.
+//! The text of numbers in decimal.
 use std::fmt;
 
-/// Each number in decimal behind one space.
+/// Each number in decimal after one space.
 #[derive(Clone, Copy)]
 pub struct NumbersText<'a>(pub &'a [u32]);
 
@@ -19,7 +19,7 @@ impl fmt::Display for NumbersText<'_> {
     }
 }
 
-/// A word, and each of its numbers in decimal behind one space.
+/// A word, and each of its numbers in decimal after one space.
 #[derive(Clone, Copy)]
 pub struct SpelledText<'a>(pub &'a str, pub &'a [u32]);
 

@@ -1,4 +1,4 @@
--- What comes of a call: refused where a granule is not inside, else what comes of the command.
+-- The outcome of a call: refused if a granule is not inside, else the outcome of the command.
 use Rattle.std.proofs.Common.{◌≡◌, ℕ, Bool, true, false, cond, List, [], ◌∷◌, Some, None, Option, Result, Err, refl, sym, ap, ◌∙◌, subst}
 use Rattle.std.specs.Prelude.{◌&&◌, nat_le}
 use Rattle.std.specs.List.{list_all}

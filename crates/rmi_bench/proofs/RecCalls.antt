@@ -1,4 +1,4 @@
--- Commands on RECs, as the monitor inside does them.
+-- Commands on RECs, as the inner RMM performs them.
 use Rattle.std.proofs.Common.{◌≡◌, ℕ, Result, subst}
 use Rattle.realm_model.specs.declared.rmi.Rmi.{Rmi}
 use Rattle.realm_model.specs.Machine.{Seen}

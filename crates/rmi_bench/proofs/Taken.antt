@@ -1,4 +1,4 @@
--- What the commands of the monitor keep: a bench is a bench.
+-- The invariant of the simulated RMM, which all its commands keep.
 use Rattle.std.proofs.Common.{◌≡◌, ℕ, ◌<◌, ◌≤◌, true, List, length, get_or, All, refl, sym, subst}
 use Rattle.std.specs.List.{list_all}
 use Rattle.std.proofs.lemmas.Bool.{ltb-true}

@@ -1,4 +1,4 @@
--- What comes of a call that names granules by number.
+-- The outcome of a call that names granules by number.
 use Rattle.std.specs.Prelude.{◌≡◌, ℕ, nat_lt, List, length, Bool, true, Some, None, Result, Err}
 use Rattle.std.specs.List.{list_all}
 use Rattle.realm_model.specs.declared.rmi.Rmi.{Rmi}
@@ -12,7 +12,7 @@ use Rattle.rmi_monitor.specs.Named.{rec_named}
 abbrev pub is_inside : MonitorView → ℕ → Bool
 is_inside monitor granule = nat_lt granule (length monitor.machine)
 
--- A command on granules by number: a granule that the machine has not got is an input error.
+-- A command on granules by number: a granule that the machine does not have is an input error.
 abbrev pub naming : List ℕ → MonitorView → Outcome → Outcome
 naming granules monitor outcome = check (list_all (is_inside monitor) granules) error_input outcome
 
@@ -28,7 +28,7 @@ has_number rd = elim rd.cell.descriptor [ Some realm ↦ nat_lt realm.next 65535
 abbrev pub numbered : Seen → Outcome → Outcome
 numbered rd outcome = check (has_number rd) error_input outcome
 
--- A call answers what comes of a command, and does it.
+-- The answer and the effect of a call are the outcome of a command.
 pub record Does {A : Type 0} (outcome : Outcome) (old : MonitorView) (result : Result A Rmi) (new : MonitorView) : Type 0 where
   pub answer : Answers result outcome
   pub machine : new ≡ after_command outcome old

@@ -1,4 +1,4 @@
--- What is read of a granule by number.
+-- Readings of a granule by number.
 use Rattle.std.specs.Prelude.{◌≡◌, ◌≢◌, ℕ, ◌<◌, true, Option, Some, None, option_map, if◌then◌else◌}
 use Rattle.granule_addr.specs.Ipa.{entry_index}
 use Rattle.page_arena.specs.Word.{word_of_page}
@@ -13,7 +13,7 @@ use Rattle.rmi_monitor.specs.View.{MonitorView, attributes_of}
 use Rattle.rmi_monitor.specs.Named.{rec_attributes_at}
 use Rattle.rmi_bench.specs.Calls.{is_inside}
 
--- a reading of the granule's cell, where the machine has it
+-- a reading of the granule's cell, if the machine has it
 abbrev pub reading : {A : Type 0} → (Cell → A) → MonitorView → ℕ → Option A
 reading read monitor granule = if is_inside monitor granule then Some (read (cell_at monitor.machine granule)) else None
 
@@ -21,12 +21,12 @@ reading read monitor granule = if is_inside monitor granule then Some (read (cel
 abbrev pub realm_reading : MonitorView → ℕ → Option RealmAttributes
 realm_reading monitor rd = option_map attributes_of (cell_at monitor.machine rd).descriptor
 
--- the attributes of the REC that the granule is, where the machine has it
+-- the attributes of the REC that the granule is, if the machine has it
 abbrev pub rec_reading : MonitorView → ℕ → Option RecAttributes
 rec_reading monitor granule = if is_inside monitor granule then rec_attributes_at monitor.machine granule else None
 
--- A word of a granule that the machine has: a word of its bytes or, in a table of a realm, the word of the row that the
--- entry stands for.
+-- A word of a granule that the machine has: a word of its bytes or, in a table of a realm, the word of the row of the
+-- entry.
 pub record IsWordOf (monitor : MonitorView) (granule index word : ℕ) : Type 0 where
   pub inside : is_inside monitor granule ≡ true
   pub in_page : index < 512

@@ -1,4 +1,4 @@
-//! A monitor all of whose pages are taken.
+//! A simulated RMM all of whose pages are taken.
 ghost use Rattle.std.specs.Prelude.{◌≡◌, true, false, IfOk, IfErr};
 ghost use Rattle.realm_model.specs.Command.Check.{error_input};
 ghost use Rattle.rmi_bench.specs.Calls.{is_inside};
@@ -9,7 +9,7 @@ use realm_model::Rmi;
 use rmi_monitor::Monitor;
 use std::marker::Model;
 
-/// A monitor all of whose pages are taken.
+/// A simulated RMM all of whose pages are taken.
 #[derive(Drop)]
 pub struct Bench {
     pub(crate) monitor: Monitor<PlainStore>,
@@ -30,7 +30,7 @@ impl Model for Bench {
 }
 
 impl Bench {
-    // The granule of that number. A number that the machine has not got is an input error.
+    // The granule of that number. A number that the machine does not have is an input error.
     pub(crate) fn granule(&self, number: u16) -> Result<Gran, Rmi>
         ensures inside { IfOk result (λ granule. (granule ≡ number) × (is_inside self.now number ≡ true)) }
         ensures outside { IfErr result (λ refusal. (refusal ≡ error_input) × (is_inside self.now number ≡ false)) }

@@ -34,7 +34,7 @@ impl Bench {
         self.monitor.data_create_unknown(rd, page, ipa)
     }
 
-    /// Removes a page of a realm: it is zero and DELEGATED, and where it was RAM, the IPA granule is DESTROYED.
+    /// Removes a page of a realm: it is zero and DELEGATED. If it was RAM, the IPA granule is DESTROYED.
     ///
     /// RMM 1.0, RMI_DATA_DESTROY.
     pub fn data_destroy(&mut self, rd: u16, ipa: u32) -> Result<(), Rmi>

@@ -1,8 +1,9 @@
-//! A bench for the monitor: the commands of the Realm Management Interface, on granules named by plain numbers.
+//! A simulated RMM by granule numbers: the commands of the Realm Management Interface, on granules named by plain
+//! numbers.
 //!
-//! Every page of its machine is taken from the start, so a caller owes nothing. What comes of a call is what comes of the
-//! command's definition on the granules that are named; a granule that the machine has not got is an input error. Memory
-//! is taken where a bench is opened, and nowhere else.
+//! Every page of its machine is taken from the start, so no call has a precondition. The result of a call is that of
+//! the command's definition on the granules that are named. A granule that the machine does not have is an input error.
+//! Memory is taken when a `Bench` is opened, and at no other time.
 #![tactic(auto)]
 
 mod bench;

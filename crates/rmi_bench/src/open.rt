@@ -1,4 +1,4 @@
-//! How a bench is opened.
+//! The opening of a simulated RMM.
 ghost use Rattle.std.specs.Prelude.{◌≡◌, ◌↔◌, false, length, IfOk, IsErrOf};
 ghost use Rattle.rmi_bench.specs.Machine.{is_machine, all_taken, opened};
 
@@ -21,10 +21,10 @@ fn take_all(monitor: &mut Monitor<PlainStore>, order: Order)
 }
 
 impl Bench {
-    /// A bench whose machine has `pages` pages, `vmids` VMIDs, and `auxiliaries` auxiliary granules of each REC: every
-    /// page is taken, and blank.
+    /// A simulated RMM whose machine has `pages` pages, `vmids` VMIDs, and `auxiliaries` auxiliary granules of each
+    /// REC. Every page is taken, and blank.
     ///
-    /// `NoMachine` comes exactly where no machine has these numbers: a machine has 1 to 4,096 pages, 1 to 255 VMIDs and
+    /// `NoMachine` comes exactly when no machine has these numbers: a machine has 1 to 4,096 pages, 1 to 255 VMIDs and
     /// at most 16 auxiliary granules. The only other error is `Memory`.
     pub fn open(alloc: Global, pages: u16, vmids: u8, auxiliaries: u8) -> Result<Bench, OpenError>
         ensures no_machine { IsErrOf result OpenError.NoMachine ↔ (is_machine pages vmids auxiliaries ≡ false) }

@@ -16,7 +16,7 @@ use realm_model::Rmi;
 const MOST_AUXILIARIES: usize = 16;
 
 impl Bench {
-    /// Makes DELEGATED granules a REC of a NEW realm and its auxiliaries, and answers the number of the REC.
+    /// Makes DELEGATED granules a REC of a NEW realm and its auxiliaries, and returns the number of the REC.
     ///
     /// RMM 1.0, RMI_REC_CREATE. A realm that has had 65,535 RECs gets no other: an input error.
     pub fn rec_create(&mut self, rd: u16, rec: u16, auxiliaries: &[u16]) -> Result<u16, Rmi>
@@ -50,7 +50,7 @@ impl Bench {
         self.monitor.rec_destroy(rec)
     }
 
-    // The granules of these numbers. A number that the machine has not got is an input error.
+    // The granules of these numbers. A number that the machine does not have is an input error.
     fn granules(&self, numbers: &[u16]) -> Result<ArrayVec<Gran, 16>, Rmi>
         requires { length numbers.now ≤ 16 }
         ensures inside { IfOk result (λ granules.

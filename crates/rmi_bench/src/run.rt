@@ -1,4 +1,4 @@
-//! How RECs run: their entry, what their guests write, and their exit.
+//! The run of a REC: its entry, the writes of its guest, and its exit.
 ghost use Rattle.std.specs.Prelude.{[], ◌∷◌, nat_lt};
 ghost use Rattle.realm_model.specs.Command.Rec as command;
 ghost use Rattle.realm_model.specs.Command.Check.{check, error_input};
@@ -9,7 +9,7 @@ use granule_addr::PageOff;
 use realm_model::Rmi;
 
 impl Bench {
-    /// Lets a READY REC of an ACTIVE realm run.
+    /// Enters a READY REC of an ACTIVE realm, which is RUNNING from now on.
     ///
     /// RMM 1.0, RMI_REC_ENTER.
     pub fn rec_enter(&mut self, rec: u16) -> Result<(), Rmi>
@@ -19,7 +19,8 @@ impl Bench {
         self.monitor.rec_enter(rec)
     }
 
-    /// Lets a RUNNING REC write a byte of a page of its realm, under any RIPAS. This profile's own, for guest instructions.
+    /// Writes a byte of a page of its realm for a RUNNING REC, under any RIPAS. This profile's own, for guest
+    /// instructions.
     ///
     /// `ipa` is the number of an IPA granule. An offset above 4,095 is an input error.
     pub fn guest_write(&mut self, rec: u16, ipa: u32, offset: u16, value: u8) -> Result<(), Rmi>

@@ -8,7 +8,8 @@ use crate::Bench;
 use realm_model::Rmi;
 
 impl Bench {
-    /// Makes a DELEGATED granule a table of level 2 or 3 of a realm. `ipa` is the first IPA granule that the table serves.
+    /// Makes a DELEGATED granule a table of level 2 or 3 of a realm. `ipa` is the first IPA granule that the table
+    /// serves.
     ///
     /// RMM 1.0, RMI_RTT_CREATE.
     pub fn rtt_create(&mut self, rd: u16, table: u16, ipa: u32, level: u8) -> Result<(), Rmi>
@@ -30,7 +31,8 @@ impl Bench {
         self.monitor.rtt_destroy(rd, ipa, level)
     }
 
-    /// Gives RAM to `count` IPA granules from `ipa` on, to all or none, and extends the realm's measurement.
+    /// Sets the RIPAS of `count` IPA granules from `ipa` on to RAM, of all or none, and extends the realm's
+    /// measurement.
     ///
     /// RMM 1.0, RMI_RTT_INIT_RIPAS.
     pub fn rtt_init_ripas(&mut self, rd: u16, ipa: u32, count: u16) -> Result<(), Rmi>

@@ -1,4 +1,4 @@
--- A byte that is read changes nothing.
+-- The read of a byte, which changes nothing.
 use Rattle.std.proofs.Common.{◌≡◌, ℕ, Bool, true, false, [], Ok, refl, sym, ap}
 use Rattle.realm_model.specs.declared.rmi.Rmi.{Rmi}
 use Rattle.realm_model.specs.Machine.{Machine}

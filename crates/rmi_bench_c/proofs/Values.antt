@@ -1,4 +1,4 @@
--- The machine values of `Parts` and of `Held`, and what is owned with them. Assumes `Logic`.
+-- The machine values of `Parts` and of `Held`, and what they own. Assumes `Logic`.
 use Rattle.std.proofs.Common.{◌≡◌, ℕ, List, [], ◌∷◌, ◌++◌, refl, subst, w64}
 use mathlib.Core.Bool.{Bool, true, not, ◌&&◌}
 use lib.Dec.{T}

@@ -1,4 +1,4 @@
--- What is answered to C, and what is left of the bench.
+-- The answers to C, and the simulated RMM after a call.
 use Rattle.std.specs.Prelude.{◌≡◌, ℕ, List, [], ◌∷◌, length, map, ◌&&◌, nat_le, nat_lt, Bool, true, false, Option, Some, None, is_some, unwrap_or, option_map, option_and_then, Ok, Err}
 use Rattle.std.specs.List.{list_all}
 use denote.Ref.{Bor, MutBor}
@@ -37,7 +37,7 @@ word_of (Err refusal) = result_word refusal
 abbrev pub closed_word : ℕ
 closed_word = 18446744073709551615
 
--- the word of a command on the bench of a handle, and the bench after it
+-- the word of a command on the RMM of a handle, and the RMM after it
 abbrev pub word_on : (MonitorView → Outcome) → Option MonitorView → ℕ
 word_on command (Some bench) = word_of (command bench)
 word_on command None = closed_word
@@ -45,12 +45,12 @@ word_on command None = closed_word
 abbrev pub bench_after : (MonitorView → Outcome) → Option MonitorView → Option MonitorView
 bench_after command bench = option_map (λ m. after_command (command m) m) bench
 
--- A call answers the word of a command, and does it. A closed handle stays closed.
+-- A call returns the word of a command, and performs it. A closed handle stays closed.
 pub record Performs (command : MonitorView → Outcome) (old : Option MonitorView) (word : ℕ) (new : Option MonitorView) : Type 0 where
   pub answer : word ≡ word_on command old
   pub bench : new ≡ bench_after command old
 
--- A call performs a command where the operands fit their fields. Where one does not fit, that is an input error.
+-- A call performs a command if the operands fit their fields. If one does not fit, that is an input error.
 pub record Serves (fits : Bool) (command : MonitorView → Outcome) (old : Option MonitorView) (word : ℕ) (new : Option MonitorView) : Type 0 where
   pub performed : fits ≡ true → Performs command old word new
   pub refused : fits ≡ false → Performs (λ m. Err error_input) old word new
@@ -64,7 +64,7 @@ abbrev pub rec_create_of : ℕ → ℕ → List ℕ → MonitorView → Outcome
 rec_create_of rd rec auxiliaries m =
     naming (rd ∷ rec ∷ auxiliaries) m (numbered (seen_in m rd) (rec_create m.aux (seen_in m rd) (seen_in m rec) (map (seen_in m) auxiliaries)))
 
--- a call of f with a bench and the number of a granule may give r, and leave the bench as `new`
+-- a call of f with an RMM and the number of a granule may return r, and leave the RMM as `new`
 pub record DoesAt {F M R : Type 0} (g : Once F (MutBor M × (ℕ × Unit {0})) (R × (MutBor M × Unit {0}))) (f : F) (granule : ℕ) (old : M) (r : R) (new : M) : Type 0 where
   pub shown : MutBor M
   pub shows : shown.now ≡ old
@@ -74,16 +74,16 @@ pub record DoesAt {F M R : Type 0} (g : Once F (MutBor M × (ℕ × Unit {0})) (
 
 -- ---- readings
 
--- a call of f with a bench and the number of a granule may give r
+-- a call of f with an RMM and the number of a granule may return r
 abbrev pub FindsAt : {F M R : Type 0} → Once F (Bor M × (ℕ × Unit {0})) R → F → ℕ → M → R → Type 0
 FindsAt {F} {M} g f granule m r = (p : Bor M) × g.post f (p, (granule, tt)) r × (p.now ≡ m)
 
--- What is read is told, and whether there was anything; where there was nothing, what was to be written stays as it is.
+-- A reading returns whether there was a value, and writes it. If there was none, the output stays as it is.
 pub record Reports {A : Type 0} (read : Option A) (old : A) (told : Bool) (new : A) : Type 0 where
   pub is_told : told ≡ is_some read
   pub value : new ≡ unwrap_or read old
 
--- A reading of the bench of a handle: nothing where the handle is closed, or the operand does not fit its field.
+-- A reading of the RMM of a handle: nothing if the handle is closed, or the operand does not fit its field.
 pub record Reads {A : Type 0} (fits : Bool) (read : MonitorView → Option A) (bench : Option MonitorView) (old : A) (told : Bool) (new : A) : Type 0 where
   pub fitting : fits ≡ true → Reports (option_and_then read bench) old told new
   pub unfit : fits ≡ false → Reports None old told new

@@ -1,4 +1,4 @@
--- States by number, and what is told of a realm and of a REC.
+-- The encodings of states, and the attributes of a realm and of a REC as C has them.
 use Rattle.std.specs.Prelude.{ℕ, ◌-◌, List, ◌++◌, length, replicate}
 use Rattle.realm_model.specs.declared.states.GranuleState.{GranuleState}
 use Rattle.realm_model.specs.declared.states.GranuleState.TheVariants as granule_state
@@ -41,7 +41,7 @@ realm_info realm = record {
   measurement = realm.measurement;
 }
 
--- the numbers, and zeros behind them
+-- the numbers, and zeros after them
 abbrev pub padded : List ℕ → List ℕ
 padded numbers = numbers ++ replicate (16 - length numbers) 0
 

@@ -1,4 +1,4 @@
--- What a holder of a bench owns.
+-- The ownership of a handle's simulated RMM.
 use Rattle.std.specs.Prelude.{Option, Some, None}
 use mir.Syntax.{Ty}
 use base.Fml.{Fml, ftrue}
@@ -12,7 +12,7 @@ use Rattle.rmi_bench.specs.contracts.bench.Bench.{the_row as bench_row}
 abbrev pub right : Ty → Ptr → Fml
 right = ghosts.dealloc_token (record { memory = record { seal = tt } })
 
--- the bench at the pointer, and the right to give its block back, where there is one
+-- the RMM at the pointer, and the right to give its block back, if there is one
 abbrev pub held_owns : Ptr → Option MonitorView → Fml
 held_owns at (Some bench) = box_owns right bench_row at bench
 held_owns at None = ftrue

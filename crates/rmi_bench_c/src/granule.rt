@@ -41,7 +41,7 @@ pub extern "C" fn rmi_host_fill(alloc: Global, handle: &mut Handle, granule: u64
     serve!(handle, alloc, host_fill(granule: u16, value: u8))
 }
 
-/// Reads a byte of an UNDELEGATED granule into `byte`, which stays as it is where this is refused. This profile's own. An
+/// Reads a byte of an UNDELEGATED granule into `byte`, which stays as it is if this is refused. This profile's own. An
 /// offset above 4,095 is an input error.
 #[unsafe(no_mangle)]
 pub extern "C" fn rmi_host_peek(

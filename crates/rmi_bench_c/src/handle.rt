@@ -1,4 +1,4 @@
-//! What C keeps of a bench.
+//! The handle by which C keeps a simulated RMM.
 ghost use Rattle.std.specs.Prelude.{◌≡◌, Result, Option, None, Some, Err, IfSome, IfNone, is_some};
 ghost use Rattle.std.specs.Fn.{FnOnceReturnsAtMut};
 ghost use Rattle.realm_model.specs.Update.{Outcome};
@@ -18,7 +18,7 @@ use rmi_bench::Bench;
 use std::alloc::Global;
 use std::mem::replace;
 
-/// A bench that C keeps, or none, which is a closed handle. A handle whose bytes are all 0 is closed.
+/// A simulated RMM that C keeps, or none, which is a closed handle. A handle whose bytes are all 0 is closed.
 #[repr(C)]
 #[derive(Drop)]
 pub struct Handle {
@@ -28,7 +28,7 @@ pub struct Handle {
 }
 
 impl Handle {
-    // Takes the bench out, which closes the handle.
+    // Takes the RMM out, which closes the handle.
     pub(crate) fn take(&mut self, alloc: Global) -> Option<Box<Bench>>
         ensures some { IfSome result (λ bench. self.old.held.bench ≡ Some bench.value) }
         ensures none { IfNone result (self.old.held.bench ≡ None) }
@@ -45,7 +45,7 @@ impl Handle {
         Some(held.into_parts(alloc).into_box())
     }
 
-    // Puts a bench into a closed handle. The bench of an open one would never be given back.
+    // Puts an RMM into a closed handle. That of an open one would never be freed.
     pub(crate) fn give(&mut self, bench: Box<Bench>)
         requires closed { self.old.held.bench ≡ None }
         ensures { self.new.held.bench ≡ Some bench.value }
@@ -56,7 +56,7 @@ impl Handle {
         };
     }
 
-    // Whether there is a bench.
+    // Whether the handle is open.
     pub(crate) fn is_open(&mut self) -> bool
         ensures told { result ≡ is_some self.old.held.bench }
         ensures same { self.new ≡ self.old }
@@ -64,7 +64,7 @@ impl Handle {
         self.is_open
     }
 
-    // Does a command on the bench, and answers its word. A closed handle answers that it is closed.
+    // Performs a command on the RMM, and returns its word. A closed handle returns the word that says so.
     pub(crate) fn perform<F: FnOnce(&mut Bench) -> Result<(), Rmi>>(
         &mut self,
         alloc: Global,
@@ -104,8 +104,8 @@ impl Handle {
         word(call)
     }
 
-    // Reads the granule of that number into `into`, and answers whether there was something to read. Where there was
-    // not, `into` stays as it is.
+    // Reads the granule of that number into `into`, and returns whether there was something to read. If there was not,
+    // `into` stays as it is.
     pub(crate) fn read<T: Drop, F: FnOnce(&Bench, u16) -> Option<T>>(
         &mut self,
         alloc: Global,
@@ -128,8 +128,8 @@ impl Handle {
         tell(found, into)
     }
 
-    // What is answered where an operand does not fit its field: an input error, or on a closed handle that it is
-    // closed.
+    // The answer for an operand that does not fit its field: an input error, or on a closed handle the word that says
+    // so.
     pub(crate) fn refuse(&mut self) -> u64
         ensures { Performs (λ _. Err error_input) self.old.held.bench result self.new.held.bench }
     {

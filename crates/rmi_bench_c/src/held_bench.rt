@@ -1,4 +1,4 @@
-//! A bench on the heap that C keeps. No other file knows its pointer.
+//! A simulated RMM on the heap that C keeps. No other file knows its pointer.
 ghost use Rattle.std.specs.Prelude.{◌≡◌, true, Option, Some, None, is_some};
 ghost use Rattle.std.specs.Coded.{coded_option};
 ghost use Rattle.rmi_monitor.specs.Codes.{monitor_code};
@@ -10,7 +10,7 @@ use rmi_bench::Bench;
 use std::alloc::Global;
 use std::marker::Model;
 
-/// A bench on the heap, or none. To C it is one pointer, null where there is none.
+/// A simulated RMM on the heap, or none. To C it is one pointer, null if there is none.
 #[repr(C)]
 #[derive(Drop)]
 pub struct Held {

@@ -1,4 +1,4 @@
-//! What is read of a realm and of a REC, as C has it.
+//! The attributes of a realm and of a REC, as C has them.
 ghost use Rattle.std.specs.Prelude.{◌≡◌, ◌≤◌, length, option_map, sum};
 ghost use Rattle.rmi_bench.specs.Readings.{reading, realm_reading, rec_reading};
 ghost use Rattle.rmi_bench_c.specs.Answers.{Reports};
@@ -9,7 +9,7 @@ use realm_model::{GranuleState, RealmState, RecState};
 use realm_objects as monitor;
 use rmi_bench::Bench;
 
-/// What is read of a realm. RMM 1.0, Realm attributes.
+/// The attributes of a realm that C reads. RMM 1.0, Realm attributes.
 ///
 /// `state` is 0 for NEW and 1 for ACTIVE, `root` the first starting table, `next` the number of the next REC.
 #[repr(C)]
@@ -23,9 +23,10 @@ pub struct RealmInfo {
     pub measurement: [u8; 32],
 }
 
-/// What is read of a REC. RMM 1.0, REC attributes.
+/// The attributes of a REC that C reads. RMM 1.0, REC attributes.
 ///
-/// `state` is 0 for READY and 1 for RUNNING. The first `count` of `auxiliaries` are its auxiliary granules, the others 0.
+/// `state` is 0 for READY and 1 for RUNNING. The first `count` of `auxiliaries` are its auxiliary granules, the others
+/// 0.
 #[repr(C)]
 #[derive(Drop)]
 pub struct RecInfo {
@@ -68,7 +69,7 @@ fn rec_state_code(state: RecState) -> u64
     }
 }
 
-// What is told of a realm.
+// The attributes of a realm.
 fn realm_info(realm: &monitor::RealmDesc) -> RealmInfo
     ensures { result ≡ told.realm_info realm.now }
 {
@@ -83,7 +84,7 @@ fn realm_info(realm: &monitor::RealmDesc) -> RealmInfo
     }
 }
 
-// The numbers of granules, and zeros behind them.
+// The numbers of granules, and zeros after them.
 fn padded(granules: &[Gran]) -> [u64; 16]
     requires { length granules.now ≤ 16 }
     ensures { result ≡ told.padded granules.now }
@@ -95,7 +96,7 @@ fn padded(granules: &[Gran]) -> [u64; 16]
     numbers
 }
 
-// What is told of a REC.
+// The attributes of a REC.
 fn rec_info(rec: &monitor::Rec) -> RecInfo
     ensures { result ≡ told.rec_info rec.now }
 {
@@ -122,21 +123,21 @@ pub(crate) fn sum_of(bench: &Bench, granule: u16) -> Option<u64>
     Some(bench.sum(granule)? as u64)
 }
 
-// What is told of the realm whose RD a granule is.
+// The attributes of the realm whose RD a granule is.
 pub(crate) fn realm_of(bench: &Bench, granule: u16) -> Option<RealmInfo>
     ensures { result ≡ option_map told.realm_info (realm_reading bench.now granule) }
 {
     Some(realm_info(bench.realm(granule)?))
 }
 
-// What is told of the REC that a granule is.
+// The attributes of the REC that a granule is.
 pub(crate) fn rec_of(bench: &Bench, granule: u16) -> Option<RecInfo>
     ensures { result ≡ option_map told.rec_info (rec_reading bench.now granule) }
 {
     Some(rec_info(bench.rec(granule)?))
 }
 
-// Writes what is read to `into`, which stays as it is where there is nothing. Answers whether there is something.
+// Writes a value to `into`, which stays as it is if there is none. Returns whether there is one.
 pub(crate) fn tell<T: Drop>(read: Option<T>, into: &mut T) -> bool
     ensures { Reports read into.old result into.new }
 {

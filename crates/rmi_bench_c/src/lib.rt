@@ -1,7 +1,8 @@
-//! The bench for C: each function of `include/rmi_bench.h` is exported here, and its contract says what it answers and does.
+//! The simulated RMM for C: each function of `include/rmi_bench.h` is exported here, and its contract gives its answer
+//! and effect.
 //!
-//! C keeps a handle, and this library keeps what the handle has. Operands have 64 bits, as the registers of the
-//! standard's calls have: an operand that its field cannot hold is an input error, and is never cut.
+//! C keeps a handle, and this library keeps the RMM of the handle. Operands have 64 bits, as the registers of the
+//! standard's calls have. An operand that its field cannot hold is an input error, and is never truncated.
 #![tactic(auto)]
 
 mod data;

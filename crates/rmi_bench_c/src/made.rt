@@ -1,4 +1,4 @@
-//! How a REC is made of what C hands in.
+//! The creation of a REC from the operands of C.
 ghost use Rattle.std.specs.Prelude.{◌≡◌, ◌≢◌, true, false, Some, IfSome, IfNone};
 ghost use Rattle.realm_model.specs.Machine.{RealmRow, cell_at};
 ghost use Rattle.rmi_monitor.specs.View.{after_command};
@@ -10,7 +10,7 @@ use rmi_bench::Bench;
 // The most auxiliary granules that a REC of any machine has.
 const MOST_AUXILIARIES: usize = 16;
 
-// The numbers, where each fits its field and there are not too many.
+// The numbers, if each fits its field and there are not too many.
 pub(crate) fn narrowed(numbers: &[u64]) -> Option<ArrayVec<u16, 16>>
     ensures some { IfSome result (λ narrow. (narrow.items ≡ numbers.now) × (fit_auxiliaries numbers.now ≡ true)) }
     ensures none { IfNone result (fit_auxiliaries numbers.now ≡ false) }
@@ -28,7 +28,7 @@ pub(crate) fn narrowed(numbers: &[u64]) -> Option<ArrayVec<u16, 16>>
     Some(narrow)
 }
 
-// Makes a REC. Answers the result word, and writes the REC's number to `number` where the REC is made.
+// Creates a REC. Returns the result word, and writes the REC's number to `number` if the REC is created.
 pub(crate) fn create(
     bench: &mut Bench,
     rd: u16,

@@ -1,4 +1,4 @@
-//! How a handle is opened and closed.
+//! The opening and closing of a handle.
 ghost use Rattle.std.specs.Prelude.{◌≡◌, ◌≢◌, ◌≤◌, ◌↔◌, true, false, None, Some, is_some};
 ghost use Rattle.rmi_bench.specs.Machine.{is_machine, opened};
 
@@ -6,7 +6,7 @@ use crate::Handle;
 use rmi_bench::{Bench, OpenError};
 use std::alloc::Global;
 
-// What `rmi_bench_open` answers.
+// The answer of `rmi_bench_open` on success.
 const OPENED: u64 = 0;
 
 const NO_MACHINE: u64 = 1;
@@ -18,8 +18,8 @@ const ALREADY_OPEN: u64 = 3;
 /// Opens a closed handle: a fresh machine of `granules` granules and `vmids` VMIDs, with `auxiliaries` auxiliary
 /// granules of a REC.
 ///
-/// Answers 0 where the handle is open now; else nothing changes. 3 comes exactly where it was open, 1 exactly where it
-/// was closed and no machine has these numbers, and 2 where allocation failed.
+/// Returns 0 if the handle is open now; else nothing changes. 3 comes exactly when it was open, 1 exactly when it was
+/// closed and no machine has these numbers, and 2 if allocation failed.
 #[unsafe(no_mangle)]
 pub extern "C" fn rmi_bench_open(
     alloc: Global,
@@ -52,7 +52,7 @@ pub extern "C" fn rmi_bench_open(
     OPENED
 }
 
-/// Closes a handle, and gives its memory back. A closed one stays closed.
+/// Closes a handle, and frees its memory. A closed one stays closed.
 #[unsafe(no_mangle)]
 pub extern "C" fn rmi_bench_close(alloc: Global, handle: &mut Handle)
     ensures { handle.new.held.bench ≡ None }

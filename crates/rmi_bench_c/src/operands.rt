@@ -1,6 +1,6 @@
 //! Operands as C has them, in 64 bits, and the fields of fewer bits that they have to fit.
 
-// Each operand becomes the number in its field. Where its field cannot hold it, the function returns the value behind
+// Narrows each operand to the number in its field. If its field cannot hold it, the function returns the value after
 // `else`.
 macro_rules! narrow {
     ($($operand:ident: $field:ident),+; else $refused:expr) => {
@@ -11,7 +11,7 @@ macro_rules! narrow {
     };
 }
 
-// Does a command of the bench, and answers its word. An operand that its field cannot hold is an input error.
+// Performs a command of the RMM, and returns its word. An operand that its field cannot hold is an input error.
 macro_rules! serve {
     ($handle:ident, $alloc:ident, $command:ident($($operand:ident: $field:ident),+)) => {{
         narrow!($($operand: $field),+; else $handle.refuse());

@@ -1,11 +1,11 @@
-//! A box with its fields in sight.
+//! The parts of a box: its pointer and its allocator.
 ghost use Rattle.std.specs.Prelude.{◌≡◌};
 ghost use Rattle.std_alloc.specs.Box.Ownership.{box_owns};
 
 use std::alloc::Allocator;
 use std::marker::Model;
 
-// The pointer of a box and its allocator. They own what the box owned.
+// The pointer of a box and its allocator. They own the content of the box.
 pub struct Parts<T, A: Allocator> {
     pub(super) ptr: *mut T,
     pub(super) alloc: A,

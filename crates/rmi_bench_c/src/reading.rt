@@ -1,5 +1,4 @@
-//! What is read of granules. A reading answers whether there was something to read; where there was not, what it was to write
-//! stays as it is.
+//! Readings of granules. Each returns whether there was something to read; if there was not, its output stays as it is.
 ghost use Rattle.std.specs.Prelude.{◌≡◌, ◌&&◌, true, false, sum, option_map, IfSome};
 ghost use Rattle.rmi_bench.specs.Readings.{reading, realm_reading, rec_reading, IsWordOf};
 ghost use Rattle.rmi_bench_c.specs.Answers.{fits_u16, has_word, Reads};
@@ -12,7 +11,7 @@ use std::alloc::Global;
 
 /// The state of a granule, by its number, into `state`. RMM 1.0, Granule state.
 ///
-/// False exactly where the machine has not got the granule, or the handle is closed.
+/// False exactly when the machine does not have the granule, or the handle is closed.
 #[unsafe(no_mangle)]
 pub extern "C" fn rmi_read_state(
     alloc: Global,
@@ -29,7 +28,7 @@ pub extern "C" fn rmi_read_state(
 
 /// The sum of a granule's bytes, which for a table is 0, into `total`.
 ///
-/// False exactly where the machine has not got the granule, or the handle is closed.
+/// False exactly when the machine does not have the granule, or the handle is closed.
 #[unsafe(no_mangle)]
 pub extern "C" fn rmi_read_sum(
     alloc: Global,
@@ -45,7 +44,7 @@ pub extern "C" fn rmi_read_sum(
 
 /// The word at 8 * `index` of a granule's page, little endian, into `word`; in a table, the entry word.
 ///
-/// False exactly where the machine has not got the granule, for an index above 511, and on a closed handle.
+/// False exactly when the machine does not have the granule, the index is above 511, or the handle is closed.
 #[unsafe(no_mangle)]
 pub extern "C" fn rmi_read_word(
     alloc: Global,
@@ -74,7 +73,7 @@ pub extern "C" fn rmi_read_word(
     }
 }
 
-/// The realm whose RD a granule is, into `realm`. False exactly where it is no RD, and on a closed handle.
+/// The realm whose RD a granule is, into `realm`. False exactly when it is no RD, or the handle is closed.
 #[unsafe(no_mangle)]
 pub extern "C" fn rmi_read_realm(
     alloc: Global,
@@ -89,7 +88,7 @@ pub extern "C" fn rmi_read_realm(
     handle.read(alloc, granule, realm_of, realm)
 }
 
-/// The REC that a granule is, into `rec`. False exactly where it is no REC, and on a closed handle.
+/// The REC that a granule is, into `rec`. False exactly when it is no REC, or the handle is closed.
 #[unsafe(no_mangle)]
 pub extern "C" fn rmi_read_rec(
     alloc: Global,

@@ -12,7 +12,7 @@ use crate::word::CLOSED;
 use rmi_bench::Bench;
 use std::alloc::Global;
 
-/// RMI_REC_CREATE, with these auxiliary granules. `number` becomes the REC's number, and stays as it is where this is
+/// RMI_REC_CREATE, with these auxiliary granules. `number` becomes the REC's number, and stays as it is if this is
 /// refused.
 ///
 /// More than 16 auxiliary granules are an input error.

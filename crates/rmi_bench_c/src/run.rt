@@ -1,4 +1,4 @@
-//! How RECs run: their entry, what their guests write, and their exit.
+//! The run of a REC: its entry, the writes of its guest, and its exit.
 ghost use Rattle.std.specs.Prelude.{[], ◌∷◌, ◌&&◌, nat_lt};
 ghost use Rattle.realm_model.specs.Command.Rec as command;
 ghost use Rattle.realm_model.specs.Command.Check.{check, error_input};
@@ -19,7 +19,7 @@ pub extern "C" fn rmi_rec_enter(alloc: Global, handle: &mut Handle, rec: u64) ->
     handle.on_granule(alloc, rec, Bench::rec_enter)
 }
 
-/// Lets a RUNNING REC write a byte of a page of its realm. This profile's own. An offset above 4,095 is an input error.
+/// Writes a byte of a page of its realm for a RUNNING REC. This profile's own. An offset above 4,095 is an input error.
 #[unsafe(no_mangle)]
 pub extern "C" fn rmi_guest_write(
     alloc: Global,

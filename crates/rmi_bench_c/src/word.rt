@@ -1,4 +1,4 @@
-//! Numbers as C has them.
+//! Result words as C has them.
 ghost use Rattle.std.specs.Prelude.{◌≡◌};
 ghost use Rattle.realm_model.specs.Update.{Outcome};
 ghost use Rattle.rmi_monitor.specs.View.{Answers};
@@ -6,7 +6,7 @@ ghost use Rattle.rmi_bench_c.specs.Answers.{word_of};
 
 use realm_model::Rmi;
 
-// What a command answers on a closed handle: no result word of RMI.
+// The answer of a command on a closed handle: no result word of RMI.
 pub(crate) const CLOSED: u64 = u64::MAX;
 
 // The result word of a command: RMI_SUCCESS is 0.

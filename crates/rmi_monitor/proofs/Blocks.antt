@@ -1,4 +1,4 @@
--- Blocks that are given back, over the fields of a monitor.
+-- Blocks that are given back, over the fields of an RMM.
 use Rattle.std.proofs.Common.{◌≡◌, ◌≢◌, ℕ, ◌+◌, ◌^◌, ◌<◌, ◌≤◌, ⊎_elim, Bool, true, false, List, [], length, Option, Some, None, refl, sym, ap, ◌∙◌, subst, arith}
 use Rattle.std.specs.Prelude.{IsTrue, ◌↔◌, IfSome, IfNone}
 use Rattle.std.specs.Bool.{OnTrue, OnFalse}

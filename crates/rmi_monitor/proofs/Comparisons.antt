@@ -1,4 +1,4 @@
--- What follows from tests: of one place or another, of what a test lets through, and of what came of an option.
+-- The consequences of tests: of two indexes, of a predicate that holds, and of an option.
 use Rattle.std.proofs.Common.{◌≡◌, ℕ, Bool, true, false, cond, Option, Some, None, refl, sym, ◌∙◌, option_map}
 use Rattle.std.specs.Prelude.{◌&&◌, ◌||◌}
 use Rattle.std.proofs.lemmas.Option.{same_Some}

@@ -1,4 +1,4 @@
--- A byte of a realm's page of data is written: the machine has it, and nothing else changes.
+-- The write of a byte to a realm's page of data: the machine has it, and nothing else changes.
 use Rattle.std.proofs.Common.{◌≡◌, ◌≢◌, ℕ, ◌<◌, Bool, false, List, [], ◌∷◌, length, set, Ok, Some, refl, sym, ap, ◌∙◌, subst}
 use Rattle.std.proofs.lemmas.List.{length-set, get_or-set_same, get_or-set_other}
 use Rattle.page_arena.specs.Page.{page_at, is_free, with_byte}

@@ -1,4 +1,4 @@
--- A DELEGATED granule becomes a page of a NEW realm with the bytes of another granule, over the fields of a monitor.
+-- RMI_DATA_CREATE over the fields of an RMM: a DELEGATED granule becomes a page with the bytes of another granule.
 use Rattle.std.proofs.Common.{◌≡◌, ◌≢◌, ℕ, ◌<◌, ◌&&◌, Bool, true, false, List, [], ◌∷◌, length, set, get_or, Option, option_map, Some, None, Ok, Err, refl, sym, ap, ◌∙◌, subst, arith}
 use Rattle.std.proofs.lemmas.Bool.{and_from, and_left, and_right, and_parts}
 use Rattle.std.proofs.lemmas.List.{get_or-set_other}

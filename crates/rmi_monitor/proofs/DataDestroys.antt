@@ -1,4 +1,4 @@
--- A page of data leaves its realm, over the fields of a monitor.
+-- RMI_DATA_DESTROY over the fields of an RMM: a page of data leaves its realm.
 use Rattle.std.proofs.Common.{◌≡◌, ℕ, Bool, List, [], ◌∷◌, Some, None, Ok, Err, refl, sym, ap, ◌∙◌, subst, lit≤}
 use Rattle.std.proofs.lemmas.Option.{same_Some}
 use Rattle.granule_table.specs.Granules.{IsIn}

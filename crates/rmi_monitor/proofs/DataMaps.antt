@@ -1,4 +1,4 @@
--- A DELEGATED granule becomes a page of data of a realm: what the map leaves, before and after its page is written.
+-- The mapping of a page of data: the fields of an RMM before and after its page is written.
 use Rattle.std.proofs.Common.{◌≡◌, ℕ, ◌<◌, Bool, List, [], length, set, Option, Some, refl, sym, ap, ◌∙◌, subst}
 use Rattle.std.proofs.lemmas.List.{length-set, get_or-set_same, get_or-set_other}
 use Rattle.granule_addr.specs.declared.root.Root.{Root}

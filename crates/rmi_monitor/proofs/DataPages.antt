@@ -1,4 +1,4 @@
--- The page of a granule in DATA is written: all realms keep their tables.
+-- The write of the page of a granule in DATA: all realms keep their tables.
 use Rattle.std.proofs.Common.{◌≡◌, ◌≢◌, ℕ, Bool, List, [], set, sym, ap, ◌∙◌}
 use Rattle.std.proofs.lemmas.List.{length-set, get_or-set_other}
 use Rattle.granule_addr.specs.declared.root.Root.{Root}

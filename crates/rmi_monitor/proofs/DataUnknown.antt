@@ -1,4 +1,4 @@
--- A DELEGATED granule becomes a page of zeros of a realm, over the fields of a monitor.
+-- RMI_DATA_CREATE_UNKNOWN over the fields of an RMM: a DELEGATED granule becomes a page of zeros of a realm.
 use Rattle.std.proofs.Common.{◌≡◌, ℕ, ◌&&◌, Bool, true, false, List, [], ◌∷◌, None, Ok, Err, sym, ◌∙◌}
 use Rattle.std.proofs.lemmas.Bool.{and_from, and_left, and_right}
 use Rattle.granule_table.specs.Granules.{granule_at}

@@ -1,4 +1,4 @@
--- What a command leaves of a monitor's fields, and so that what always holds, holds still.
+-- The fields of an RMM that a command leaves alone, by which the invariant still holds.
 use Rattle.std.proofs.Common.{◌≡◌, ◌≢◌, ℕ, ◌<◌, ◌≤◌, Bool, true, false, cond, List, length, get_or, Some, None, option_map, refl, sym, ap, ◌∙◌, subst, arith}
 use Rattle.std.specs.Prelude.{is_some, nat_eq, ◌==◌}
 use Rattle.std.specs.Option.{option_eq}
@@ -181,8 +181,8 @@ module _ (old new : Fields) (whole : IsWhole old) (rd : ℕ) (alone : LeavesAlon
 
 -- ---- all together
 
--- One realm may change, come or go, and where it is there it has its tables. The granules that are touched are sound, and the other
--- realms are left alone.
+-- One realm may change, come or go, and if it is there it has its tables. The granules that are touched are sound, and
+-- the other realms are left alone.
 pub record Leaves (old new : Fields) (rd : ℕ) (touched : ℕ → Bool) : Type 0 where
   pub stays : Stays old new touched
   pub realm_places : length new.realms ≡ length old.realms

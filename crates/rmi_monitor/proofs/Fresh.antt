@@ -1,4 +1,4 @@
--- A monitor that has just been built.
+-- An RMM that has just been built.
 use Rattle.std.proofs.Common.{◌≡◌, ℕ, ◌<◌, Bool, true, false, List, [], length, replicate, None, is_some, refl, sym, ap, ◌∙◌, subst}
 use Rattle.std.specs.FinMap.{empty, len, len-empty}
 use Rattle.std.specs.Ordering.{nat_cmp}

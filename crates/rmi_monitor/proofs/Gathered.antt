@@ -1,4 +1,4 @@
--- Maps of what stands at places: what they answer, and what one changed place makes of them.
+-- Maps of the entries of a list: their values, and the map after one entry changes.
 use Rattle.std.proofs.Common.{◌≡◌, ◌≢◌, ℕ, zero, suc, ◌+◌, ◌-◌, ◌<◌, ◌≤◌, Bool, true, false, cond, Option, Some, None, refl, sym, ap, ◌∙◌, subst, ⊎_elim, arith}
 use Rattle.std.specs.Prelude.{is_some}
 use Rattle.std.specs.Cmp.{nat_cmp_total, unsigned_tied}

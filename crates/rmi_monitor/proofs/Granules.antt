@@ -1,4 +1,4 @@
--- The commands on single granules, over the fields of a monitor.
+-- The commands on single granules, over the fields of an RMM.
 use Rattle.std.proofs.Common.{◌≡◌, ◌≢◌, ℕ, ◌<◌, Bool, true, false, List, [], ◌∷◌, length, set, Ok, None, refl, sym, ap, ◌∙◌, subst}
 use Rattle.std.proofs.lemmas.List.{set-get_or}
 use Rattle.page_arena.specs.Page.{page_at, is_free}

@@ -1,4 +1,4 @@
--- A guest's write, over the fields of a monitor: what it is refused for, and what it does.
+-- A guest's write, over the fields of an RMM: its refusals, and its effect.
 use Rattle.std.proofs.Common.{◌≡◌, ℕ, Bool, true, false, List, [], ◌∷◌, Ok, Err, Some, None, refl, sym, ap, ◌∙◌, subst}
 use Rattle.std.specs.Prelude.{not}
 use Rattle.granule_addr.specs.Ipa.{is_protected_at}

@@ -1,4 +1,4 @@
--- A granule of the host's is moved: it is UNDELEGATED or DELEGATED before and after, and its page may change.
+-- The move of a granule of the host's: it is UNDELEGATED or DELEGATED before and after, and its page may change.
 use Rattle.std.proofs.Common.{◌≡◌, ◌≢◌, ℕ, ◌<◌, Bool, true, false, List, [], length, set, None, refl, sym, ap, ◌∙◌, subst, arith}
 use Rattle.std.specs.Prelude.{◌==◌}
 use Rattle.std.proofs.lemmas.Bool.{eqb-true, eqb-false, ne_eqb}

@@ -1,4 +1,4 @@
--- The granule that a TABLE or an ASSIGNED row of a realm leads to is one of the realm's.
+-- The granule that a TABLE or an ASSIGNED row of a realm leads to, which is one of the realm's.
 use Rattle.std.proofs.Common.{◌≡◌, ℕ, ◌<◌, true, false, cond, List, Option, Some, None, refl, sym, ap, ◌∙◌}
 use Rattle.std.specs.Prelude.{option_and_then}
 use Rattle.granule_addr.specs.Ipa.{entry_index}

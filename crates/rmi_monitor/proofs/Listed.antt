@@ -1,4 +1,4 @@
--- Lists: what holds of each, that none is there twice, and what is read at a place and put back.
+-- Lists: a property of each element, no element twice, and an element that is read and put back.
 use Rattle.std.proofs.Common.{◌≡◌, ℕ, zero, suc, ◌<◌, true, not, List, [], ◌∷◌, length, set, get_or, All, Option, Some, None, refl, sym, ap, ◌∙◌, subst, arith}
 use Rattle.std.specs.Prelude.{slice_get}
 use Rattle.std.proofs.lemmas.Bool.{and_parts, and_from}

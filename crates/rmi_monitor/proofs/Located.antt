@@ -1,4 +1,4 @@
--- What a command on a realm's tables goes on with, where the IPA granule that it is given is protected.
+-- The tables and the IPA granule that a command goes on with, if the IPA granule is protected.
 use Rattle.std.proofs.Common.{◌≡◌, ℕ, ◌<◌, true, false, cond, Option, Some, None, refl, sym, ap, ◌∙◌, subst}
 use Rattle.std.specs.Prelude.{IfSome, IfNone}
 use Rattle.std.proofs.lemmas.Option.{none-some, same_Some}

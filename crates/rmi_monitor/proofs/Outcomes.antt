@@ -1,4 +1,4 @@
--- What a command answers and leaves, by what comes of it.
+-- The answer and the effect of a command, by its outcome.
 use Rattle.std.proofs.Common.{◌≡◌, Bool, false, List, Option, Some, None, Result, Ok, Err, refl, sym, ap, ◌∙◌, subst}
 use Rattle.std.specs.Result.{IsErrAnd}
 use Rattle.realm_model.specs.declared.rmi.Rmi.{Rmi}

@@ -1,4 +1,4 @@
--- What is protected in an address space lies in it.
+-- Protected IPA granules, which are in the address space.
 use Rattle.std.proofs.Common.{◌≡◌, ℕ, ◌+◌, ◌-◌, ◌*◌, ◌^◌, ◌<◌, ◌≤◌, ◌&&◌, true, cond, Option, Some, None, ⊎_elim, refl, sym, ap, ◌∙◌, subst, arith}
 use Rattle.std.proofs.lemmas.Bool.{cases_lt, ltb-true, lt-ltb, le-leb, and_from}
 use Rattle.std.proofs.lemmas.Nat.{pow-add, pow_pos}

@@ -1,4 +1,4 @@
--- What is read of a realm, over the fields of a monitor.
+-- Readings of a realm, over the fields of an RMM.
 use Rattle.std.proofs.Common.{◌≡◌, ℕ, ◌<◌, length, Option, Some, None, option_map, refl, sym, ap, ◌∙◌, subst}
 use Rattle.page_arena.specs.Page.{page_at}
 use Rattle.realm_model.specs.Machine.{Cell, RealmRow, cell_at}

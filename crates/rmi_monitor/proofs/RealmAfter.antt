@@ -1,4 +1,4 @@
--- A command on one realm that keeps it: what is left of the others, and of it, is whole.
+-- A command on one realm that keeps it: the invariant of the others, and of it, still holds.
 use Rattle.std.proofs.Common.{◌≡◌, ◌≢◌, ℕ, ◌≤◌, Bool, true, false, cond, length, Some, option_map, refl, sym, ap, ◌∙◌, subst, arith}
 use Rattle.std.specs.Prelude.{◌==◌, is_some}
 use Rattle.std.specs.FinMap.{FinMap}
@@ -34,8 +34,8 @@ keeps_all realm = record { root = refl; vmid = refl; next = omega arith }
 abbrev pub with_row_of : Cell → RealmRow → Cell
 with_row_of cell row = record cell { descriptor = Some row }
 
--- A realm has other attributes, and its tables and its RECs may have changed. Granules are moved to it or from it, and its RD is none
--- of them. The other realms are left alone.
+-- A realm has other attributes, and its tables and its RECs may have changed. Granules are moved to it or from it, and
+-- its RD is none of them. The other realms are left alone.
 pub record Changes (old new : Fields) (rd : ℕ) (moved : ℕ → Bool) (realm now : RealmAttributes) : Type 0 where
   pub there : realm_at old rd ≡ Some realm
   pub is : realm_at new rd ≡ Some now

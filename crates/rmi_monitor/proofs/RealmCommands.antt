@@ -1,4 +1,4 @@
--- The monitor after a command on a realm, by what its call leaves.
+-- The RMM after a command on a realm, by the effect of its call.
 use Rattle.std.proofs.Common.{◌≡◌, ℕ, ◌<◌, Bool, true, List, [], ◌∷◌, length, set, Option, Some, None, Result, Ok, Err, refl, sym, ap, ◌∙◌, subst, get_or}
 use Rattle.std.specs.Result.{IsErrAnd}
 use Rattle.granule_table.specs.Granules.{granule_at, IsIn}

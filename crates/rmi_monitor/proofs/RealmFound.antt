@@ -1,4 +1,4 @@
--- The realm that an RD is: where code reads it, and what the machine and a command find there.
+-- The realm of an RD: as code reads it, and as the machine and a command have it.
 use Rattle.std.proofs.Common.{◌≡◌, ℕ, ◌<◌, List, length, set, get_or, Option, Some, None, option_map, Err, refl, sym, ap, ◌∙◌, subst, ⊎_elim}
 use Rattle.std.proofs.lemmas.Bool.{cases_lt}
 use Rattle.std.proofs.lemmas.List.{get_or_past}

@@ -1,4 +1,4 @@
--- The place of a realm that is there.
+-- The index of a realm in the fields of an RMM.
 use Rattle.std.proofs.Common.{◌≡◌, ◌≢◌, ℕ, ◌<◌, true, false, length, Some, None, is_some, refl, sym, ap, ◌∙◌, subst}
 use Rattle.granule_table.specs.Granules.{granule_at}
 use Rattle.granule_table.specs.declared.granule.Granule.{Granule}

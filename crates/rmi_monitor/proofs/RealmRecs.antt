@@ -1,4 +1,4 @@
--- A realm's RECs, by what stands at the granules: the one of a number, and those of no realm.
+-- A realm's RECs, by the granules: the one of a number, and those of no realm.
 use Rattle.std.proofs.Common.{◌≡◌, ℕ, ◌<◌, true, List, length, get_or, Option, Some, None, refl, sym, ap, ◌∙◌}
 use Rattle.std.specs.FinMap.{get, empty}
 use Rattle.std.proofs.lemmas.Option.{none-some}

@@ -1,4 +1,5 @@
--- A REC that changes and keeps its number and its auxiliaries: the machine has another row of it, and nothing else changes.
+-- The change of a REC that keeps its number and its auxiliaries: the machine has another row of it, and nothing else
+-- changes.
 use Rattle.std.proofs.Common.{◌≡◌, ◌≢◌, ℕ, ◌<◌, false, List, [], ◌∷◌, length, set, get_or, Ok, Option, Some, None, option_map, refl, sym, ap, ◌∙◌, subst, ⊎_elim}
 use Rattle.std.specs.Prelude.{is_some, slice_get, if◌then◌else◌}
 use Rattle.std.specs.FinMap.{insert, len}

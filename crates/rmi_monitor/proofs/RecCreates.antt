@@ -1,4 +1,4 @@
--- RMI_REC_CREATE over the fields of a monitor: its checks, and what it changes.
+-- RMI_REC_CREATE over the fields of an RMM: its checks, and its effect.
 use Rattle.std.proofs.Common.{◌≡◌, ℕ, suc, ◌+◌, ◌<◌, Bool, true, false, ◌&&◌, List, [], ◌∷◌, ◌++◌, length, map, set, get_or, All, Option, Some, None, Ok, Err, refl, sym, ap, ◌∙◌, subst}
 use Rattle.std.specs.Prelude.{◌==◌}
 use Rattle.std.specs.Prelude.{IsTrue}

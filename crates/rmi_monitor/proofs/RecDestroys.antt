@@ -1,4 +1,4 @@
--- RMI_REC_DESTROY over the fields of a monitor: its checks, and what it changes.
+-- RMI_REC_DESTROY over the fields of an RMM: its checks, and its effect.
 use Rattle.std.proofs.Common.{◌≡◌, ℕ, ◌-◌, ◌<◌, Bool, true, false, List, [], ◌∷◌, ◌++◌, map, set, get_or, All, IsTrue, Option, Some, None, Ok, Err, refl, sym, ap, ◌∙◌, subst}
 use Rattle.std.specs.FinMap.{remove}
 use Rattle.std.proofs.lemmas.List.{length-set, get_or-set_other}

@@ -1,4 +1,4 @@
--- What one granule's place says of a realm's RECs: the entry that it makes, and that no two have one number.
+-- The entry of one granule among a realm's RECs, and that no two have one number.
 use Rattle.std.proofs.Common.{◌≡◌, ◌≢◌, ℕ, true, false, List, get_or, Option, Some, None, option_map, refl, sym, ap, ◌∙◌, Bool, cond}
 use Rattle.std.specs.Prelude.{nat_eq}
 use Rattle.std.specs.Option.{option_eq}

@@ -1,4 +1,4 @@
--- The REC that a granule is: its realm and its number, in the fields of a monitor and in its machine.
+-- The REC that a granule is: its realm and its number, in the fields of an RMM and in its machine.
 use Rattle.std.proofs.Common.{◌≡◌, ℕ, ◌<◌, length, Some, None, Result, Err, refl, sym, ap, ◌∙◌, subst}
 use Rattle.std.specs.FinMap.{get}
 use Rattle.std.proofs.lemmas.Option.{same_Some, none-some}

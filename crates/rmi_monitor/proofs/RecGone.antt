@@ -1,4 +1,4 @@
--- A REC is removed: its granule and its auxiliaries are DELEGATED and zero.
+-- The removal of a REC: its granule and its auxiliaries are DELEGATED and zero.
 use Rattle.std.proofs.Common.{◌≡◌, ◌≢◌, ℕ, ◌-◌, ◌<◌, true, false, List, [], ◌∷◌, length, set, None, refl, sym, ap, ◌∙◌, subst}
 use Rattle.std.specs.Prelude.{◌==◌, is_some}
 use Rattle.std.proofs.lemmas.Bool.{eqb-true}

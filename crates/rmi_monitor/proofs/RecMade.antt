@@ -1,4 +1,4 @@
--- A new REC of a realm: what the command finds, and what is moved is sound.
+-- A new REC of a realm: the command's checks, and the invariant of the granules that are moved.
 use Rattle.std.proofs.Common.{◌≡◌, ℕ, ◌+◌, ◌<◌, true, false, List, ◌∷◌, length, set, Some, None, refl, sym, ap, ◌∙◌, subst, arith}
 use Rattle.std.specs.Prelude.{◌==◌, is_some, slice_get}
 use Rattle.std.proofs.lemmas.Bool.{eqb-true}

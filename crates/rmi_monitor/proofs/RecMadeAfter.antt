@@ -1,4 +1,4 @@
--- A new REC of a realm: the RECs are as they should be, and the machine is as the command says.
+-- The state after a new REC: the RECs keep their invariant, and the machine is as the command says.
 use Rattle.std.proofs.Common.{◌≡◌, ◌≢◌, ℕ, ◌+◌, ◌<◌, true, false, List, [], ◌∷◌, ◌++◌, length, map, Some, None, refl, sym, ap, ◌∙◌, subst, arith}
 use Rattle.std.specs.Prelude.{◌==◌, slice_get}
 use Rattle.std.specs.FinMap.{get, insert, len}

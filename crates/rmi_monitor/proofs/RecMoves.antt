@@ -1,4 +1,4 @@
--- A REC of a realm is made or removed: its granule and its auxiliaries are moved, and the realm may have other attributes.
+-- The moves of a REC's granules at its creation or removal, with other attributes of the realm.
 use Rattle.std.proofs.Common.{◌≡◌, ◌≢◌, ℕ, ◌<◌, Bool, true, false, cond, List, ◌∷◌, length, set, get_or, Option, Some, None, option_map, refl, sym, ap, ◌∙◌, subst}
 use Rattle.std.specs.Prelude.{◌==◌, nat_eq}
 use Rattle.std.specs.Option.{option_eq}
@@ -35,8 +35,8 @@ is_moved_state InRec = true
 is_moved_state InRecAux = true
 is_moved_state _ = false
 
--- What a REC's granule and its auxiliaries become, and the pages; the realm before and after, and the count of its RECs; and the REC,
--- or none. No auxiliary is a REC before.
+-- The new state of a REC's granule and its auxiliaries, and of the pages; the realm before and after, and the count of
+-- its RECs; and the REC, or none. No auxiliary is a REC before.
 pub record RecMove (old : Fields) : Type 0 where
   pub rd : ℕ
   pub granule : ℕ

@@ -1,4 +1,4 @@
--- The REC that a granule is, as it is looked for in the machine: what is found is one, and where nothing is found there is none.
+-- The search of the machine for the REC that a granule is: its result is one, and without a result there is none.
 use Rattle.std.proofs.Common.{◌≡◌, ℕ, ◌+◌, zero, suc, ◌<◌, ◌≤◌, Bool, true, false, cond, List, [], ◌∷◌, length, Option, Some, None, option_map, refl, sym, ap, ◌∙◌, arith, ◌⊎◌, inl, inr, ⊎_elim}
 use Rattle.std.specs.Prelude.{◌==◌, ◌||◌, is_some, option_and_then}
 use Rattle.std.specs.List.{find, list_any, range_with_len}

@@ -1,4 +1,4 @@
--- The REC of a number in a realm: what the machine has is what stands at a granule.
+-- The REC of a number in a realm: in the machine, and in the fields of an RMM.
 use Rattle.std.proofs.Common.{◌≡◌, ℕ, ◌<◌, true, List, length, get_or, Option, Some, None, option_map, refl, sym, ap, ◌∙◌, subst}
 use Rattle.std.specs.Prelude.{option_and_then, is_some}
 use Rattle.std.specs.FinMap.{get}

@@ -1,4 +1,4 @@
--- What is read of a REC by its granule, over the fields of a monitor.
+-- Readings of a REC by its granule, over the fields of an RMM.
 use Rattle.std.proofs.Common.{◌≡◌, ℕ, Option, Some, None, option_map, refl, sym, ap, ◌∙◌}
 use Rattle.std.specs.Prelude.{option_and_then}
 use Rattle.std.specs.FinMap.{get}

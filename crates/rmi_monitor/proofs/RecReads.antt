@@ -1,4 +1,4 @@
--- What code reads at the place of a granule: the REC that it is, its realm, and that these are there.
+-- The values that code reads at a granule's index: the REC that it is, its realm, and that these are there.
 use Rattle.std.proofs.Common.{◌≡◌, ℕ, ◌+◌, ◌<◌, ◌≤◌, true, length, get_or, Option, Some, None, refl, sym, ap, ◌∙◌, subst, arith}
 use Rattle.std.specs.Prelude.{is_some}
 use Rattle.std.proofs.lemmas.Option.{same_Some}

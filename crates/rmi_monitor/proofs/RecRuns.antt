@@ -1,4 +1,4 @@
--- The commands by which a REC runs and stops, over the fields of a monitor.
+-- The commands by which a REC runs and stops, over the fields of an RMM.
 use Rattle.std.proofs.Common.{◌≡◌, ℕ, ◌<◌, Bool, true, false, List, [], ◌∷◌, length, set, get_or, Ok, Err, Option, Some, None, refl, sym, ap, ◌∙◌}
 use Rattle.std.specs.Prelude.{not}
 use Rattle.realm_model.specs.declared.rmi.Rmi.{Rmi}

@@ -1,4 +1,4 @@
--- Granules of a list, each moved in turn: what is left of the list.
+-- Granules of a list, each moved in turn, and the rest of the list.
 use Rattle.std.proofs.Common.{◌≡◌, ◌≢◌, ℕ, suc, ◌+◌, ◌<◌, ◌≤◌, Bool, true, false, List, [], ◌∷◌, length, set, get_or, drop, Some, All, IsTrue, sym, ap, ◌∙◌, subst, add-one, arith}
 use Rattle.std.proofs.Math.Seq.{drop-cons}
 use Rattle.std.proofs.lemmas.Bool.{and_parts}

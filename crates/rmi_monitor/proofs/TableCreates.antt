@@ -1,4 +1,4 @@
--- A DELEGATED granule becomes a table of a realm: RMI_RTT_CREATE over the fields of a monitor.
+-- RMI_RTT_CREATE over the fields of an RMM: a DELEGATED granule becomes a table of a realm.
 use Rattle.std.proofs.Common.{◌≡◌, ℕ, ◌-◌, Bool, true, false, List, [], ◌∷◌, Some, Ok, Err, refl, sym, ap, ◌∙◌, subst}
 use Rattle.std.specs.Prelude.{◌&&◌, not}
 use Rattle.std.proofs.lemmas.Bool.{and_from, and_left, and_right}

@@ -1,4 +1,4 @@
--- A table of a realm is taken away: RMI_RTT_DESTROY over the fields of a monitor.
+-- RMI_RTT_DESTROY over the fields of an RMM: a table of a realm is removed.
 use Rattle.std.proofs.Common.{◌≡◌, ℕ, ◌-◌, Bool, true, false, List, [], ◌∷◌, Some, None, Ok, Err, refl, sym, ◌∙◌, subst, arith}
 use Rattle.std.specs.Prelude.{◌&&◌}
 use Rattle.std.proofs.lemmas.Bool.{and_from, and_left, and_right}

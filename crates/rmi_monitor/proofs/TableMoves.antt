@@ -1,4 +1,4 @@
--- A call on a realm's tables, which moves a granule to or from the realm, or none; the realm's attributes may have changed.
+-- A call on a realm's tables, which moves at most one granule to or from the realm, with other attributes of the realm.
 use Rattle.std.proofs.Common.{◌≡◌, ◌≢◌, ℕ, ◌<◌, ◌≤◌, Bool, true, false, List, length, set, Option, Some, None, refl, sym, ap, ◌∙◌, subst}
 use Rattle.std.specs.Prelude.{◌==◌, is_some}
 use Rattle.std.proofs.lemmas.Bool.{eqb-true, eqb-false, ne_eqb}

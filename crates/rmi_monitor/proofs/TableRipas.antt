@@ -1,4 +1,4 @@
--- Pages of a NEW realm become RAM: RMI_RTT_INIT_RIPAS over the fields of a monitor.
+-- RMI_RTT_INIT_RIPAS over the fields of an RMM: pages of a NEW realm become RAM.
 use Rattle.std.proofs.Common.{◌≡◌, ℕ, Bool, true, false, List, [], ◌∷◌, set, get_or, cond, Option, option_map, Some, None, Ok, Err, refl, sym, ap, ◌∙◌, subst, arith}
 use Rattle.std.specs.Prelude.{◌&&◌}
 use Rattle.std.proofs.lemmas.Bool.{and_from, and_parts}

@@ -1,18 +1,18 @@
--- A finite map of what stands at places that are counted from 0.
+-- A finite map from a list: the entries at indexes from 0 on.
 use Rattle.std.specs.Prelude.{◌≡◌, ◌<◌, ℕ, zero, suc, Option, Some, None}
 use Rattle.std.specs.FinMap.{FinMap, empty, insert}
 use Rattle.std.specs.Ordering.{nat_cmp}
 
--- the entry that a place adds to a map, if it has one
+-- the entry that an index adds to a map, if it has one
 abbrev pub added : {A : Type 0} → Option (ℕ × A) → FinMap nat_cmp A → FinMap nat_cmp A
 added None map = map
 added (Some entry) map = insert map entry.0 entry.1
 
--- the map of the entries at the first `n` places
+-- the map of the entries at the first `n` indexes
 unfoldable pub gathered : {A : Type 0} → (ℕ → Option (ℕ × A)) → ℕ → FinMap nat_cmp A
 gathered entry_at zero = empty
 gathered entry_at (suc n) = added (entry_at n) (gathered entry_at n)
 
--- no two of the first `n` places have entries of one number
+-- no two of the first `n` indexes have entries of one number
 abbrev pub IsOnce : {A : Type 0} → (ℕ → Option (ℕ × A)) → ℕ → Type 0
 IsOnce {A} entry_at n = (i j key : ℕ) (a b : A) → i < n → j < n → entry_at i ≡ Some (key, a) → entry_at j ≡ Some (key, b) → i ≡ j

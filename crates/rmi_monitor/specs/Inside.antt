@@ -1,4 +1,4 @@
--- What a monitor keeps, the machine that it stands for, and what always holds of it.
+-- The fields of an RMM, the machine that they represent, and their invariant.
 use Rattle.std.specs.Prelude.{◌≡◌, ◌<◌, ℕ, List, length, map, count_by, Bool, true, false, nat_eq, Option, Some, None, is_some, option_map, slice_index_or, slice_get, if◌then◌else◌}
 use Rattle.std.specs.List.{range_with_len}
 use Rattle.std.specs.Option.{option_eq}
@@ -20,8 +20,8 @@ use Rattle.rmi_monitor.specs.Gathered.{gathered, IsOnce}
 use Rattle.rmi_monitor.specs.Places.{is_realm_with}
 use Rattle.granule_addr.specs.Vmids.{is_used}
 
--- The VMIDs that are used, and for each granule: its state and realm, the bytes of its page, whether it is free, the
--- realm or the REC that it is, and how many RECs that realm has.
+-- The VMIDs in use. For each granule: its state and realm, the bytes of its page, whether it is free, the realm or the
+-- REC that it is, and the number of RECs of that realm.
 pub record Fields : Type 0 where
   pub vmids : ℕ
   pub aux : ℕ
@@ -50,7 +50,7 @@ fields_of vmids aux used granules pages free realms rec_counts recs = record {
 abbrev pub realm_at : Fields → ℕ → Option RealmAttributes
 realm_at fields rd = slice_index_or fields.realms rd None
 
--- how many RECs that realm has, as the monitor keeps it
+-- the number of RECs of that realm, as the RMM keeps it
 abbrev pub rec_count_at : Fields → ℕ → ℕ
 rec_count_at fields rd = slice_index_or fields.rec_counts rd 0
 
@@ -83,7 +83,7 @@ pub record IsRecAt (granules : List Granule) (recs : List (Option RecAttributes)
   pub at : rec_of granules recs rd granule ≡ Some (number, row)
   pub found : get (recs_of granules recs rd) number ≡ Some row
 
--- the realm that stands at a granule, with its RECs and its translation
+-- the realm of a granule, with its RECs and its translation
 abbrev pub descriptor_of : Fields → ℕ → Option RealmRow
 descriptor_of fields rd =
     option_map (λ realm. realm_row realm (recs_of fields.granules fields.recs rd) (rows fields.pages realm.root)) (realm_at fields rd)
@@ -104,7 +104,7 @@ cell_of fields granule = record {
 unfoldable pub machine_of : Fields → Machine
 machine_of fields = map (cell_of fields) (range_with_len 0 (length fields.granules))
 
--- what a monitor with these fields is seen as
+-- the view of an RMM with these fields
 abbrev pub seen_as : Fields → MonitorView
 seen_as fields = record { vmids = fields.vmids; aux = fields.aux; machine = machine_of fields; free = fields.free }
 
@@ -114,8 +114,8 @@ abbrev pub is_rec_state : GranuleState → Bool
 is_rec_state InRec = true
 is_rec_state _ = false
 
--- An UNDELEGATED or DELEGATED granule belongs to no realm, and a DELEGATED one is zero. A realm stands at a granule exactly
--- where it is in RD, and a REC exactly where it is in REC.
+-- An UNDELEGATED or DELEGATED granule belongs to no realm, and a DELEGATED one is zero. A granule has a realm exactly
+-- when it is in RD, and a REC exactly when it is in REC.
 pub record IsSoundAt (fields : Fields) (granule : ℕ) : Type 0 where
   pub host : is_host_state (granule_at fields.granules granule).state ≡ true → (granule_at fields.granules granule).realm ≡ None
   pub zero : (granule_at fields.granules granule).state ≡ Delegated → page_at fields.pages granule ≡ zero_page
@@ -142,7 +142,8 @@ pub record HasRecs (fields : Fields) : Type 0 where
       → slice_get rec.auxiliaries i ≡ Some auxiliary → slice_get other.auxiliaries j ≡ Some auxiliary → (g ≡ h) × (i ≡ j)
 
 pub record IsWhole (fields : Fields) : Type 0 where
-  -- There is a page, a place for a realm, a count and a place for a REC for each granule. What is not UNDELEGATED is taken.
+  -- There is a page, a place for a realm, a count and a place for a REC for each granule. What is not UNDELEGATED is
+  -- taken.
   pub backed : IsBacked fields.pages fields.free fields.granules
   pub realm_places : length fields.realms ≡ length fields.granules
   pub count_places : length fields.rec_counts ≡ length fields.granules
@@ -150,6 +151,6 @@ pub record IsWhole (fields : Fields) : Type 0 where
   pub each : (granule : ℕ) → IsSoundAt fields granule
   pub tables : (rd : ℕ) (realm : RealmAttributes) → realm_at fields rd ≡ Some realm → HasTables fields.pages fields.granules rd realm.root
   pub recs : HasRecs fields
-  -- A realm's count is that of its RECs. A VMID is used exactly where a realm has it, and then only one has it.
+  -- A realm's count is that of its RECs. A VMID is used exactly when a realm has it, and then only one has it.
   pub counted : (rd : ℕ) → rec_count_at fields rd ≡ len (recs_of fields.granules fields.recs rd)
   pub vmids_used : (vmid : ℕ) → count_by (is_realm_with vmid) fields.realms ≡ (if is_used fields.used vmid then 1 else 0)

@@ -1,4 +1,4 @@
--- The REC that a granule is, looked for in the machine.
+-- The REC that a granule is, by a search of the machine.
 use Rattle.std.specs.Prelude.{ℕ, ◌==◌, List, [], length, Bool, false, Option, Some, None, is_some, option_map, option_and_then}
 use Rattle.std.specs.List.{find, range_with_len}
 use Rattle.std.specs.FinMap.{keys}

@@ -1,4 +1,4 @@
--- What a contract sees of a monitor, and of its answers.
+-- The view that a contract has of an RMM, and of its answers.
 use Rattle.std.specs.Prelude.{◌≡◌, ◌≢◌, ℕ, ◌+◌, ◌^◌, ◌<◌, ◌≤◌, Bool, true, false, List, length, map, replicate, Option, Some, option_and_then, Result, Ok, Err}
 use Rattle.std.specs.FinMap.{get}
 use Rattle.granule_addr.specs.Root.{starting_tables}
@@ -14,7 +14,7 @@ use Rattle.realm_model.specs.Command.Realm.{realm_create}
 use Rattle.realm_model.specs.Step.{used_vmids}
 use Rattle.realm_objects.specs.Attributes.{RealmAttributes}
 
--- How many VMIDs and auxiliary granules of a REC there are, the machine, and for each granule whether it is free.
+-- The numbers of VMIDs and of auxiliary granules of a REC, the machine, and for each granule whether it is free.
 pub record MonitorView : Type 0 where
   pub vmids : ℕ
   pub aux : ℕ
@@ -35,20 +35,20 @@ pub record AreAllTaken (monitor : MonitorView) (count : ℕ) : Type 0 where
 abbrev pub seen_in : MonitorView → ℕ → Seen
 seen_in monitor granule = seen monitor.machine granule
 
--- The answer is what comes of the command: done, or the first check that fails.
+-- The answer is the outcome of the command: done, or the first check that fails.
 abbrev pub Answers : {A : Type 0} → Result A Rmi → Outcome → Type 0
 Answers (Ok value) (Ok updates) = Unit {0}
 Answers (Ok value) (Err rmi) = ⊥
 Answers (Err refusal) (Ok updates) = ⊥
 Answers (Err refusal) (Err rmi) = refusal ≡ rmi
 
--- the monitor after a command
+-- the RMM after a command
 abbrev pub after_command : Outcome → MonitorView → MonitorView
 after_command outcome monitor = record monitor { machine = machine_after_command outcome monitor.machine }
 
 -- ---- realms
 
--- the command that makes a realm, on the granules that a monitor has and the VMIDs that its realms use
+-- the command that creates a realm, on the granules that an RMM has and the VMIDs that its realms use
 abbrev pub make_realm : MonitorView → ℕ → Root → ℕ → Outcome
 make_realm monitor rd root vmid =
     realm_create monitor.vmids (used_vmids monitor.machine) (seen_in monitor rd) (map (seen_in monitor) (starting_tables root)) root vmid
@@ -75,8 +75,8 @@ pub record IsRec (machine : Machine) (rd number granule : ℕ) : Type 0 where
 abbrev pub rec_in : Machine → ℕ → ℕ → Option RecRow
 rec_in machine rd number = option_and_then (λ realm. get realm.recs number) (cell_at machine rd).descriptor
 
--- What comes of a command on a REC is what its definition says of the realm and the number. Where the granule is the
--- REC of no realm, the command is refused with an input error and nothing changes.
+-- The outcome of a command on a REC is that of its definition on the realm and the number. If the granule is the REC of
+-- no realm, the command is refused with an input error and nothing changes.
 pub record IsOnRec {A : Type 0} (command : Seen → ℕ → Outcome) (old : MonitorView) (granule : ℕ) (result : Result A Rmi) (new : MonitorView) : Type 0 where
   pub answer : (rd number : ℕ) → IsRec old.machine rd number granule → Answers result (command (seen_in old rd) number)
   pub machine : (rd number : ℕ) → IsRec old.machine rd number granule → new ≡ after_command (command (seen_in old rd) number) old
@@ -84,7 +84,7 @@ pub record IsOnRec {A : Type 0} (command : Seen → ℕ → Outcome) (old : Moni
 
 -- ---- blocks
 
--- the monitor after a block is taken
+-- the RMM after a block is taken
 abbrev pub with_block : MonitorView → ℕ → ℕ → MonitorView
 with_block monitor order first = record monitor { free = with_taken monitor.free order first }
 
@@ -93,14 +93,14 @@ pub record IsGivable (monitor : MonitorView) (order first : ℕ) : Type 0 where
   pub taken : IsTakenBlock monitor.free order first
   pub undelegated : (granule : ℕ) → first ≤ granule → granule < first + 2 ^ order → is_undelegated (seen_in monitor granule) ≡ true
 
--- the monitor after a block is given back: its granules are blank and free
+-- the RMM after a block is given back: its granules are blank and free
 abbrev pub without_block : MonitorView → ℕ → ℕ → MonitorView
 without_block monitor order first = record monitor {
   machine = with_run monitor.machine first (2 ^ order) blank;
   free = with_given monitor.free order first;
 }
 
--- a monitor that has just been built, with `pages` pages
+-- an RMM that has just been built, with `pages` pages
 abbrev pub fresh : ℕ → ℕ → ℕ → MonitorView
 fresh vmids aux pages = record { vmids = vmids; aux = aux; machine = replicate pages blank; free = replicate pages true }
 

@@ -1,13 +1,13 @@
--- Where walks in the realms of a machine end. RMM 1.0, RTT walk.
+-- The ends of walks in the realms of a machine. RMM 1.0, RTT walk.
 use Rattle.std.specs.Prelude.{ℕ, Option, None, option_and_then, if◌then◌else◌}
 use Rattle.granule_addr.specs.Ipa.{is_in_space}
 use Rattle.realm_model.specs.Rows.{Walk, walk}
 use Rattle.realm_model.specs.Machine.{Machine, RealmRow, cell_at}
 
--- where the walk of an IPA granule towards a level ends in a realm, if the realm's address space has the IPA granule
+-- the end of the walk of an IPA granule towards a level in a realm, if the realm's address space has the IPA granule
 abbrev pub walk_of : RealmRow → ℕ → ℕ → Option Walk
 walk_of realm ipa level = if is_in_space ipa realm.root.width then walk realm.rows ipa level else None
 
--- where it ends in the realm of that RD, if the granule is an RD
+-- the end of the walk in the realm of that RD, if the granule is an RD
 abbrev pub walk_in : Machine → ℕ → ℕ → ℕ → Option Walk
 walk_in machine rd ipa level = option_and_then (λ realm. walk_of realm ipa level) (cell_at machine rd).descriptor

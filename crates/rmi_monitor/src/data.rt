@@ -18,9 +18,9 @@ impl<S: PageStore> Monitor<S> {
     /// Makes a DELEGATED granule a page of a NEW realm, with the bytes of an UNDELEGATED one, and extends the realm's
     /// measurement.
     ///
-    /// RMM 1.0, RMI_DATA_CREATE. RMI_ERROR_INPUT comes where `rd` is no RD, `page` is not DELEGATED, `source` is not
-    /// UNDELEGATED, or the IPA granule `ipa` is not protected. RMI_ERROR_REALM comes where the realm is not NEW.
-    /// RMI_ERROR_RTT comes with the level where the walk ended, unless that is 3 and the entry there is UNASSIGNED.
+    /// RMM 1.0, RMI_DATA_CREATE. RMI_ERROR_INPUT comes if `rd` is no RD, `page` is not DELEGATED, `source` is not
+    /// UNDELEGATED, or the IPA granule `ipa` is not protected. RMI_ERROR_REALM comes if the realm is not NEW.
+    /// RMI_ERROR_RTT comes with the level at which the walk ended, unless that is 3 and the entry there is UNASSIGNED.
     pub fn data_create(&mut self, rd: Gran, page: Gran, ipa: u32, source: Gran) -> Result<(), Rmi>
         requires rd_taken { IsTaken self.old rd }
         requires page_taken { IsTaken self.old page }
@@ -46,7 +46,8 @@ impl<S: PageStore> Monitor<S> {
         Ok(())
     }
 
-    // The checks of `data_create`: the realm's tables and the IPA granule, or the refusal. Nothing changes.
+    // Checks the operands of `data_create`, and returns the realm's tables and the IPA granule, or the refusal. Nothing
+    // changes.
     fn check_copy(
         &self,
         rd: Gran,
@@ -79,9 +80,9 @@ impl<S: PageStore> Monitor<S> {
 
     /// Makes a DELEGATED granule a page of zeros of a realm; the RIPAS stays.
     ///
-    /// RMM 1.0, RMI_DATA_CREATE_UNKNOWN. RMI_ERROR_INPUT comes where `rd` is no RD, `page` is not DELEGATED, or the IPA
-    /// granule `ipa` is not protected. RMI_ERROR_RTT comes with the level where the walk ended, unless that is 3 and the
-    /// entry there is UNASSIGNED.
+    /// RMM 1.0, RMI_DATA_CREATE_UNKNOWN. RMI_ERROR_INPUT comes if `rd` is no RD, `page` is not DELEGATED, or the IPA
+    /// granule `ipa` is not protected. RMI_ERROR_RTT comes with the level at which the walk ended, unless that is 3 and
+    /// the entry there is UNASSIGNED.
     pub fn data_create_unknown(&mut self, rd: Gran, page: Gran, ipa: u32) -> Result<(), Rmi>
         requires rd_taken { IsTaken self.old rd }
         requires page_taken { IsTaken self.old page }
@@ -97,10 +98,10 @@ impl<S: PageStore> Monitor<S> {
         Ok(())
     }
 
-    /// Removes a page of a realm: it is zero and DELEGATED, and where it was RAM, the IPA granule is DESTROYED.
+    /// Removes a page of a realm: it is zero and DELEGATED. If it was RAM, the IPA granule is DESTROYED.
     ///
-    /// RMM 1.0, RMI_DATA_DESTROY. RMI_ERROR_INPUT comes where `rd` is no RD, or the IPA granule `ipa` is not protected.
-    /// RMI_ERROR_RTT comes with the level where the walk ended, unless that is 3 and the entry there is ASSIGNED.
+    /// RMM 1.0, RMI_DATA_DESTROY. RMI_ERROR_INPUT comes if `rd` is no RD, or the IPA granule `ipa` is not protected.
+    /// RMI_ERROR_RTT comes with the level at which the walk ended, unless that is 3 and the entry there is ASSIGNED.
     pub fn data_destroy(&mut self, rd: Gran, ipa: u32) -> Result<(), Rmi>
         requires { IsTaken self.old rd }
         ensures answer { Answers result (command.data_destroy (seen_in self.old rd) ipa) }

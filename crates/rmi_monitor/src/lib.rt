@@ -1,8 +1,8 @@
-//! The monitor: commands named after the Realm Management Interface, over any store of pages.
+//! The simulated RMM: commands named after the Realm Management Interface, over any store of pages.
 //!
-//! It is seen as the machine of the definitions, with a flag for each granule that says whether it is free. Each
-//! command answers what its definition says of the granules that it names, and changes the machine as the definition
-//! says; a refusal changes nothing. A caller owes that the granules which a command names are taken.
+//! An RMM is seen as the machine of the definitions, with a flag for each granule that says whether it is free. The
+//! answer and the effect of each command are those of its definition on the named granules; a refusal changes nothing.
+//! A caller has to have taken the granules that a command names.
 #![tactic(auto)]
 
 mod data;

@@ -1,4 +1,4 @@
-//! Where a command on a realm's tables goes on.
+//! The realm's tables and the IPA granule of a command.
 ghost use Rattle.std.specs.Prelude.{◌≡◌, ◌&&◌, true, false, IfOk, IfErr, IfSome, IfNone};
 ghost use Rattle.granule_addr.specs.Ipa.{is_protected_at};
 ghost use Rattle.realm_model.specs.Rows.{is_page_run};
@@ -15,7 +15,7 @@ use realm_model::Rmi;
 use realm_objects::RealmDesc;
 use rtt::Tables;
 
-// The tables of the realm that stands at an RD, and the IPA granule of that number, where it is protected there.
+// The tables of the realm of an RD, and the IPA granule of that number, if it is protected there.
 pub(crate) fn located(rd: Gran, realm: &RealmDesc, ipa: u32) -> Option<(Tables, IpaGran)>
     ensures some { IfSome result (IsLocated realm.now rd ipa) }
     ensures none { IfNone result (is_protected_at ipa realm.now.root.width ≡ false) }
@@ -39,7 +39,7 @@ pub(crate) fn located_run(
 }
 
 impl<S: PageStore> Monitor<S> {
-    // The tables of the realm whose RD that is, and the IPA granule of that number, where it is protected there.
+    // The tables of the realm whose RD that is, and the IPA granule of that number, if it is protected there.
     pub(crate) fn locate(&self, rd: Gran, ipa: u32) -> Result<(Tables, IpaGran), Rmi>
         requires { IsTaken self.now rd }
         ensures ok { IfOk result (Locates self.now.machine rd ipa) }

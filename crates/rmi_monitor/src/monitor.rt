@@ -1,4 +1,4 @@
-//! The monitor, its memory, and blocks of pages.
+//! The RMM, its memory, and blocks of pages.
 ghost use Rattle.std.specs.Prelude.{◌≡◌, ◌<◌, ◌≤◌, ◌↔◌, ℕ, Bool, true, List, length, filter, replicate, sum, Some, None, IsTrue, IfOk, IfErr, IfSome, IfNone};
 ghost use Rattle.std.specs.Bool.{OnTrue, OnFalse};
 ghost use Rattle.page_arena.specs.Page.{page_at};
@@ -17,12 +17,12 @@ use realm_objects::{RealmDesc, Rec};
 use std::alloc::{AllocError, Global};
 use std::marker::Model;
 
-/// A monitor of realms over a store of pages. All its memory is taken when it is built.
+/// An RMM of realms over a store of pages. All its memory is taken when it is built.
 #[derive(Drop)]
 pub struct Monitor<S: PageStore> {
     pub(crate) store: S,
     pub(crate) granules: GranuleTable,
-    // For each granule: the realm whose RD it is, how many RECs that realm has, and the REC that it is.
+    // For each granule: the realm whose RD it is, the number of RECs of that realm, and the REC that it is.
     pub(crate) realms: Vec<Option<RealmDesc>>,
     pub(crate) rec_counts: Vec<u16>,
     pub(crate) recs: Vec<Option<Rec>>,
@@ -47,7 +47,7 @@ impl<S: PageStore> Model for Monitor<S> {
 }
 
 impl<S: PageStore> Monitor<S> {
-    /// Returns a monitor with `vmids` VMIDs, 1 to 255, and `aux` auxiliary granules for each REC, 0 to 16, over a store
+    /// Returns an RMM with `vmids` VMIDs, 1 to 255, and `aux` auxiliary granules for each REC, 0 to 16, over a store
     /// whose pages are all free and zero. If there is no memory for it, returns the error and the store.
     pub fn build(alloc: Global, vmids: u8, aux: u8, store: S) -> Result<Monitor<S>, (AllocError, S)>
         requires some_vmid { 1 ≤ vmids }
@@ -79,8 +79,8 @@ impl<S: PageStore> Monitor<S> {
         }
     }
 
-    /// Takes a free block of 2^order granules and returns its first granule, or `None` if there is no such block. It is
-    /// left open which block that is.
+    /// Takes a free block of 2^order granules and returns its first granule, or `None` if there is no such block. The
+    /// contract leaves open which block that is.
     pub fn take(&mut self, order: Order) -> Option<Gran>
         ensures block { IfSome result (IsFreeBlock self.old.free order) }
         ensures taken { IfSome result (λ first. self.new ≡ with_block self.old order first) }
@@ -90,8 +90,8 @@ impl<S: PageStore> Monitor<S> {
         self.store.take(order)
     }
 
-    /// Takes the block that begins at a granule, and returns whether it was taken. Returns `false`, and changes nothing, if
-    /// and only if the block is not aligned, not inside the machine, or not free.
+    /// Takes the block that begins at a granule, and returns whether it was taken. Returns `false`, and changes
+    /// nothing, if and only if the block is not aligned, not inside the machine, or not free.
     pub fn take_at(&mut self, order: Order, first: Gran) -> bool
         ensures answer { IsTrue result ↔ IsFreeBlock self.old.free order first }
         ensures taken { OnTrue result (self.new ≡ with_block self.old order first) }
@@ -100,7 +100,7 @@ impl<S: PageStore> Monitor<S> {
         self.store.take_at(order, first)
     }
 
-    /// Gives a block of UNDELEGATED granules back: they are blank and free from now on.
+    /// Gives a block of UNDELEGATED granules back: they are zero and free from now on.
     pub fn give(&mut self, first: Gran, order: Order)
         requires { IsGivable self.old order first }
         ensures { self.new ≡ without_block self.old order first }
@@ -108,14 +108,14 @@ impl<S: PageStore> Monitor<S> {
         self.store.give(first, order)
     }
 
-    /// How many granules are free.
+    /// The number of free granules.
     pub fn free_count(&self) -> u16
         ensures { result ≡ length (filter (λ flag. flag) self.now.free) }
     {
         self.store.free_count()
     }
 
-    /// How many granules there are, 1 to 4,096.
+    /// The number of granules, 1 to 4,096.
     pub fn pages(&self) -> u16
         ensures value { result ≡ length self.now.machine }
         ensures some { 1 ≤ result }
@@ -132,7 +132,8 @@ impl<S: PageStore> Monitor<S> {
         self.granules.state(granule)
     }
 
-    /// The 4,096 bytes of a granule that is no table. Nothing is said of a table's bytes: its contents are rows.
+    /// The 4,096 bytes of a granule that is no table. The contract says nothing of a table's bytes: its contents are
+    /// rows.
     pub fn bytes(&self, granule: Gran) -> &[u8]
         requires { granule < length self.now.machine }
         ensures count { length result.now ≡ 4096 }
@@ -165,7 +166,7 @@ impl<S: PageStore> Monitor<S> {
     }
 }
 
-// `count` places, with nothing in them.
+// A list of `count` options, all of them `None`.
 fn nothing<T: Drop>(alloc: Global, count: u16) -> Result<Vec<Option<T>>, AllocError>
     ensures { IfOk result (λ places. places.items ≡ replicate count None) }
 {
@@ -176,7 +177,7 @@ fn nothing<T: Drop>(alloc: Global, count: u16) -> Result<Vec<Option<T>>, AllocEr
     Ok(places)
 }
 
-// The granules of a machine, and the places at each.
+// The granules of a machine, and the realm and the REC of each.
 struct Places {
     granules: GranuleTable,
     realms: Vec<Option<RealmDesc>>,
@@ -184,7 +185,7 @@ struct Places {
     recs: Vec<Option<Rec>>,
 }
 
-// The places of a machine of `pages` pages, where there is no realm and no REC.
+// The granules of a machine of `pages` pages, with no realm and no REC.
 fn empty_places(alloc: Global, pages: u16) -> Result<Places, AllocError>
     requires some { 1 ≤ pages }
     requires few { pages ≤ 4096 }
@@ -205,7 +206,7 @@ fn empty_places(alloc: Global, pages: u16) -> Result<Places, AllocError>
     })
 }
 
-// How many bytes the sum of which fits 16 bits.
+// The largest number of bytes whose sum fits 16 bits.
 const SHORT: usize = 256;
 
 // The sum of a few bytes. Lanes of 16 bits add twice as many at once as lanes of 32.

@@ -1,4 +1,4 @@
-//! What stands at granules, and what moves them.
+//! The realms and RECs of granules, and the moves of granules between states.
 ghost use Rattle.std.specs.Prelude.{◌≡◌, ◌<◌, ◌&&◌, ◌∷◌, All, IsTrue, length, Some, None, option_map, slice_set};
 ghost use Rattle.std.specs.List.{list_all};
 ghost use Rattle.granule_addr.specs.Page.{zero_page};
@@ -14,7 +14,7 @@ use realm_model::GranuleState;
 use realm_objects::RealmDesc;
 use rtt::Tables;
 
-// The tables of the realm that stands at an RD granule.
+// The tables of the realm of an RD granule.
 pub(crate) fn tables_of(rd: Gran, realm: &RealmDesc) -> Tables
     ensures { result ≡ record { rd = rd; root = realm.now.root } }
 {
@@ -24,7 +24,7 @@ pub(crate) fn tables_of(rd: Gran, realm: &RealmDesc) -> Tables
     }
 }
 
-// Extends the measurement of the realm that stands at a place, if there is one.
+// Extends the measurement of a realm, if there is one.
 pub(crate) fn measure(place: &mut Option<RealmDesc>, event: &[u8])
     ensures { place.new ≡ option_map (measured_by event.now) place.old }
 {

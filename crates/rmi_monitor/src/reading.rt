@@ -1,4 +1,4 @@
-//! What is read of granules, of RECs, and of translation tables.
+//! Readings of granules, of RECs, and of translation tables.
 ghost use Rattle.std.specs.Prelude.{◌≡◌, ◌<◌, length};
 ghost use Rattle.std.specs.Option.{option_copied};
 ghost use Rattle.realm_model.specs.Machine.{cell_at};
@@ -13,8 +13,8 @@ use realm_objects::Rec;
 use rtt::Walk;
 
 impl<S: PageStore> Monitor<S> {
-    /// The RD of the realm that a granule belongs to; `None` comes exactly where it belongs to none. An RD belongs to its own
-    /// realm.
+    /// The RD of the realm that a granule belongs to; `None` comes exactly when it belongs to none. An RD belongs to
+    /// its own realm.
     pub fn realm_of(&self, granule: Gran) -> Option<Gran>
         requires { granule < length self.now.machine }
         ensures { result ≡ (cell_at self.now.machine granule).realm }
@@ -31,8 +31,8 @@ impl<S: PageStore> Monitor<S> {
         self.recs[granule.number() as usize].as_ref()
     }
 
-    /// Returns where the walk of an IPA granule towards a level ends in the realm of that RD, or `None` if the granule is
-    /// no RD, or if the IPA granule is not in the realm's address space.
+    /// Returns the end of the walk of an IPA granule towards a level in the realm of that RD. Returns `None` if the
+    /// granule is no RD, or if the IPA granule is not in the realm's address space.
     ///
     /// `ipa` is the number of an IPA granule, of either half of the address space. RMM 1.0, RTT walk.
     pub fn walk(&self, rd: Gran, ipa: u32, to: Level) -> Option<Walk>

@@ -28,19 +28,19 @@ fn number_rec(realm: &mut RealmDesc) -> RecNo
 }
 
 impl<S: PageStore> Monitor<S> {
-    /// How many auxiliary granules a REC has. RMM 1.0, RMI_REC_AUX_COUNT; that it is the same for each realm is this
-    /// profile's own.
+    /// The number of auxiliary granules of a REC. RMM 1.0, RMI_REC_AUX_COUNT; that it is the same for each realm is
+    /// this profile's own.
     pub fn rec_aux_count(&self) -> u8
         ensures { result ≡ self.now.aux }
     {
         self.aux
     }
 
-    /// Makes DELEGATED granules a REC of a NEW realm and its auxiliaries, and answers the number of the REC.
+    /// Makes DELEGATED granules a REC of a NEW realm and its auxiliaries, and returns the number of the REC.
     ///
-    /// RMM 1.0, RMI_REC_CREATE. RMI_ERROR_INPUT comes where the first granule is no RD, one of the others is not
+    /// RMM 1.0, RMI_REC_CREATE. RMI_ERROR_INPUT comes if the first granule is no RD, one of the others is not
     /// DELEGATED, two of these are the same, or there are not as many auxiliaries as each REC has. RMI_ERROR_REALM
-    /// comes where the realm is not NEW.
+    /// comes if the realm is not NEW.
     pub fn rec_create(
         &mut self,
         rd: Gran,
@@ -83,7 +83,7 @@ impl<S: PageStore> Monitor<S> {
 
     /// Removes a READY REC: its granule and its auxiliaries are zero and DELEGATED. Its number is not used again.
     ///
-    /// RMM 1.0, RMI_REC_DESTROY. RMI_ERROR_INPUT comes where the granule is no REC, RMI_ERROR_REC where it is not READY.
+    /// RMM 1.0, RMI_REC_DESTROY. RMI_ERROR_INPUT comes if the granule is no REC, RMI_ERROR_REC if it is not READY.
     pub fn rec_destroy(&mut self, rec: Gran) -> Result<(), Rmi>
         requires { IsTaken self.old rec }
         ensures { IsOnRec command.rec_destroy self.old rec result self.new }
@@ -107,7 +107,7 @@ impl<S: PageStore> Monitor<S> {
         Ok(())
     }
 
-    /// The REC of that number in a realm, and its granule; `None` comes exactly where there is no such realm or REC.
+    /// The REC of that number in a realm, and its granule; `None` comes exactly when there is no such realm or REC.
     pub fn rec(&self, rd: Gran, number: RecNo) -> Option<(Gran, &Rec)>
         requires { rd < length self.now.machine }
         ensures value { option_map (λ r. rec_row r.0 r.1.now) result ≡ rec_in self.now.machine rd number }

@@ -1,4 +1,4 @@
-//! RECs in their places.
+//! The search for a REC by its realm and its number.
 ghost use Rattle.std.specs.Prelude.{◌≡◌, length, IfSome, IfNone, None};
 ghost use Rattle.std.specs.FinMap.{get};
 ghost use Rattle.rmi_monitor.specs.Inside.{recs_of, IsNumbered, IsRecAt};

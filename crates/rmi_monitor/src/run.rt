@@ -1,4 +1,4 @@
-//! How RECs run: their entry, what their guests write, and their exit.
+//! The run of a REC: its entry, the writes of its guest, and its exit.
 ghost use Rattle.realm_model.specs.Command.Rec as command;
 ghost use Rattle.rmi_monitor.specs.View.{IsTaken, IsOnRec};
 
@@ -10,10 +10,10 @@ use realm_model::Rmi;
 use rtt::Rtt;
 
 impl<S: PageStore> Monitor<S> {
-    /// Lets a READY REC of an ACTIVE realm run.
+    /// Enters a READY REC of an ACTIVE realm, which is RUNNING from now on.
     ///
-    /// RMM 1.0, RMI_REC_ENTER. RMI_ERROR_INPUT comes where the granule is no REC, RMI_ERROR_REALM where its realm is not
-    /// ACTIVE, RMI_ERROR_REC where it is not READY.
+    /// RMM 1.0, RMI_REC_ENTER. RMI_ERROR_INPUT comes if the granule is no REC, RMI_ERROR_REALM if its realm is not
+    /// ACTIVE, RMI_ERROR_REC if it is not READY.
     pub fn rec_enter(&mut self, rec: Gran) -> Result<(), Rmi>
         requires { IsTaken self.old rec }
         ensures { IsOnRec command.rec_enter self.old rec result self.new }
@@ -33,11 +33,12 @@ impl<S: PageStore> Monitor<S> {
         Ok(())
     }
 
-    /// Lets a RUNNING REC write a byte of a page of its realm, under any RIPAS. This profile's own, for guest instructions.
+    /// Writes a byte of a page of its realm for a RUNNING REC, under any RIPAS. This profile's own, for guest
+    /// instructions.
     ///
-    /// `ipa` is the number of an IPA granule. RMI_ERROR_INPUT comes where the granule is no REC or the IPA is not
-    /// protected, RMI_ERROR_REC where the REC is not RUNNING, RMI_ERROR_RTT with the level where the walk ended, unless
-    /// the entry there is ASSIGNED.
+    /// `ipa` is the number of an IPA granule. RMI_ERROR_INPUT comes if the granule is no REC or the IPA is not
+    /// protected, and RMI_ERROR_REC if the REC is not RUNNING. RMI_ERROR_RTT comes with the level at which the walk
+    /// ended, unless the entry there is ASSIGNED.
     pub fn guest_write(
         &mut self,
         rec: Gran,
@@ -69,8 +70,8 @@ impl<S: PageStore> Monitor<S> {
 
     /// Stops a RUNNING REC: it is READY from now on.
     ///
-    /// RMM 1.0, REC exit; as a command of its own it is this profile's. RMI_ERROR_INPUT comes where the granule is no REC,
-    /// RMI_ERROR_REC where it is not RUNNING.
+    /// RMM 1.0, REC exit; as a command of its own it is this profile's. RMI_ERROR_INPUT comes if the granule is no REC,
+    /// RMI_ERROR_REC if it is not RUNNING.
     pub fn rec_exit(&mut self, rec: Gran) -> Result<(), Rmi>
         requires { IsTaken self.old rec }
         ensures { IsOnRec command.rec_exit self.old rec result self.new }

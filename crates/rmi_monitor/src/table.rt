@@ -18,9 +18,10 @@ use rtt::Tables;
 impl<S: PageStore> Monitor<S> {
     /// Makes a DELEGATED granule a table of level 2 or 3 of a realm.
     ///
-    /// `ipa` is the first IPA granule that the table serves. RMM 1.0, RMI_RTT_CREATE. RMI_ERROR_INPUT comes where `rd` is no
-    /// RD, `table` is not DELEGATED, no table of that level starts at `ipa`, or `ipa` is not protected. RMI_ERROR_RTT comes
-    /// with the level where the walk ended, unless that is the level above and the entry there is not TABLE.
+    /// `ipa` is the first IPA granule that the table serves. RMM 1.0, RMI_RTT_CREATE. RMI_ERROR_INPUT comes if `rd` is
+    /// no RD, `table` is not DELEGATED, no table of that level starts at `ipa`, or `ipa` is not protected.
+    /// RMI_ERROR_RTT comes with the level at which the walk ended, unless that is the level above and the entry there
+    /// is not TABLE.
     pub fn rtt_create(&mut self, rd: Gran, table: Gran, ipa: u32, level: u8) -> Result<(), Rmi>
         requires rd_taken { IsTaken self.old rd }
         requires table_taken { IsTaken self.old table }
@@ -41,10 +42,10 @@ impl<S: PageStore> Monitor<S> {
 
     /// Removes a table of level 2 or 3 of a realm: its granule is zero and DELEGATED.
     ///
-    /// `ipa` is the first IPA granule that the table serves. RMM 1.0, RMI_RTT_DESTROY. RMI_ERROR_INPUT comes where `rd` is no
-    /// RD, no table of that level starts at `ipa`, or `ipa` is not protected. RMI_ERROR_RTT comes with the level where the
-    /// walk ended, unless that is the level above and the entry there is TABLE; then with `level`, where an entry of the
-    /// table is ASSIGNED or TABLE.
+    /// `ipa` is the first IPA granule that the table serves. RMM 1.0, RMI_RTT_DESTROY. RMI_ERROR_INPUT comes if `rd` is
+    /// no RD, no table of that level starts at `ipa`, or `ipa` is not protected. RMI_ERROR_RTT comes with the level at
+    /// which the walk ended, unless that is the level above and the entry there is TABLE. Then it comes with `level` if
+    /// an entry of the table is ASSIGNED or TABLE.
     pub fn rtt_destroy(&mut self, rd: Gran, ipa: u32, level: u8) -> Result<(), Rmi>
         requires { IsTaken self.old rd }
         ensures answer { Answers result (command.rtt_destroy (seen_in self.old rd) ipa level) }
@@ -60,9 +61,9 @@ impl<S: PageStore> Monitor<S> {
 
     /// Gives RAM to `count` IPA granules from `ipa` on, to all or none, and extends the realm's measurement.
     ///
-    /// RMM 1.0, RMI_RTT_INIT_RIPAS. RMI_ERROR_INPUT comes where `rd` is no RD, `count` is not 1 to 512, one table of level 3
-    /// does not serve all of them, or `ipa` is not protected. RMI_ERROR_REALM comes where the realm is not NEW.
-    /// RMI_ERROR_RTT comes with the level where the walk ended, unless that is 3 and all the entries are UNASSIGNED.
+    /// RMM 1.0, RMI_RTT_INIT_RIPAS. RMI_ERROR_INPUT comes if `rd` is no RD, `count` is not 1 to 512, one table of level
+    /// 3 does not serve all of them, or `ipa` is not protected. RMI_ERROR_REALM comes if the realm is not NEW.
+    /// RMI_ERROR_RTT comes with the level at which the walk ended, unless that is 3 and all the entries are UNASSIGNED.
     pub fn rtt_init_ripas(&mut self, rd: Gran, ipa: u32, count: u16) -> Result<(), Rmi>
         requires { IsTaken self.old rd }
         ensures answer { Answers result (command.rtt_init_ripas (seen_in self.old rd) ipa count) }
@@ -77,7 +78,7 @@ impl<S: PageStore> Monitor<S> {
         Ok(())
     }
 
-    // Where the pages of a NEW realm that become RAM are.
+    // The tables and the first IPA granule of the pages of a NEW realm that become RAM.
     fn check_run(&self, rd: Gran, ipa: u32, count: u16) -> Result<(Tables, IpaGran), Rmi>
         requires { IsTaken self.now rd }
         ensures ok { IfOk result (λ at. LocatesNew self.now.machine rd ipa at × (is_page_run ipa count ≡ true)) }

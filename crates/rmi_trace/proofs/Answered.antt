@@ -1,4 +1,4 @@
--- Where a line is cut at its answer.
+-- The cut of a line at its answer.
 use Rattle.std.proofs.Common.{◌≡◌, ℕ, suc, ◌<◌, ◌+◌, List, [], ◌∷◌, ◌++◌, length, get_or, take, drop, Bool, true}
 use Rattle.std.proofs.Common.{false, cond, nat_eq, codes, Some, sym, ap, ◌∙◌, add-one, append_assoc, drop-cons, drop-drop, length-drop, ◌-◌, arith}
 use Rattle.std.proofs.Math.Seq.{take-suc}

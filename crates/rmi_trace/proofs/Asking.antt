@@ -1,4 +1,4 @@
--- A text asks for the request that is written before its answer.
+-- The request of a text, which is written before its answer.
 use Rattle.std.proofs.Common.{◌≡◌, ℕ, List, ◌++◌, true, false, not, eqb, codes, refl, sym, ap, subst, ◌∙◌, append_assoc, inl, inr}
 use Rattle.std.specs.List.{list_all}
 use Rattle.decimal_text.specs.Numbers.{spelled_numbers}

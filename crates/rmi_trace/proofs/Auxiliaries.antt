@@ -1,4 +1,4 @@
--- An RD, a REC's granule and its auxiliaries are not more numbers than are read.
+-- A bound of the numbers of a request: an RD, a REC's granule and its auxiliaries are not more than are read.
 use Rattle.std.proofs.Common.{ℕ, ◌≤◌, List, ◌∷◌, length, replicate, arith}
 use Rattle.decimal_text.specs.Numbers.{AreNumbers}
 use Rattle.decimal_text.specs.Ranges.{AreAtMost}

@@ -1,4 +1,4 @@
--- A command in its ranges is what its word and numbers mean.
+-- The meaning of a command's own word and numbers, if they are in its ranges.
 use Rattle.std.proofs.Common.{◌≡◌, Some, codes, refl}
 use Rattle.std.proofs.lemmas.Bool.{le-leb}
 use Rattle.decimal_text.specs.Numbers.{AreNumbers}

@@ -1,4 +1,4 @@
--- What a line means, as a relation and as a function.
+-- The meaning of a line, as a relation and as a function.
 use Rattle.std.proofs.Common.{◌≡◌, ℕ, ◌+◌, ◌-◌, ◌<◌, List, [], ◌∷◌, ◌++◌, get_or, take, drop, nat_eq, true, false}
 use Rattle.std.proofs.Common.{cond, IsUtf8, Option, Some, None, refl, sym, ap, subst, ◌∙◌, inl, inr, length, leb, arith}
 use Rattle.std.specs.List.{ends_with}

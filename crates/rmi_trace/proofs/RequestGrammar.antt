@@ -1,4 +1,4 @@
--- Requests are a grammar: each is what its text means, and a text means no other.
+-- The grammar of requests: each is the meaning of its text, and of no other.
 use Rattle.std.proofs.Common.{◌≡◌, ℕ, List, [], ◌∷◌, true, false, cond, leb, ◌&&◌, Option, Some, None, option_map, codes, refl, subst}
 use Rattle.std.proofs.lemmas.Bool.{le-leb, leb-true, and_parts}
 use Rattle.decimal_text.specs.Numbers.{AreNumbers}

@@ -1,4 +1,4 @@
--- The request that a text means is the one that is written so.
+-- The request that a text means, which is the one that is written so.
 use Rattle.std.proofs.Common.{◌≡◌, ℕ, List, Option, Some, None, sym, ◌∙◌}
 use Rattle.std.specs.Prelude.{IfSome, IfNone}
 use Rattle.decimal_text.specs.Grammar.{meaning_of_text}

@@ -33,7 +33,7 @@ abbrev pub realm_answer_text : TraceRealmState → ℕ → ℕ → ℕ → ℕ �
 realm_answer_text s vmid root width next =
     trace_realm_word s ++ codes " vmid " ++ decimal vmid ++ codes " root " ++ decimal root ++ codes " width " ++ decimal width ++ codes " next " ++ decimal next
 
--- each auxiliary behind one space
+-- each auxiliary after one space
 abbrev pub rec_text : ℕ → TraceRecState → List ℕ → List ℕ
 rec_text number s auxiliaries = codes "number " ++ decimal number ++ rec_word s ++ codes " aux" ++ spelled_numbers auxiliaries
 
@@ -41,7 +41,7 @@ rec_text number s auxiliaries = codes "number " ++ decimal number ++ rec_word s 
 abbrev pub measurement_text : List ℕ → List ℕ
 measurement_text bytes = encode_lower bytes
 
--- what stands behind ` = `; a value stands behind the result word of RMI_SUCCESS
+-- the text after ` = `; a value is after the result word of RMI_SUCCESS
 abbrev pub trace_answer_text : TraceAnswer → List ℕ
 trace_answer_text (answer.ResultWord word) = decimal word
 trace_answer_text (answer.Value value) = codes "0 " ++ decimal value

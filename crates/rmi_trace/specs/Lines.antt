@@ -1,4 +1,4 @@
--- What a line of a trace means.
+-- The meaning of a line of a trace.
 use Rattle.std.specs.Prelude.{◌≡◌, ℕ, ◌-◌, ◌≤◌, ◌==◌, ◌&&◌, nat_eq, nat_le, List, [], ◌∷◌, ◌++◌, codes, length, take, drop, slice_index, if◌then◌else◌, Bool, true, Option, Some, None, IsUtf8, ◌⊎◌}
 use Rattle.std.specs.List.{starts_with, ends_with}
 use Rattle.std.specs.Str.{is_utf8}
@@ -21,7 +21,7 @@ IsReadable bytes = (length bytes ≤ 65536) × IsUtf8 bytes
 abbrev pub IsRemark : List ℕ → Type 0
 IsRemark text = (text ≡ []) ⊎ (slice_index text 0 ≡ 35)
 
--- the text is what is asked, alone or before an answer
+-- the text is the request, alone or before an answer
 abbrev pub IsAskedIn : List ℕ → List ℕ → Type 0
 IsAskedIn text asked = (text ≡ asked) ⊎ ((answer : List ℕ) × (text ≡ asked ++ (codes " = " ++ answer)))
 
@@ -29,7 +29,7 @@ IsAskedIn text asked = (text ≡ asked) ⊎ ((answer : List ℕ) × (text ≡ as
 abbrev pub Asks : List ℕ → Request → Type 0
 Asks text request = (asked : List ℕ) × IsAskedIn text asked × IsWritten asked request
 
--- what a line means: no command where it is neither a remark nor a request
+-- the meaning of a line: no command if it is neither a remark nor a request
 abbrev pub Means : List ℕ → TraceLine → Type 0
 Means bytes line.Remark = IsReadable bytes × IsRemark (text_of bytes)
 Means bytes (line.Request request) = IsReadable bytes × Asks (text_of bytes) request
@@ -37,7 +37,7 @@ Means bytes line.Neither = IsReadable bytes → (¬ IsRemark (text_of bytes)) ×
 
 -- ---- the same as functions
 
--- what stands before the first ` = `, and the answer that stands behind it
+-- the text before the first ` = `, and the answer after it
 abbrev pub before_answer : List ℕ → List ℕ
 before_answer [] = []
 before_answer (b ∷ bs) = if starts_with nat_eq (b ∷ bs) (codes " = ") then [] else b ∷ before_answer bs

@@ -1,4 +1,4 @@
--- The request that is written with a word and its numbers, as a function.
+-- The request of a word and its numbers, as a function.
 use Rattle.std.specs.Prelude.{ℕ, nat_le, ◌&&◌, List, [], ◌∷◌, codes, if◌then◌else◌, Option, Some, None, option_map}
 use Rattle.std.specs.Option.{option_or}
 use Rattle.std.specs.Str.{bytes_eq}

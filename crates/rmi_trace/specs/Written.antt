@@ -1,4 +1,4 @@
--- Requests as they are written: a word, and its numbers in their ranges.
+-- The spelling of requests: a word, and its numbers in their ranges.
 use Rattle.std.specs.Prelude.{◌≡◌, ℕ, ◌≤◌, List, [], ◌∷◌, codes, replicate}
 use Rattle.arrayvec.specs.ArrayVec.{array_vec_len}
 use Rattle.decimal_text.specs.Grammar.{spelled}
@@ -60,7 +60,7 @@ pub record IsRequestInRange (r : Request) : Type 0 where
   pub at_most : AreAtMost (written_request r).numbers (written_request r).maxima
   pub counts : HasCounts r
 
--- the text is the request's word and its numbers, each in decimal behind one space
+-- the text is the request's word and its numbers, each in decimal after one space
 pub record IsWritten (text : List ℕ) (r : Request) : Type 0 where
   pub is_spelled : text ≡ spelled (written_request r).word (written_request r).numbers
   pub in_range : IsRequestInRange r

@@ -1,4 +1,4 @@
-//! Answers of the monitor, and their texts.
+//! Answers of the RMM, and their texts.
 ghost use Rattle.std.specs.Prelude.{◌≡◌, ◌≤◌, ◌+◌, ◌++◌, length, decimal, codes};
 ghost use Rattle.arrayvec.specs.ArrayVec.{array_vec_len};
 ghost use Rattle.rmi_trace.specs.Answers.{trace_state_word, realm_answer_text, rec_text, measurement_text, trace_answer_text};
@@ -34,7 +34,7 @@ pub enum TraceRecState {
     Running,
 }
 
-/// What the monitor answers.
+/// An answer to a line of a trace.
 #[derive(Drop)]
 pub enum TraceAnswer {
     /// The result word of a command.
@@ -178,7 +178,7 @@ fn measurement_text(measurement: &[u8; 32]) -> ArrayVec<u8, MOST_BYTES>
 }
 
 impl TraceAnswer {
-    /// The text of the answer, as a trace has it behind ` = `. It takes no memory.
+    /// The text of the answer, which a trace has after ` = `. No memory is taken.
     pub fn text(&self) -> ArrayVec<u8, MOST_BYTES>
         ensures { result.items ≡ trace_answer_text self.now }
     {

@@ -1,4 +1,4 @@
-//! The command that a word and its numbers are.
+//! The reading of a command from a word and its numbers.
 ghost use Rattle.std.specs.Prelude.{◌≡◌};
 ghost use Rattle.rmi_trace.specs.Commands.{rec_create_at, granule_command_at, realm_command_at, table_command_at, data_command_at, rec_command_at, command_at};
 
@@ -7,7 +7,7 @@ use decimal_text::{
     Operand, four_operands, made_of, one_operand, three_operands, two_operands, up_to,
 };
 
-// The command, where the operands that it is made of are found.
+// The command, if its operands are in range.
 macro_rules! command {
     ($found:expr => $kind:ident { $($field:ident),+ }) => {
         made_of!($found => Command::$kind { $($field),+ })

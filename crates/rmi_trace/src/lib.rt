@@ -1,9 +1,9 @@
-//! Traces of a monitor: from a line to what it asks for, and from an answer to its text.
+//! Traces of an RMM: the reading of a line as a request, and the text of an answer.
 //!
-//! A line opens a machine, is a command, asks for a reading, or is a remark; a line that is none of these is no
-//! command. A line is a request exactly where it is the request's own text (`specs/Written.antt`), with nothing before
-//! or after it but an answer behind ` = ` and a carriage return. Numbers are plain numbers here: whether a granule is
-//! inside a machine is for the monitor to say.
+//! A line opens a machine, is a command, asks for a reading, or is a remark; any other line is no command. A line is a
+//! request exactly when it is the request's own text (`specs/Written.antt`). Nothing is before or after it but an
+//! answer after ` = ` and a carriage return. Numbers are plain numbers here: whether a granule is inside a machine is
+//! for the RMM to say.
 #![tactic(auto)]
 
 mod answer;

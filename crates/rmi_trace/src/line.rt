@@ -9,7 +9,7 @@ use crate::requests::request_of;
 /// The most bytes that a line has: a longer one is no command.
 pub const MOST_LINE: usize = 65_536;
 
-/// What a line is.
+/// The meaning of a line.
 #[derive(Drop)]
 pub enum TraceLine {
     /// A comment, or an empty line.
@@ -29,8 +29,8 @@ fn text_of(line: &[u8]) -> &[u8]
     }
 }
 
-/// A line cut at its first ` = `: what stands before it, and the answer that stands behind it. A carriage return at the
-/// end of the line is part of neither.
+/// A line cut at its first ` = `: the text before it, and the answer after it. A carriage return at the end of the line
+/// is part of neither.
 pub fn cut_answer(line: &[u8]) -> (&[u8], Option<&[u8]>)
     ensures before { result.0.now ≡ before_answer (text_of line.now) }
     ensures answer { option_copied result.1 ≡ answer_in (text_of line.now) }
@@ -53,7 +53,8 @@ fn is_remark(text: &[u8]) -> bool
     }
 }
 
-/// What the line is. A line of more than `MOST_LINE` bytes, or one that is not UTF-8, is no command. It takes no memory.
+/// The meaning of the line. A line of more than `MOST_LINE` bytes, or one that is not UTF-8, is no command. No memory
+/// is taken.
 pub fn parse(line: &[u8]) -> TraceLine
     ensures meant { Means line.now result }
     ensures exact { result ≡ line_of_trace line.now }

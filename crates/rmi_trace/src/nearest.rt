@@ -32,16 +32,16 @@ const WORDS: [&str; 25] = [
     "rec",
 ];
 
-/// The most bytes of a word that is looked up.
+/// The most bytes of a word that is compared.
 const LONGEST: usize = 32;
 
-// Whether so many edits leave a word near to another: up to a third of the longer of the two.
+// Whether a word is near to another that is so many edits away: up to a third of the longer of the two.
 fn is_near(edits: usize, one: &str, other: &str) -> bool {
     edits.saturating_mul(3) <= one.len().max(other.len())
 }
 
-/// The word of a request that is the nearest to the word of the line, if one is near and is another. Of several, the
-/// first.
+/// The word of a request that is the nearest to the word of the line, if one is near and differs from it. Of several,
+/// the first.
 pub fn nearest_word(alloc: Global, line: &[u8]) -> Result<Option<&'static str>, AllocError> {
     let Ok(text) = str::from_utf8(line) else {
         return Ok(None);

@@ -1,7 +1,7 @@
-//! What a line of a trace asks for.
+//! The request of a line of a trace.
 //!
-//! Each operand has the number type of what it names: granules, counts and offsets 16 bits, IPA granules 32, VMIDs,
-//! widths, levels and bytes 8. So a line can name what no machine has, which is for the monitor to refuse.
+//! Each operand has the number type of its field: granules, counts and offsets 16 bits, IPA granules 32, VMIDs, widths,
+//! levels and bytes 8. So a line can name what no machine has, which is for the RMM to refuse.
 use arrayvec::ArrayVec;
 
 /// A fresh machine, in which every page is taken and zero: of 1 to 4,096 pages, with 1 to 255 VMIDs, and with up to 16
@@ -13,7 +13,7 @@ pub struct TraceOpening {
     pub auxiliaries: u8,
 }
 
-/// A command of the monitor.
+/// A command of the RMM.
 #[derive(Drop)]
 pub enum Command {
     GranuleDelegate {
@@ -113,7 +113,7 @@ pub enum Reading {
     Rec { granule: u16 },
 }
 
-/// What a line asks for.
+/// The request of a line.
 #[derive(Drop)]
 pub enum Request {
     Opening(TraceOpening),

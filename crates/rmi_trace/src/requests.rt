@@ -1,4 +1,4 @@
-//! The request that a text is.
+//! The reading of a request from a text.
 ghost use Rattle.std.specs.Prelude.{◌≡◌, IfSome, IfNone};
 ghost use Rattle.decimal_text.specs.Grammar.{meaning_of_text};
 ghost use Rattle.rmi_trace.specs.declared.request.Request.{Request};
@@ -9,7 +9,7 @@ use crate::command::command;
 use crate::request::{Reading, Request, TraceOpening};
 use decimal_text::{cut_at_space, made_of, numbers_of, one_operand, three_operands, two_operands};
 
-/// The most numbers that a request has: an RD, a REC's granule, and its auxiliaries.
+/// The most numbers of a request: an RD, a REC's granule, and its auxiliaries.
 const MOST_NUMBERS: usize = 18;
 
 /// The most pages of a machine.
@@ -71,12 +71,12 @@ fn request_from_parts(word: &str, numbers: &[u32]) -> Option<Request>
     Some(Request::Opening(found))
 }
 
-/// The request that the text is: a word and its numbers, one space before each number and nothing else; the numbers in
-/// decimal, without a sign and without leading zeros, and each in its range. It takes no memory.
+/// The request that the text is: a word and its numbers, one space before each number and nothing else. The numbers are
+/// in decimal, without a sign and without leading zeros, and each in its range. No memory is taken.
 pub(crate) fn request_of(text: &str) -> Option<Request>
-    // What is found is the request that is written so.
+    // The request that is returned is written so.
     ensures found { IfSome result (λ request. IsWritten text.now request) }
-    // Where none is found, no request is written so.
+    // If none is returned, no request is written so.
     ensures none { IfNone result ((request : Request) → IsWritten text.now request → ⊥) }
     ensures exact { result ≡ meaning_of_text request_at text.now }
 {

@@ -1,4 +1,4 @@
-//! Lines as they are written, each with its line feed. Where there is no memory for a whole line, nothing is appended.
+//! The writing of lines, each with its line feed. If there is no memory for a whole line, nothing is appended.
 ghost use Rattle.std.specs.Prelude.{◌≡◌, ◌≤◌, ◌+◌, ◌++◌, length, OnOk, OnErr, IsOk, vec_len, vec_capacity};
 ghost use Rattle.rmi_trace.specs.Answers.{repeated_line, answered_line};
 
@@ -9,7 +9,7 @@ use std::alloc::AllocError;
 pub fn push_line(text: &mut Vec<u8>, line: &[u8]) -> Result<(), AllocError>
     ensures ok { OnOk result (text.new.items ≡ text.old.items ++ repeated_line line.now) }
     ensures err { OnErr result (text.new.items ≡ text.old.items) }
-    // With room for the line it does not fail.
+    // With capacity for the line it does not fail.
     ensures room { vec_len text.old + length line.now + 1 ≤ vec_capacity text.old → IsOk result }
 {
     text.reserve(line.len() + 1)?;
@@ -18,7 +18,7 @@ pub fn push_line(text: &mut Vec<u8>, line: &[u8]) -> Result<(), AllocError>
     Ok(())
 }
 
-/// Appends what is asked, and the answer behind ` = `.
+/// Appends the request, and the answer after ` = `.
 pub fn push_answered(
     text: &mut Vec<u8>,
     asked: &[u8],
@@ -26,7 +26,7 @@ pub fn push_answered(
 ) -> Result<(), AllocError>
     ensures ok { OnOk result (text.new.items ≡ text.old.items ++ answered_line asked.now answer.now) }
     ensures err { OnErr result (text.new.items ≡ text.old.items) }
-    // With room for any answer it does not fail.
+    // With capacity for any answer it does not fail.
     ensures room { vec_len text.old + length asked.now + 132 ≤ vec_capacity text.old → IsOk result }
 {
     let told = answer.text();

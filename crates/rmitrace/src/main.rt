@@ -1,5 +1,5 @@
-//! A monitor on a pipe: the lines of a trace come from a file or from standard input, and go to standard output with their answers;
-//! or are checked.
+//! The program that answers or checks traces. The lines of a trace come from a file or from standard input, and go to
+//! standard output with their answers, or are checked.
 #![tactic(auto)]
 
 ghost use Rattle.std.specs.Prelude.{◌≡◌, IfErr};
@@ -19,7 +19,7 @@ fn painting(asked: TraceSubcommand) -> Option<Painting> {
     }
 }
 
-/// Does what the command line asks for.
+/// Performs what the command line asks for.
 fn serve(rt: &HostRuntime) -> Result<Ended<Verdict>, Stop<TraceError>> {
     let alloc = rt.alloc();
     let words = arguments::<_, TraceError>(rt)?;
@@ -33,7 +33,7 @@ fn serve(rt: &HostRuntime) -> Result<Ended<Verdict>, Stop<TraceError>> {
     Ended::of_run(outcome, output.is_closed())
 }
 
-/// The exit status. Where the program stops, standard error says why. A line that is wrong stands on standard output.
+/// The exit status. If the program stops, standard error has the reason. A wrong line is on standard output.
 fn end(rt: &HostRuntime, outcome: Result<Ended<Verdict>, Stop<TraceError>>) -> ExitCode
     ensures value { exit_status result ≡ trace_exit_status outcome }
     ensures stops { IfErr outcome (λ _. IsTraceStatus (exit_status result)) }

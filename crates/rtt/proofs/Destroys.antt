@@ -1,4 +1,4 @@
--- A table whose entries are all UNASSIGNED is taken away from below its entry.
+-- The removal of a table whose entries are all UNASSIGNED from below its entry.
 use Rattle.std.proofs.Common.{◌≡◌, ◌≢◌, ℕ, suc, ◌+◌, ◌*◌, ◌/◌, ◌<◌, Bool, true, false, cond, not, List, Option, Some, None, refl, sym, ap, ◌∙◌}
 use Rattle.std.specs.FinMap.{get}
 use Rattle.std.proofs.lemmas.Option.{same_Some}

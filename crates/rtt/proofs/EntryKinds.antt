@@ -1,4 +1,4 @@
--- What entries lead to, by their kind.
+-- The targets of entries, by their kind.
 use Rattle.std.proofs.Common.{◌≡◌, ℕ, Bool, true, false, cond, Option, Some, None, refl, ap}
 use Rattle.realm_model.specs.declared.states.EntryState.{EntryState}
 use Rattle.realm_model.specs.declared.states.EntryState.TheVariants.{Unassigned, Assigned, Table}

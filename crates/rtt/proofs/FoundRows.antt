@@ -1,4 +1,4 @@
--- What a command finds in the tables, by where its walk ends.
+-- The row that a command requires in the tables, by the end of its walk.
 use Rattle.std.proofs.Common.{◌≡◌, ◌≢◌, ℕ, ◌-◌, Bool, true, false, Some, None, Err, ◌⊎◌, ⊎_elim, sym, ap, ◌∙◌}
 use Rattle.std.specs.Prelude.{◌==◌}
 use Rattle.std.proofs.lemmas.Bool.{cases_eq, eq-eqb, ne_eqb}

@@ -1,4 +1,4 @@
--- A realm's tables rest on the pages of its own granules in RTT alone.
+-- The frame of a realm's tables: the pages of its own granules in RTT alone.
 use Rattle.std.specs.Prelude.{◌≡◌, ℕ, zero, suc, ◌<◌, ◌≤◌, true, false, cond, List, Option, Some, None, option_and_then}
 use Rattle.std.proofs.Common.{refl, sym, ap, subst, ◌∙◌, arith}
 use Rattle.granule_addr.specs.Ipa.{entry_index}

@@ -1,4 +1,5 @@
--- What a call on tables needs of pages that are taken, and what it keeps that writes pages and moves one granule at most.
+-- The conditions of a call on tables on the pages that are taken, and the invariants of a call that writes pages and
+-- moves at most one granule.
 use Rattle.std.proofs.Common.{◌≡◌, ◌≢◌, ℕ, ◌<◌, Bool, false, set, List, length, Option, Some, inl, inr, sym, ap, ◌∙◌, arith}
 use Rattle.std.proofs.lemmas.Bool.{cases_eq}
 use Rattle.std.proofs.lemmas.List.{length-set, get_or-set_other}

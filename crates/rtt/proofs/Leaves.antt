@@ -1,4 +1,4 @@
--- An entry of a table of the last level is written: a page is mapped or unmapped, or a RIPAS changes.
+-- The write of an entry in a table of the last level: a page is mapped or unmapped, or a RIPAS changes.
 use Rattle.std.proofs.Common.{◌≡◌, ◌≢◌, ℕ, ◌/◌, ◌<◌, List, Option, Some, None, refl, sym, ap, subst, ◌∙◌, arith, lit≤}
 use Rattle.std.specs.Prelude.{option_and_then}
 use Rattle.std.proofs.lemmas.Option.{same_Some}

@@ -1,4 +1,4 @@
--- What a call on one realm's tables leaves of the others.
+-- The tables of other realms after a call on one realm's.
 use Rattle.std.proofs.Common.{◌≡◌, ◌≢◌, ℕ, Bool, List, Option, Some, refl, sym, ap, ◌∙◌}
 use Rattle.granule_addr.specs.declared.root.Root.{Root}
 use Rattle.granule_table.specs.Granules.{granule_at, IsIn}

@@ -1,4 +1,4 @@
--- Places of IPA granules in tables: which entry of a level covers one, and which table holds the entry.
+-- Places of IPA granules in tables: the entry of a level that covers one, and the table of the entry.
 use Rattle.std.proofs.Common.{◌≡◌, ◌≢◌, ℕ, zero, suc, ◌+◌, ◌*◌, ◌/◌, ◌%◌, ◌<◌, ◌≤◌, Bool, true, false, ◌&&◌, eqb, Option, Some, None, ◌⊎◌, inl, inr, ⊎_elim, refl, sym, ap, ◌∙◌, arith, lit≤}
 use Rattle.std.specs.Prelude.{◌==◌}
 use Rattle.std.proofs.Math.Nat.{div-div-eq-div-mul, div-add-mod, mul-div_cancel, div-mul-le_self}

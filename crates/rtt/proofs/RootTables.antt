@@ -1,4 +1,4 @@
--- Starting tables are opened and closed.
+-- The opening and closing of starting tables.
 use Rattle.std.proofs.Common.{◌≡◌, ◌≢◌, ℕ, ◌+◌, ◌-◌, ◌<◌, ◌≤◌, Bool, true, false, List, [], length, Option, Some, None, ◌⊎◌, inl, inr, refl, sym, ap, subst, ◌∙◌, arith}
 use Rattle.std.specs.Prelude.{IsTrue, ◌↔◌, not}
 use Rattle.std.proofs.lemmas.Bool.{cases_lt}

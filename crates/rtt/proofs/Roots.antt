@@ -1,4 +1,4 @@
--- The starting tables: a realm that has no other table, and whether one stands below.
+-- The starting tables: a realm that has no other table, and the test whether one is below.
 use Rattle.std.proofs.Common.{◌≡◌, ◌≢◌, ℕ, zero, suc, ◌+◌, ◌*◌, ◌/◌, ◌%◌, ◌<◌, ◌≤◌, Bool, true, false, not, List, Some, None, inl, inr, refl, sym, ap, subst, ◌∙◌, arith, lit≤}
 use Rattle.std.specs.Prelude.{option_and_then}
 use Rattle.std.specs.FinMap.{get, empty, get-empty}

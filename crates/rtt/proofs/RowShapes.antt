@@ -1,4 +1,4 @@
--- Rows keep their shape where an entry is written.
+-- The shape of rows, which they keep when an entry is written.
 use Rattle.std.proofs.Common.{◌≡◌, ℕ, false, Some, refl, ap, ◌∙◌}
 use Rattle.std.specs.Prelude.{option_map, is_some}
 use Rattle.granule_addr.specs.Ipa.{first_covered}

@@ -1,4 +1,4 @@
--- The rows that tables hold: what they have at each place, and where walks over them end.
+-- The rows of tables: the one at each place, and the ends of walks over them.
 use Rattle.std.proofs.Common.{◌≡◌, ℕ, zero, suc, ◌<◌, ◌≤◌, true, false, cond, Option, Some, None, ◌⊎◌, inl, inr, ⊎_elim, refl, sym, ap, ◌∙◌, arith}
 use Rattle.std.specs.Prelude.{option_and_then}
 use Rattle.std.specs.FinMap.{get}

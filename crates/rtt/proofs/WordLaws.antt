@@ -1,4 +1,4 @@
--- Laws of the words of entries: each is read back as its entry.
+-- Theorems on the words of entries: each is read back as its entry.
 use Rattle.std.specs.Prelude.{◌≡◌, ℕ, ◌+◌, ◌*◌, ◌/◌, ◌%◌, ◌^◌, ◌<◌, Option, Some, None}
 use Rattle.std.proofs.Common.{refl, sym, ap, ◌∙◌, arith}
 use Rattle.realm_model.specs.declared.states.EntryState.{EntryState}

@@ -1,4 +1,4 @@
--- An entry is written in a table: which tables and entries there are afterwards.
+-- The tables and entries after an entry of a table is written.
 use Rattle.std.proofs.Common.{◌≡◌, ◌≢◌, ℕ, zero, suc, ◌/◌, ◌<◌, ◌≤◌, true, false, cond, List, Option, Some, None, ◌⊎◌, inl, inr, refl, sym, ap, subst, ◌∙◌, arith}
 use Rattle.std.specs.Prelude.{option_and_then}
 use Rattle.std.proofs.lemmas.Bool.{cases_eq}
@@ -16,7 +16,8 @@ use Rattle.rtt.proofs.PlaceLaws.{option_cases, index_below, table_of_entry, inde
 use Rattle.rtt.proofs.TableAt.{table_at-next, table_at-same}
 
 -- The entry is written in a table, in place of another. The table below the one, and that below the other, if there are
--- such, have UNASSIGNED entries alone. No other entry of the realm's tables changes, but for those of a table that goes.
+-- such, have UNASSIGNED entries alone. No other entry of the realm's tables changes, but for those of a table that
+-- goes.
 pub record Writes (entries new : Entries) (root : Root) (level ipa table : ℕ) (entry : Row) : Type 0 where
   pub inside : IsInside root.width level ipa
   pub at : table_at entries root level ipa ≡ Some table

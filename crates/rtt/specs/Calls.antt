@@ -1,4 +1,4 @@
--- What the clauses of the calls on tables say.
+-- The clauses of the calls on tables.
 use Rattle.std.specs.Prelude.{◌≡◌, ℕ, ◌-◌, Bool, List, Option, Some, unwrap_or, slice_set}
 use Rattle.granule_addr.specs.declared.root.Root.{Root}
 use Rattle.granule_table.specs.declared.granule.Granule.{Granule}
@@ -21,17 +21,17 @@ with_states granules these state realm = set_each (record { state = state; realm
 abbrev pub LeadsTo : Rows → ℕ → ℕ → ℕ → Type 0
 LeadsTo rows level ipa granule = (row : Row) × (row_at rows level ipa ≡ Some row) × (row.granule ≡ Some granule)
 
--- ---- what a call keeps
+-- ---- the invariants of a call
 
--- What each call keeps beside the tables of its realm: there is a granule for each page, and those that are not UNDELEGATED
--- have taken pages; the same pages are free; and all other realms are left alone.
+-- The invariants of each call outside the tables of its realm. There is a granule for each page, and those that are not
+-- UNDELEGATED have taken pages. The same pages are free, and all other realms are left alone.
 pub record KeepsRest (rd : ℕ) (pages : List (List ℕ)) (free : List Bool) (granules : List Granule)
     (new_pages : List (List ℕ)) (new_free : List Bool) (new_granules : List Granule) : Type 0 where
   pub backed : IsBacked new_pages new_free new_granules
   pub flags : new_free ≡ free
   pub other_realms : LeavesOthers rd pages granules new_pages new_granules
 
--- What a call keeps besides, if it leaves the realm its starting tables or makes them: the realm has its tables.
+-- The further invariant of a call that leaves the realm its starting tables or creates them: the realm has its tables.
 pub record Keeps (rd : ℕ) (root : Root) (pages : List (List ℕ)) (free : List Bool) (granules : List Granule)
     (new_pages : List (List ℕ)) (new_free : List Bool) (new_granules : List Granule) : Type 0 where
   pub tables : HasTables new_pages new_granules rd root
@@ -48,12 +48,12 @@ ChangesTablesAnd IsOneMore root pages new_pages =
 
 -- ---- rows after a call that was not refused
 
--- The rows have a table of a level: its rows have the RIPAS that was above. RMM 1.0, RMI_RTT_CREATE.
+-- The rows have a table of a level: its rows have the RIPAS of the row above. RMM 1.0, RMI_RTT_CREATE.
 abbrev pub GainsTable : Rows → ℕ → ℕ → ℕ → Rows → Type 0
 GainsTable old level ipa granule new =
     (above : Row) → row_at old (level - 1) ipa ≡ Some above → new ≡ with_table old level ipa granule above.ripas
 
--- The row at an IPA granule leads to a page. It has the RIPAS that is given, or its own where none is given. RMM 1.0,
+-- The row at an IPA granule leads to a page. It has the given RIPAS, or its own if none is given. RMM 1.0,
 -- RMI_DATA_CREATE and RMI_DATA_CREATE_UNKNOWN.
 abbrev pub GainsPage : Rows → ℕ → ℕ → Option Ripas → Rows → Type 0
 GainsPage old ipa page ripas new = (row : Row) → row_at old 3 ipa ≡ Some row → new ≡ put_row old 3 ipa (assigned (unwrap_or ripas row.ripas) page)

@@ -13,6 +13,6 @@ unfoldable pub rows_below : (ℕ → ℕ → Option Row) → ℕ → ℕ → Lis
 rows_below at level zero = []
 rows_below at level (suc n) = row_before level n (at level n) (rows_below at level n)
 
--- The rows of a function that is bounded by `space` IPA granules: at each place, the row that the function has there.
+-- The rows of a function that is bounded by `space` IPA granules: at each place, the row of the function.
 unfoldable pub rows_by : ℕ → (ℕ → ℕ → Option Row) → Rows
 rows_by space at = from_entries (rows_below at 1 space ++ (rows_below at 2 space ++ rows_below at 3 space))

@@ -1,4 +1,4 @@
--- The words of tables, by the rows alone. RMM 1.0, RTT entry.
+-- The words of tables as functions of the rows alone. RMM 1.0, RTT entry.
 use Rattle.std.specs.Prelude.{◌≡◌, ℕ, ◌-◌, ◌==◌, List, Option, Some, option_and_then, if◌then◌else◌}
 use Rattle.granule_addr.specs.Ipa.{entry_index}
 use Rattle.granule_addr.specs.Root.{start_table}
@@ -9,7 +9,7 @@ use Rattle.rtt.specs.Word.{entry_word}
 use Rattle.rtt.specs.Tables.{rows}
 use Rattle.rtt.specs.Realm.{IsInside}
 
--- the table of a level that serves an IPA granule: a starting table, or what the row above leads to
+-- the table of a level that serves an IPA granule: a starting table, or the one that the row above leads to
 abbrev pub table_by : Rows → Root → ℕ → ℕ → Option ℕ
 table_by rows root level ipa =
     if level == 1 then Some (start_table root ipa) else option_and_then table_of (row_at rows (level - 1) ipa)

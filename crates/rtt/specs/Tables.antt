@@ -16,8 +16,8 @@ Entries = ℕ → ℕ → Row
 unfoldable pub entries_of : List (List ℕ) → Entries
 entries_of pages granule index = entry_of (word_at pages granule index)
 
--- The table of a level that serves an IPA granule: that of level 1 is a starting table, and any other is what the entry
--- above it leads to.
+-- The table of a level that serves an IPA granule: that of level 1 is a starting table, and any other is the one that
+-- the entry above it leads to.
 unfoldable pub table_at : Entries → Root → ℕ → ℕ → Option ℕ
 table_at entries root zero ipa = None
 table_at entries root (suc zero) ipa = Some (start_table root ipa)
@@ -43,6 +43,6 @@ row_in entries root level ipa = cond (is_place root.width level ipa) (entry_at e
 unfoldable pub rows_in : Entries → Root → Rows
 rows_in entries root = rows_by (served_space root.width) (row_in entries root)
 
--- A realm's rows: what its tables say, from the starting tables on, in the words of pages.
+-- A realm's rows: the entries of its tables, from the starting tables on, in the words of pages.
 unfoldable pub rows : List (List ℕ) → Root → Rows
 rows pages root = rows_in (entries_of pages) root

@@ -1,4 +1,4 @@
--- The word of a table entry. RMM 1.0, RTT entry; which bits say what is this profile's own.
+-- The word of a table entry. RMM 1.0, RTT entry; the layout of the bits is this profile's own.
 use Rattle.std.specs.Prelude.{◌≡◌, ℕ, ◌+◌, ◌*◌, ◌/◌, ◌%◌, ◌<◌, ◌==◌, Option, Some, None, if◌then◌else◌}
 use Rattle.realm_model.specs.declared.states.EntryState.{EntryState}
 use Rattle.realm_model.specs.declared.states.EntryState.TheVariants.{Unassigned, Assigned, Table}
@@ -21,12 +21,12 @@ abbrev pub address_bits : Option ℕ → ℕ
 address_bits None = 0
 address_bits (Some granule) = granule * 4096
 
--- The word of an entry: bits 0 and 1 are the kind, bits 2 and 3 the RIPAS, bits 12 to 47 those of the address. All others
--- are 0.
+-- The word of an entry: bits 0 and 1 are the kind, bits 2 and 3 the RIPAS, bits 12 to 47 those of the address. All
+-- others are 0.
 abbrev pub entry_word : Row → ℕ
 entry_word row = kind_bits row.state + ripas_bits row.ripas * 4 + address_bits row.granule
 
--- What an entry can say: one that is not UNASSIGNED leads to a granule of the machine, and a TABLE entry has no RIPAS.
+-- The values of an entry: one that is not UNASSIGNED leads to a granule of the machine, and a TABLE entry has no RIPAS.
 abbrev pub IsEncodable : EntryState → Ripas → Option ℕ → Type 0
 IsEncodable Unassigned ripas granule = granule ≡ None
 IsEncodable Assigned ripas None = ⊥
@@ -45,7 +45,7 @@ kind_of bits = if bits == 1 then Assigned else (if bits == 2 then Table else Una
 abbrev pub ripas_of : ℕ → Ripas
 ripas_of bits = if bits == 1 then Ram else (if bits == 2 then Destroyed else Empty)
 
--- the entry of a kind, with that RIPAS and that granule where the kind has them
+-- the entry of a kind, with that RIPAS and that granule if the kind has them
 abbrev pub decoded : EntryState → Ripas → ℕ → Row
 decoded Unassigned ripas granule = unassigned ripas
 decoded Assigned ripas granule = assigned ripas granule

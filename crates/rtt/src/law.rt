@@ -1,4 +1,4 @@
-//! Laws of tables, over the pages of a machine and the states of its granules.
+//! Theorems on tables, over the pages of a machine and the states of its granules.
 ghost use Rattle.std.specs.Prelude.{◌≡◌, ℕ, List, Some};
 ghost use Rattle.granule_addr.specs.declared.root.Root.{Root};
 ghost use Rattle.granule_table.specs.declared.granule.Granule.{Granule};
@@ -18,7 +18,7 @@ pub fn rows_are_entries()
     ensures { (pages : List (List ℕ)) (root : Root) (level ipa : ℕ) (row : Row) → row_at (rows pages root) level ipa ≡ Some row → IsEntry row }
 {}
 
-/// Where a realm's tables and pages of data are left alone, the realm has the same rows, and still its tables.
+/// A realm whose tables and pages of data are left alone has the same rows, and still its tables.
 pub fn tables_left_alone_stay()
     ensures { (rd : ℕ) (root : Root) (pages : List (List ℕ)) (granules : List Granule) (new_pages : List (List ℕ)) (new_granules : List Granule)
         → HasTables pages granules rd root → LeavesAlone rd pages granules new_pages new_granules

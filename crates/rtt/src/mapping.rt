@@ -20,12 +20,11 @@ use page_arena::PageStore;
 use realm_model::{GranuleState, Ripas};
 
 impl Tables {
-    /// Maps a DELEGATED granule at an IPA granule, as a page of data. Its bytes stay. The entry gets the RIPAS that is
-    /// given, or keeps its own where none is given.
+    /// Maps a DELEGATED granule at an IPA granule, as a page of data. Its bytes stay. The entry gets the given RIPAS,
+    /// or keeps its own if none is given.
     ///
-    /// RMM 1.0, RMI_DATA_CREATE, where the RIPAS is RAM, and RMI_DATA_CREATE_UNKNOWN, where none is given.
-    /// RMI_ERROR_RTT comes with the level where the walk ended, unless that is 3 and the entry there is UNASSIGNED. A
-    /// refusal changes nothing.
+    /// RMM 1.0, RMI_DATA_CREATE, with RIPAS RAM, and RMI_DATA_CREATE_UNKNOWN, with none. RMI_ERROR_RTT comes with the
+    /// level at which the walk ended, unless that is 3 and the entry there is UNASSIGNED. A refusal changes nothing.
     pub fn map<S: PageStore>(
         &self,
         store: &mut S,
@@ -72,8 +71,8 @@ impl Tables {
 
     /// Unmaps the page of data at an IPA granule: it is zero and DELEGATED from now on.
     ///
-    /// RMM 1.0, RMI_DATA_DESTROY. RMI_ERROR_RTT comes with the level where the walk ended, unless that is 3 and the entry
-    /// there is ASSIGNED. A refusal changes nothing.
+    /// RMM 1.0, RMI_DATA_DESTROY. RMI_ERROR_RTT comes with the level at which the walk ended, unless that is 3 and the
+    /// entry there is ASSIGNED. A refusal changes nothing.
     pub fn unmap<S: PageStore>(
         &self,
         store: &mut S,
@@ -118,10 +117,11 @@ impl Tables {
         Ok(())
     }
 
-    /// Gives RAM to all of `count` IPA granules that one table of level 3 serves, or refuses and changes nothing.
+    /// Sets the RIPAS of all `count` IPA granules to RAM, which one table of level 3 serves, or refuses and changes
+    /// nothing.
     ///
-    /// RMM 1.0, RMI_RTT_INIT_RIPAS. Refused with RMI_ERROR_RTT and the level where the walk ended, unless that is 3 and all
-    /// the entries are UNASSIGNED.
+    /// RMM 1.0, RMI_RTT_INIT_RIPAS. Refused with RMI_ERROR_RTT and the level at which the walk ended, unless that is 3
+    /// and all the entries are UNASSIGNED.
     pub fn init_ripas<S: PageStore>(
         &self,
         store: &mut S,
@@ -161,7 +161,7 @@ impl Tables {
     }
 }
 
-// The RIPAS that stays where a page is unmapped.
+// The RIPAS of an entry after its page is unmapped.
 fn unmapped(ripas: Ripas) -> Ripas
     ensures { result ≡ unmapped_ripas ripas }
 {

@@ -1,4 +1,4 @@
-//! Why a call on tables is refused.
+//! The refusal of a call on tables.
 ghost use Rattle.std.specs.Prelude.{◌≡◌};
 ghost use Rattle.realm_model.specs.Command.Check.{error_rtt};
 
@@ -13,7 +13,7 @@ pub struct Rtt {
     pub level: Level,
 }
 
-/// The refusal as the monitor answers it.
+/// The refusal as the RMM answers it.
 impl From<Rtt> for Rmi {
     ghost from_gives = { λ refusal rmi. rmi ≡ error_rtt refusal.level };
 

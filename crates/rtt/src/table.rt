@@ -1,4 +1,4 @@
-//! Tables below the root.
+//! Tables below the starting tables.
 ghost use Rattle.std.specs.Prelude.{◌≡◌, ℕ, ◌-◌, ◌<◌, true, Some, None, OnOk, OnErr};
 ghost use Rattle.granule_table.specs.Granules.{IsIn};
 ghost use Rattle.granule_addr.specs.Page.{zero_page};
@@ -23,8 +23,8 @@ impl Tables {
     /// Makes a DELEGATED granule the table of a level that serves an IPA granule: its entries are UNASSIGNED, and have
     /// the RIPAS of the entry above. The level is 2 or 3, and `ipa` the first IPA granule that the table serves.
     ///
-    /// RMM 1.0, RMI_RTT_CREATE. RMI_ERROR_RTT comes with the level where the walk ended, unless that is the level above
-    /// and the entry there is not TABLE. A refusal changes nothing.
+    /// RMM 1.0, RMI_RTT_CREATE. RMI_ERROR_RTT comes with the level at which the walk ended, unless that is the level
+    /// above and the entry there is not TABLE. A refusal changes nothing.
     pub fn create_table<S: PageStore>(
         &self,
         store: &mut S,
@@ -66,12 +66,12 @@ impl Tables {
         Ok(())
     }
 
-    /// Takes away the table of a level that serves an IPA granule: its page is zero and DELEGATED from now on, and the
+    /// Removes the table of a level that serves an IPA granule: its page is zero and DELEGATED from now on, and the
     /// entry above is UNASSIGNED and DESTROYED.
     ///
-    /// RMM 1.0, RMI_RTT_DESTROY. RMI_ERROR_RTT comes with the level where the walk ended, unless that is the level above
-    /// and the entry there is TABLE, and then with the table's level, unless its entries are all UNASSIGNED. A refusal
-    /// changes nothing.
+    /// RMM 1.0, RMI_RTT_DESTROY. RMI_ERROR_RTT comes with the level at which the walk ended, unless that is the level
+    /// above and the entry there is TABLE. Then it comes with the table's level, unless its entries are all UNASSIGNED.
+    /// A refusal changes nothing.
     pub fn destroy_table<S: PageStore>(
         &self,
         store: &mut S,

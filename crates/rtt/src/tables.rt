@@ -15,7 +15,7 @@ use granule_addr::{Gran, IpaGran, Level, Root, index_at, start_table};
 use granule_table::GranuleTable;
 use page_arena::PageStore;
 
-/// The tables of a realm: its RD, and where its translation starts. Nothing is kept beside their pages.
+/// The tables of a realm: its RD, and its starting tables. Nothing is kept beside their pages.
 #[derive(Clone, Copy, Debug, PartialEq, Eq)]
 pub struct Tables {
     /// The granule of the realm's RD.
@@ -24,7 +24,7 @@ pub struct Tables {
     pub root: Root,
 }
 
-// Where a walk ends, and in which table.
+// The end of a walk: an entry, and its table.
 #[derive(Clone, Copy)]
 pub struct EntryAddress {
     pub table: Gran,
@@ -33,7 +33,8 @@ pub struct EntryAddress {
 }
 
 impl Tables {
-    /// Where the walk of an IPA granule towards a level ends: at the first entry on the way that is not TABLE, or at that level.
+    /// The end of the walk of an IPA granule towards a level: the first entry on the way that is not TABLE, or the one
+    /// at that level.
     pub fn walk<S: PageStore>(
         &self,
         store: &S,
@@ -56,7 +57,7 @@ impl Tables {
     }
 }
 
-// The place where the walk of an IPA granule towards a level ends.
+// The address of the entry at which the walk of an IPA granule towards a level ends.
 pub fn find<S: PageStore>(
     tables: Tables,
     store: &S,

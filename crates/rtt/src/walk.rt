@@ -1,9 +1,9 @@
-//! Walks down the tables of a realm.
+//! The end of a walk down the tables of a realm.
 use crate::Entry;
 use granule_addr::Level;
 use std::marker::Model;
 
-/// Where a walk ends: the level of a table, and the entry there. RMM 1.0, RTT walk.
+/// The end of a walk: the level of a table, and the entry there. RMM 1.0, RTT walk.
 #[derive(Clone, Copy, Debug, PartialEq, Eq)]
 pub struct Walk {
     pub level: Level,

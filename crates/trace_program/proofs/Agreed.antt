@@ -1,4 +1,4 @@
--- What has been read and agreed, one byte after another.
+-- The lines that were read and agreed, one byte after another.
 use Rattle.std.proofs.Common.{◌≡◌, ℕ, ◌+◌, ◌<◌, ◌==◌, Bool, true, false, List, [], ◌∷◌, ◌++◌, length, map, get_or, take, None, refl, sym}
 use Rattle.std.proofs.Common.{ap, ◌∙◌, subst, append_assoc, length-append}
 use mathlib.Core.List.{append-nil}

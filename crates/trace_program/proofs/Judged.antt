@@ -1,4 +1,4 @@
--- An input that is being checked, and where that ends.
+-- An input that is being checked, and its end.
 use Rattle.std.proofs.Common.{◌≡◌, ℕ, ◌+◌, ◌<◌, List, [], ◌∷◌, ◌++◌, length, map, Option, None, refl, sym, ap, ◌∙◌, subst, inl, inr}
 use mathlib.Core.List.{append-nil}
 use Rattle.std.proofs.Math.Nat.{eq-zero-or-pos}

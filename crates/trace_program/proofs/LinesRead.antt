@@ -1,4 +1,4 @@
--- The lines of what was read, one byte after another.
+-- The lines of the bytes read, one byte after another.
 use Rattle.std.proofs.Common.{◌≡◌, ℕ, ◌<◌, ◌==◌, true, false, List, [], ◌∷◌, ◌++◌, length, refl, sym, ◌∙◌}
 use Rattle.checked_io.specs.Lines.{lines_in}
 use Rattle.trace_program.specs.Input.{kept_of_line, AreLinesRead}

@@ -1,4 +1,4 @@
--- What is read, one byte of a part after another.
+-- The bytes read, one byte of a part after another.
 use Rattle.std.proofs.Common.{ℕ, ◌+◌, ◌<◌, ◌≤◌, List, [], ◌∷◌, ◌++◌, length, get_or, take, drop, Option, sym, ap, ◌∙◌, subst, append_assoc}
 use mathlib.Core.List.{append-nil}
 use Rattle.std.proofs.lemmas.List.{take_all, take_more, take-append-drop}

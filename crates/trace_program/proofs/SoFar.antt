@@ -1,4 +1,4 @@
--- What has been read and written, one byte after another.
+-- The bytes read and written, one after another.
 use Rattle.std.proofs.Common.{◌≡◌, ℕ, ◌<◌, ◌==◌, true, false, List, [], ◌∷◌, ◌++◌, length, map, get_or, take, Option, None, refl, sym, ap, ◌∙◌, append_assoc, ◌⊎◌, inl, inr}
 use mathlib.Core.List.{append-nil}
 use Rattle.std.specs.Io.KnownBytes.{Appends, Keeps}

@@ -1,4 +1,4 @@
--- What stands in a line, and what a fresh machine answers.
+-- The answer in a line, and the answer of a fresh machine.
 use Rattle.std.proofs.Common.{◌≡◌, ◌++◌, append_assoc, ℕ, Bool, true, false, List, Some, None, refl, ap}
 use Rattle.rmi_monitor.specs.View.{MonitorView}
 use Rattle.rmi_bench.specs.Machine.{opened}

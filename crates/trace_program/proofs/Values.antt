@@ -1,4 +1,4 @@
--- Commands that answer a value.
+-- Commands whose answer has a value.
 use Rattle.std.proofs.Common.{◌≡◌, ℕ, Bool, true, false, List, [], ◌∷◌, map, Option, Some, None, Ok, Err, refl, sym, ap, ◌∙◌, subst}
 use Rattle.arrayvec.specs.ArrayVec.{ArrayVec}
 use Rattle.realm_model.specs.declared.rmi.Rmi.{Rmi}

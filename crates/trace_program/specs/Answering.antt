@@ -1,11 +1,11 @@
--- What has been read and written so far.
+-- The state of an answering: the bytes read and written so far.
 use Rattle.std.specs.Prelude.{ℕ, Bool, true, false, List, map, Option, None}
 use Rattle.std.specs.Io.KnownBytes.{Appends, Consumes}
 use Rattle.checked_io.specs.Whole.{AppendsFront}
 use Rattle.trace_program.specs.Session.{Now, IsLineReported, IsSession}
 use Rattle.trace_program.specs.Input.{kept_of_line, AreLinesRead, AreLinesAnswered}
 
--- The lines of what was read are answered.
+-- The lines that were read are answered.
 pub record IsSoFar (old new : Option (List ℕ)) (read : List ℕ) (bench : Now) (kept : List ℕ) : Type 0 where
   pub parts : AreLinesRead read kept
   pub text : List ℕ
@@ -25,7 +25,7 @@ pub record WritesFront (old new : Option (List ℕ)) (before : Now) (line : List
   pub is_told : IsLineReported before line told after
   pub written : AppendsFront old new told
 
--- the same, of what the reader gave
+-- the same, of the bytes that the reader gave
 pub record IsUnderway (input left old new : Option (List ℕ)) (bench : Now) (kept : List ℕ) : Type 0 where
   pub read : List ℕ
   pub consumed : Consumes input left read

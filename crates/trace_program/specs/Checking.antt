@@ -1,4 +1,4 @@
--- What has been read and agreed so far.
+-- The state of a check: the lines read so far, all of them right.
 use Rattle.std.specs.Prelude.{◌≡◌, ℕ, ◌+◌, List, [], ◌∷◌, ◌++◌, length, map, Option, None}
 use Rattle.std.specs.Io.KnownBytes.{Consumes}
 use Rattle.trace_program.specs.Session.{Now}
@@ -7,7 +7,7 @@ use Rattle.trace_program.specs.Input.{kept_of_line, AreLinesRead}
 use Rattle.trace_program.specs.Verdict.{IsAgreed, AreAgreed, answers_in, performed_in, EndsWithFeed, LastDiffers}
 use Rattle.trace_program.specs.declared.checking.Counts.{Counts}
 
--- The lines of what was read are right, and these are their counts.
+-- The lines that were read are right, and these are their counts.
 pub record IsAgreedSoFar (read : List ℕ) (bench : Now) (counts : Counts) (kept : List ℕ) : Type 0 where
   pub parts : AreLinesRead read kept
   pub agreed : AreAgreed None (map kept_of_line parts.lines) bench
@@ -15,7 +15,7 @@ pub record IsAgreedSoFar (read : List ℕ) (bench : Now) (counts : Counts) (kept
   pub answered : counts.answers ≡ answers_in (map kept_of_line parts.lines)
   pub performed : counts.performed ≡ performed_in (map kept_of_line parts.lines)
 
--- the same, of what the reader gave
+-- the same, of the bytes that the reader gave
 pub record IsAgreedUnderway (input left : Option (List ℕ)) (bench : Now) (counts : Counts) (kept : List ℕ) : Type 0 where
   pub read : List ℕ
   pub consumed : Consumes input left read

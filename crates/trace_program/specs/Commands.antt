@@ -1,4 +1,4 @@
--- What a bench answers to a command.
+-- The answer of a simulated RMM to a command.
 use Rattle.std.specs.Prelude.{ℕ, [], ◌∷◌, map, nat_lt, slice_index, Option, Some, None, Ok, Err}
 use Rattle.realm_model.specs.Rmi.{result_word}
 use Rattle.realm_model.specs.Machine.{cell_at}
@@ -18,7 +18,7 @@ use Rattle.rmi_trace.specs.declared.request.Command.TheVariants.{GranuleDelegate
 use Rattle.rmi_trace.specs.declared.request.Command.TheVariants.{RealmDestroy, RttCreate, RttDestroy, RttInitRipas, DataCreate, DataCreateUnknown}
 use Rattle.rmi_trace.specs.declared.request.Command.TheVariants.{DataDestroy, RecCreate, RecEnter, RecExit, RecDestroy, GuestWrite}
 
--- What comes of a command: its definition on the granules that it names. An offset above 4,095 is an input error.
+-- The outcome of a command: its definition on the granules that it names. An offset above 4,095 is an input error.
 abbrev pub command_outcome : Command → MonitorView → Outcome
 command_outcome (GranuleDelegate granule) m = naming (granule ∷ []) m (granule_delegate (seen_in m granule))
 command_outcome (GranuleUndelegate granule) m = naming (granule ∷ []) m (granule_undelegate (seen_in m granule))
@@ -46,7 +46,7 @@ command_outcome (GuestWrite rec ipa offset value) m =
 abbrev pub next_rec_number : MonitorView → ℕ → ℕ
 next_rec_number m rd = elim (cell_at m.machine rd).descriptor [ Some realm ↦ realm.next | None ↦ 0 ]
 
--- the value that is answered where the command is done: the byte that is read, or the number of the new REC
+-- the value of the answer if the command is done: the byte that is read, or the number of the new REC
 abbrev pub value_of : Command → MonitorView → Option ℕ
 value_of (HostPeek granule offset) m = Some (slice_index (cell_at m.machine granule).bytes offset)
 value_of (RecCreate rd granule auxiliaries) m = Some (next_rec_number m rd)
@@ -58,6 +58,6 @@ answer_with (Some value) (Ok updates) = answer.Value value
 answer_with None (Ok updates) = answer.ResultWord 0
 answer_with value (Err refusal) = answer.ResultWord (result_word refusal)
 
--- what is answered to the command
+-- the answer to the command
 abbrev pub answer_to : Command → MonitorView → TraceAnswer
 answer_to command m = answer_with (value_of command m) (command_outcome command m)

@@ -5,18 +5,19 @@ use Rattle.checked_io.specs.Lines.{parts_of, lines_in}
 use Rattle.checked_io.specs.Whole.{AppendsFront}
 use Rattle.trace_program.specs.Session.{Now, IsSession}
 
--- What is kept of a line: one byte more than a line that is read may have, which is enough to see that it is too long.
+-- The part of a line that is kept: one byte more than a line that is read may have, which is enough to see that it is
+-- too long.
 unfoldable pub kept_of_line : List ℕ → List ℕ
 kept_of_line line = take 65537 line
 
--- What was read is these lines and a rest; `kept` is what is kept of the rest.
+-- The bytes that were read are these lines and a rest; `kept` is what is kept of the rest.
 pub record AreLinesRead (read kept : List ℕ) : Type 0 where
   pub lines : List (List ℕ)
   pub rest : List ℕ
   pub cut : parts_of read ≡ lines ++ rest ∷ []
   pub is_kept : kept ≡ kept_of_line rest
 
--- The input was read to its end, and what is written is the answers to its lines. `left` is what the reader has left then.
+-- The input was read to its end, and the answers to its lines are written. `left` is what the reader has left then.
 pub record AreLinesAnswered (input left old new : Option (List ℕ)) : Type 0 where
   pub bytes : List ℕ
   pub consumed : Consumes input left bytes
@@ -26,7 +27,7 @@ pub record AreLinesAnswered (input left old new : Option (List ℕ)) : Type 0 wh
   pub session : IsSession None (map kept_of_line (lines_in bytes)) text last
   pub written : Appends old new text
 
--- A prefix of the answers was written, to the first lines of a prefix of what was read; the last of them may be cut.
+-- A prefix of the answers was written, to the first lines of a prefix of what was read. The last of them may be cut.
 pub record IsCutShort (old new : Option (List ℕ)) (read : List ℕ) : Type 0 where
   pub front : List ℕ
   pub ahead : List ℕ

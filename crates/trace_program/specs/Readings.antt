@@ -1,4 +1,4 @@
--- What a bench answers to a reading.
+-- The answer of a simulated RMM to a reading.
 use Rattle.std.specs.Prelude.{◌≡◌, ℕ, ◌&&◌, nat_lt, false, sum, Option, Some, None}
 use Rattle.realm_model.specs.declared.states.GranuleState.{GranuleState}
 use Rattle.realm_model.specs.declared.states.GranuleState.TheVariants as granule_state
@@ -39,7 +39,7 @@ rec_state_of rec_state.Running = told_rec.TheVariants.Running
 
 -- ---- answers
 
--- what is told of what is read, or `none` where nothing is
+-- the answer for a value that is read, or `none` if there is none
 abbrev pub value_or_none : {A : Type 0} → (A → TraceAnswer) → Option A → TraceAnswer
 value_or_none tell (Some it) = tell it
 value_or_none tell None = answer.Nothing
@@ -50,7 +50,7 @@ realm_answer realm = answer.Realm (realm_state_of realm.state) realm.vmid realm.
 abbrev pub rec_answer : RecAttributes → TraceAnswer
 rec_answer rec = answer.Rec rec.number (rec_state_of rec.state) (record { items = rec.auxiliaries })
 
--- a word of a page, or `none` outside of the machine and behind the page's end
+-- a word of a page, or `none` outside of the machine and after the page's end
 abbrev pub IsWordAnswer : MonitorView → ℕ → ℕ → TraceAnswer → Type 0
 IsWordAnswer m granule index (answer.Word word) = IsWordOf m granule index word
 IsWordAnswer m granule index answer.Nothing = (is_inside m granule && nat_lt index 512) ≡ false

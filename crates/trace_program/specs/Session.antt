@@ -1,4 +1,4 @@
--- A session: what is answered to the lines of a trace, one after another.
+-- A session: the answers to the lines of a trace, one after another.
 use Rattle.std.specs.Prelude.{◌≡◌, ℕ, Bool, true, false, List, [], ◌∷◌, ◌++◌, Option, Some, None}
 use Rattle.rmi_monitor.specs.View.{MonitorView, after_command}
 use Rattle.rmi_bench.specs.Machine.{is_machine, opened}
@@ -14,7 +14,7 @@ use Rattle.rmi_trace.specs.declared.request.Request.TheVariants.{Opening as Open
 use Rattle.trace_program.specs.Commands.{command_outcome, answer_to}
 use Rattle.trace_program.specs.Readings.{IsReading}
 
--- the monitor of the last `machine` line, if there was one
+-- the RMM of the last `machine` line, if there was one
 abbrev pub Now : Type 0
 Now = Option MonitorView
 
@@ -36,31 +36,31 @@ IsRequestPerformed request None given new = IsNoCommand None given new
 IsRequestPerformed (Command c) (Some m) given new = (given ≡ Some (answer_to c m)) × (new ≡ Some (after_command (command_outcome c m) m))
 IsRequestPerformed (Reading r) (Some m) given new = (a : TraceAnswer) × IsReading r m a × (given ≡ Some a) × (new ≡ Some m)
 
--- The answer to a line, if it gets one, and what the line does.
+-- The answer to a line, if it gets one, and its effect.
 abbrev pub IsTraceAnswer : TraceLine → Now → Option TraceAnswer → Now → Type 0
 IsTraceAnswer line.Remark old given new = (given ≡ None) × (new ≡ old)
 IsTraceAnswer line.Neither old given new = IsNoCommand old given new
 IsTraceAnswer (line.Request request) old given new = IsRequestPerformed request old given new
 
--- what is asked in a line: all of a remark, and else what stands before the answer
+-- the request in a line: all of a remark, and else the text before the answer
 abbrev pub asked_with : List ℕ → TraceLine → List ℕ
 asked_with bytes line.Remark = bytes
 asked_with bytes _ = before_answer (text_of bytes)
 
--- a line as it is written: what is asked, and the answer if there is one
+-- a line as it is written: the request, and the answer if there is one
 abbrev pub written_with : List ℕ → TraceLine → Option TraceAnswer → List ℕ
 written_with bytes line (Some a) = answered_line (asked_with bytes line) a
 written_with bytes line None = repeated_line (asked_with bytes line)
 
--- what is written for a line
+-- the text that is written for a line
 pub record IsLineReported (old : Now) (bytes text : List ℕ) (new : Now) : Type 0 where
   pub given : Option TraceAnswer
   pub answer : IsTraceAnswer (line_of_trace bytes) old given new
   pub written : text ≡ written_with bytes (line_of_trace bytes) given
 
--- ---- lines in their order
+-- ---- lines in sequence
 
--- What is written for lines, one after another.
+-- The text that is written for lines, one after another.
 abbrev pub IsSession : Now → List (List ℕ) → List ℕ → Now → Type 0
 IsSession old [] text new = (text ≡ []) × (new ≡ old)
 IsSession old (bytes ∷ more) text new =

@@ -1,5 +1,5 @@
--- Whether the lines of a trace are right: an answer that stands there is the one that the rules give, and a line that
--- is no command says so.
+-- The verdict on the lines of a trace: they are right if each answer is the one of the rules, and a line that is no
+-- command says so.
 use Rattle.std.specs.Prelude.{◌≡◌, ℕ, ◌+◌, ◌<◌, ◌&&◌, Bool, true, false, List, [], ◌∷◌, ◌++◌, codes, decimal, length, map, filter, is_some, is_none, Option, Some, None, ◌⊎◌}
 use Rattle.std.specs.Io.KnownBytes.{Consumes, IsAtEnd, Appends}
 use Rattle.checked_io.specs.Whole.{AppendsFront}
@@ -39,7 +39,7 @@ abbrev pub is_only_performed : List ℕ → Bool
 is_only_performed bytes = is_command_or_reading (line_of_trace bytes) && is_none (stated_in bytes)
 
 -- A line that is answered `no command` has to say so. Any other line may be without an answer; if it has one, it is the
--- one that the rules give.
+-- one of the rules.
 abbrev pub IsRight : Option (List ℕ) → Option TraceAnswer → Type 0
 IsRight None given = ¬ (given ≡ Some NoCommand)
 IsRight (Some stated) None = ⊥
@@ -51,7 +51,7 @@ pub record IsAgreed (old : Now) (bytes : List ℕ) (new : Now) : Type 0 where
   pub answer : IsTraceAnswer (line_of_trace bytes) old given new
   pub right : IsRight (stated_in bytes) given
 
--- where the line is no command, words may follow that help; else nothing follows
+-- if the line is no command, words may follow that help; else nothing follows
 abbrev pub IsHint : Option TraceAnswer → List ℕ → Type 0
 IsHint (Some NoCommand) hint = Unit {0}
 IsHint given hint = hint ≡ []
@@ -62,7 +62,7 @@ pub record AddsHint (given : Option TraceAnswer) (old new : List ℕ) : Type 0 w
   pub is_hint : IsHint given hint
   pub added : new ≡ old ++ hint
 
--- what is said of a line that is wrong: its number, the line, the line as it is answered, and a hint
+-- the text on a line that is wrong: its number, the line, the line with the right answer, and a hint
 abbrev pub IsDifference : ℕ → List ℕ → TraceLine → Option TraceAnswer → List ℕ → Type 0
 IsDifference number bytes line given text =
     AddsHint given (codes "line " ++ repeated_line (decimal number) ++ repeated_line bytes ++ written_with bytes line given) text
@@ -75,18 +75,18 @@ pub record LineDiffers (old : Now) (number : ℕ) (bytes text : List ℕ) : Type
   pub wrong : ¬ IsRight (stated_in bytes) given
   pub told : IsDifference number bytes (line_of_trace bytes) given text
 
--- ---- lines in their order
+-- ---- lines in sequence
 
 -- Lines that are right, one after another.
 abbrev pub AreAgreed : Now → List (List ℕ) → Now → Type 0
 AreAgreed old [] new = new ≡ old
 AreAgreed old (bytes ∷ more) new = (mid : Now) × IsAgreed old bytes mid × AreAgreed mid more new
 
--- how many of the lines have an answer
+-- the number of the lines that have an answer
 abbrev pub answers_in : List (List ℕ) → ℕ
 answers_in lines = length (filter has_answer lines)
 
--- how many of them are performed without one
+-- the number of the lines that are performed without one
 abbrev pub performed_in : List (List ℕ) → ℕ
 performed_in lines = length (filter is_only_performed lines)
 
@@ -121,14 +121,14 @@ pub record HasDifference (left : Option (List ℕ)) (read text : List ℕ) : Typ
   pub ends : EndsWithFeed front ⊎ (IsAtEnd left × (ahead ≡ []))
   pub first : LastDiffers (map kept_of_line (lines_in front)) text
 
--- The verdict on what was read, and its text. Where no line is wrong, the input was read to its end. Where no line has
--- an answer, nothing was compared, and that is no agreement.
+-- The verdict on the lines that were read, and its text. If no line is wrong, the input was read to its end. If no line
+-- has an answer, nothing was compared, and that is no agreement.
 abbrev pub IsVerdict : Verdict → Option (List ℕ) → List ℕ → List ℕ → Type 0
 IsVerdict Agree left read text = IsAtEnd left × AllAgree (map kept_of_line (lines_in read)) text × (0 < answers_in (map kept_of_line (lines_in read)))
 IsVerdict NoAnswers left read text = IsAtEnd left × AllAgree (map kept_of_line (lines_in read)) text × (answers_in (map kept_of_line (lines_in read)) ≡ 0)
 IsVerdict Differ left read text = HasDifference left read text
 
--- an input was read as far as it takes for the verdict
+-- an input was read up to the verdict
 pub record IsTraceJudged (input left : Option (List ℕ)) (verdict : Verdict) (text : List ℕ) : Type 0 where
   pub read : List ℕ
   pub consumed : Consumes input left read

@@ -1,4 +1,4 @@
-//! Lines in, the same lines with their answers out.
+//! The answering of a trace: lines are read, and written with their answers.
 ghost use Rattle.std.specs.Prelude.{◌≡◌, ◌≤◌, ◌+◌, ◌-◌, ◌^◌, ◌++◌, ◌⊎◌, ℕ, min, List, [], ◌∷◌, Option, false, true, ◌↔◌, Err, IfOk, OnOk, OnErr};
 ghost use Rattle.std.specs.Io.KnownBytes.{Keeps, IsAtEnd};
 ghost use Rattle.trace_program.specs.Answering.{IsSoFar, IsUnderway, AnsweringGoesOn, Writes, WritesFront};
@@ -11,7 +11,7 @@ use rmi_trace::MOST_LINE;
 use std::alloc::{AllocError, Global};
 use std::io::{Read, Write};
 
-// What is kept of a line: one byte more than a line that is read may have.
+// The number of bytes that are kept of a line: one more than a line that is read may have.
 const KEPT: usize = MOST_LINE + 1;
 
 // Keeps a byte of a line, unless enough of it is kept.
@@ -24,7 +24,7 @@ pub(crate) fn keep(line: &mut Vec<u8>, byte: u8) -> Result<(), AllocError>
     Ok(())
 }
 
-// A trace that is being answered: what its lines have come to, what is kept of the next line, and the text of an answer.
+// A trace that is being answered: the session of its lines, the kept bytes of the next line, and the text of an answer.
 #[derive(Drop)]
 struct Answering {
     session: Session,
@@ -111,8 +111,7 @@ impl Answering {
         Ok(())
     }
 
-    // Reads once, and takes what was read; at the end of the input, ends the last line. Returns whether there may be
-    // more.
+    // Reads once, and takes the bytes. At the end of the input, ends the last line. Returns whether there may be more.
     fn read_on<R: Read, W: Write>(
         &mut self,
         alloc: Global,
@@ -140,11 +139,11 @@ impl Answering {
     }
 }
 
-/// Reads the lines of a trace to their end, and writes each with its answer as soon as it has it.
+/// Reads the lines of a trace to their end, and writes each with its answer at once.
 ///
-/// Memory is taken for a fresh machine and for a line, of which no more than 65,537 bytes are kept. Errors: Memory,
-/// where allocation failed; Device, where a read or a write failed, or after 2^64 - 1 reads. In both cases the answers
-/// to the first lines were written, and at least a prefix of the last of these answers.
+/// Memory is taken for a fresh machine and for a line, of which no more than 65,537 bytes are kept. Errors: Memory, if
+/// allocation failed; Device, if a read or a write failed, or after 2^64 - 1 reads. In both cases the answers to the
+/// first lines were written, and at least a prefix of the last of these answers.
 pub fn answer<R: Read, W: Write>(
     alloc: Global,
     input: &mut Told<R>,

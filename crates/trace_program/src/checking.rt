@@ -1,4 +1,4 @@
-//! Lines in, and whether they are right: the answers in them are those of the rules, and a line that is no command says so.
+//! The check of a trace: the answers in its lines are those of the rules, and a line that is no command says so.
 ghost use Rattle.std.specs.Prelude.{◌≡◌, ◌≤◌, ◌<◌, ◌+◌, ◌-◌, ◌^◌, ◌++◌, ◌⊎◌, ◌↔◌, ℕ, min, List, [], ◌∷◌, codes, decimal, length, Option, false, true, Err, IsTrue, IfOk, OnOk, OnErr, IfSome, IfNone};
 ghost use Rattle.std.specs.Option.{option_copied};
 ghost use Rattle.std.specs.Io.KnownBytes.{Keeps, IsAtEnd};
@@ -17,8 +17,8 @@ use rmi_trace::{Request, TraceAnswer, TraceLine, cut_answer, nearest_word, parse
 use std::alloc::{AllocError, Global};
 use std::io::{Read, Write};
 
-/// Whether the lines of a trace are right: each has the answer of the rules, or none, and a line that is answered `no
-/// command` says so.
+/// The verdict on the lines of a trace. They are right if each has the answer of the rules, or none, and a line with
+/// the answer `no command` is none.
 #[derive(Clone, Copy)]
 pub enum Verdict {
     /// All lines are right, and there is an answer among them.
@@ -36,7 +36,7 @@ struct Judged {
     text: Vec<u8>,
 }
 
-// The answer that stands in a line.
+// The answer that is written in a line.
 fn stated<'a>(bytes: &'a [u8], line: &TraceLine) -> Option<&'a [u8]>
     ensures { option_copied result ≡ stated_with bytes.now line.now }
 {
@@ -46,7 +46,7 @@ fn stated<'a>(bytes: &'a [u8], line: &TraceLine) -> Option<&'a [u8]>
     }
 }
 
-// Whether a line with the stated answer, or with none, is right where the answer `given` is given.
+// Whether a line with the stated answer, or with none, is right if the answer of the rules is `given`.
 fn is_right(stated: Option<&[u8]>, given: &Option<TraceAnswer>) -> bool
     ensures { IsTrue result ↔ IsRight (option_copied stated.entry) given.now }
 {
@@ -67,7 +67,7 @@ fn is_command_or_reading(line: &TraceLine) -> bool
     )
 }
 
-// How many lines there were, how many of them had an answer, and how many commands and readings had none.
+// The numbers of lines, of those with an answer, and of the commands and readings without one.
 #[derive(Clone, Copy)]
 struct Counts {
     lines: u128,
@@ -82,7 +82,7 @@ fn push_number(text: &mut Vec<u8>, number: u128) -> Result<(), AllocError>
     text.extend_from_slice(itoa::Buffer::new().format(number).as_bytes())
 }
 
-// The verdict where all lines are right, and its text.
+// The verdict if all lines are right, and its text.
 fn agreement(alloc: Global, counts: Counts) -> Result<Judged, AllocError>
     ensures some { 0 < counts.answers → IfOk result (λ judged. judged.verdict ≡ Agree) }
     ensures none { counts.answers ≡ 0 → IfOk result (λ judged. judged.verdict ≡ NoAnswers) }
@@ -101,7 +101,7 @@ fn agreement(alloc: Global, counts: Counts) -> Result<Judged, AllocError>
     Ok(Judged { verdict, text })
 }
 
-// The line of a word that was probably meant, where the line is no command.
+// The line with the word that was probably meant, if the line is no command.
 fn hint_of(alloc: Global, bytes: &[u8], given: &Option<TraceAnswer>) -> Result<Vec<u8>, AllocError>
     ensures { IfOk result (λ hint. IsHint given.now hint.items) }
 {
@@ -117,7 +117,7 @@ fn hint_of(alloc: Global, bytes: &[u8], given: &Option<TraceAnswer>) -> Result<V
     Ok(hint)
 }
 
-// What is told of the line of that number.
+// The text on a wrong line, by its number.
 fn difference(
     alloc: Global,
     number: u128,
@@ -136,7 +136,8 @@ fn difference(
     Ok(text)
 }
 
-// A trace that is being checked: what its lines have come to, what is kept of the next line, and the counts of its lines.
+// A trace that is being checked: the session of its lines, the kept bytes of the next line, and the counts of its
+// lines.
 #[derive(Drop)]
 struct Checking {
     session: Session,
@@ -145,7 +146,7 @@ struct Checking {
 }
 
 impl Checking {
-    // Ends the line, and gives what is written of it if it is wrong.
+    // Ends the line, and returns the text on it if it is wrong.
     fn end_line(&mut self, alloc: Global) -> Result<Option<Vec<u8>>, AllocError>
         requires few { self.old.counts.answers + self.old.counts.performed ≤ self.old.counts.lines }
         requires room { self.old.counts.lines + 1 < 2 ^ 100 }
@@ -209,7 +210,7 @@ impl Checking {
         Ok(None)
     }
 
-    // Ends the last line, which has no line feed, unless it is empty, and gives the verdict.
+    // Ends the last line, which has no line feed, unless it is empty, and returns the verdict.
     fn end(&mut self, alloc: Global) -> Result<Judged, AllocError>
         requires few { self.old.counts.answers + self.old.counts.performed ≤ self.old.counts.lines }
         requires room { self.old.counts.lines + 1 < 2 ^ 100 }
@@ -228,7 +229,8 @@ impl Checking {
         }
     }
 
-    // Reads once, and takes what was read; at the end of the input, ends the last line. Gives the verdict, if there is one.
+    // Reads once, and takes the bytes. At the end of the input, ends the last line. Returns the verdict, if there is
+    // one.
     fn read_on<R: Read>(
         &mut self,
         alloc: Global,
@@ -286,15 +288,16 @@ fn judge<R: Read>(alloc: Global, input: &mut Told<R>) -> Result<Judged, TraceErr
     Err(TraceError::Device)
 }
 
-/// Reads the lines of a trace, and writes whether they are right: a line has the answer of the rules, or none; and one that
-/// is answered `no command` has to say so.
+/// Reads the lines of a trace, and writes whether they are right. A line has the answer of the rules, or none, and one
+/// that is answered `no command` has to say so.
 ///
-/// It reads up to the first line that is wrong, and writes that line's number, the line, and the line as it is answered; or
-/// to the end, and writes how many lines have an answer, and how many commands and readings have none and are only
-/// performed. With no answer at all, nothing was compared, and the verdict is `NoAnswers`. Memory is taken for a fresh
-/// machine, for a line, of which no more than 65,537 bytes are kept, and for what is written. Errors: Memory, where an
-/// allocation failed and nothing is written; Device, where a read failed or after 2^64 - 1 reads, and nothing is
-/// written, or where a write failed and a prefix of the text is written.
+/// At the first line that is wrong it stops, and writes that line's number, the line, and the line with the right
+/// answer. At the end it writes how many lines have an answer, and how many commands and readings have none and are
+/// only performed. With no answer at all, nothing was compared, and the verdict is `NoAnswers`.
+///
+/// Memory is taken for a fresh machine, for a line, of which no more than 65,537 bytes are kept, and for the text.
+/// Errors: Memory, if an allocation failed and nothing is written; Device, if a read failed or after 2^64 - 1 reads,
+/// and nothing is written, or if a write failed and a prefix of the text is written.
 pub fn check<R: Read, W: Write>(
     alloc: Global,
     input: &mut Told<R>,

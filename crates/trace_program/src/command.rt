@@ -1,4 +1,4 @@
-//! Commands.
+//! The performing of a trace's commands.
 ghost use Rattle.std.specs.Prelude.{◌≡◌, None};
 ghost use Rattle.realm_model.specs.Update.{Outcome};
 ghost use Rattle.rmi_monitor.specs.View.{Answers, after_command};
@@ -8,7 +8,7 @@ use realm_model::Rmi;
 use rmi_bench::Bench;
 use rmi_trace::{Command, TraceAnswer};
 
-// The answer to a command that gives no value.
+// The answer to a command without a value.
 fn told(call: Result<(), Rmi>) -> TraceAnswer
     ensures { (outcome : Outcome) → Answers call outcome → result ≡ answer_with None outcome }
 {
@@ -18,7 +18,7 @@ fn told(call: Result<(), Rmi>) -> TraceAnswer
     }
 }
 
-/// Performs a command on the bench, and gives its answer.
+/// Performs a command on the simulated RMM, and returns its answer.
 pub fn perform(bench: &mut Bench, command: &Command) -> TraceAnswer
     ensures answer { result ≡ answer_to command.now bench.old }
     ensures machine { bench.new ≡ after_command (command_outcome command.now bench.old) bench.old }

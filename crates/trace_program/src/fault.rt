@@ -1,4 +1,4 @@
-//! Why a trace is not taken to its end.
+//! The errors of a trace that is not taken to its end.
 ghost use Rattle.std.specs.Prelude.{◌≡◌};
 ghost use Rattle.trace_program.specs.declared.fault.TraceError.TheVariants.{Memory, Device};
 
@@ -7,7 +7,7 @@ use command_line::Reason;
 use std::alloc::AllocError;
 use thiserror::Error;
 
-/// Why a trace is not taken to its end. Its line goes to standard error.
+/// The reason why a trace is not taken to its end. Its line goes to standard error.
 #[derive(Clone, Copy, Debug, Error)]
 pub enum TraceError {
     /// Allocation failed.

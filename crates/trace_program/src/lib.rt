@@ -1,9 +1,10 @@
-//! The parts of the program for traces: what is answered to each line, whether the lines of a trace are right, its command
-//! line, and how a run ends.
+//! The parts of the program for traces: the answer to each line, the check of a trace, its command line, and the ends
+//! of a run.
 //!
-//! `perform` and `read` answer one command and one reading of a bench. A `Session` takes the lines of a trace one after
-//! another: it has no bench before the first `machine` line, and a new one from each of these on. `answer` and `check` take
-//! a trace from a reader. Nothing here looks at the process that it runs in: a caller hands in the words and the devices.
+//! `perform` and `read` answer one command and one reading of a simulated RMM. A `Session` takes the lines of a trace
+//! one after another. It has no RMM before the first `machine` line, and a new one from each of these on. `answer` and
+//! `check` take a trace from a reader. Nothing here depends on the process that it runs in: a caller hands in the words
+//! and the devices.
 #![tactic(auto)]
 
 mod answering;

@@ -1,4 +1,4 @@
-//! Readings.
+//! The answers to readings.
 ghost use Rattle.std.specs.Prelude.{◌≡◌};
 ghost use Rattle.trace_program.specs.Readings.{granule_state_of, realm_state_of, rec_state_of, realm_answer, rec_answer, IsReading};
 
@@ -43,7 +43,7 @@ fn rec_state(state: RecState) -> rmi_trace::TraceRecState
     }
 }
 
-// What is told of a realm.
+// The attributes of a realm, as an answer.
 fn realm_answer(realm: &RealmDesc) -> TraceAnswer
     ensures { result ≡ realm_answer realm.now }
 {
@@ -57,7 +57,7 @@ fn realm_answer(realm: &RealmDesc) -> TraceAnswer
     }
 }
 
-// What is told of a REC.
+// The attributes of a REC, as an answer.
 fn rec_answer(rec: &Rec) -> TraceAnswer
     ensures { result ≡ rec_answer rec.now }
 {
@@ -72,7 +72,7 @@ fn rec_answer(rec: &Rec) -> TraceAnswer
     }
 }
 
-/// What the bench answers to a reading.
+/// The answer of the simulated RMM to a reading.
 pub fn read(bench: &Bench, reading: &Reading) -> TraceAnswer
     ensures { IsReading reading.now bench.now result }
 {

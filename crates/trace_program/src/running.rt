@@ -1,4 +1,4 @@
-//! What the command line asks for is done.
+//! The subcommands of the command line.
 ghost use Rattle.std.specs.Prelude.{◌≡◌, ◌⊎◌, ◌+◌, ◌^◌, ◌≤◌, false, true, Err, IfOk};
 ghost use Rattle.trace_program.specs.Input.{AreLinesAnswered};
 ghost use Rattle.trace_program.specs.Verdict.{IsChecked};
@@ -11,7 +11,8 @@ use checked_io::Told;
 use std::alloc::Global;
 use std::io::{Read, Write};
 
-/// Does what is asked, over any reader and any writer. Where lines are answered, the answers are right: the verdict is `Agree`.
+/// Performs a subcommand, over any reader and any writer. If lines are answered, the answers are right: the verdict is
+/// `Agree`.
 pub fn run<R: Read, W: Write>(
     alloc: Global,
     asked: TraceSubcommand,

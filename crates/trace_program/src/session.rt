@@ -1,4 +1,4 @@
-//! The lines of a trace, one after another.
+//! A session: the lines of a trace, one after another.
 ghost use Rattle.std.specs.Prelude.{◌≡◌, ◌++◌, List, ℕ, None, IfOk, OnOk, OnErr};
 ghost use Rattle.trace_program.specs.Session.{IsOpening, IsRequestPerformed, IsTraceAnswer, IsLineReported, written_with};
 ghost use Rattle.rmi_bench.specs.Machine.{is_machine};
@@ -10,7 +10,7 @@ use rmi_trace::{
 };
 use std::alloc::{AllocError, Global};
 
-/// Appends what is written for a line that is given this answer: a remark as it is, and else what it asks, and the answer.
+/// Appends the output for a line with this answer: a remark as it is, and else the request, and the answer.
 pub(crate) fn push_told(
     text: &mut Vec<u8>,
     bytes: &[u8],
@@ -30,10 +30,10 @@ pub(crate) fn push_told(
     }
 }
 
-/// What the lines of a trace have come to.
+/// The state of a session, after some lines of a trace.
 #[derive(Drop)]
 pub struct Session {
-    /// The bench of the last `machine` line, if there was one.
+    /// The simulated RMM of the last `machine` line, if there was one.
     pub bench: Option<Bench>,
 }
 
@@ -65,7 +65,7 @@ impl Session {
         }
     }
 
-    // Does what is asked.
+    // Performs the request.
     fn perform(
         &mut self,
         alloc: Global,
@@ -87,7 +87,8 @@ impl Session {
         }
     }
 
-    /// The answer to a line, if it gets one. Memory is taken for a fresh machine alone; where there is none, nothing changes.
+    /// The answer to a line, if it gets one. Memory is taken for a fresh machine alone; if there is none, nothing
+    /// changes.
     pub fn answer(
         &mut self,
         alloc: Global,
@@ -103,7 +104,7 @@ impl Session {
         }
     }
 
-    /// Takes a line, and appends it with its answer to the text. An answer that it already has is set aside.
+    /// Takes a line, and appends it with its answer to the text. An answer that it already has is dropped.
     pub(crate) fn take_line(
         &mut self,
         alloc: Global,

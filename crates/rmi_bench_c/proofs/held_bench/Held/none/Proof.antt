@@ -1,4 +1,4 @@
--- `none` is walked through.
+-- `none`, step by step.
 use Rattle.std.proofs.Common.{◌≡◌, [], ◌∷◌, refl, lit<, w64}
 use mir.Val.{Val, vint}
 use base.Logic.{SProp, emp}

@@ -1,4 +1,4 @@
--- `of` takes the box apart, and the parts own what it owned.
+-- `of`: the parts of the box, which own what it owned.
 use mathlib.Core.Path.{◌≡◌, refl, sym, subst, ap, ◌∙◌}
 use mathlib.Core.List.{List, [], ◌∷◌, ◌++◌}
 use seplogic.Ra.Ura.{Ura}
