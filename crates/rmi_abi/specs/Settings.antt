@@ -8,7 +8,7 @@ use Rattle.rmi_abi.specs.declared.settings.RmmSettings.{RmmSettings}
 abbrev pub has_addresses : RmmSettings → Bool
 has_addresses s = nat_lt s.base (2 ^ 47) && s.base % 4096 == 0 && nat_lt s.secure_base (2 ^ 47) && s.secure_base % 4096 == 0
 
--- the sizes are ones that a monitor can have
+-- the sizes are ones that an RMM can have
 abbrev pub has_sizes : RmmSettings → Bool
 has_sizes s =
     nat_le s.aux 16 && (s.vmid_bits == 8 || s.vmid_bits == 16) && nat_le 32 s.s2sz && nat_le s.s2sz 48 && nat_le s.max_recs_order 15

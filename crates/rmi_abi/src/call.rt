@@ -1,4 +1,4 @@
-//! Calls, and the registers that they are.
+//! Calls, and their registers.
 ghost use Rattle.std.specs.Prelude.{◌≡◌};
 ghost use Rattle.rmi_abi.specs.Call as calls;
 

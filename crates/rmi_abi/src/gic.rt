@@ -1,4 +1,4 @@
-//! The GIC fields of a run page: gicv3_hcr, and behind it 16 list registers.
+//! The GIC fields of a run page: gicv3_hcr, and after it 16 list registers.
 ghost use Rattle.std.specs.Prelude.{◌≡◌, ◌<◌, length};
 ghost use Rattle.rmi_abi.specs.Gic as gic;
 
@@ -25,15 +25,15 @@ impl GicFields {
         word_in(page, 97 + k as usize)
     }
 
-    /// Whether a host may set gicv3_hcr so.
+    /// Whether a host may set gicv3_hcr to that value.
     pub fn is_hcr(hcr: u64) -> bool
         ensures { result ≡ gic.is_gicv3_hcr hcr }
     {
         hcr % 2 == 0 && hcr / 0x100 % 0x40 == 0 && hcr / 0x8000 == 0
     }
 
-    /// Whether a host may set list register `k` as a run page has it. `num_lrs` is the number of the last one that there
-    /// is.
+    /// Whether a host may set list register `k` to its value in a run page. `num_lrs` is the number of the last list
+    /// register.
     pub fn is_lr(num_lrs: u8, page: &[u8], k: u8) -> bool
         requires page { length page.now ≡ 4096 }
         requires below { k < 16 }

@@ -1,4 +1,4 @@
-//! Theorems about all calls and result words.
+//! A theorem on all calls.
 ghost use Rattle.std.specs.Prelude.{◌≡◌, ◌<◌, ℕ, Some};
 ghost use Rattle.rmi_abi.specs.declared.call.Call.{Call};
 ghost use Rattle.rmi_abi.specs.declared.word.Word.{Word};

@@ -56,7 +56,7 @@ pub fn entry_gpr(page: &[u8], k: u8) -> u64
     word_in(page, 64 + k as usize)
 }
 
-/// The reason of an exit. RMM 1.0, RmiRecExitReason; a guest here makes no FIQ and no SError.
+/// The reason of an exit. RMM 1.0, RmiRecExitReason; a simulated guest causes no FIQ and no SError.
 #[derive(Clone, Copy)]
 pub enum ExitReason {
     Sync,
@@ -66,7 +66,7 @@ pub enum ExitReason {
     HostCall,
 }
 
-/// An exit of a REC. RMM 1.0, RmiRecExit; what is no field here is 0.
+/// An exit of a REC. RMM 1.0, RmiRecExit; the words that are no field here are 0.
 #[derive(Clone, Copy)]
 pub struct RecExit {
     pub reason: ExitReason,

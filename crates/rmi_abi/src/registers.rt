@@ -1,4 +1,4 @@
-//! Registers of a call, and answers in them.
+//! The registers of a call, and of its answer.
 ghost use Rattle.std.specs.Prelude.{◌≡◌};
 ghost use Rattle.rmi_abi.specs.Answer as answers;
 

@@ -1,4 +1,4 @@
-//! Settings: what the standard leaves open, or a monitor is free to choose.
+//! Settings: the choices that the standard leaves to an implementation.
 ghost use Rattle.std.specs.Prelude.{◌≡◌, Some, None, if◌then◌else◌};
 ghost use Rattle.rmi_abi.specs.Settings as ranges;
 
@@ -11,12 +11,12 @@ pub enum Layout {
     Eac5,
 }
 
-/// The settings of a monitor. What the standard leaves open has the default that is the likeliest.
+/// The settings of an RMM. A choice that the standard leaves open has the default that is the likeliest.
 #[derive(Clone, Copy, Debug, PartialEq, Eq)]
 pub struct RmmSettings {
     /// The address of the first granule.
     pub base: u64,
-    /// The address of the first granule that cannot be delegated, and how many there are.
+    /// The address of the first granule that cannot be delegated, and the number of such granules.
     pub secure_base: u64,
     pub secure_count: u16,
     /// Auxiliary granules of a REC.
@@ -88,7 +88,7 @@ impl RmmSettings {
             && self.secure_base % 4096 == 0
     }
 
-    // Whether the sizes are ones that a monitor can have.
+    // Whether the sizes are ones that an RMM can have.
     fn has_sizes(&self) -> bool
         ensures { result ≡ ranges.has_sizes self.now }
     {
@@ -132,7 +132,7 @@ impl Model for Platform {
 }
 
 impl Platform {
-    /// The platform of settings; `None` comes for a setting out of its range.
+    /// The platform of settings; `None` comes if a setting is out of its range.
     pub fn new(settings: RmmSettings) -> Option<Platform>
         ensures { result ≡ (if ranges.is_platform settings then Some settings else None) }
     {

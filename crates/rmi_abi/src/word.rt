@@ -10,7 +10,7 @@ pub enum Word {
     ErrorRealm(u8),
     ErrorRec,
     ErrorRtt(u8),
-    /// No word of the standard: REC_ENTER has not come back, since its REC runs on. This monitor's own.
+    /// REC_ENTER has not returned, since its REC runs on: no word of the standard, but this RMM's own.
     Running,
 }
 
@@ -29,7 +29,7 @@ impl Word {
         }
     }
 
-    /// The word that X0 is read as; `None` comes for a number that is no word.
+    /// The word that X0 is read as; `None` comes if a number is no word.
     pub fn from_number(number: u64) -> Option<Word>
         ensures { result ≡ words.word_of number }
     {

@@ -1,4 +1,4 @@
-//! Initial measurements, and what extends them.
+//! Initial measurements, and their extensions.
 ghost use Rattle.std.specs.Prelude.{◌≡◌, ℕ, List, ◌++◌, length};
 ghost use Rattle.rmm_measurement.specs.Bytes as bytes;
 ghost use Rattle.rmm_measurement.specs.Measure as measures;
@@ -56,7 +56,7 @@ fn hash_params<D: Digest>(p: &RealmParams) -> D::Output
     hasher.finalize()
 }
 
-/// The measurement of a new realm: the hash of a page that has those parameters which are measured.
+/// The measurement of a new realm: the hash of a page with the parameters that are measured.
 #[tactic(auto, unfolding(crate::specs::Measure::initial, crate::specs::Measure::digest))]
 pub fn initial(hash: HashAlgorithm, params: &RealmParams) -> [u8; 64]
     ensures { result ≡ measures.initial hash params.now }
@@ -69,7 +69,7 @@ pub fn initial(hash: HashAlgorithm, params: &RealmParams) -> [u8; 64]
 
 // ---- extensions
 
-// Feeds what a descriptor has after the measurement before.
+// Feeds the part of a descriptor that comes after the measurement before.
 fn feed_content<D: Digest>(hasher: &mut D, extension: &Extension)
     ensures { (m : List ℕ) → D.holds hasher.old m → D.holds hasher.new (measures.with_content m extension.now) }
 {

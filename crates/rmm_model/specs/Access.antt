@@ -1,5 +1,5 @@
--- Sizes of a guest's accesses. Arm Architecture Reference Manual, ESR_EL2, SAS. A guest accesses a multiple of the size, so that an access
--- is in one page: the lower bits of another address do not count.
+-- Sizes of a guest's accesses. Arm Architecture Reference Manual, ESR_EL2, SAS. A guest accesses a multiple of the
+-- size, so that an access is in one page: the lower bits of another address do not count.
 use Rattle.std.specs.Prelude.{ℕ, ◌+◌, ◌*◌, ◌/◌, ◌%◌, ◌^◌, ◌==◌, List, slice_index_or, slice_set, if◌then◌else◌}
 use Rattle.page_arena.specs.Word.{word_of_page}
 use Rattle.rmm_model.specs.declared.access.AccessSize.{AccessSize}
@@ -17,7 +17,7 @@ syndrome Halfword = 0x400000
 syndrome Word = 0x800000
 syndrome Doubleword = 0xC00000
 
--- as many of the low bytes of a value as an access has
+-- the low bytes of a value: as many as an access has
 abbrev pub low_bytes : AccessSize → ℕ → ℕ
 low_bytes Byte value = value % 2 ^ 8
 low_bytes Halfword value = value % 2 ^ 16

@@ -1,4 +1,4 @@
--- The words that a monitor may answer. RMM 1.0 orders the failure conditions of a command in part: where two checks that are
+-- The words that an RMM may answer. RMM 1.0 orders the failure conditions of a command in part: if two checks that are
 -- not ordered fail, either decides.
 use Rattle.std.specs.Prelude.{ℕ, ◌==◌, Bool, List, [], ◌∷◌, if◌then◌else◌}
 use Rattle.std.specs.List.{list_all, list_any}
@@ -98,8 +98,8 @@ condition_number Status = 76
 abbrev pub is_among : List Condition → Condition → Bool
 is_among conditions condition = list_any (λ c. condition_number c == condition_number condition) conditions
 
--- A check is made where each check that it comes after was made and passed. The words of the checks that are made and fail,
--- after checks that were made and passed.
+-- A check is made if each check that it comes after was made and passed. The words are those of the checks that are
+-- made and fail, after checks that were made and passed.
 unfoldable pub words_after : List Condition → List Check → List Word
 words_after passed [] = []
 words_after passed (c ∷ cs) =
@@ -111,6 +111,6 @@ abbrev pub or_success : List Word → List Word
 or_success [] = Success ∷ []
 or_success (word ∷ words) = word ∷ words
 
--- The words that are allowed: those of all checks that are made and fail, and RMI_SUCCESS where there is none.
+-- The words that are allowed: those of all checks that are made and fail, and RMI_SUCCESS if there is none.
 unfoldable pub allowed_words : Command → List Word
 allowed_words command = or_success (words_after [] command.checks)

@@ -1,4 +1,4 @@
--- Checks of commands, and what comes of them. RMM 1.0, failure conditions of RMI commands.
+-- Checks of commands, and the answers to them. RMM 1.0, failure conditions of RMI commands.
 use Rattle.std.specs.Prelude.{ℕ, Bool, cond, List, [], ◌∷◌, Option, Some, None, Result, Ok, Err}
 use Rattle.rmi_abi.specs.declared.registers.SmcResult.{SmcResult}
 use Rattle.rmi_abi.specs.declared.word.Word.TheVariants.{Success, ErrorInput, ErrorRealm, ErrorRec, ErrorRtt}
@@ -30,7 +30,7 @@ error_rtt_top top level = record { word = ErrorRtt level; x1 = 0; x2 = top; x3 =
 
 -- ---- checks
 
--- One check: its name, the checks that it comes after, whether it fails, and the answer where it decides.
+-- One check: its name, the checks that it comes after, whether it fails, and its answer.
 pub record Check : Type 0 where
   pub after : List Condition
   pub fails : Bool
@@ -46,7 +46,7 @@ first_failing (c ∷ cs) = cond c.fails (Some c.refusal) (first_failing cs)
 
 -- ---- commands
 
--- A command: its checks, and where none fails its answer and the machine after it.
+-- A command: its checks, its answer if none fails, and the machine after it then.
 pub record Command : Type 0 where
   pub checks : List Check
   pub answer : SmcResult

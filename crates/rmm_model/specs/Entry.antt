@@ -1,4 +1,4 @@
--- Entries of translation tables, and their words. RMM 1.0, RTT entry; the bits of a word are this monitor's own.
+-- Entries of translation tables, and their words. RMM 1.0, RTT entry; the bits of a word are this RMM's own.
 use Rattle.std.specs.Prelude.{ℕ, ◌+◌, ◌*◌, ◌/◌, ◌%◌, ◌^◌, ◌==◌, ◌&&◌, ◌||◌, Bool, true, false, not, Option, Some, None, if◌then◌else◌}
 use Rattle.rmm_model.specs.Level.{entry_size}
 use Rattle.rmm_model.specs.declared.entry.Changeable.{Changeable}
@@ -7,7 +7,7 @@ use Rattle.rmm_model.specs.declared.entry.RmmRttEntry.TheVariants.{Unassigned, A
 use Rattle.rmm_model.specs.declared.entry.RmmRipas.{RmmRipas}
 use Rattle.rmm_model.specs.declared.entry.RmmRipas.TheVariants.{Empty, Ram, Destroyed}
 
--- RmiRipas
+-- the encoding of RIPAS: RmiRipas
 abbrev pub ripas_code : RmmRipas → ℕ
 ripas_code Empty = 0
 ripas_code Ram = 1
@@ -35,7 +35,7 @@ entry_word (Table address) = 4 * 2 ^ 56 + address % 2 ^ 48
 entry_word (AssignedNs descriptor) = 5 * 2 ^ 56 + descriptor % 2 ^ 48
 entry_word (Assigned ripas address) = (6 + ripas_code ripas) * 2 ^ 56 + address % 2 ^ 48
 
--- the entry of a kind, with a descriptor where it has one
+-- the entry of a kind, with a descriptor if it has one
 abbrev pub entry_at_kind : ℕ → ℕ → RmmRttEntry
 entry_at_kind kind descriptor =
     if kind == 1 then Unassigned Ram else
@@ -105,7 +105,7 @@ entry_with_ripas ripas entry = entry
 
 -- ---- outputs of RMI_RTT_READ_ENTRY
 
--- RmiRttEntryState
+-- the encoding of an entry's state: RmiRttEntryState
 abbrev pub state_code : RmmRttEntry → ℕ
 state_code (Unassigned ripas) = 0
 state_code UnassignedNs = 0
@@ -113,7 +113,7 @@ state_code (Assigned ripas address) = 1
 state_code (AssignedNs descriptor) = 1
 state_code (Table address) = 2
 
--- RmiRipas of a protected page or block, and 0 of any other entry
+-- the encoding of the RIPAS of a protected page or block, RmiRipas, and 0 of any other entry
 abbrev pub shown_ripas : RmmRttEntry → ℕ
 shown_ripas (Unassigned ripas) = ripas_code ripas
 shown_ripas (Assigned ripas address) = ripas_code ripas
@@ -121,7 +121,7 @@ shown_ripas _ = 0
 
 -- ---- children
 
--- Entry k of a table of a level that says the same as an entry above it: the memory of a mapping rises.
+-- Entry k of a table of a level that means the same as an entry above it: the memory of a mapping rises.
 abbrev pub child_entry : RmmRttEntry → ℕ → ℕ → RmmRttEntry
 child_entry (Assigned ripas address) level k = Assigned ripas (address + k * entry_size level)
 child_entry (AssignedNs descriptor) level k = AssignedNs (descriptor + k * entry_size level)

@@ -1,6 +1,6 @@
--- Guests of RECs. This monitor's own: a guest is simulated by a list of at most 16 steps, a ring in words 48 to 127 of the page of its
--- REC, five words each. The results of its steps since its last entry are in words 128 to 191, two words each. Words 192 to 208 are
--- gicv3_hcr and the list registers of its last entry.
+-- Guests of RECs. This RMM's own: a guest is simulated by a list of at most 16 steps, a ring in words 48 to 127 of the
+-- page of its REC, five words each. The results of its steps since its last entry are in words 128 to 191, two words
+-- each. Words 192 to 208 are gicv3_hcr and the list registers of its last entry.
 use Rattle.std.specs.Prelude.{ℕ, ◌+◌, ◌-◌, ◌*◌, ◌%◌, ◌==◌, ◌&&◌, Bool, nat_lt, List, is_some, unwrap_or, if◌then◌else◌}
 use Rattle.page_arena.specs.Word.{word_of_page}
 use Rattle.rmm_model.specs.declared.rec.RmmRec.{RmmRec as Attributes}
@@ -84,26 +84,26 @@ with_step_at m g place w =
 abbrev pub first_step : Machine → ℕ → GuestStep
 first_step m g = step_of (words_at (page_in m g) ((rec_in m g).first_step % 16))
 
--- the guest of a REC is past its first step
+-- the guest of a REC after its first step
 unfoldable pub past_step : Machine → ℕ → Machine
 past_step m g =
     let rec = rec_in m g in
     with_rec m g (record rec { first_step = (rec.first_step % 16 + 1) % 16; step_count = rec.step_count - 1 })
 
--- the guest of a REC has one result more
+-- the guest of a REC with one result more
 unfoldable pub with_result : Machine → ℕ → StepResult → Machine
 with_result m g r =
     let rec = rec_in m g in
     let place = rec.result_count % 32 in
     with_rec (with_word (with_word m g (128 + 2 * place) (result_code r)) g (128 + 2 * place + 1) (result_value r)) g (record rec { result_count = (place + 1) % 32 })
 
--- ---- the host's hand
+-- ---- steps from the host
 
 -- an address is that of a REC
 abbrev pub is_rec_named : Machine → ℕ → Bool
 is_rec_named m address = is_aligned address && is_inside m address && is_some (rec_of (state_at m address))
 
--- a step is behind those that a guest has
+-- a step after those that a guest has
 unfoldable pub with_step : Machine → ℕ → StepWords → Machine
 with_step m g w =
     let rec = rec_in m g in

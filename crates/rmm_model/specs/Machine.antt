@@ -49,19 +49,19 @@ with_blank m granule state = with_page (with_granule m granule (of_no_realm stat
 abbrev pub is_aligned : ℕ → Bool
 is_aligned address = address % 4096 == 0
 
--- the address lies in a granule of the machine
+-- the address is in a granule of the machine
 unfoldable pub is_inside : Machine → ℕ → Bool
 is_inside m address = nat_le m.settings.base address && nat_lt ((address - m.settings.base) / 4096) (length m.granules)
 
--- the number of the granule that an address lies in
+-- the number of the granule of an address
 unfoldable pub number_of : Machine → ℕ → ℕ
 number_of m address = (address - m.settings.base) / 4096
 
--- the state of the granule that an address lies in
+-- the state of the granule of an address
 abbrev pub state_at : Machine → ℕ → RmmGranuleState
 state_at m address = (granule_at m (number_of m address)).state
 
--- the memory at an address is the host's or the monitor's, and not of the secure world
+-- the memory at an address is the host's or the RMM's, and not of the secure world
 unfoldable pub is_secure : Machine → ℕ → Bool
 is_secure m address = nat_le m.settings.secure_base address && nat_lt ((address - m.settings.secure_base) / 4096) m.settings.secure_count
 
@@ -71,7 +71,7 @@ is_secure m address = nat_le m.settings.secure_base address && nat_lt ((address 
 abbrev pub with_realm : Machine → ℕ → RmmRealm → Machine
 with_realm m rd realm = with_granule m rd (of_no_realm (Rd realm))
 
--- each RD has a realm whose starting tables lie in the machine
+-- each RD has a realm whose starting tables are in the machine
 pub record HasTables (granules : List RmmGranule) : Type 0 where
   pub each : (granule : ℕ) → IfSome (realm_of (slice_index_or granules granule (of_no_realm Undelegated)).state) (IsServed (length granules))
 

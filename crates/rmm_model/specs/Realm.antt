@@ -36,11 +36,12 @@ is_unprotected realm ipa = not (is_protected realm ipa) && is_in_space realm ipa
 unfoldable pub start_count : ℕ → ℕ → ℕ
 start_count s2sz level = (2 ^ s2sz + (512 * entry_size level - 1)) / (512 * entry_size level)
 
--- A level at which a width begins: it has more than one entry there, in at most 16 tables, which are as many as it takes.
+-- A level at which a width begins: it has more than one entry there, in at most 16 tables, which are as many as it
+-- takes.
 unfoldable pub is_start : ℕ → ℕ → ℕ → Bool
 is_start s2sz level count = nat_le level 3 && nat_lt (entry_size level) (2 ^ s2sz) && nat_le count 16 && count == start_count s2sz level
 
--- The starting tables of a realm lie in a machine of that many granules, and serve each address of its width.
+-- The starting tables of a realm are in a machine of that many granules, and serve each address of its width.
 pub record IsServed (count : ℕ) (realm : RmmRealm) : Type 0 where
   pub few : count ≤ 4096
   pub inside : realm.first_table + realm.table_count ≤ count

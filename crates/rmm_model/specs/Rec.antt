@@ -1,5 +1,5 @@
--- RECs. RMM 1.0, REC attributes. The words of a REC's page are this monitor's own: 0 to 30 are its general-purpose registers, 31 is its
--- pc, 32 to 47 are the addresses of its auxiliary granules.
+-- RECs. RMM 1.0, REC attributes. The words of a REC's page are this RMM's own: 0 to 30 are its general-purpose
+-- registers, 31 is its pc, 32 to 47 are the addresses of its auxiliary granules.
 use Rattle.std.specs.Prelude.{ℕ, ◌+◌, ◌||◌, Bool, true, false, List}
 use Rattle.page_arena.specs.Word.{word_of_page}
 use Rattle.rmm_model.specs.declared.entry.RmmRipas.TheVariants.{Empty}
@@ -13,7 +13,7 @@ use Rattle.rmm_model.specs.declared.rec.RipasRequest.{RipasRequest}
 abbrev pub no_request : RipasRequest
 no_request = record { base = 0; top = 0; ripas = Empty; changes_destroyed = false }
 
--- A new REC: it is READY, and nothing is asked or pending.
+-- A new REC: it is READY, and no request is pending.
 abbrev pub new_rec : Bool → ℕ → RmmRec
 new_rec is_runnable mpidr = record {
   state = Ready;

@@ -1,4 +1,5 @@
--- What comes of a guest's step. RMM 1.0, Realm exits, RSI_HOST_CALL, RSI_IPA_STATE_SET and PSCI; Arm Architecture Reference Manual, ESR_EL2.
+-- The outcome of a guest's step. RMM 1.0, Realm exits, RSI_HOST_CALL, RSI_IPA_STATE_SET and PSCI; Arm Architecture
+-- Reference Manual, ESR_EL2.
 use Rattle.std.specs.Prelude.{ℕ, ◌+◌, ◌-◌, ◌*◌, ◌/◌, ◌%◌, ◌^◌, ◌==◌, ◌&&◌, Bool, true, false, not, nat_lt, Option, Some, None, Result, Ok, Err, if◌then◌else◌}
 use Rattle.rmi_abi.specs.declared.rec_run.ExitReason.{ExitReason}
 use Rattle.rmi_abi.specs.declared.rec_run.ExitReason.TheVariants.{Sync, Psci as PsciExit, RipasChange as RipasExit, HostCall as HostExit}
@@ -48,12 +49,12 @@ abbrev pub is_memory : RmmRttEntry → Bool
 is_memory (Assigned ripas address) = is_ram ripas
 is_memory _ = false
 
--- a granule, where it is one of the machine
+-- a granule, if it is one of the machine
 abbrev pub found_or_sea : Option ℕ → Result ℕ Came
 found_or_sea (Some granule) = Ok granule
 found_or_sea None = Err (IsResult Sea)
 
--- the granule of a protected address, or what comes of an access there, by an exception class
+-- the granule of a protected address, or the outcome of an access there, by an exception class
 abbrev pub protected_access : Machine → ℕ → RmmRttEntry → ℕ → ℕ → Result ℕ Came
 protected_access m class entry level ipa =
     if is_memory entry then found_or_sea (granule_named m (descriptor_of entry + ipa % entry_size level)) else
@@ -67,7 +68,7 @@ may_access desc writes = if writes then desc / 2 ^ 7 % 2 == 1 else desc / 2 ^ 6 
 abbrev pub wnr : Bool → ℕ
 wnr writes = if writes then 0x40 else 0
 
--- what ESR_EL2 says of a data abort that can be emulated: SAS, WnR and the level
+-- the fields of ESR_EL2 on a data abort that can be emulated: SAS, WnR and the level
 abbrev pub of_access : Bool → AccessSize → ℕ → ℕ
 of_access writes size level = syndrome size + (wnr writes + level)
 
@@ -75,14 +76,14 @@ of_access writes size level = syndrome size + (wnr writes + level)
 abbrev pub host_access : Machine → ℕ → ℕ → Result ℕ Came
 host_access m address ipa = if is_host_page m address then Ok (number_of m address) else Err (IsExit (abort 0x90000028 ipa) UnprotectedAbort)
 
--- the granule of an unprotected address, or what comes of an access there
+-- the granule of an unprotected address, or the outcome of an access there
 abbrev pub unprotected_access : Machine → RmmRttEntry → ℕ → ℕ → Bool → AccessSize → ℕ → Result ℕ Came
 unprotected_access m entry level ipa writes size value =
     if not (is_assigned_ns entry) then Err (IsExit (emulatable (0x91000004 + of_access writes size level) ipa value) EmulatableAbort) else
     (if may_access (descriptor_of entry) writes then host_access m (descriptor_of entry / 4096 * 4096 + ipa % entry_size level) ipa else
     Err (IsExit (emulatable (0x9100000C + of_access writes size level) ipa value) EmulatableAbort))
 
--- The granule that an address of a guest is in, or what comes of an access there.
+-- The granule that an address of a guest is in, or the outcome of an access there.
 unfoldable pub access : Machine → RmmRealm → ℕ → Bool → AccessSize → ℕ → Result ℕ Came
 access m realm ipa writes size value =
     let found = walk m realm ipa 3 in
@@ -90,18 +91,18 @@ access m realm ipa writes size value =
     (if is_protected realm ipa then protected_access m 0x90000000 (entry_at m found ipa) found.level ipa else
     unprotected_access m (entry_at m found ipa) found.level ipa writes size value)
 
--- the granule that a guest fetches an instruction from, or what comes of it
+-- the granule that a guest fetches an instruction from, or the outcome of the fetch
 unfoldable pub fetched : Machine → RmmRealm → ℕ → Result ℕ Came
 fetched m realm ipa =
     let found = walk m realm ipa 3 in
     if is_protected realm ipa then protected_access m 0x80000000 (entry_at m found ipa) found.level ipa else Err (IsResult Sea)
 
--- what comes of a step that only tries an access
+-- the outcome of a step that only tries an access
 abbrev pub tried : Result ℕ Came → Came
 tried (Ok granule) = IsResult Done
 tried (Err came) = came
 
--- what comes of a read
+-- the outcome of a read
 abbrev pub came_of_read : Machine → ℕ → AccessSize → Result ℕ Came → Came
 came_of_read m ipa size (Ok granule) = IsResult (IsRead (value_in (page_in m granule) size ipa))
 came_of_read m ipa size (Err came) = came
@@ -128,7 +129,7 @@ ripas_of code = if code == 1 then Ram else Empty
 abbrev pub ripas_exit : ℕ → ℕ → ℕ → Came
 ripas_exit base top ripas = IsExit (record (only_reason RipasExit) { ripas_base = base; ripas_top = top; ripas = ripas }) LastRipasChange
 
--- what a PSCI exit shows of its second and third operand is a setting
+-- the second and third operand that a PSCI exit shows, by a setting
 abbrev pub shown : RmmSettings → ℕ → ℕ
 shown s operand = if s.shows_target_alone then 0 else operand
 
@@ -165,7 +166,7 @@ wait traps esr = if traps then IsExit (record (only_reason Sync) { esr = esr }) 
 abbrev pub system_register : ℕ → ℕ → Came
 system_register iss value = IsExit (record (only_reason Sync) { esr = 0x60000000 + iss % 2 ^ 25; gpr0 = value }) LastSystemRegister
 
--- What comes of a step that accesses no memory.
+-- The outcome of a step that accesses no memory.
 abbrev pub came_of_call : RmmSettings → RmmRealm → Attributes → ℕ → GuestStep → Came
 came_of_call s realm rec flags (HostCall imm gpr0 gpr1 gpr2) = host_call imm gpr0 gpr1 gpr2
 came_of_call s realm rec flags (SetRipas base top ripas more) = if is_ripas_range realm base top ripas then ripas_exit base top ripas else IsResult RsiErrorInput
@@ -184,7 +185,7 @@ abbrev pub is_exit : Came → Bool
 is_exit (IsExit exit last) = true
 is_exit _ = false
 
--- the attributes of a REC after a step of its guest that makes an exit
+-- the attributes of a REC after a step of its guest that causes an exit
 abbrev pub rec_after_exit : Attributes → GuestStep → Attributes
 rec_after_exit rec (SetRipas base top ripas more) = record rec { ripas = record { base = base; top = top; ripas = ripas_of ripas; changes_destroyed = more % 2 == 1 } }
 rec_after_exit rec (CpuOn target entry_point context) = record rec { psci = CpuOnRequest target entry_point context }

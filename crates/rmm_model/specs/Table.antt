@@ -12,7 +12,7 @@ entry_in_page page i = entry_of (word_of_page page i)
 
 -- ---- live entries
 
--- the first live entry from one on, among that many; the index after them where none is live
+-- the first live entry from one on, among that many; the index after them if none is live
 unfoldable pub first_live : List ℕ → ℕ → ℕ → ℕ
 first_live page zero i = i
 first_live page (suc count) i = cond (is_live (entry_in_page page i)) i (first_live page count (i + 1))
@@ -27,7 +27,7 @@ has_live page = not (first_live_from page 0 == 512)
 
 -- ---- entries whose RIPAS is changed
 
--- the first entry that cannot be changed from one on, among that many; the index after them where all can
+-- the first entry that cannot be changed from one on, among that many; the index after them if all can
 unfoldable pub first_fixed : Changeable → List ℕ → ℕ → ℕ → ℕ
 first_fixed changeable page zero i = i
 first_fixed changeable page (suc count) i = cond (can_change changeable (entry_in_page page i)) (first_fixed changeable page count (i + 1)) i

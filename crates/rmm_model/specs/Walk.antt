@@ -18,7 +18,7 @@ entry_at m found ipa = entry_in_page (page_in m found.table) (entry_index found.
 abbrev pub with_entry : Machine → RttWalk → ℕ → RmmRttEntry → Machine
 with_entry m found ipa entry = with_word m found.table (entry_index found.level ipa) (entry_word entry)
 
--- the granule that an address names, where that is one of the machine
+-- the granule that an address names, if that is one of the machine
 unfoldable pub granule_named : Machine → ℕ → Option ℕ
 granule_named m address = cond (is_inside m address) (Some (number_of m address)) None
 
@@ -50,12 +50,14 @@ walk m realm ipa level = walk_from m ipa (level - realm.start_level) (start_of r
 
 -- ---- tops
 
--- the address that a first live entry begins at; of the address's own entry the address as it was given, or aligned down
+-- the address that a first live entry begins at; for the address's own entry, the address as it was given, or aligned
+-- down
 unfoldable pub top_at : Bool → ℕ → ℕ → ℕ → ℕ → ℕ
 top_at aligns level ipa i live =
     if live == i then cond aligns (ipa / entry_size level * entry_size level) ipa else (ipa / entry_size level + (live - i)) * entry_size level
 
--- The next live entry's address from an address on, in the table where its walk ends; the end of the table where none is live.
+-- The next live entry's address from an address on, in the table at which its walk ends; the end of the table if none
+-- is live.
 unfoldable pub top : Machine → RttWalk → ℕ → ℕ
 top m found ipa =
     let i = entry_index found.level ipa in

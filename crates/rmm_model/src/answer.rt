@@ -1,11 +1,11 @@
-//! Refusals.
+//! Refusals: a failed condition, and its answer.
 ghost use Rattle.std.specs.Prelude.{◌≡◌};
 ghost use Rattle.rmm_model.specs.Check as checks;
 
 use crate::Condition;
 use rmi_abi::{SmcResult, Word};
 
-/// The condition that a command is refused by, and the answer.
+/// The condition by which a command is refused, and the answer.
 #[derive(Clone, Copy, PartialEq, Eq, Drop)]
 pub struct FailedCondition {
     pub condition: Condition,

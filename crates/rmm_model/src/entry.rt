@@ -28,9 +28,9 @@ pub enum RmmRttEntry {
 /// The entries whose RIPAS a command changes: UNASSIGNED ones, and which others.
 #[derive(Clone, Copy, Debug, PartialEq, Eq)]
 pub struct Changeable {
-    /// ASSIGNED ones.
+    /// ASSIGNED entries.
     pub assigned: bool,
-    /// Ones whose RIPAS is DESTROYED.
+    /// Entries whose RIPAS is DESTROYED.
     pub destroyed: bool,
 }
 
@@ -62,7 +62,7 @@ pub fn entry_from_word(word: u64) -> RmmRttEntry
 }
 
 impl RmmRipas {
-    /// RmiRipas
+    /// The encoding of RIPAS: RmiRipas.
     pub fn code(self) -> u8
         ensures value { result ≡ entries.ripas_code self }
         ensures below { result ≤ 2 }
@@ -197,7 +197,7 @@ impl RmmRttEntry {
         }
     }
 
-    /// RmiRttEntryState
+    /// The encoding of the entry's state: RmiRttEntryState.
     pub fn state_code(self) -> u64
         ensures { result ≡ entries.state_code self }
     {
@@ -210,7 +210,7 @@ impl RmmRttEntry {
         }
     }
 
-    /// RmiRipas of a protected page or block, and 0 of any other entry.
+    /// The encoding of the RIPAS of a protected page or block, RmiRipas, and 0 of any other entry.
     pub fn ripas_code(self) -> u64
         ensures { result ≡ entries.shown_ripas self }
     {
@@ -221,7 +221,7 @@ impl RmmRttEntry {
         }
     }
 
-    /// Entry `index` of a table of a level that says the same as this entry above it.
+    /// Entry `index` of a table of a level that means the same as this entry above it.
     pub fn child(self, level: u8, index: u16) -> RmmRttEntry
         requires descriptor { entries.descriptor_of self < 2 ^ 48 }
         requires index { index < 512 }

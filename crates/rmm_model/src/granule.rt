@@ -1,4 +1,4 @@
-//! Granules.
+//! Granules, and their states.
 ghost use Rattle.std.specs.Prelude.{◌≡◌};
 
 use crate::{RmmRealm, RmmRec};
@@ -24,7 +24,7 @@ pub struct RmmGranule {
 }
 
 impl RmmGranule {
-    /// A granule of the host's, as each one is at the start.
+    /// An UNDELEGATED granule, as each one is at the start.
     pub const UNDELEGATED: RmmGranule = RmmGranule {
         state: RmmGranuleState::Undelegated,
         owner: None,

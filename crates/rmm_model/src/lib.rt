@@ -1,7 +1,7 @@
-//! The Realm Management Monitor of RMM 1.0 as definitions, and the types that they speak of.
+//! The Realm Management Monitor of RMM 1.0 as definitions, and the types of its values.
 //!
-//! A machine is a list of granules and a list of pages; a translation table is its page of 512 words. In `specs/Command`
-//! each command is a list of checks and an effect, and `specs/Call` has what a call by registers does.
+//! A machine is a list of granules and a list of pages; a translation table is its page of 512 words. In
+//! `specs/Command` each command is a list of checks and an effect, and `specs/Call` defines a call by registers.
 #![tactic(auto)]
 
 mod access;

@@ -1,4 +1,4 @@
-//! Realms.
+//! Realms, and their states.
 ghost use Rattle.std.specs.Prelude.{◌≡◌, ◌≤◌};
 ghost use Rattle.rmm_model.specs.Realm as realms;
 

@@ -1,4 +1,4 @@
-//! RECs.
+//! RECs, and their requests.
 ghost use Rattle.std.specs.Prelude.{◌≡◌, ◌<◌, length};
 ghost use Rattle.rmm_model.specs.Rec as recs;
 
@@ -12,9 +12,10 @@ pub enum RmmRecState {
     Running,
 }
 
-/// The change of RIPAS that a REC asked for. RMM 1.0, attributes ripas_addr, ripas_top, ripas_value and ripas_destroyed.
+/// The change of RIPAS that a REC asked for. RMM 1.0, attributes ripas_addr, ripas_top, ripas_value and
+/// ripas_destroyed.
 ///
-/// The address is how far the host has come. Address and top are 0 if nothing is asked for.
+/// The address is the one up to which the host has changed the RIPAS. Address and top are 0 if there is no request.
 #[derive(Clone, Copy, Debug, PartialEq, Eq)]
 pub struct RipasRequest {
     pub base: u64,
@@ -39,7 +40,7 @@ pub enum PsciRequest {
     Complete(u64),
 }
 
-/// The last exit of a REC, as its next entry has to answer it. RMM 1.0, attributes host_call and emulatable_abort.
+/// The last exit of a REC, which its next entry has to answer. RMM 1.0, attributes host_call and emulatable_abort.
 #[derive(Clone, Copy, Debug, PartialEq, Eq)]
 pub enum LastExit {
     /// No exit, or one that no entry answers.

@@ -1,4 +1,4 @@
-//! Guests of RECs: the steps that they perform, and what comes of them.
+//! Guests of RECs: their steps, and the results.
 ghost use Rattle.std.specs.Prelude.{◌≡◌, ◌<◌, length};
 ghost use Rattle.rmm_model.specs.Guest as guests;
 
@@ -6,7 +6,7 @@ use crate::{AccessSize, LastExit};
 use page_arena::word_in;
 use rmi_abi::RecExit;
 
-/// A step of a guest: an access, an RSI or PSCI call, or a wait. This monitor's own: a guest is simulated.
+/// A step of a guest: an access, an RSI or PSCI call, or a wait. This RMM's own: a guest is simulated.
 #[derive(Clone, Copy)]
 pub enum GuestStep {
     Write {
@@ -71,7 +71,7 @@ pub enum StepResult {
     Returned(u64),
 }
 
-/// What comes of a step: a result, an exit, or a guest that spins.
+/// The outcome of a step: a result, an exit, or a guest that spins.
 #[derive(Clone, Copy)]
 pub enum Came {
     Result(StepResult),

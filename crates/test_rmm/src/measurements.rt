@@ -1,4 +1,4 @@
-//! The chain of initial measurements of a realm: worked out by hashing the bytes of each descriptor by another program.
+//! The chain of initial measurements of a realm, computed by another program that hashes the bytes of each descriptor.
 use rmi_abi::{HashAlgorithm, RealmParams};
 use rmm_measurement::{Extension, extend, initial, page_digest, rec_digest};
 use std::process::Abort;

@@ -35,7 +35,7 @@ const RD: u64 = 0x8000_0000;
 
 const PARAMS: u64 = 0x8002_1000;
 
-// The host stores the parameters of a REC: flags, MPIDR, the number of auxiliary granules, and two of them.
+// Stores the parameters of a REC, as the host: flags, MPIDR, the number of auxiliary granules, and two of them.
 fn ask_for_rec<S: PageStore>(rt: &impl Abort, rmm: &mut Rmm<S>, fields: [u64; 5]) {
     for (offset, field) in [
         (0x000, fields[0]),
@@ -62,7 +62,7 @@ fn new_realm<S: PageStore>(rt: &impl Abort, rmm: &mut Rmm<S>) {
     );
 }
 
-// A REC is made in one way alone, and the next one has the next number.
+// A REC is created in one way alone, and the next one has the next number.
 #[test]
 fn making(rt: HostRuntime) -> Result<(), Fail> {
     let mut rmm = over(rt.alloc(), PlainStore::build(rt.alloc(), 64)?)?;
@@ -114,7 +114,7 @@ fn making(rt: HostRuntime) -> Result<(), Fail> {
     Ok(())
 }
 
-// RECs are made of a NEW realm alone; one that is gone leaves its granules, and its number is not given again.
+// RECs are created in a NEW realm alone; one that is destroyed leaves its granules, and its number is not used again.
 #[test]
 fn destroying(rt: HostRuntime) -> Result<(), Fail> {
     let mut rmm = over(rt.alloc(), PlainStore::build(rt.alloc(), 64)?)?;
@@ -148,7 +148,7 @@ fn destroying(rt: HostRuntime) -> Result<(), Fail> {
     Ok(())
 }
 
-// The guest of a REC is given a step.
+// Gives the guest of a REC a step.
 fn give<S: PageStore>(rt: &impl Abort, rmm: &mut Rmm<S>, rec: u64, words: [u64; 3]) {
     let step = StepWords {
         kind: words[0],
@@ -160,7 +160,7 @@ fn give<S: PageStore>(rt: &impl Abort, rmm: &mut Rmm<S>, rec: u64, words: [u64; 
     assert_eq!(rt; rmm.guest(rec, &step), Queued::Queued);
 }
 
-// Fields of a run page.
+// Compares fields of a run page.
 fn see<S: PageStore>(rt: &impl Abort, rmm: &Rmm<S>, run: u64, fields: &[(u64, u64)]) {
     for (offset, value) in fields {
         assert_eq!(rt;
@@ -171,7 +171,8 @@ fn see<S: PageStore>(rt: &impl Abort, rmm: &Rmm<S>, run: u64, fields: &[(u64, u6
     }
 }
 
-// A guest writes where no page is, and then calls its host and turns its realm off, as in the trace of a boot by KVM.
+// A guest writes to an address without a page, and then calls its host and turns its realm off, as in the trace of a
+// boot by KVM.
 #[test]
 fn entering(rt: HostRuntime) -> Result<(), Fail> {
     let mut rmm = over(rt.alloc(), PlainStore::build(rt.alloc(), 64)?)?;

@@ -1,4 +1,4 @@
-//! Tests alone: performs raw operations on the RMM by registers, one a line, and prints each with its result.
+//! A test program: performs raw operations on the RMM by registers, one a line, and prints each with its result.
 //!
 //! `tests/rmm_lines.py` has the operations. A comment and an empty line are printed as they are.
 #![tactic(auto)]

@@ -24,7 +24,7 @@ fn store_byte(rmm: &mut Rmm<PlainStore>, address: u64, value: u8) -> Option<()> 
     }
 }
 
-/// Stores bytes, two digits each; `None` comes where the host faults.
+/// Stores bytes, two digits each; `None` comes if the host faults.
 pub(crate) fn store(rmm: &mut Rmm<PlainStore>, address: u64, digits: &str) -> Option<()> {
     let mut at = address;
     for pair in digits.as_bytes().chunks_exact(2) {
@@ -34,7 +34,7 @@ pub(crate) fn store(rmm: &mut Rmm<PlainStore>, address: u64, digits: &str) -> Op
     Some(())
 }
 
-/// The bytes from an address on, two digits each; `fault` where the host faults.
+/// The bytes from an address on, two digits each; `fault` if the host faults.
 pub(crate) fn load(
     alloc: Global,
     rmm: &Rmm<PlainStore>,

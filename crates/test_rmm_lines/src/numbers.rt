@@ -1,7 +1,7 @@
 //! Hexadecimal numbers.
 ghost use Rattle.std.specs.Prelude.{◌<◌, IfSome};
 
-// How many numbers an operation has at most.
+// The most numbers of an operation.
 pub const MOST: usize = 12;
 
 // The value of a digit.
@@ -31,7 +31,7 @@ pub(crate) fn byte(high: u8, low: u8) -> Option<u8> {
     Some(digit(high)? * 16 + digit(low)?)
 }
 
-/// The numbers of words up to `=`; 0 where there is none.
+/// The numbers of words up to `=`; 0 if there is none.
 pub(crate) fn numbers(words: &str) -> Option<[u64; MOST]> {
     let mut numbers = [0; MOST];
     for (place, word) in words.split(' ').enumerate() {

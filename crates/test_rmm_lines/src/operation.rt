@@ -1,4 +1,4 @@
-//! Raw operations.
+//! Raw operations on the RMM by registers.
 use crate::memory::{load, store};
 use crate::numbers::{MOST, numbers};
 use crate::platform::open;
@@ -23,7 +23,7 @@ fn smc(alloc: Global, rmm: &mut Rmm<PlainStore>, n: &[u64; MOST]) -> Result<Stri
     format!(in alloc; "{:x} {:x} {:x} {:x} {:x}", r.x0, r.x1, r.x2, r.x3, r.x4)
 }
 
-// The place of a state among those that there are.
+// The index of a state among those that there are.
 fn place(state: &RmmGranuleState) -> u8 {
     match state {
         RmmGranuleState::Undelegated => 0,

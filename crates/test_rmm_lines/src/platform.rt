@@ -1,4 +1,4 @@
-//! Platforms.
+//! Platforms of the RMM by registers.
 use crate::numbers::MOST;
 use page_arena::PlainStore;
 use rmi_abi::{Layout, Platform, RmmSettings};

@@ -1,4 +1,4 @@
-//! Tests alone: performs the parts of a script again and again on the RMM by registers, and measures each.
+//! A test program: performs the parts of a script again and again on the RMM by registers, and measures each.
 //!
 //! Standard output is a sum of the results of all operations. Standard error has a line for each part: the least
 //! processor time of a round, in nanoseconds. `bench/rmm` has the scripts, and plain Rust beside it.

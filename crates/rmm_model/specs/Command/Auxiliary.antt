@@ -14,11 +14,11 @@ abbrev pub with_wiped_if : Machine → Option ℕ → RmmGranule → Machine
 with_wiped_if m (Some granule) kept = with_wiped m granule kept
 with_wiped_if m None kept = m
 
--- auxiliary granule k of a REC, where its page names a granule of the machine
+-- auxiliary granule k of a REC, if its page names a granule of the machine
 abbrev pub aux_granule : Machine → ℕ → ℕ → Option ℕ
 aux_granule m rec k = granule_named m (aux_of (page_in m rec) k)
 
--- the machine where the first auxiliary granules of a REC have other attributes, and are wiped
+-- the machine in which the first auxiliary granules of a REC have other attributes, and are wiped
 unfoldable pub with_aux : Machine → ℕ → RmmGranule → ℕ → Machine
 with_aux m rec kept zero = m
 with_aux m rec kept (suc k) = with_wiped_if (with_aux m rec kept k) (aux_granule (with_aux m rec kept k) rec k) kept

@@ -22,7 +22,7 @@ use Rattle.rmm_model.specs.Command.Operand.{host_checks, delegated_checks, rd_ch
 
 -- ---- checks
 
--- the flags have bit 0 alone, where the settings say that they are checked
+-- the flags have bit 0 alone, if the settings say that they are checked
 abbrev pub are_flags_valid : RmmSettings → ℕ → Bool
 are_flags_valid s flags = s.ignores_data_flags || nat_le flags 1
 
@@ -32,7 +32,7 @@ source_checks m page source flags =
     check FlagsValid [] (not (are_flags_valid m.settings flags)) error_input
     ∷ host_checks SrcAlign SrcBound SrcPas m source ++ delegated_checks DataAlign DataBound DataState m page
 
--- the RIPAS is RAM, where the settings say that it has to be
+-- the RIPAS is RAM, if the settings say that it has to be
 abbrev pub is_ripas_right : RmmSettings → RmmRttEntry → Bool
 is_ripas_right s entry = not s.data_needs_ram || is_ram (ripas_in entry)
 
@@ -42,7 +42,7 @@ vacancy_checks s found entry =
     entry_checks (RealmState ∷ []) found 3 (is_unassigned entry) error_rtt
     ++ check RtteRipas (RtteState ∷ []) (not (is_ripas_right s entry)) (error_rtt found.level) ∷ []
 
--- a protected address of a NEW realm, where there is an UNASSIGNED entry
+-- a protected address of a NEW realm, at which there is an UNASSIGNED entry
 unfoldable pub target_checks : Machine → ℕ → ℕ → List Check
 target_checks m rd ipa =
     let realm = realm_at m rd in
@@ -51,7 +51,7 @@ target_checks m rd ipa =
 
 -- ---- the measurement
 
--- the digest of a page, where bit 0 of the flags says that it is measured, and else zeros
+-- the digest of a page, if bit 0 of the flags says that it is measured, and else zeros
 unfoldable pub content_digest : HashAlgorithm → ℕ → List ℕ → List ℕ
 content_digest hash flags page = if flags % 2 == 1 then digest hash page else zeros 64
 
@@ -61,8 +61,8 @@ rim_with_data realm ipa flags page = extended realm.hash realm.rim (DataExtensio
 
 -- ---- the command
 
--- A DELEGATED granule becomes a page of a NEW realm, with the bytes of a page of the host and RIPAS RAM; the measurement is
--- extended. RMM 1.0, RMI_DATA_CREATE.
+-- A DELEGATED granule becomes a page of a NEW realm, with the bytes of a page of the host and RIPAS RAM. The
+-- measurement is extended. RMM 1.0, RMI_DATA_CREATE.
 unfoldable pub data_create : ℕ → ℕ → ℕ → ℕ → ℕ → Machine → Command
 data_create rd page ipa source flags m =
     let realm = realm_at m rd in

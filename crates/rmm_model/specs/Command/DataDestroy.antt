@@ -11,12 +11,12 @@ use Rattle.rmm_model.specs.Machine.{Machine, with_blank}
 use Rattle.rmm_model.specs.Walk.{entry_at, with_entry, memory_below, walk, top}
 use Rattle.rmm_model.specs.Command.Operand.{rd_checks, realm_at, page_checks, entry_checks}
 
--- the RIPAS that is left where memory of a RIPAS was
+-- the RIPAS after memory of a RIPAS is destroyed
 abbrev pub left_ripas : RmmRipas → RmmRipas
 left_ripas Empty = Empty
 left_ripas _ = Destroyed
 
--- A page of a realm is gone, and its granule is DELEGATED. RMM 1.0, RMI_DATA_DESTROY.
+-- A page of a realm is removed, and its granule is DELEGATED. RMM 1.0, RMI_DATA_DESTROY.
 unfoldable pub data_destroy : ℕ → ℕ → Machine → Command
 data_destroy rd ipa m =
     let realm = realm_at m rd in

@@ -67,20 +67,21 @@ is_level least level = nat_le least level && nat_le level 3
 abbrev pub is_multiple : ℕ → ℕ → Bool
 is_multiple ipa size = ipa % size == 0
 
--- a level that is at least that one, and an address of the realm where an entry of the level that many above begins
+-- a level that is at least that one, and an address of the realm at which an entry of the level that many above begins
 abbrev pub ipa_checks : RmmRealm → ℕ → ℕ → ℕ → ℕ → List Check
 ipa_checks realm least level above ipa =
     check LevelBound (RdState ∷ []) (not (is_level least level)) error_input
     ∷ check IpaAlign (LevelBound ∷ []) (not (is_multiple ipa (entry_size (level - above)))) error_input
     ∷ check IpaBound (RdState ∷ []) (not (is_in_space realm ipa)) error_input ∷ []
 
--- an address of the realm's protected half where a page begins
+-- an address of the realm's protected half at which a page begins
 abbrev pub page_checks : RmmRealm → ℕ → List Check
 page_checks realm ipa =
     check IpaAlign [] (not (is_multiple ipa 4096)) error_input
     ∷ check IpaBound (RdState ∷ []) (not (is_protected realm ipa)) error_input ∷ []
 
--- a level at which there are pages or blocks, and an address of the realm's unprotected half where an entry of the level begins
+-- a level at which there are pages or blocks, and an address of the realm's unprotected half at which an entry of the
+-- level begins
 abbrev pub unprotected_checks : RmmSettings → RmmRealm → ℕ → ℕ → List Check
 unprotected_checks s realm level ipa =
     check LevelBound (RdState ∷ []) (not (nat_le s.block_level level && is_level realm.start_level level)) error_input
@@ -89,7 +90,7 @@ unprotected_checks s realm level ipa =
 
 -- ---- walks
 
--- a walk reaches a level, to an entry that is as it has to be; where it does not, the answer has the level at which it ended
+-- a walk reaches a level, to an entry that is as required; if it does not, the answer has the level at which it ended
 abbrev pub entry_checks : List Condition → Walked → ℕ → Bool → (ℕ → SmcResult) → List Check
 entry_checks more found level is answer =
     check RttWalk (RdState ∷ IpaAlign ∷ IpaBound ∷ more) (not (found.level == level)) (answer found.level)

@@ -78,7 +78,7 @@ with_rec m granule rec = with_granule m granule (record (granule_at m granule) {
 abbrev pub with_start : Machine → ℕ → ℕ → ℕ → Machine
 with_start m granule entry_point context = with_word (with_word m granule 31 entry_point) granule 0 context
 
--- the machine where a CPU_ON that succeeds has begun its target
+-- the machine in which a CPU_ON that succeeds has begun its target
 abbrev pub with_target : Machine → ℕ → RmmRec → PsciRequest → Bool → Machine
 with_target m granule rec (CpuOn target entry_point context) true =
     with_start (with_rec m granule (record rec { is_runnable = true })) granule entry_point context

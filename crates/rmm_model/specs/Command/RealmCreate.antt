@@ -33,7 +33,8 @@ params_at m params = realm_params_in (page_in m (number_of m params))
 abbrev pub fits_features : RmmSettings → RealmParams → Bool
 fits_features s p = nat_le p.num_bps s.bps && nat_le p.num_wps s.wps && p.sve_vl == 0
 
--- No flag is set, and the width is one that the monitor supports; the fields too, where the settings say that they are checked.
+-- No flag is set, and the width is one that the RMM supports. So are the fields, if the settings say that they are
+-- checked.
 abbrev pub is_supported : RmmSettings → RealmParams → Bool
 is_supported s p = p.flags == 0 && nat_le 32 p.s2sz && nat_le p.s2sz s.s2sz && (not s.checks_params || fits_features s p)
 
@@ -65,7 +66,7 @@ is_range_inside m base count = is_inside m base && nat_le (number_of m base + co
 unfoldable pub can_start : Machine → RealmParams → Bool
 can_start m p = is_range_inside m p.rtt_base p.rtt_num_start && are_delegated m (number_of m p.rtt_base) p.rtt_num_start
 
--- the VMID is one that the monitor has, and no realm does
+-- the VMID is one that the RMM has, and that no realm has
 unfoldable pub is_vmid_valid : Machine → ℕ → Bool
 is_vmid_valid m vmid = nat_lt vmid (2 ^ m.settings.vmid_bits) && not (is_vmid_used m vmid)
 
@@ -111,7 +112,8 @@ with_tables m rd realm (suc k) =
 
 -- ---- the command
 
--- A DELEGATED granule becomes the RD of a NEW realm, and DELEGATED granules its starting tables. RMM 1.0, RMI_REALM_CREATE.
+-- A DELEGATED granule becomes the RD of a NEW realm, and DELEGATED granules its starting tables. RMM 1.0,
+-- RMI_REALM_CREATE.
 unfoldable pub realm_create : ℕ → ℕ → Machine → Command
 realm_create rd params m =
     let p = params_at m params in

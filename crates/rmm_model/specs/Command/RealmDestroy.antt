@@ -22,7 +22,7 @@ unfoldable pub without_tables : Machine → RmmRealm → ℕ → Machine
 without_tables m realm zero = m
 without_tables m realm (suc k) = with_blank (without_tables m realm k) (realm.first_table + k) Delegated
 
--- A realm without RECs and live entries is gone: its RD and its starting tables are DELEGATED, and its VMID is free.
+-- A realm without RECs and live entries is removed: its RD and its starting tables are DELEGATED, and its VMID is free.
 -- RMM 1.0, RMI_REALM_DESTROY.
 unfoldable pub realm_destroy : ℕ → Machine → Command
 realm_destroy rd m =

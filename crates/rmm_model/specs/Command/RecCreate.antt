@@ -56,7 +56,8 @@ number_checks s page realm =
     ∷ check RealmState (RdState ∷ []) (not (is_new realm.state)) error_realm
     ∷ check NumRecs (RdState ∷ []) (not (nat_lt realm.rec_count (2 ^ s.max_recs_order))) error_realm ∷ []
 
--- word k of the page of a new REC: general-purpose registers 0 to 7 and the pc are those of its parameters, the others 0
+-- word k of the page of a new REC: general-purpose registers 0 to 7 and the pc are those of its parameters, the others
+-- 0
 abbrev pub rec_word : List ℕ → ℕ → ℕ
 rec_word page k =
     if nat_lt k 8 then gpr_in page k else

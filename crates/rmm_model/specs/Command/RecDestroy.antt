@@ -18,12 +18,12 @@ abbrev pub without_rec_of : Machine → ℕ → Option RmmRealm → Machine
 without_rec_of m rd (Some realm) = with_granule m rd (of_no_realm (Rd (with_one_less realm)))
 without_rec_of m rd None = m
 
--- the machine where the realm of an RD has one REC less
+-- the machine in which the realm of an RD has one REC less
 abbrev pub without_rec : Machine → Option ℕ → Machine
 without_rec m (Some rd) = without_rec_of m rd (realm_of (granule_at m rd).state)
 without_rec m None = m
 
--- A REC that does not run is gone, and it and its auxiliary granules are DELEGATED. RMM 1.0, RMI_REC_DESTROY.
+-- A REC that does not run is removed, and it and its auxiliary granules are DELEGATED. RMM 1.0, RMI_REC_DESTROY.
 unfoldable pub rec_destroy : ℕ → Machine → Command
 rec_destroy rec m =
     let granule = number_of m rec in

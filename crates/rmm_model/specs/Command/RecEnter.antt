@@ -53,7 +53,7 @@ realm_by m None = None
 abbrev pub owner_realm : Machine → ℕ → Option RmmRealm
 owner_realm m g = realm_by m (granule_at m g).owner
 
--- the state of a realm; where there is none it counts as NEW
+-- the state of a realm; if there is none it counts as NEW
 abbrev pub state_of : Option RmmRealm → RmmRealmState
 state_of (Some realm) = realm.state
 state_of None = New
@@ -87,11 +87,11 @@ with_copied m from first to place (suc k) =
 abbrev pub with_gprs : Machine → ℕ → ℕ → Machine
 with_gprs m g page = with_copied m page 64 g 0 31
 
--- a REC has the GIC fields of a run page, where they are checked. RMM 1.0, RmiRecEnter.gicv3_hcr, gicv3_lrs.
+-- a REC has the GIC fields of a run page, if they are checked. RMM 1.0, RmiRecEnter.gicv3_hcr, gicv3_lrs.
 unfoldable pub with_gic : Machine → ℕ → ℕ → Machine
 with_gic m g page = if m.settings.checks_gic then with_copied m page 96 g 192 17 else m
 
--- a run page has the GIC fields of a REC, where they are checked. RMM 1.0, RmiRecExit.gicv3_hcr, gicv3_lrs.
+-- a run page has the GIC fields of a REC, if they are checked. RMM 1.0, RmiRecExit.gicv3_hcr, gicv3_lrs.
 unfoldable pub with_exit_gic : Machine → ℕ → ℕ → Machine
 with_exit_gic m g page = if m.settings.checks_gic then with_copied m g 192 page 352 17 else m
 
@@ -102,7 +102,7 @@ unfoldable pub with_exit_words : Machine → ℕ → RecExit → ℕ → Machine
 with_exit_words m page exit zero = m
 with_exit_words m page exit (suc k) = with_word (with_exit_words m page exit k) page (256 + k) (exit_word exit (256 + k))
 
--- an exit of a REC is written into the run page at an address, where that is a page of the host
+-- an exit of a REC is written into the run page at an address, if that is a page of the host
 abbrev pub with_exit : Machine → ℕ → ℕ → RecExit → Machine
 with_exit m g address exit =
     if is_host_page m address then with_exit_gic (with_exit_words m (number_of m address) exit 256) g (number_of m address) else m
@@ -115,7 +115,7 @@ left m g exit last =
 
 -- ---- entries
 
--- the result of a change of RIPAS: how far it came, and whether the host rejected the rest
+-- the result of a change of RIPAS: the address up to which it came, and whether the host rejected the rest
 abbrev pub ripas_result : RipasRequest → ℕ → StepResult
 ripas_result asked flags =
     if rejects_ripas flags && is_ram asked.ripas && not (asked.base == asked.top) then Rejected asked.base else Accepted asked.base
@@ -157,7 +157,7 @@ entered m g address flags =
 
 -- ---- steps
 
--- what comes of a step
+-- the outcome of a step
 unfoldable pub came_of : Machine → RmmRealm → ℕ → ℕ → GuestStep → Came
 came_of m realm g flags (Write ipa value size) = tried (access m realm ipa true size (low_bytes size value))
 came_of m realm g flags (Read ipa size) = came_of_read m ipa size (access m realm ipa false size 0)
@@ -168,7 +168,7 @@ abbrev pub with_exit_of : Machine → ℕ → GuestStep → Bool → Machine
 with_exit_of m g step true = with_rec m g (rec_after_exit (rec_in m g) step)
 with_exit_of m g step false = m
 
--- the machine after what a step does
+-- the machine after the effect of a step
 unfoldable pub after_step : Machine → RmmRealm → ℕ → GuestStep → Came → Machine
 after_step m realm g (Write ipa value size) came = after_write m ipa size value (access m realm ipa true size (low_bytes size value))
 after_step m realm g (Read ipa size) came = m
@@ -185,13 +185,13 @@ abbrev pub is_done : LastExit → Bool
 is_done SystemRegister = true
 is_done _ = false
 
--- the guest goes on behind a step, but for one that made a SYNC exit, which it tries again
+-- the guest goes on after a step, but for one that caused a SYNC exit, which it tries again
 abbrev pub behind : Machine → ℕ → Came → Machine
 behind m g (IsResult r) = with_result (past_step m g) g r
 behind m g (IsExit exit last) = if is_sync exit.reason && not (is_done last) then m else past_step m g
 behind m g Spins = past_step m g
 
--- an exit as by a timer of the host's, where a guest has no step
+-- an exit as by a timer of the host's, if a guest has no step
 abbrev pub no_step : Came
 no_step = IsExit (only_reason Irq) Other
 
@@ -204,7 +204,7 @@ after_in m (Some realm) g flags =
     behind (after_step m realm g (first_step m g) (came_of m realm g flags (first_step m g))) g (came_of m realm g flags (first_step m g))
 after_in m None g flags = m
 
--- What comes of the first step of a guest, and the machine after it.
+-- The outcome of the first step of a guest, and the machine after it.
 unfoldable pub came_now : Machine → ℕ → ℕ → Came
 came_now m g flags = if (rec_in m g).step_count == 0 then no_step else came_in m (owner_realm m g) g flags
 
@@ -216,18 +216,19 @@ carried (IsResult r) m g rest = rest
 carried (IsExit exit last) m g rest = (true, left m g exit last)
 carried Spins m g rest = (false, m)
 
--- The guest performs at most that many steps, up to one that makes an exit or spins. Whether the REC left, and the machine then.
+-- The guest performs at most that many steps, up to one that causes an exit or spins. The result is whether the REC
+-- left, and the machine then.
 unfoldable pub ran : Machine → ℕ → ℕ → ℕ → Bool × Machine
 ran m g flags zero = (true, left m g (only_reason Irq) Other)
 ran m g flags (suc count) = carried (came_now m g flags) (after_now m g flags) g (ran (after_now m g flags) g flags count)
 
 -- ---- the command
 
--- the host emulates an access, where the last exit was none that can be emulated
+-- the host emulates an access, and the last exit was none that can be emulated
 abbrev pub is_no_mmio : Attributes → ℕ → Bool
 is_no_mmio rec flags = emulates_mmio flags && not (is_emulatable rec.exit)
 
--- gicv3_hcr or a list register has what a host may not set, where they are checked
+-- gicv3_hcr or a list register has a value that a host may not set, if they are checked
 unfoldable pub is_gic_wrong : RmmSettings → List ℕ → Bool
 is_gic_wrong s page = s.checks_gic && not (is_gicv3_hcr (gicv3_hcr_in page) && all_from (is_gicv3_lr s.lrs page) 0 16)
 
@@ -246,7 +247,7 @@ enter_checks state rec flags is_wrong =
 abbrev pub entered_answer : Bool → SmcResult
 entered_answer leaves = if leaves then success else only RunsOn
 
--- A REC runs until its guest makes an exit. RMM 1.0, RMI_REC_ENTER.
+-- A REC runs until its guest causes an exit. RMM 1.0, RMI_REC_ENTER.
 unfoldable pub rec_enter : ℕ → ℕ → Machine → Command
 rec_enter rec address m =
     let g = number_of m rec in
@@ -265,7 +266,8 @@ rec_enter rec address m =
 abbrev pub runs_at : Machine → ℕ → Bool
 runs_at m address = is_rec_named m address && is_running (rec_at m address).state
 
--- The run of a REC ends by an interrupt of the host's. RMI_ERROR_INPUT comes where its run page is not the host's any more.
+-- The run of a REC ends by an interrupt of the host's. RMI_ERROR_INPUT comes if its run page is not the host's any
+-- more.
 unfoldable pub interrupted : Machine → ℕ → Option Word × Machine
 interrupted m address =
     if runs_at m address then

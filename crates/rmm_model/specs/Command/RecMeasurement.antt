@@ -6,7 +6,7 @@ use Rattle.rmm_measurement.specs.declared.measure.Extension.TheVariants.{Rec as 
 use Rattle.rmm_measurement.specs.Measure.{extended, rec_digest}
 use Rattle.rmm_model.specs.declared.realm.RmmRealm.{RmmRealm}
 
--- a REC is measured where it is runnable, or where the settings say that all are
+-- a REC is measured if it is runnable, or if the settings say that all are
 abbrev pub is_rec_measured : RmmSettings → List ℕ → Bool
 is_rec_measured s page = is_runnable_in page || s.measures_all_recs
 

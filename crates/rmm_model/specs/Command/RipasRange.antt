@@ -1,4 +1,4 @@
--- Changes of the RIPAS of a range, as far as one table goes. RMM 1.0, RMI_RTT_INIT_RIPAS and RMI_RTT_SET_RIPAS.
+-- Changes of the RIPAS of a range, up to the end of one table. RMM 1.0, RMI_RTT_INIT_RIPAS and RMI_RTT_SET_RIPAS.
 use Rattle.std.specs.Prelude.{ℕ, zero, suc, ◌+◌, ◌-◌, ◌/◌, not, nat_le, List, [], ◌∷◌, if◌then◌else◌}
 use Rattle.rmm_model.specs.declared.condition.Condition.{Condition}
 use Rattle.rmm_model.specs.declared.condition.Condition.TheVariants.{Size, BaseAlign, RtteState, NoProgress}
@@ -28,14 +28,14 @@ progress_checks after m changeable found base top =
 
 -- ---- the change
 
--- how many entries of a table, from the one of an address on, lie below a top
+-- the number of entries of a table, from the one of an address on, that are below a top
 unfoldable pub entries_below : Walked → ℕ → ℕ → ℕ
 entries_below found base top =
     let rest = 512 - entry_index found.level base in
     let whole = (top - base) / entry_size found.level in
     if nat_le whole rest then whole else rest
 
--- how many of these, one after another, can be changed
+-- the number of these, one after another, that can be changed
 unfoldable pub change_count : Machine → Changeable → Walked → ℕ → ℕ → ℕ
 change_count m changeable found base top =
     let first = entry_index found.level base in

@@ -26,7 +26,7 @@ unused_checks m found parent ipa level =
     entry_checks [] found (level - 1) (is_some (table_below m parent)) (error_rtt_top (top m found ipa))
     ++ check RttLive (RtteState ∷ []) (has_live (page_in m (unwrap_or (table_below m parent) 0))) (error_rtt_top (top m found ipa) level) ∷ []
 
--- A table without live entries is gone, and its granule is DELEGATED. RMM 1.0, RMI_RTT_DESTROY.
+-- A table without live entries is removed, and its granule is DELEGATED. RMM 1.0, RMI_RTT_DESTROY.
 unfoldable pub rtt_destroy : ℕ → ℕ → ℕ → Machine → Command
 rtt_destroy rd ipa level m =
     let realm = realm_at m rd in

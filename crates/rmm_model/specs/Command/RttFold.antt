@@ -17,7 +17,7 @@ use Rattle.rmm_model.specs.Command.Operand.{rd_checks, realm_at, is_multiple, ip
 abbrev pub is_aligned_above : RmmRttEntry → ℕ → Bool
 is_aligned_above entry level = not (is_mapping entry) || is_multiple (descriptor_of entry / 4096 * 4096) (entry_size (level - 1))
 
--- A table of a level says the same as one entry above it: its first one, which leads to no table.
+-- A table of a level means the same as one entry above it: its first one, which leads to no table.
 unfoldable pub is_homogeneous : List ℕ → ℕ → Bool
 is_homogeneous page level =
     let first = entry_in_page page 0 in
@@ -27,14 +27,14 @@ is_homogeneous page level =
 abbrev pub is_block_too_high : RmmSettings → List ℕ → ℕ → Bool
 is_block_too_high s page level = is_mapping (entry_in_page page 0) && nat_le level s.block_level
 
--- a walk that reaches the level above, to an entry that leads to a table which says the same as one entry
+-- a walk that reaches the level above, to an entry that leads to a table which means the same as one entry
 abbrev pub fold_checks : Machine → Walked → RmmRttEntry → ℕ → List Check
 fold_checks m found parent level =
     entry_checks [] found (level - 1) (is_some (table_below m parent)) error_rtt
     ++ check RttHomo (RtteState ∷ []) (not (is_homogeneous (page_in m (unwrap_or (table_below m parent) 0)) level)) (error_rtt level)
     ∷ check RttBlock (RttHomo ∷ []) (is_block_too_high m.settings (page_in m (unwrap_or (table_below m parent) 0)) level) (error_rtt (level - 1)) ∷ []
 
--- A table that says the same as one entry above it is gone, and that entry takes its place. RMM 1.0, RMI_RTT_FOLD.
+-- A table that means the same as one entry above it is removed, and that entry takes its place. RMM 1.0, RMI_RTT_FOLD.
 unfoldable pub rtt_fold : ℕ → ℕ → ℕ → Machine → Command
 rtt_fold rd ipa level m =
     let realm = realm_at m rd in

@@ -17,7 +17,7 @@ use Rattle.rmm_model.specs.Walk.{walk}
 use Rattle.rmm_model.specs.Command.Operand.{rd_checks, realm_at, is_multiple, new_checks}
 use Rattle.rmm_model.specs.Command.RipasRange.{size_checks, progress_checks, change_count, with_ripas}
 
--- UNASSIGNED entries become RAM, but for DESTROYED ones where the settings say so
+-- UNASSIGNED entries become RAM, but for DESTROYED ones if the settings say so
 abbrev pub init_changeable : RmmSettings → Changeable
 init_changeable s = record { assigned = false; destroyed = not s.stops_at_destroyed }
 
@@ -35,8 +35,8 @@ unfoldable pub rim_with_ripas : HashAlgorithm → List ℕ → ℕ → ℕ → �
 rim_with_ripas hash rim size base zero = rim
 rim_with_ripas hash rim size base (suc k) = extended hash (rim_with_ripas hash rim size base k) (RipasExtension (base + k * size) (base + (k + 1) * size))
 
--- The entries of one table from an address on become RAM, as far as they can be and lie below a top, and each extends the
--- measurement. RMM 1.0, RMI_RTT_INIT_RIPAS.
+-- The entries of one table from an address on become RAM, as far as they can be changed and are below a top. Each
+-- extends the measurement. RMM 1.0, RMI_RTT_INIT_RIPAS.
 unfoldable pub rtt_init_ripas : ℕ → ℕ → ℕ → Machine → Command
 rtt_init_ripas rd base top m =
     let realm = realm_at m rd in

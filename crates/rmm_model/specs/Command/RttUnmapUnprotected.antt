@@ -18,7 +18,7 @@ error_rtt_next top level = record { word = ErrorRtt level; x1 = top; x2 = 0; x3 
 abbrev pub mapped_checks : Machine → Walked → ℕ → ℕ → List Check
 mapped_checks m found ipa level = entry_checks [] found level (is_assigned_ns (entry_at m found ipa)) (error_rtt_next (top m found ipa))
 
--- A mapping of the host's memory is gone. RMM 1.0, RMI_RTT_UNMAP_UNPROTECTED.
+-- A mapping of the host's memory is removed. RMM 1.0, RMI_RTT_UNMAP_UNPROTECTED.
 unfoldable pub rtt_unmap_unprotected : ℕ → ℕ → ℕ → Machine → Command
 rtt_unmap_unprotected rd ipa level m =
     let realm = realm_at m rd in

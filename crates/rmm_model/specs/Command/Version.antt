@@ -7,11 +7,11 @@ use Rattle.rmm_model.specs.declared.condition.Condition.TheVariants.{Version}
 use Rattle.rmm_model.specs.Check.{Command, check}
 use Rattle.rmm_model.specs.Machine.{Machine}
 
--- a word with the lowest and the highest version that there is, both 1.0
+-- a word with the lowest and the highest version, both 1.0
 abbrev pub versions : Word → SmcResult
 versions word = record { word = word; x1 = 0x10000; x2 = 0x10000; x3 = 0; x4 = 0 }
 
--- The versions that there are, with either word. RMM 1.0, RMI_VERSION.
+-- The versions, with either word. RMM 1.0, RMI_VERSION.
 unfoldable pub version : ℕ → Machine → Command
 version requested m = record {
   checks = check Version [] (not (requested == 0x10000)) (versions ErrorInput) ∷ [];
