@@ -1,4 +1,4 @@
--- A trail beside what a history has of its build.
+-- The comparison of a trail with its build's part of a history.
 use Rattle.std.proofs.Common.{◌<◌, ◌≡◌, ℕ, ◌≤◌, ◌↔◌, IsTrue, List, [], length, drop, get_or, nat_eq, refl, sym, ap, ◌∙◌, arith, length-drop}
 use Rattle.std.specs.List.{All}
 use Rattle.std.proofs.lemmas.List.{drop_all}

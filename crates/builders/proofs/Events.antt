@@ -1,4 +1,4 @@
--- The lines of a report and the events, one by one.
+-- The lines of a report and the events of its build, one by one.
 use Rattle.std.proofs.Common.{◌≡◌, ℕ, zero, suc, ◌+◌, Bool, true, false, cond, List, [], ◌∷◌, ◌++◌, length, map, replicate, refl, sym, ap, subst, ◌∙◌, arith, append_assoc, length-append}
 use Rattle.std.specs.Prelude.{Option, Some, None, Ok, Err, filter, min, slice_get, option_map, ⊤}
 use Rattle.std.specs.List.{AllZip}

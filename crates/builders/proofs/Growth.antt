@@ -1,4 +1,4 @@
--- How much a worker has left to clear.
+-- The number of questions that a worker has left to clear its build.
 use Rattle.std.proofs.Common.{◌≡◌, ℕ, zero, suc, ◌+◌, ◌-◌, ◌≤◌, Bool, true, false, List, [], ◌∷◌, length, refl, sym, ap, subst, arith, cond, eqb, ltb, not}
 use Rattle.std.specs.Prelude.{Option, Some, None, Ok, Err, replicate, min}
 use Rattle.std.proofs.lemmas.List.Filters.{length-filter_both}

@@ -1,4 +1,4 @@
--- Loops that put a list of questions.
+-- Loops that ask a list of questions.
 use Rattle.std.proofs.Common.{◌≡◌, ℕ, suc, ◌+◌, ◌-◌, ◌<◌, ◌≤◌, List, [], ◌∷◌, ◌++◌, length, drop, get_or, replicate, map}
 use Rattle.std.proofs.Common.{sym, ap, ap₂, subst, ◌∙◌, arith, length-append, add-one, drop-cons, drop_of_length-le}
 use Rattle.std.proofs.lemmas.List.{length-map, length-replicate}

@@ -1,4 +1,4 @@
--- What a run of all workers leaves, from what the run of each leaves.
+-- The results of a run of all workers, from those of each.
 use Rattle.std.proofs.Common.{◌≡◌, ℕ, suc, ◌<◌, List, [], ◌∷◌, length, get_or, subst, arith}
 use Rattle.std.specs.List.{AllZip}
 use Rattle.host_ledger.specs.View.{HostView}

@@ -1,4 +1,4 @@
--- What a seat is answered, one question after the other.
+-- The answers to a seat's questions, one after the other.
 use Rattle.std.specs.Prelude.{◌≡◌, List, [], ◌∷◌, Ok, Err}
 use Rattle.host_ledger.specs.View.{HostView}
 use Rattle.realm_host.specs.Call.{Ask, Undo}
@@ -7,8 +7,8 @@ use Rattle.builders.specs.Exchange.{Exchange, Did, Undid, KeptMark, CheckedBack}
 use Rattle.builders.specs.Seats.{SeatView}
 use Rattle.builders.specs.Told.{IsCallTold, IsCallRefused, IsMarkTold, IsBackTold}
 
--- There was a host that can lie behind the lock of builds that were started with `opened`, and it answers like this. An
--- accepted command or undo makes a new seat, all else leaves the seat as it is.
+-- There was a host that can be behind the lock of builds that were started with `opened`, and it answers like this. An
+-- accepted command or undo makes a new seat; any other question leaves the seat as it is.
 abbrev pub IsAnswered : HostView → SeatView → Exchange → SeatView → Type 0
 IsAnswered opened seat (Did cmd (Ok reply)) new = IsCallTold opened (Ask cmd) (Replied reply) seat new
 IsAnswered opened seat (Did cmd (Err refusal)) new = IsCallRefused opened (Ask cmd) refusal seat × (new ≡ seat)

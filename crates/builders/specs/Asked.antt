@@ -1,4 +1,4 @@
--- How questions are put, and what is told of their answers.
+-- The questions of a worker in sequence, and the lines of their answers.
 use Rattle.std.specs.Prelude.{◌≡◌, Bool, true, false, List, [], ◌∷◌, Option, Some, None, Result, Ok, Err}
 use Rattle.host_commands.specs.declared.refusal.Refusal.{Refusal}
 use Rattle.builders.specs.Exchange.{Exchange, Did, Undid, KeptMark, CheckedBack}
@@ -11,7 +11,8 @@ use Rattle.builders.specs.declared.ask.Question.TheVariants as question
 use Rattle.builders.specs.declared.ask.Ending.{Ending}
 use Rattle.builders.specs.declared.ask.Ending.TheVariants as ending
 
--- The answer that a line tells: the teller's own. An open way back is told where it has nothing to undo, as Nothing.
+-- The answer of a line: the teller's own. The answer to an open way back is in a line if it has nothing to undo, as
+-- Nothing.
 abbrev pub told : Exchange → Answer
 told (Did cmd (Ok reply)) = Replied reply
 told (Did cmd (Err refusal)) = Refused refusal
@@ -22,7 +23,7 @@ told (KeptMark (Err refusal)) = Refused refusal
 told (CheckedBack mark (Ok count)) = Nothing
 told (CheckedBack mark (Err refusal)) = Refused refusal
 
--- what is answered, where a refusal is an answer too
+-- the answer as one value, a refusal or not
 abbrev pub answer_of : Result Answer Refusal → Answer
 answer_of (Ok answer) = answer
 answer_of (Err refusal) = Refused refusal
@@ -34,7 +35,7 @@ is_refused (Marked length) = false
 is_refused Nothing = false
 is_refused (Refused refusal) = true
 
--- The question of an exchange. A look back has no line, and so no question here.
+-- The question of an exchange. A check of the way back has no line, and so no question here.
 abbrev pub question_of : Exchange → Option Question
 question_of (Did cmd result) = Some (question.Do cmd)
 question_of (Undid result) = Some question.Undo
@@ -44,7 +45,8 @@ question_of (CheckedBack mark result) = None
 abbrev pub line : Asked → Answer → ReportLine
 line asked answer = record { asked = asked; answer = answer }
 
--- Questions are put in their order, with a line for each, up to the first that is refused, or until a turn does not come.
+-- Questions are asked in sequence, with a line for each, up to the first that is refused, or until a turn does not
+-- come.
 pub data ArePut : List (Asked × Question) → List Exchange → List ReportLine → Ending → Type 0 where
   all_put : ArePut [] [] [] ending.Done
   cut_short : {question : Asked × Question} {questions : List (Asked × Question)}

@@ -1,4 +1,4 @@
--- What closing looks at: that each build's seat is there once, and that its trail is what the history has of the build.
+-- The conditions of a close: each build has one seat, whose trail is the build's part of the history.
 use Rattle.std.specs.Prelude.{◌≡◌, ◌≢◌, ℕ, ◌<◌, ◌==◌, List, length, filter}
 use Rattle.std.specs.List.{All}
 use Rattle.realm_model.specs.declared.act.Event.{Event}
@@ -10,7 +10,7 @@ use Rattle.builders.specs.Start.{IsOfStart}
 
 -- ---- seats
 
--- how many seats are of a build
+-- the number of seats of a build
 abbrev pub seats_of : ℕ → List SeatView → ℕ
 seats_of build seats = length (filter (λ seat. seat.build == build) seats)
 
@@ -26,7 +26,7 @@ pub record IsMissing (builds build : ℕ) (seats : List SeatView) : Type 0 where
 
 -- ---- trails
 
--- the trail of each of a build's seats is what the history has of the build
+-- the trail of each of a build's seats is the build's part of the history
 abbrev pub Fits : ℕ → List Event → List SeatView → Type 0
 Fits build history seats = All (λ seat. seat.build ≡ build → seat.trail ≡ events_of build history) seats
 
@@ -41,14 +41,14 @@ pub record Differs (build : ℕ) (history : List Event) (seats : List SeatView) 
 
 -- ---- the host that comes back
 
--- The host lay behind the lock, its machine is that of the start, and each seat counts as many events as it has of the
+-- The host was behind the lock, its machine is that of the start, and each seat counts as many events as it has of the
 -- seat's build.
 pub record IsHostGivenBack (opened host : HostView) (seats : List SeatView) : Type 0 where
   pub shared : IsShared host
   pub of_start : IsOfStart opened host
   pub counted : All (λ seat. length (events_of seat.build host.history) ≡ seat.count) seats
 
--- Each build's seat is there, and each trail is what the history has of its build.
+-- Each build's seat is there, and each trail is its build's part of the history.
 pub record IsClosed (host : HostView) (seats : List SeatView) : Type 0 where
   pub whole : AreSeatsWhole host.limits.builds seats
   pub trails : All (λ seat. seat.trail ≡ events_of seat.build host.history) seats

@@ -1,4 +1,4 @@
--- What passes between a worker and its teller.
+-- Exchanges between a worker and its teller: a question, and its answer.
 use Rattle.std.specs.Prelude.{ℕ, Bool, true, false, Result, Ok, Err}
 use Rattle.host_ledger.specs.declared.mark.Mark.{Mark}
 use Rattle.host_commands.specs.declared.cmd.Cmd.{Cmd}
@@ -6,7 +6,7 @@ use Rattle.host_commands.specs.declared.refusal.Refusal.{Refusal}
 use Rattle.host_commands.specs.declared.reply.Reply.{Reply}
 use Rattle.host_commands.specs.declared.undo_reply.Undone.{Undone}
 
--- A question with the teller's answer: a command, an undo, a mark, or how many acts are above a mark.
+-- A question with the teller's answer: a command, an undo, a mark, or the number of operations above a mark.
 pub data Exchange : Type 0 where
   Did : Cmd → Result Reply Refusal → Exchange
   Undid : Result Undone Refusal → Exchange

@@ -1,4 +1,4 @@
--- When a close is refused.
+-- The faults by which a close is refused.
 use Rattle.std.specs.Prelude.{List}
 use Rattle.host_ledger.specs.View.{HostView}
 use Rattle.builders.specs.declared.close.CloseFault.{CloseFault}
@@ -6,7 +6,7 @@ use Rattle.builders.specs.declared.close.CloseFault.TheVariants.{SeatMissing, Re
 use Rattle.builders.specs.Close.{IsMissing, AreSeatsWhole, Differs}
 use Rattle.builders.specs.Seats.{SeatView}
 
--- The lowest build is named: of those without exactly one seat or, where there are none, of those whose trail differs.
+-- The lowest build is named: of those without exactly one seat or, if there are none, of those whose trail differs.
 abbrev pub IsFault : CloseFault → HostView → List SeatView → Type 0
 IsFault (SeatMissing build) host seats = IsMissing host.limits.builds build seats
 IsFault (RecordMismatch build) host seats = AreSeatsWhole host.limits.builds seats × Differs build host.history seats

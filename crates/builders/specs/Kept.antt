@@ -1,4 +1,4 @@
--- What lies behind the lock: a host, and for each build a book that counts its events.
+-- The content of the lock: a host, and for each build the number of its events.
 use Rattle.std.specs.Prelude.{◌≡◌, ℕ, ◌+◌, ◌<◌, List, length, false, slice_index, slice_set}
 use Rattle.realm_model.specs.declared.act.Act.{Act}
 use Rattle.realm_model.specs.declared.act.Event.{Event}
@@ -14,8 +14,8 @@ pub record KeptView : Type 0 where
   pub host : HostView
   pub books : List ℕ
 
--- What any host keeps: its history is legal, its numbers are in their ranges, no build has used more than its room, and
--- each build has a flag and a place for a mark; what these say holds.
+-- The invariant of any host: its history is legal, its numbers are in their ranges, and no build has used more than its
+-- room. Each build has a flag and a place for a mark, both valid.
 pub record IsSound (host : HostView) : Type 0 where
   pub legal : IsLegal host.limits host.history
   pub in_range : IsInRange host.limits host.capacity
@@ -28,20 +28,20 @@ pub record IsShared (host : HostView) : Type 0 where
   pub sound : IsSound host
   pub no_abort : (build : ℕ) → is_aborting host build ≡ false
 
--- each book is the number of its build's events in the history
+-- each number is that of its build's events in the history
 pub record IsCounted (history : List Event) (books : List ℕ) : Type 0 where
   pub whole : length books ≡ 8
   pub each : (build : ℕ) → build < 8 → slice_index books build ≡ length (events_of build history)
 
--- What always holds behind the lock. The machine is that of the start, so no trail has less room than the history has for its
--- build.
+-- The invariant of the lock's content. The machine is that of the start, so no trail has less room than the history has
+-- for its build.
 pub record IsKeptBehindLock (opened : HostView) (kept : KeptView) : Type 0 where
   pub shared : IsShared kept.host
   pub counted : IsCounted kept.host.history kept.books
   pub of_start : IsOfStart opened kept.host
 
--- One event of the seat's build ends the history, and the same one ends the trail. The build's book and the seat's count rise
--- by one.
+-- One event of the seat's build ends the history, and the same one ends the trail. The build's count behind the lock
+-- and the seat's count rise by one.
 pub record IsNoted (kept : KeptView) (seat : SeatView) (new : KeptView) (new_seat : SeatView) : Type 0 where
   pub act : Act
   pub host_is : new.host ≡ with_event kept.host seat.build act

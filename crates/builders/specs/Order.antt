@@ -1,4 +1,4 @@
--- That the order in which builds came through the lock leaves no trace.
+-- The noninterference of the sequence in which builds took the lock.
 use Rattle.std.specs.Prelude.{◌≡◌, List, Some}
 use Rattle.std.specs.List.{All}
 use Rattle.host_ledger.specs.View.{HostView, world_of}
@@ -6,8 +6,8 @@ use Rattle.realm_model.specs.declared.act.Event.{Event}
 use Rattle.realm_model.specs.History.{events_of, replay, IsLegal}
 use Rattle.builders.specs.Seats.{SeatView}
 
--- The world of a host is that of each legal history of its machine in which the events of each seat's build are those of the
--- seat's list, in whatever order the builds' events follow one another.
+-- The world of a host is that of each legal history of its machine in which the events of each seat's build are those
+-- of the seat's list, in whatever schedule the builds' events come.
 abbrev pub IsWorldOfSeats : HostView → List SeatView → Type 0
 IsWorldOfSeats host seats =
     (history : List Event) → IsLegal host.limits history → All (λ seat. seat.trail ≡ events_of seat.build history) seats

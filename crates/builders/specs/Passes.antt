@@ -1,4 +1,4 @@
--- What a pass shows: its build, and how many events of it were counted.
+-- The view of a pass: its build, and the number of the build's events that were counted.
 use Rattle.std.specs.Prelude.{ℕ}
 
 pub record PassView : Type 0 where

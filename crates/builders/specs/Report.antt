@@ -1,4 +1,4 @@
--- The report of a plan.
+-- The report of a plan: its questions, and a line for each answer.
 use Rattle.std.specs.Prelude.{◌≡◌, ℕ, zero, suc, ◌+◌, ◌<◌, min, Bool, true, false, List, [], ◌∷◌, ◌++◌, length, map, replicate, Option, Some, None, Ok, Err, if◌then◌else◌}
 use Rattle.host_ledger.specs.declared.mark.Mark.{Mark}
 use Rattle.host_commands.specs.declared.cmd.Cmd.TheVariants as cmd
@@ -24,7 +24,7 @@ use Rattle.builders.specs.declared.ask.Ending.TheVariants as ending
 abbrev pub ending_of : Answer → Ending
 ending_of answer = if is_refused answer then ending.Refused else ending.Done
 
--- Nothing is asked, and the step's line tells this answer.
+-- Nothing is asked, and the step's line has this answer.
 pub record IsAnswerReported (place : ℕ) (answer : Answer) (exchanges : List Exchange) (lines : List ReportLine) (end : Ending) : Type 0 where
   pub nothing_asked : exchanges ≡ []
   pub line_is : lines ≡ line (asked.Step place) answer ∷ []
@@ -34,19 +34,19 @@ pub record IsAnswerReported (place : ℕ) (answer : Answer) (exchanges : List Ex
 abbrev pub IsQuestionAsked : ℕ → Question → List Exchange → List ReportLine → Ending → Type 0
 IsQuestionAsked place question exchanges lines end = ArePut ((asked.Step place, question) ∷ []) exchanges lines end
 
--- A step undoes that many acts, with a line for each. Where it undoes none, its line says so.
+-- A step undoes that many operations, with a line for each. If it undoes none, its line says so.
 abbrev pub AreUndone : ℕ → ℕ → List Exchange → List ReportLine → Ending → Type 0
 AreUndone place zero exchanges lines end = IsAnswerReported place Nothing exchanges lines end
 AreUndone place (suc more) exchanges lines end =
     ArePut (replicate (suc more) (asked.Step place, question.Undo)) exchanges lines end
 
--- An abort undoes the whole journal, but is refused, with nothing asked, where a REC runs.
+-- An abort undoes the whole journal, but is refused, with nothing asked, if a REC runs.
 abbrev pub IsAbort : ℕ → List ℕ → ℕ → List Exchange → List ReportLine → Ending → Type 0
 IsAbort place [] journal exchanges lines end = AreUndone place journal exchanges lines end
 IsAbort place (number ∷ numbers) journal exchanges lines end = IsAnswerReported place (Refused RecRunning) exchanges lines end
 
--- The way back to a mark is asked for first. If it is open, that many acts are undone, but no more than the journal
--- has.
+-- The way back to a mark is asked for first. If it is open, that many operations are undone, but no more than the
+-- journal has.
 pub data IsWayBack (place : ℕ) (mark : Mark) (journal : ℕ) : List Exchange → List ReportLine → Ending → Type 0 where
   cut_short : IsWayBack place mark journal [] [] ending.Cut
   refused : (refusal : Refusal)
@@ -55,12 +55,12 @@ pub data IsWayBack (place : ℕ) (mark : Mark) (journal : ℕ) : List Exchange �
       → AreUndone place (min count journal) exchanges lines end
       → IsWayBack place mark journal (CheckedBack mark (Ok count) ∷ exchanges) lines end
 
--- A step back is refused, with nothing asked, where there is no mark.
+-- A step back is refused, with nothing asked, if there is no mark.
 abbrev pub IsStepBack : ℕ → Option Mark → ℕ → List Exchange → List ReportLine → Ending → Type 0
 IsStepBack place None journal exchanges lines end = IsAnswerReported place (Refused NothingToUndo) exchanges lines end
 IsStepBack place (Some mark) journal exchanges lines end = IsWayBack place mark journal exchanges lines end
 
--- What a step at that place of the plan asks, and what is told of it.
+-- The questions of a step at that index of the plan, and the lines of their answers.
 abbrev pub IsStepReported : ℕ → StandingView → Step → List Exchange → List ReportLine → Ending → Type 0
 IsStepReported place standing (step.Ask cmd) exchanges lines end = IsQuestionAsked place (question.Do cmd) exchanges lines end
 IsStepReported place standing step.Undo exchanges lines end = IsQuestionAsked place question.Undo exchanges lines end
@@ -73,18 +73,18 @@ IsStepReported place standing step.Back exchanges lines end = IsStepBack place s
 abbrev pub exit_of : ℕ → Asked × Question
 exit_of number = (asked.Exit number, question.Do (cmd.Exit number))
 
--- What is asked after a refusal: the running RECs exit in rising number, then all that is open is undone.
+-- The questions after a refusal: the running RECs exit in rising number, then all that is open is undone.
 abbrev pub clearing : StandingView → List (Asked × Question)
 clearing standing = map exit_of standing.running ++ replicate standing.journal (asked.Undo, question.Undo)
 
--- whether it came to its end, and was not cut short for want of a turn
+-- whether it came to its end, and was not stopped for want of a turn
 abbrev pub is_over : Ending → Bool
 is_over ending.Done = true
 is_over ending.Refused = true
 is_over ending.Cut = false
 
--- The report of the steps from a place and a standing on: they are taken in order, and after the first refusal the
--- build is cleared.
+-- The report of the steps from an index and a standing on. The steps are taken in sequence, and after the first refusal
+-- the build is cleared.
 pub data IsWorkerReport : ℕ → StandingView → List Step → List Exchange → List ReportLine → Bool → Type 0 where
   no_step_left : {place : ℕ} {standing : StandingView} → IsWorkerReport place standing [] [] [] true
   accepted : {place : ℕ} {standing : StandingView} {step : Step} {steps : List Step} {exchanges : List Exchange} {lines : List ReportLine} {ended : Bool}
@@ -105,8 +105,8 @@ pub data IsWorkerReport : ℕ → StandingView → List Step → List Exchange �
       → IsStepReported place standing step exchanges lines ending.Cut
       → IsWorkerReport place standing (step ∷ steps) exchanges lines false
 
--- A worker has done its work, or waits for a turn that does not come. The teller was asked just this, the gate let the turn
--- of each question pass, and the report tells it.
+-- A worker has done its work, or waits for a turn that does not come. The teller was asked just this, the gate let the
+-- turn of each question pass, and the report has the answers.
 pub record IsWork (before after : List Exchange → Type 0) (passes stops : ℕ → Type 0) (steps : List Step) (lines : List ReportLine) (ended : Bool) : Type 0 where
   pub exchanges : List Exchange
   pub told : (earlier : List Exchange) → before earlier → after (earlier ++ exchanges)

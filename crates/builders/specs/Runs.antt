@@ -1,10 +1,10 @@
--- What a run of all workers leaves.
+-- The results of a run of all workers.
 use Rattle.std.specs.Prelude.{◌≡◌, ℕ, ◌≤◌, false, List, All, Any}
 use Rattle.std.specs.List.{AllZip}
 use Rattle.host_ledger.specs.View.{HostView}
 use Rattle.builders.specs.Workers.{WorkerView, IsWorkerRun}
 
--- Each worker, by its place, has worked on its steps; the builds were started with `opened`. For each build, the gate
+-- Each worker, by its index, has worked on its steps; the builds were started with `opened`. For each build, the gate
 -- lets the turns of `passes` pass, and stops those of `stops`.
 unfoldable pub AreRun : HostView → (ℕ → ℕ → Type 0) → (ℕ → ℕ → Type 0) → List WorkerView → List WorkerView → Type 0
 AreRun opened passes stops old new = AllZip (λ before after. IsWorkerRun opened (passes before.seat.build) (stops before.seat.build) before after) old new

@@ -1,4 +1,4 @@
--- What a seat shows: its build, how many events of it were counted, and the list of them.
+-- The view of a seat: its build, the number of the build's events that were counted, and the list of them.
 use Rattle.std.specs.Prelude.{ℕ, ◌+◌, List, [], ◌∷◌, ◌++◌}
 use Rattle.realm_model.specs.declared.act.Event.{Event}
 

@@ -1,4 +1,4 @@
--- What a worker knows of its build by its own replies.
+-- The state of a build as its worker knows it from its own replies.
 use Rattle.std.specs.Prelude.{ℕ, ◌+◌, ◌-◌, ◌==◌, nat_lt, not, List, [], ◌∷◌, length, filter, Option, Some, None, Ok, Err, if◌then◌else◌}
 use Rattle.host_ledger.specs.declared.mark.Mark.{Mark}
 use Rattle.host_commands.specs.Needs.{needs_of}
@@ -7,9 +7,9 @@ use Rattle.host_commands.specs.declared.cmd.Cmd.TheVariants.{Enter, Exit}
 use Rattle.builders.specs.Exchange.{Exchange, Did, Undid, KeptMark, CheckedBack}
 
 pub record StandingView : Type 0 where
-  -- how often the teller was asked, which is the next turn
+  -- the number of questions so far, which is the next turn
   pub turn : ℕ
-  -- how many acts are open
+  -- the number of open operations
   pub journal : ℕ
   -- the RECs that run, in rising number
   pub running : List ℕ
@@ -60,6 +60,6 @@ abbrev pub standing_after : List Exchange → StandingView → StandingView
 standing_after [] standing = standing
 standing_after (exchange ∷ more) standing = standing_after more (after_exchange exchange standing)
 
--- how many questions it takes to leave nothing running and nothing open
+-- the number of questions that leave nothing running and nothing open
 abbrev pub left_to_clear : StandingView → ℕ
 left_to_clear standing = length standing.running + standing.journal

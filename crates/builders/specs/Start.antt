@@ -8,6 +8,6 @@ pub record IsOfStart (opened host : HostView) : Type 0 where
   pub limits : host.limits ≡ opened.limits
   pub capacity : host.capacity ≡ opened.capacity
 
--- where no build is started: all numbers are 0, and all lists empty
+-- the view if no build is started: all numbers are 0, and all lists empty
 abbrev pub no_host : HostView
 no_host = booted 0 0 0 0 0

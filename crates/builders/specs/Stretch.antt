@@ -1,4 +1,4 @@
--- Stretches of a worker's time.
+-- Parts of a worker's run: the exchanges and the lines of some of its questions.
 use Rattle.std.specs.Prelude.{◌≡◌, ℕ, ◌<◌, ◌≤◌, List, [], ◌∷◌, ◌++◌, Some}
 use Rattle.builders.specs.Asked.{told, question_of}
 use Rattle.builders.specs.Exchange.{Exchange}
@@ -9,7 +9,7 @@ use Rattle.builders.specs.declared.ask.Question.{Question}
 use Rattle.builders.specs.declared.ask.Ending.{Ending}
 use Rattle.builders.specs.declared.ask.Ending.TheVariants as ending
 
--- A question was put to the teller and counted, and this was answered.
+-- A question was asked and counted, and this was the answer.
 pub record IsExchange (before after : List Exchange → Type 0) (question : Question) (old new : StandingView) (answer : Answer) : Type 0 where
   pub exchange : Exchange
   pub of_question : question_of exchange ≡ Some question

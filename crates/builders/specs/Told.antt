@@ -1,5 +1,6 @@
--- What the answer to a call through the lock tells of the host behind it. Which host that was is not said; but its machine is
--- that of the start, and it has as many events of the seat's build as the seat counts.
+-- The answer to a call through the lock, as far as it determines the host behind the lock. It does not say which host
+-- that was. But the host's machine is that of the start, and it has as many events of the seat's build as the seat
+-- counts.
 use Rattle.std.specs.Prelude.{◌≡◌, ℕ, ◌-◌, [], ◌∷◌, ◌++◌, length, Result}
 use Rattle.std.specs.Result.{IfOk, OnOk}
 use Rattle.realm_model.specs.declared.act.Event.{Event}
@@ -17,8 +18,8 @@ use Rattle.realm_model.specs.History.{events_of}
 use Rattle.builders.specs.Seats.{SeatView, with_noted}
 use Rattle.builders.specs.Start.{IsOfStart}
 
--- A host that can lie behind the lock of builds that were started with `opened`, and has as many events of the seat's build as
--- the seat counts.
+-- A host that can be behind the lock of builds that were started with `opened`, and has as many events of the seat's
+-- build as the seat counts.
 pub record IsBehind (opened host : HostView) (seat : SeatView) : Type 0 where
   pub shared : IsShared host
   pub of_start : IsOfStart opened host
@@ -41,15 +42,15 @@ pub record IsCallRefused (opened : HostView) (call : Call) (refusal : Refusal) (
   pub behind : IsBehind opened host seat
   pub answered : IsAnswer host seat.build call (Refused refusal) host
 
--- A mark, or why there is none: there was a host that answers so.
+-- A mark, or the reason why there is none: there was a host that answers so.
 pub record IsMarkTold (opened : HostView) (seat : SeatView) (result : Result Mark Refusal) : Type 0 where
   pub host : HostView
   pub new : HostView
   pub behind : IsBehind opened host seat
   pub answered : IsMarked host seat.build result new
 
--- How far back a mark is, or why there is no way back to it: there was a host that answers so. The number is how many
--- acts are open now but were not at the mark.
+-- The distance of a mark, or the reason why there is no way back to it: there was a host that answers so. The number is
+-- that of the operations that are open now but were not at the mark.
 pub record IsBackTold (opened : HostView) (seat : SeatView) (mark : Mark) (result : Result ℕ Refusal) : Type 0 where
   pub host : HostView
   pub behind : IsBehind opened host seat

@@ -1,4 +1,4 @@
--- What a seat's trail is beside the questions of a worker: one event for each that was accepted, in their order.
+-- The trail of a seat, with one event for each accepted question of its worker, in sequence.
 use Rattle.std.specs.Prelude.{◌≡◌, ℕ, List, filter, Some, Ok}
 use Rattle.std.specs.List.{AllZip}
 use Rattle.host_commands.specs.Acts.{act_of}
@@ -14,23 +14,23 @@ use Rattle.realm_model.specs.declared.act.Act.TheVariants as acts
 use Rattle.realm_model.specs.declared.act.Event.{Event}
 use Rattle.builders.specs.Exchange.{Exchange, Did, Undid, is_event}
 
--- The act is that of the command, with the command's own numbers, any granules of its pages, and anything picked.
+-- The operation is that of the command, with the command's own numbers, any granules of its pages, and any allocations.
 abbrev pub IsActFor : Cmd → Act → Type 0
 IsActFor (Take order) act = (first : ℕ) × (act ≡ acts.Take order first)
 IsActFor cmd act = (granules : List ℕ) × (allocated : Allocated) × (act_of cmd granules allocated ≡ Some act)
 
--- the act is the reverse of one of that kind
+-- the operation is the reverse of one of that kind
 abbrev pub IsReverseOf : Kind → Act → Type 0
 IsReverseOf kind act = (opened : Act) × (act_kind opened ≡ Some kind) × (reverse_of opened ≡ Some act)
 
--- The event of an accepted question of a build: an act of the command that has this reply, or the reverse of an act of
--- the kind that the undo told.
+-- The event of an accepted question of a build: an operation of the command that has this reply, or the reverse of one
+-- of the kind in the undo's reply.
 abbrev pub IsEventOf : ℕ → Exchange → Event → Type 0
 IsEventOf build (Did cmd (Ok reply)) event =
     (event.build ≡ build) × IsActFor cmd event.act × ((pages : ℕ) × (reply ≡ reply_of pages event.act))
 IsEventOf build (Undid (Ok undone)) event = (event.build ≡ build) × IsReverseOf undone.kind event.act
 IsEventOf build _ event = ⊥
 
--- One event for each accepted question, in their order.
+-- One event for each accepted question, in sequence.
 unfoldable pub IsTrailOf : ℕ → List Exchange → List Event → Type 0
 IsTrailOf build exchanges trail = AllZip (IsEventOf build) (filter is_event exchanges) trail

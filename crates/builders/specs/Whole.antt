@@ -1,4 +1,4 @@
--- What the whole share of a build's ledger shows.
+-- The view of the whole share of a build's ledger.
 use Rattle.std.specs.Prelude.{ℕ}
 use Rattle.builders.specs.declared.ledgers.Whole.{Whole}
 use Rattle.builders.specs.declared.ledgers.Whole.TheVariants.{Build0, Build1, Build2, Build3, Build4, Build5, Build6, Build7}

@@ -1,4 +1,4 @@
--- What a worker shows: its seat, its steps and its report.
+-- The view of a worker: its seat, its steps and its report.
 use Rattle.std.specs.Prelude.{◌≡◌, ℕ, ◌<◌, ◌⊎◌, Bool, false, List, [], length}
 use Rattle.host_ledger.specs.View.{HostView}
 use Rattle.host_commands.specs.declared.cmd.Step.{Step}
@@ -22,7 +22,7 @@ pub record IsNew (worker : WorkerView) : Type 0 where
   pub no_event : worker.seat.trail ≡ []
   pub not_ended : worker.ended ≡ false
 
--- The exchanges are those of the report of the steps. Since the seat was new, they were answered by hosts that can lie
+-- The exchanges are those of the report of the steps. Since the seat was new, they were answered by hosts that can be
 -- behind the lock of builds started with `opened`. The accepted ones are the trail's events, which the seat counts.
 pub record HasWorked (opened : HostView) (worker : WorkerView) : Type 0 where
   pub exchanges : List Exchange
@@ -31,11 +31,11 @@ pub record HasWorked (opened : HostView) (worker : WorkerView) : Type 0 where
   pub is_trail : IsTrailOf worker.seat.build exchanges worker.seat.trail
   pub counted : worker.seat.count ≡ length worker.seat.trail
 
--- what always holds of a worker
+-- the invariant of a worker
 abbrev pub IsFaithful : HostView → WorkerView → Type 0
 IsFaithful opened worker = IsNew worker ⊎ HasWorked opened worker
 
--- A worker has worked on its steps. The gate let the turn of each question pass, from 0 on; and if the worker has not
+-- A worker has worked on its steps. The gate let the turn of each question pass, from 0 on. If the worker has not
 -- ended, the gate stops the next turn.
 pub record IsWorkerRun (opened : HostView) (passes stops : ℕ → Type 0) (old new : WorkerView) : Type 0 where
   pub steps_are : new.steps ≡ old.steps

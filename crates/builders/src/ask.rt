@@ -1,4 +1,4 @@
-//! One question at a time.
+//! Questions of a worker: for each a turn, a call of the teller, and a line of the report.
 ghost use Rattle.std.specs.Prelude.{◌≡◌, ◌+◌, ◌^◌, ◌<◌, [], ◌∷◌, ◌++◌, vec_len, vec_capacity};
 ghost use Rattle.builders.specs.Asked.{answer_of, line, ArePut};
 ghost use Rattle.builders.specs.Report.{ending_of};
@@ -11,7 +11,7 @@ use crate::standing::Standing;
 use crate::teller::{Gate, Teller};
 use host_commands::{Cmd, Refusal};
 
-/// A question whose answer has a line.
+/// A question whose answer has a line of the report.
 #[derive(Drop)]
 pub enum Question {
     Do(Cmd),
@@ -19,7 +19,7 @@ pub enum Question {
     Mark,
 }
 
-/// How a list of questions ended.
+/// The end of a list of questions.
 #[derive(Clone, Copy)]
 pub enum Ending {
     /// All were accepted.
@@ -30,7 +30,7 @@ pub enum Ending {
     Cut,
 }
 
-// Takes a turn and puts a command to the teller. What is accepted is counted, and is at `Ok`.
+// Takes a turn and asks the teller for a command. An accepted command is counted, and its reply is at `Ok`.
 fn put_command<T: Teller>(
     cmd: &Cmd,
     standing: &mut Standing,
@@ -47,7 +47,7 @@ fn put_command<T: Teller>(
     Ok(Answer::Replied(reply))
 }
 
-// Takes a turn and puts a question to the teller. What is accepted is counted, and is at `Ok`.
+// Takes a turn and asks the teller a question. An accepted question is counted, and its answer is at `Ok`.
 fn put<T: Teller>(
     question: Question,
     standing: &mut Standing,
@@ -84,7 +84,7 @@ fn ending_of(answer: &Answer) -> Ending
     }
 }
 
-/// Writes a line, and returns whether more may be asked behind it.
+/// Writes a line, and returns whether the worker may ask more after it.
 pub fn tell(report: &mut Report, asked: Asked, answer: Answer) -> Ending
     requires room { vec_len report.old.lines < vec_capacity report.old.lines }
     ensures ending { result ≡ ending_of answer }
@@ -97,8 +97,8 @@ pub fn tell(report: &mut Report, asked: Asked, answer: Answer) -> Ending
     end
 }
 
-/// Waits for the next turn, puts a command, and writes the answer's line. The command is lent, not copied: what a worker
-/// does between two calls is time in which others may come through the lock.
+/// Waits for the next turn, asks for a command, and writes the answer's line. The command is borrowed and not copied: a
+/// copy between two calls would take time in which others wait for the lock.
 pub fn ask_command<T: Teller, G: Gate>(
     report: &mut Report,
     standing: &mut Standing,
@@ -127,7 +127,7 @@ pub fn ask_command<T: Teller, G: Gate>(
     }
 }
 
-/// Waits for the next turn, puts a question, and writes the answer's line.
+/// Waits for the next turn, asks a question, and writes the answer's line.
 pub fn ask<T: Teller, G: Gate>(
     report: &mut Report,
     standing: &mut Standing,

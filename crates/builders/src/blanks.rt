@@ -1,4 +1,4 @@
-//! Blanks: ledgers that no type stands for yet.
+//! Blanks: ghost ledgers that are not yet bound to a type.
 ghost use Rattle.std.specs.Prelude.{◌≡◌};
 
 use std::sync::ledger::Blank;

@@ -1,4 +1,4 @@
-//! The work of a build.
+//! The work of a build: its steps, and the clearing after a refusal.
 ghost use Rattle.std.specs.Prelude.{◌≡◌, ◌+◌, ◌*◌, ◌^◌, ◌<◌, ◌≤◌, [], length, map, is_ok, vec_len, vec_capacity};
 ghost use Rattle.builders.specs.Asked.{ArePut};
 ghost use Rattle.builders.specs.Report.{clearing, exit_of, is_over, IsWorkerReport, IsWork};
@@ -14,7 +14,7 @@ use arrayvec::ArrayVec;
 use granule_addr::RecNo;
 use host_commands::{Cmd, Step};
 
-// The same numbers again.
+// A copy of the numbers.
 fn clone_numbers(numbers: &[u16]) -> ArrayVec<u16, MOST>
     requires { length numbers.now ≤ 1024 }
     ensures { result.items ≡ numbers.now }
@@ -62,7 +62,7 @@ fn exit_each<T: Teller, G: Gate>(
     Ending::Done
 }
 
-// After a refusal: what runs exits, and what is open is undone.
+// Clears a build after a refusal: its running RECs exit, and its open operations are undone.
 fn clear<T: Teller, G: Gate>(
     report: &mut Report,
     standing: &mut Standing,
@@ -117,12 +117,12 @@ fn take_steps<T: Teller, G: Gate>(
     Ending::Done
 }
 
-/// Takes the steps of a plan in their order, and writes a line for each answer.
+/// Takes the steps of a plan in sequence, and writes a line for each answer.
 ///
-/// After the first refusal the RECs that run exit, in rising number, and then all that is open is undone. Both follow
-/// from the replies that were given here, and a refusal there ends the clearing too. Before each question the gate is
-/// asked for the next turn. `Err` comes where a turn does not come; then the worker has not ended, and nothing more was
-/// asked.
+/// After the first refusal the RECs that run exit, in rising number. Then all open operations are undone. Both follow
+/// from the replies that this worker got, and a refusal there ends the clearing too. Before each question the worker
+/// waits for its next turn from the gate. `Err` comes if a turn does not come; then the worker has not ended, and asks
+/// no more.
 pub fn work<T: Teller, G: Gate>(
     report: &mut Report,
     steps: &[Step],

@@ -1,4 +1,4 @@
-//! Closing: is each build's seat there once, and is its trail what the history has of the build?
+//! The checks at a close: one seat for each build, whose trail is the build's part of the history.
 ghost use Rattle.std.specs.Prelude.{◌≡◌, ◌+◌, ◌<◌, ◌≤◌, ◌↔◌, [], filter, slice_index, true, IsTrue, IfSome, IfNone};
 ghost use Rattle.std.specs.List.{All};
 ghost use Rattle.builders.specs.Close.{seats_of, Fits, IsMissing, AreSeatsWhole, Differs, FitsAll};
@@ -9,16 +9,16 @@ use crate::seat::Seat;
 use granule_addr::BuildId;
 use realm_model::Event;
 
-/// Why a shared host is not closed.
+/// The reason why a shared host is not closed.
 #[derive(Clone, Copy, Debug, PartialEq, Eq)]
 pub enum CloseFault {
-    /// This build does not have exactly one seat.
+    /// The build does not have exactly one seat.
     SeatMissing(BuildId),
-    /// The trail of this build's seat is not what the history has of the build.
+    /// The trail of the build's seat is not the build's part of the history.
     RecordMismatch(BuildId),
 }
 
-/// Shows that each seat counts what its build's book does. Nothing changes.
+/// Shows that each seat counts the same as its build's count behind the lock. Nothing changes.
 pub fn audit<L: Ledgers>(books: &mut Books<L>, seats: &mut [Seat<L>])
     ensures books { books.new ≡ books.old }
     ensures seats { seats.new ≡ seats.old }
@@ -45,14 +45,14 @@ pub fn missing<L: Ledgers>(seats: &[Seat<L>], builds: u8) -> Option<BuildId>
     None
 }
 
-// How many seats are of a build.
+// The number of seats of a build.
 fn seat_count<L: Ledgers>(seats: &[Seat<L>], build: BuildId) -> usize
     ensures { result ≡ seats_of build seats.now }
 {
     seats.iter().filter(|seat| seat.build() == build).count()
 }
 
-/// The lowest build with a seat whose trail is not what the history has of the build.
+/// The lowest build with a seat whose trail is not the build's part of the history.
 #[tactic(auto, unfolding(crate::specs::Close::FitsAll))]
 pub fn mismatch<L: Ledgers>(seats: &[Seat<L>], history: &[Event]) -> Option<BuildId>
     ensures some { IfSome result (λ build. Differs build history.now seats.now) }
@@ -67,7 +67,7 @@ pub fn mismatch<L: Ledgers>(seats: &[Seat<L>], history: &[Event]) -> Option<Buil
     None
 }
 
-// Whether the trail of each of a build's seats is what a history has of the build.
+// Whether the trail of each of a build's seats is the build's part of a history.
 fn fits<L: Ledgers>(seats: &[Seat<L>], history: &[Event], build: BuildId) -> bool
     ensures { IsTrue result ↔ Fits build history.now seats.now }
 {
@@ -84,7 +84,7 @@ fn seat_fits<L: Ledgers>(seat: &Seat<L>, history: &[Event], build: BuildId) -> b
     }
 }
 
-// Whether a trail is what a history has of a build.
+// Whether a trail is a build's part of a history.
 fn is_trail(history: &[Event], build: BuildId, trail: &[Event]) -> bool
     ensures { IsTrue result ↔ (trail.now ≡ events_of build history.now) }
 {

@@ -1,4 +1,4 @@
-//! What lies behind the lock: the host, and a book for each build.
+//! The content of the lock: the host, and the number of events of each build.
 ghost use Rattle.std.specs.Prelude.{◌≡◌, ◌+◌, ◌<◌, List, [], ◌∷◌, ◌++◌, length, slice_set, IfOk, IfErr, MatchResult};
 ghost use Rattle.std.specs.Result.{OnOk};
 ghost use Rattle.realm_model.specs.declared.act.Event.{Event};
@@ -22,7 +22,7 @@ use realm_host::{Cmd, Host, Mark, Refusal, Reply, Undone};
 use realm_model::Event;
 use std::marker::Model;
 
-/// A host and the books of its builds. Each book is the number of its build's events in the history, and no build is in abort.
+/// A host, and for each of its builds the number of its events in the history. No build is in abort.
 #[derive(Drop)]
 pub struct Kept<S: PageStore, L: Ledgers> {
     pub(crate) host: Host<S>,
@@ -43,8 +43,8 @@ impl<S: PageStore, L: Ledgers> Model for Kept<S, L> {
 }
 
 impl<S: PageStore, L: Ledgers> Kept<S, L> {
-    /// Asks a command of the seat's build. The answer is the host's, and an accepted command is one event of the build, which
-    /// ends the history and the trail. A refusal leaves both as they are. No memory is taken.
+    /// Asks for a command of the seat's build. The answer is the host's. An accepted command is one event of the build,
+    /// which ends the history and the trail. A refusal leaves both as they are. No memory is taken.
     pub fn call(&mut self, seat: &mut Seat<L>, cmd: Cmd) -> Result<Reply, Refusal>
         ensures answer { IsAnswer self.old.host seat.old.build (Ask cmd) (replied result) self.new.host }
         ensures noted { IfOk result (λ _. IsNoted self.old seat.old self.new seat.new) }
@@ -59,8 +59,8 @@ impl<S: PageStore, L: Ledgers> Kept<S, L> {
         Ok(reply)
     }
 
-    /// Undoes the newest act that the seat's build has open. The answer is the host's, and an accepted undo is one event of the
-    /// build, which ends the history and the trail. A refusal leaves both as they are. No memory is taken.
+    /// Undoes the newest operation that the seat's build has open. The answer is the host's. An accepted undo is one
+    /// event of the build, which ends the history and the trail. A refusal leaves both as they are. No memory is taken.
     pub fn undo(&mut self, seat: &mut Seat<L>) -> Result<Undone, Refusal>
         ensures answer { IsAnswer self.old.host seat.old.build Undo (undone result) self.new.host }
         ensures noted { IfOk result (λ _. IsNoted self.old seat.old self.new seat.new) }
@@ -75,7 +75,7 @@ impl<S: PageStore, L: Ledgers> Kept<S, L> {
         Ok(undone)
     }
 
-    /// Keeps the point of the seat's build, with the host's answer. This is no event.
+    /// Keeps the point of the seat's build as a mark, with the host's answer. This is no event.
     pub fn mark(&mut self, seat: &mut Seat<L>) -> Result<Mark, Refusal>
         ensures answer { IsMarked self.old.host seat.old.build result self.new.host }
         ensures books { self.new.books ≡ self.old.books }
@@ -86,12 +86,12 @@ impl<S: PageStore, L: Ledgers> Kept<S, L> {
         let build = seat.pass.build();
         self.books.audit(&mut seat.pass);
         let mark = self.host.mark(build)?;
-        // (for its contract alone, which tells what always holds of a host)
+        // (called for its contract alone, which says what always holds of a host)
         let _ = self.host.history();
         Ok(mark)
     }
 
-    /// How many acts the seat's build has open above a mark, with the host's answer. Nothing changes.
+    /// The number of operations that the seat's build has open above a mark, with the host's answer. Nothing changes.
     pub fn check_back(&mut self, seat: &mut Seat<L>, mark: Mark) -> Result<u16, Refusal>
         ensures answer { result ≡ way_back self.old.host seat.old.build mark }
         ensures stands { OnOk result (IsMarkOf self.old.host seat.old.build mark) }
@@ -103,8 +103,8 @@ impl<S: PageStore, L: Ledgers> Kept<S, L> {
         self.host.check_back(build, mark)
     }
 
-    /// Gives the host back as it is, in return for its builds' seats: each has to be there once, with the events that
-    /// the history has of its build. At `Err` the host comes back too.
+    /// Gives the host back as it is, in return for its builds' seats. Each build has to have one seat, with the events
+    /// that the history has of the build. At `Err` the host comes back too.
     pub fn close(self, mut seats: Vec<Seat<L>>) -> Result<Host<S>, (CloseFault, Host<S>)>
         ensures closed { IfOk result (λ host. IsClosed host seats.items) }
         ensures fault { IfErr result (λ e. IsFault e.0 e.1 seats.items) }
@@ -123,8 +123,7 @@ impl<S: PageStore, L: Ledgers> Kept<S, L> {
     }
 }
 
-// Notes the event that ends the history of a host: it ends the trail, and the book and the count of its build rise by
-// one.
+// Notes the event that ends the history of a host. It ends the trail, and both counts of its build rise by one.
 fn note<S: PageStore, L: Ledgers>(host: &Host<S>, books: &mut Books<L>, seat: &mut Seat<L>)
     requires some { 0 < length host.now.history }
     requires counted { length (events_of seat.old.build host.now.history) ≡ seat.old.count + 1 }

@@ -1,4 +1,4 @@
-//! What follows for any report.
+//! A theorem on every report.
 ghost use Rattle.std.specs.Prelude.{List, Bool};
 ghost use Rattle.host_commands.specs.declared.cmd.Step.{Step};
 ghost use Rattle.builders.specs.Events.{AcceptedMatchEvents};
@@ -6,7 +6,7 @@ ghost use Rattle.builders.specs.Exchange.{Exchange};
 ghost use Rattle.builders.specs.Standing.{StandingView};
 ghost use Rattle.builders.specs.declared.report.ReportLine.{ReportLine};
 
-/// The accepted lines of a report tell the accepted commands and undos one by one, in their order: each such line has one
+/// The accepted lines of a report are the accepted commands and undos, in the same sequence: each such line has one
 /// event of the build, and each event its line.
 pub fn accepted_lines_match_events()
     ensures { (standing : StandingView) (steps : List Step) (exchanges : List Exchange) (lines : List ReportLine) (ended : Bool) → AcceptedMatchEvents standing steps exchanges lines ended }

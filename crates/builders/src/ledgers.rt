@@ -1,4 +1,4 @@
-//! A ledger for each build: the books that lie behind the lock, and the passes that the seats carry.
+//! Ghost ledgers, one for each build: the counts that are behind the lock, and the passes that the seats carry.
 ghost use Rattle.std.specs.Prelude.{◌≡◌, ℕ, ◌+◌, ◌<◌, [], ◌∷◌, length, map, slice_index, slice_set};
 ghost use Rattle.std.specs.List.{range_with_len};
 ghost use Rattle.host_ledger.specs.View.{HostView};
@@ -25,7 +25,7 @@ impl Ledgers for Brand {
     ghost names = { λ build. 0 };
 }
 
-/// The ledger of one build, of one part.
+/// The type of one build's ledger, which has one part.
 pub struct LedgerOf<L, const BUILD: u8>(PhantomData<L>);
 
 impl<L: Ledgers, const BUILD: u8> Ledger for LedgerOf<L, BUILD> {
@@ -34,7 +34,7 @@ impl<L: Ledgers, const BUILD: u8> Ledger for LedgerOf<L, BUILD> {
     ghost parts = { 1 };
 }
 
-/// The books of all builds, seen as their totals.
+/// The counts of all builds that are behind the lock, seen as their totals.
 #[derive(Drop)]
 pub struct Books<L: Ledgers> {
     book0: Book<LedgerOf<L, 0>>,
@@ -56,7 +56,7 @@ impl<L: Ledgers> Model for Books<L> {
 }
 
 impl<L: Ledgers> Books<L> {
-    /// Shows that a pass counts what its build's book does. Nothing changes.
+    /// Shows that a pass counts the same as its build's count behind the lock. Nothing changes.
     pub fn audit(&mut self, pass: &mut Pass<L>)
         ensures same { (self.new ≡ self.old) × (pass.new ≡ pass.old) }
         ensures build { pass.old.build < 8 }
@@ -75,7 +75,7 @@ impl<L: Ledgers> Books<L> {
         }
     }
 
-    /// Counts one event more in a pass and in its build's book.
+    /// Counts one event more in a pass and in its build's count behind the lock.
     pub(crate) fn raise(&mut self, pass: &mut Pass<L>)
         ensures book { self.new ≡ slice_set self.old pass.old.build (pass.old.count + 1) }
         ensures pass { pass.new ≡ record pass.old { count = pass.old.count + 1 } }
@@ -126,7 +126,7 @@ impl<L: Ledgers> Model for Pass<L> {
 }
 
 impl<L: Ledgers> Pass<L> {
-    /// The build whose events it counts.
+    /// The build whose events the pass counts.
     pub fn build(&self) -> BuildId
         ensures build { result ≡ self.now.build }
         ensures range { self.now.build < 8 }
@@ -145,7 +145,7 @@ impl<L: Ledgers> Pass<L> {
     }
 }
 
-/// The books, and the pass of each build in their order. Nothing is counted yet.
+/// The counts behind the lock, and the pass of each build in sequence. Nothing is counted yet.
 #[derive(Drop)]
 pub struct Opened<L: Ledgers> {
     pub books: Books<L>,

@@ -1,14 +1,16 @@
-//! A host of builds behind a lock, with a seat for each build: calls from threads of their own.
+//! A host of builds that threads share behind a lock, with a seat for each build.
 //!
-//! `Kept` is what the lock keeps: the host, and a book for each build that counts its events in the history. A `Seat` is held by
-//! one thread: it counts the same, and has a list of these events. A call through `Shared` takes the lock, asks the host, and
-//! notes the one event that ends the history in the seat, so that a caller knows that each of its calls stands in one legal
-//! history, once and in its order. `Shared::close` gives the host back, and compares the lists with the history.
+//! `Kept` is what the lock protects: the host, and for each build the number of its events in the history. A `Seat` is
+//! one thread's session handle: it has the same number, and a list of these events. A call through `Shared` takes the
+//! lock, asks the host, and notes in the seat the one event that ends the history. So a caller knows that each of its
+//! calls is in one legal history, once and in sequence. `Shared::close` gives the host back, and compares the lists
+//! with the history.
 //!
-//! `work` is what the worker of a build does with its plan, over whatever answers it and whatever gives it its turns. It asks
-//! a `Teller` for the steps in their order, and a `Gate` for its turn before each question. After the first refusal it stops
-//! what runs and undoes what is open, and has ended. Its contract says which questions were put, in which order, and that the
-//! report tells the teller's own answers (`specs/Report.antt`). It knows no thread and no lock, and takes no memory.
+//! `work` performs a build's part of a plan for its worker, over any `Teller` and any `Gate`. A `Teller` is the client
+//! side of a host, and a `Gate` the scheduler of turns. The worker asks the teller for the steps in sequence, and waits
+//! at the gate before each question. After the first refusal it stops the RECs that run, undoes the open operations,
+//! and ends. Its contract says which questions were asked, in which sequence, and that the report has the teller's own
+//! answers (`specs/Report.antt`). It knows no thread and no lock, and takes no memory.
 #![tactic(auto)]
 
 mod ask;

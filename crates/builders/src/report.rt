@@ -1,26 +1,26 @@
-//! What a worker reports.
+//! The report of a worker: a line for each answer.
 use granule_addr::{BuildId, RecNo};
 use host_commands::{Refusal, Reply, Undone};
 
-/// What a line of a report is about.
+/// The question of a line of a report.
 #[derive(Clone, Copy, Debug, PartialEq, Eq)]
 pub enum Asked {
-    /// The step at that place of the plan, from 0.
+    /// The step at that index of the plan, from 0.
     Step(usize),
-    /// After a refusal, that a REC stops running.
+    /// After a refusal, the exit of a REC.
     Exit(RecNo),
     /// After a refusal, an undo.
     Undo,
 }
 
-/// What a worker was answered.
+/// The answer of a line of a report.
 #[derive(Clone, Copy, Debug, PartialEq, Eq)]
 pub enum Answer {
     /// The command was accepted.
     Replied(Reply),
-    /// An act was undone.
+    /// An operation was undone.
     Undone(Undone),
-    /// The build's point is kept, with that many acts open.
+    /// The build's point is kept as a mark, with that many operations open.
     Marked(u16),
     /// An abort or a way back had nothing to undo.
     Nothing,
@@ -34,13 +34,13 @@ pub struct ReportLine {
     pub answer: Answer,
 }
 
-/// What the worker of a build was answered, line by line.
+/// The answers that the worker of a build got, line by line.
 #[derive(Drop)]
 pub struct Report {
     pub build: BuildId,
     pub lines: Vec<ReportLine>,
 }
 
-/// A worker waited for its turn in vain.
+/// The error of a worker that waited for its turn in vain.
 #[derive(Clone, Copy)]
 pub struct Stuck;

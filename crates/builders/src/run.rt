@@ -14,7 +14,7 @@ use std::sync::Wait;
 use std::thread;
 use std::thread::Threads;
 
-/// Runs each worker in a thread of its own, and waits for all of them; where no thread can be made, they run one after
+/// Runs each worker in a thread of its own, and waits for all of them. If no thread can be made, they run one after
 /// another. At `Err` is the lowest build whose worker has not ended: the gate stopped one of its turns.
 pub fn run_builds<
     R: Threads + Wait + Sync,
@@ -26,7 +26,7 @@ pub fn run_builds<
     ensures run { AreRun L.opened (G.passes gate.now) (G.stops gate.now) workers.old workers.new }
     ensures told { MatchResult result (λ _. All (λ worker. worker.ended ≡ true) workers.new) (λ build. IsLowestWaiting workers.new build) }
 {
-    // There has to be one thread, even for no worker.
+    // One thread at least is required, even for no worker.
     let threads = workers.len().max(1);
     thread::for_each_mut(
         rt,

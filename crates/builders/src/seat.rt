@@ -1,4 +1,4 @@
-//! Seats: one build's pass, and the list of its accepted events.
+//! Seats: a build's pass, and the trail of its accepted events.
 ghost use Rattle.std.specs.Prelude.{◌≡◌, ◌+◌, ◌<◌, [], ◌∷◌, ◌++◌, length, vec_capacity, replicate, IfOk};
 
 use crate::ledgers::{Ledgers, Pass};
@@ -7,7 +7,7 @@ use realm_model::Event;
 use std::alloc::{AllocError, Global};
 use std::marker::{Model, PhantomData};
 
-/// The accepted events of one build, in their order. There is room for as many as the history has room for.
+/// The accepted events of one build, in sequence. Its capacity is the room of the build in the history.
 #[derive(Drop)]
 pub struct Trail<L: Ledgers> {
     events: Vec<Event>,
@@ -70,8 +70,8 @@ pub(crate) fn new_trails<L: Ledgers>(
     Ok(trails)
 }
 
-/// What one thread holds of a shared host: its build's pass, which counts the build's events in the history, and the list of
-/// these events.
+/// The session handle of one thread on a shared host: its build's pass, which counts the build's events in the history,
+/// and the list of these events.
 #[derive(Drop)]
 pub struct Seat<L: Ledgers> {
     pub(crate) pass: Pass<L>,
@@ -98,7 +98,7 @@ impl<L: Ledgers> Seat<L> {
         self.pass.build()
     }
 
-    /// How many events of its build it counts: as many as its trail has.
+    /// The number of its build's events that the seat counts: as many as its trail has.
     pub fn count(&self) -> usize
         ensures count { result ≡ self.now.count }
         ensures trail { result ≡ length self.now.trail }
@@ -106,7 +106,7 @@ impl<L: Ledgers> Seat<L> {
         self.trail.events().len()
     }
 
-    /// The accepted events of its build, in their order.
+    /// The accepted events of its build, in sequence.
     pub fn trail(&self) -> &[Event]
         ensures { result.now ≡ self.now.trail }
     {

@@ -1,4 +1,4 @@
-//! A seat of a shared host, as a worker sees it.
+//! A seat of a shared host as a teller.
 ghost use Rattle.std.specs.Prelude.{◌+◌, ◌*◌};
 ghost use Rattle.builders.specs.Answered.{AreAnswered};
 ghost use Rattle.builders.specs.Seats.{new_seat};
@@ -12,8 +12,8 @@ use page_arena::PageStore;
 use realm_host::{Cmd, Mark, Refusal, Reply, Undone};
 use std::sync::Wait;
 
-/// A seat, and the host that its build's worker asks. Each question takes the lock once and is answered by the host; the
-/// accepted ones are the events of the seat's trail.
+/// A seat, and the host that its build's worker asks. Each question takes the lock once and is answered by the host.
+/// The accepted ones are the events of the seat's trail.
 #[derive(Drop)]
 pub struct SeatTeller<'a, R: Wait, S: PageStore, L: Ledgers> {
     pub rt: &'a R,

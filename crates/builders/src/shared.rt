@@ -28,8 +28,8 @@ pub struct Shared<S: PageStore, L: Ledgers> {
 }
 
 impl<S: PageStore, L: Ledgers> Shared<S, L> {
-    /// Shares a host that has no history, with a seat for each of its builds in their order. All memory for their events is
-    /// taken here. Where there is none, blanks and host come back.
+    /// Shares a host that has no history, with a seat for each of its builds in sequence. All memory for their events
+    /// is taken here. If there is none, blanks and host come back.
     pub fn start(
         alloc: Global,
         blanks: Blanks,
@@ -48,7 +48,7 @@ impl<S: PageStore, L: Ledgers> Shared<S, L> {
         let Ok(seats) = Vec::with_capacity(alloc, count as usize) else {
             return Err((AllocError, blanks, host));
         };
-        // (for its contract alone, which tells what always holds of a host)
+        // (called for its contract alone, which says what always holds of a host)
         let _ = host.history();
         let Opened { books, passes } = Opened::new(blanks);
         let seats = seated(seats, passes, trails);
@@ -56,7 +56,7 @@ impl<S: PageStore, L: Ledgers> Shared<S, L> {
         Ok((Shared { kept }, seats))
     }
 
-    /// Asks a command of the seat's build.
+    /// Asks for a command of the seat's build.
     pub fn call(&self, rt: &impl Wait, seat: &mut Seat<L>, cmd: Cmd) -> Result<Reply, Refusal>
         ensures told { IfOk result (λ reply. IsCallTold L.opened (Ask cmd) (Replied reply) seat.old seat.new) }
         ensures refused { IfErr result (λ refusal. IsCallRefused L.opened (Ask cmd) refusal seat.old × (seat.new ≡ seat.old)) }
@@ -64,7 +64,7 @@ impl<S: PageStore, L: Ledgers> Shared<S, L> {
         self.kept.lock(rt).call(seat, cmd)
     }
 
-    /// Undoes the newest act that the seat's build has open.
+    /// Undoes the newest operation that the seat's build has open.
     pub fn undo(&self, rt: &impl Wait, seat: &mut Seat<L>) -> Result<Undone, Refusal>
         ensures told { IfOk result (λ done. IsCallTold L.opened Undo (WasUndone done) seat.old seat.new) }
         ensures refused { IfErr result (λ refusal. IsCallRefused L.opened Undo refusal seat.old × (seat.new ≡ seat.old)) }
@@ -72,8 +72,8 @@ impl<S: PageStore, L: Ledgers> Shared<S, L> {
         self.kept.lock(rt).undo(seat)
     }
 
-    /// Keeps the point of the seat's build, which it can go back to by undos. The seat is lent for writing since its count
-    /// is compared with the book behind the lock; it stays as it is.
+    /// Keeps the point of the seat's build as a mark, to which undos can go back. The seat is borrowed mutably, since
+    /// its count is compared with the one behind the lock; it stays as it is.
     pub fn mark(&self, rt: &impl Wait, seat: &mut Seat<L>) -> Result<Mark, Refusal>
         ensures told { IsMarkTold L.opened seat.old result }
         ensures seat { seat.new ≡ seat.old }
@@ -81,7 +81,7 @@ impl<S: PageStore, L: Ledgers> Shared<S, L> {
         self.kept.lock(rt).mark(seat)
     }
 
-    /// How many acts the seat's build has open above a mark. The seat is lent as for `mark`.
+    /// The number of operations that the seat's build has open above a mark. The seat is borrowed as for `mark`.
     pub fn check_back(&self, rt: &impl Wait, seat: &mut Seat<L>, mark: Mark) -> Result<u16, Refusal>
         ensures told { IsBackTold L.opened seat.old mark result }
         ensures seat { seat.new ≡ seat.old }
@@ -89,10 +89,10 @@ impl<S: PageStore, L: Ledgers> Shared<S, L> {
         self.kept.lock(rt).check_back(seat, mark)
     }
 
-    /// Gives the host back, in return for its builds' seats: each has to be there once, with the events that the
-    /// history has of its build. At `Err` the host comes back too. Its limits and its room are those of the host that
-    /// was handed to `start`. Its world is a function of the seats' lists alone: the order in which the builds came
-    /// through the lock stands in the history, and leaves no trace in the world.
+    /// Gives the host back, in return for its builds' seats. Each build has to have one seat, with the events that the
+    /// history has of the build. At `Err` the host comes back too. Its limits and its room are those of the host that
+    /// was handed to `start`. Its world is a function of the seats' lists alone. The schedule in which the builds took
+    /// the lock is in the history, and leaves nothing behind in the world.
     pub fn close(self, seats: Vec<Seat<L>>) -> Result<Host<S>, (CloseFault, Host<S>)>
         ensures closed { IfOk result (λ host. IsClosed host seats.items) }
         ensures order { IfOk result (λ host. IsWorldOfSeats host seats.items) }
@@ -103,7 +103,7 @@ impl<S: PageStore, L: Ledgers> Shared<S, L> {
     }
 }
 
-// A seat for each trail, with the passes in their order. The other passes are dropped.
+// A seat for each trail, with the passes in sequence. The other passes are dropped.
 fn seated<L: Ledgers>(
     mut seats: Vec<Seat<L>>,
     passes: [Pass<L>; 8],

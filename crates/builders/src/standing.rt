@@ -1,4 +1,4 @@
-//! What a worker knows of its build by its own replies.
+//! The knowledge that a worker has of its build, from its own replies.
 ghost use Rattle.std.specs.Prelude.{◌≡◌, ◌+◌, ◌-◌, ◌^◌, ◌<◌, ◌≤◌, ◌++◌, length, take, drop, slice_index, Some};
 ghost use Rattle.builders.specs.Standing.{first_standing, with_number, without_number, standing_after_command, left_to_clear};
 
@@ -7,10 +7,10 @@ use host_commands::Cmd;
 use host_ledger::Mark;
 use std::marker::Model;
 
-/// How many RECs of a build can run: no more than a plan has steps.
+/// The most RECs of a build that can run: no more than a plan has steps.
 pub const MOST: usize = 1024;
 
-/// What a worker knows of its build by its own replies.
+/// The state of a build as its worker knows it from its own replies.
 #[derive(Drop)]
 pub struct Standing {
     turn: usize,
@@ -27,7 +27,7 @@ impl Model for Standing {
     ghost view = { λ s. record { turn = s.turn; journal = s.journal; running = s.running.items; mark = s.mark } };
 }
 
-// The place of the first number that is not below `number`.
+// The index of the first number that is not below `number`.
 fn place_of(numbers: &[u16], number: u16) -> usize
     ensures within { result ≤ length numbers.now }
     ensures below { with_number number numbers.now ≡ take result numbers.now ++ with_number number (drop result numbers.now) }
@@ -61,7 +61,7 @@ fn exit(running: &mut ArrayVec<u16, MOST>, number: u16)
 }
 
 impl Standing {
-    /// Before the first question.
+    /// The state before the first question.
     pub fn first() -> Standing
         ensures { result ≡ first_standing }
     {
@@ -73,14 +73,14 @@ impl Standing {
         }
     }
 
-    /// The next turn.
+    /// The number of the next turn.
     pub fn turn(&self) -> usize
         ensures { result ≡ self.now.turn }
     {
         self.turn
     }
 
-    /// A question is put.
+    /// Counts a turn: a question is asked.
     pub(crate) fn take_turn(&mut self)
         requires { self.old.turn + 1 < 2 ^ 64 }
         ensures { self.new ≡ record self.old { turn = self.old.turn + 1 } }
@@ -96,7 +96,7 @@ impl Standing {
         self.running.as_slice()
     }
 
-    /// A command is accepted.
+    /// Follows an accepted command.
     #[tactic(auto, unfolding(crate::specs::Standing::standing_after_command))]
     pub(crate) fn count_command(&mut self, cmd: &Cmd)
         requires { left_to_clear self.old < 1024 }
@@ -112,28 +112,28 @@ impl Standing {
         }
     }
 
-    /// How many acts are open.
+    /// The number of open operations.
     pub fn journal(&self) -> usize
         ensures { result ≡ self.now.journal }
     {
         self.journal
     }
 
-    /// An undo is accepted.
+    /// Follows an accepted undo.
     pub(crate) fn count_undo(&mut self)
         ensures { self.new ≡ record self.old { journal = self.old.journal - 1 } }
     {
         self.journal = self.journal.saturating_sub(1);
     }
 
-    /// The last mark.
+    /// The last mark, if there is one.
     pub fn mark(&self) -> Option<Mark>
         ensures { result ≡ self.now.mark }
     {
         self.mark
     }
 
-    /// A mark is accepted.
+    /// Follows an accepted mark.
     pub(crate) fn count_mark(&mut self, mark: Mark)
         ensures { self.new ≡ record self.old { mark = Some mark } }
     {

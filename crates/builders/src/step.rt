@@ -1,4 +1,4 @@
-//! One step of a plan.
+//! The steps of a plan, as a worker takes them.
 ghost use Rattle.std.specs.Prelude.{◌≡◌, ◌+◌, ◌^◌, ◌<◌, ◌≤◌, List, [], ◌∷◌, ◌++◌, replicate, vec_len, vec_capacity};
 ghost use Rattle.builders.specs.Asked.{ArePut};
 ghost use Rattle.builders.specs.Exchange.{Exchange, CheckedBack};
@@ -13,7 +13,7 @@ use crate::teller::{Gate, Teller};
 use host_commands::{Refusal, Step};
 use host_ledger::Mark;
 
-/// Undoes `count` acts, with a line for each.
+/// Undoes `count` operations, with a line for each.
 pub(crate) fn undo_each<T: Teller, G: Gate>(
     report: &mut Report,
     standing: &mut Standing,
@@ -41,7 +41,7 @@ pub(crate) fn undo_each<T: Teller, G: Gate>(
     Ending::Done
 }
 
-// The undos of a step. Where there are none, its line says so.
+// Performs the undos of a step. If there are none, its line says so.
 fn undo_step<T: Teller, G: Gate>(
     report: &mut Report,
     standing: &mut Standing,
@@ -96,7 +96,7 @@ fn abort<T: Teller, G: Gate>(
     undo_step(report, standing, teller, gate, place, open)
 }
 
-// Asks how many acts are above a mark.
+// Asks for the number of operations above a mark.
 fn checked_back<T: Teller>(
     standing: &mut Standing,
     teller: &mut T,
@@ -111,7 +111,7 @@ fn checked_back<T: Teller>(
     teller.check_back(mark)
 }
 
-// The way back to a mark, where there is one.
+// Goes back to a mark, if there is one.
 fn go_back<T: Teller, G: Gate>(
     report: &mut Report,
     standing: &mut Standing,
@@ -149,7 +149,7 @@ fn go_back<T: Teller, G: Gate>(
     }
 }
 
-/// Takes the step at that place of the plan.
+/// Takes the step at that index of the plan.
 pub(crate) fn take_step<T: Teller, G: Gate>(
     report: &mut Report,
     standing: &mut Standing,

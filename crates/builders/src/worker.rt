@@ -1,4 +1,4 @@
-//! A worker for each build: its seat, its steps and its report.
+//! The worker of a build: its seat, its steps and its report.
 ghost use Rattle.std.specs.Prelude.{◌≡◌, ◌+◌, ◌*◌, ◌<◌, ◌≤◌, [], false, length, vec_len, vec_capacity, IfOk, IfErr};
 ghost use Rattle.builders.specs.Workers.{IsFaithful, IsWorkerRun};
 
@@ -14,7 +14,7 @@ use std::alloc::{AllocError, Global};
 use std::marker::Model;
 use std::sync::Wait;
 
-/// The worker of a build: its seat, its steps, and what it was answered.
+/// The worker of a build: its seat, its steps, and the answers that it got.
 #[derive(Drop)]
 pub struct Worker<L: Ledgers> {
     seat: Seat<L>,
@@ -36,7 +36,7 @@ impl<L: Ledgers> Model for Worker<L> {
 }
 
 impl<L: Ledgers> Worker<L> {
-    /// The worker of a seat's build, which has asked nothing. Where there is no memory for its report, seat and steps come
+    /// The worker of a seat's build, which has asked nothing. If there is no memory for its report, seat and steps come
     /// back.
     pub fn build(
         alloc: Global,
@@ -70,14 +70,14 @@ impl<L: Ledgers> Worker<L> {
         self.seat.build()
     }
 
-    /// Whether it has ended: it has worked, and waits for no turn.
+    /// Whether the worker has ended: it has worked, and waits for no turn.
     pub fn has_ended(&self) -> bool
         ensures { result ≡ self.now.ended }
     {
         self.ended
     }
 
-    /// Takes its steps, with its turns from the gate.
+    /// Takes the worker's steps, with its turns from the gate.
     pub fn run<R: Wait, S: PageStore, G: Gate>(&mut self, rt: &R, shared: &Shared<S, L>, gate: &G)
         requires { self.old.lines ≡ [] }
         ensures { IsWorkerRun L.opened (G.passes gate.now self.old.seat.build) (G.stops gate.now self.old.seat.build) self.old self.new }
@@ -91,7 +91,7 @@ impl<L: Ledgers> Worker<L> {
         *ended = work_at(rt, shared, seat, steps.as_slice(), report, gate);
     }
 
-    /// Its seat, its steps and its report.
+    /// The seat, the steps and the report of the worker.
     pub fn end(self) -> (Seat<L>, Vec<Step>, Report)
         ensures parts { (result.0 ≡ self.seat) × (result.1.items ≡ self.steps) × (result.2.lines.items ≡ self.lines) }
         ensures build { result.2.build ≡ self.seat.build }
@@ -107,7 +107,7 @@ impl<L: Ledgers> Worker<L> {
     }
 }
 
-// Takes steps for a seat, and says whether they came to their end.
+// Takes steps for a seat, and returns whether they came to their end.
 fn work_at<R: Wait, S: PageStore, G: Gate, L: Ledgers>(
     rt: &R,
     shared: &Shared<S, L>,

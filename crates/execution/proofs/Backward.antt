@@ -1,4 +1,4 @@
--- The reverse of the newest act that a build has open is not refused.
+-- The reverse of the newest operation that a build has open, which is not refused.
 use Rattle.std.proofs.Common.{◌≡◌, ℕ, true, List, Some, ◌∙◌, subst}
 use Rattle.std.specs.Prelude.{slice_get}
 use Rattle.std.specs.List.{All}

@@ -1,4 +1,4 @@
--- A granule is free by the flags of the store exactly where nobody leases it.
+-- The flags of the store, by which a granule is free exactly when nobody leases it.
 use Rattle.std.proofs.Common.{◌≡◌, ℕ, zero, suc, true, false, List, [], ◌∷◌, map, Option, Some, None, refl}
 use Rattle.std.specs.Prelude.{is_none, slice_get}
 use Rattle.page_arena.specs.Page.{is_free}

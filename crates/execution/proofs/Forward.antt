@@ -1,4 +1,4 @@
--- An act that is performed is a step of the world.
+-- The step of the world by an operation that is performed.
 use Rattle.std.proofs.Common.{◌≡◌, ℕ, true, List, map, Option, Some, None, Ok, Err, refl, sym, ap, ◌∙◌, subst}
 use Rattle.std.specs.Prelude.{option_map, slice_get}
 use Rattle.std.specs.List.{All}

@@ -1,4 +1,4 @@
--- A monitor that has just been built, beside the empty history.
+-- An RMM that has just been built, beside the empty history.
 use Rattle.std.proofs.Common.{◌≡◌, ℕ, zero, suc, true, ◌∷◌, map, replicate, refl, ap, Option, None}
 use Rattle.std.specs.Prelude.{is_none}
 use Rattle.realm_model.specs.Machine.{Limits}

@@ -1,4 +1,4 @@
--- acts that are performed
+-- operations that are performed
 pub mod OnRecs
 pub mod Pages
 -- beside a history

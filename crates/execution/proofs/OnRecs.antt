@@ -1,4 +1,4 @@
--- An act on a REC, where it is there and where it is not.
+-- An operation on a REC, by whether the REC is there.
 use Rattle.std.proofs.Common.{◌≡◌, ℕ, true, Option, Some, None, Err, refl, sym, subst}
 use Rattle.std.specs.Prelude.{Result, is_some, option_map, option_and_then}
 use Rattle.std.specs.FinMap.{get}

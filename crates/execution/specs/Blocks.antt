@@ -1,4 +1,4 @@
--- Blocks beside a history: what is taken from a monitor's store, and what is given back to it.
+-- Blocks beside a history: those that are taken from an RMM's store, and those that are given back to it.
 use Rattle.std.specs.Prelude.{◌≡◌, ℕ, ◌<◌, ◌≤◌, List, Some, None}
 use Rattle.std.specs.List.{last_or}
 use Rattle.page_arena.specs.Block.{IsFreeBlock}
@@ -11,7 +11,7 @@ use Rattle.realm_model.specs.Undoing.{by}
 use Rattle.rmi_monitor.specs.View.{MonitorView, IsGivable, with_block, without_block}
 use Rattle.execution.specs.Mirror.{IsMirror, IsPerformed}
 
--- Where a free block of order 0 to 9 is taken, that is a step of any build that there is.
+-- A free block of order 0 to 9 that is taken is a step of any build that there is.
 abbrev pub TakenIsStep : Limits → List Event → World → MonitorView → ℕ → ℕ → ℕ → Type 0
 TakenIsStep limits history world monitor build order first =
     IsMirror limits history world monitor → build < limits.builds → order ≤ 9 → IsFreeBlock monitor.free order first
@@ -23,7 +23,7 @@ pub record IsGivenBack (limits : Limits) (history : List Event) (world : World) 
   pub turn : IsInTurn history (by build (UnTake order first))
   pub performed : IsPerformed limits history world build (UnTake order first) (without_block monitor order first)
 
--- this holds where the Take is the newest act that the build has open
+-- this holds if the Take is the newest operation that the build has open
 abbrev pub GivenBackIsStep : Limits → List Event → World → MonitorView → ℕ → ℕ → ℕ → Type 0
 GivenBackIsStep limits history world monitor build order first =
     IsMirror limits history world monitor → last_or None (open_entries build history) ≡ Some (Take order first)

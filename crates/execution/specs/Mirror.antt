@@ -1,4 +1,4 @@
--- A monitor beside the world of a history: what is asked of an act, and what an act that is performed makes of both.
+-- An RMM beside the world of a history: the requirements of an operation, and its effect on both.
 use Rattle.std.specs.Prelude.{◌≡◌, ◌<◌, ℕ, List, [], ◌∷◌, ◌++◌, map, true, false, Some, None, is_none, slice_get, length, Result, Ok, Err}
 use Rattle.std.specs.List.{All, last_or}
 use Rattle.realm_model.specs.declared.act.Act.{Act}
@@ -20,7 +20,7 @@ use Rattle.realm_model.specs.declared.place.RealmAndRec.{RealmAndRec}
 use Rattle.execution.specs.Performing.{outcome_on, IsReady}
 use Rattle.realm_model.specs.Places.{IsPlaceOf, rec_granule}
 
--- The history is legal and leads to the world, and the monitor has its machine; a granule is free exactly where nobody
+-- The history is legal and leads to the world, and the RMM has its machine. A granule is free exactly when nobody
 -- leases it.
 pub record IsMirror (limits : Limits) (history : List Event) (world : World) (monitor : MonitorView) : Type 0 where
   pub legal : IsLegal limits history
@@ -30,14 +30,14 @@ pub record IsMirror (limits : Limits) (history : List Event) (world : World) (mo
   pub machine : monitor.machine ≡ world.machine
   pub free : monitor.free ≡ map is_none world.leases
 
--- A monitor that has just been built is that of the empty history.
+-- An RMM that has just been built is that of the empty history.
 abbrev pub FreshIsMirror : Limits → Type 0
 FreshIsMirror limits = IsMirror limits [] (opening limits) (fresh limits.vmids limits.aux limits.pages)
 
 -- ---- what is asked
 
--- What is asked of a command of a build before the monitor is asked: the build is there and leases the granules named,
--- the act's own numbers are in range, and what the act says fits what is there.
+-- The requirements on a command of a build before it goes to the RMM. The build is there and leases the granules named.
+-- The operation's own numbers are in range, and its answers agree with the machine.
 pub record IsAsked (limits : Limits) (world : World) (build : ℕ) (act : Act) : Type 0 where
   pub command : is_command act ≡ true
   pub there : build < limits.builds
@@ -45,18 +45,18 @@ pub record IsAsked (limits : Limits) (world : World) (build : ℕ) (act : Act) :
   pub in_range : is_in_range act ≡ true
   pub fitting : fits act (realm_of build world) (named_cells world act) ≡ true
 
--- where an act makes a REC, its build has fewer events than RECs have numbers
+-- if an operation creates a REC, its build has fewer events than RECs have numbers
 abbrev pub HasFewEvents : List Event → ℕ → Act → Type 0
 HasFewEvents history build (Rec granule auxiliaries number) = length (acts_of build history) < 65535
 HasFewEvents history build _ = Unit {0}
 
--- So an act that is asked for can be performed.
+-- So an operation that is asked for can be performed.
 abbrev pub AskedIsReady : Limits → List Event → World → MonitorView → ℕ → Act → RealmAndRec → Type 0
 AskedIsReady limits history world monitor build act place =
     IsMirror limits history world monitor → IsPlaceOf world build act place → IsAsked limits world build act → HasFewEvents history build act
     → IsReady monitor place act
 
--- A REC that is taken away has the granule that its act names.
+-- A REC that is destroyed has the granule that its operation names.
 abbrev pub UnRecNamesItsRec : Limits → World → ℕ → Act → Type 0
 UnRecNamesItsRec limits world build (UnRec granule auxiliaries number) =
     IsAsked limits world build (UnRec granule auxiliaries number) → rec_granule (realm_of build world) number ≡ Some granule
@@ -64,20 +64,20 @@ UnRecNamesItsRec limits world build _ = Unit {0}
 
 -- ---- what is performed
 
--- An act that is done is a step: the history with its event is legal, and leads to the world that the monitor has then.
--- The leases are changed as the act says.
+-- An operation that is done is a step: the history with its event is legal, and leads to the world that the RMM has
+-- then. The leases are changed as the operation says.
 pub record IsPerformed (limits : Limits) (history : List Event) (world : World) (build : ℕ) (act : Act) (new : MonitorView) : Type 0 where
   pub next : World
   pub stepped : step limits world (by build act) ≡ Some next
   pub leases : next.leases ≡ leases_after build act world.leases
   pub mirror : IsMirror limits (history ++ by build act ∷ []) next new
 
--- The monitor's answer to an act that is asked for is what comes of it in the world. An act that is done is a step.
+-- The RMM's answer to an operation that is asked for is its outcome in the world. An operation that is done is a step.
 abbrev pub IsStepOrRefusal : Limits → List Event → World → MonitorView → ℕ → Act → Result (Unit {0}) Rmi → MonitorView → Type 0
 IsStepOrRefusal limits history world old build act (Ok done) new = IsPerformed limits history world build act new
 IsStepOrRefusal limits history world old build act (Err rmi) new = (outcome_in limits world (by build act) ≡ Err rmi) × (new ≡ old)
 
--- this holds, for an act in turn, of every answer that `perform` can give and every monitor that it can leave
+-- this holds, for an operation in turn, of every answer that `perform` can give and every RMM that it can leave
 abbrev pub PerformedIsStep : Limits → List Event → World → MonitorView → ℕ → Act → RealmAndRec → Type 0
 PerformedIsStep limits history world monitor build act place =
     IsMirror limits history world monitor → IsPlaceOf world build act place → IsAsked limits world build act → IsInTurn history (by build act)
@@ -87,21 +87,22 @@ PerformedIsStep limits history world monitor build act place =
 
 -- ---- back
 
--- The reverse of the newest open act is asked for and in turn, and the monitor does not refuse it.
+-- The reverse of the newest open operation is asked for and in turn, and the RMM does not refuse it.
 pub record IsAccepted (limits : Limits) (history : List Event) (world : World) (monitor : MonitorView) (build : ℕ) (back : Act) (place : RealmAndRec) : Type 0 where
   pub asked : IsAsked limits world build back
   pub turn : IsInTurn history (by build back)
   pub updates : List Update
   pub accepted : outcome_on monitor place.realm back ≡ Ok updates
 
--- The newest act that a build has open can be undone by a command: it has a reverse that is one, and made no REC that runs.
+-- The newest operation that a build has open can be undone by a command: it has a reverse that is one, and created no
+-- REC that runs.
 pub record CanBeUndone (history : List Event) (world : World) (build : ℕ) (act back : Act) : Type 0 where
   pub newest : last_or None (open_entries build history) ≡ Some act
   pub reverse : reverse_of act ≡ Some back
   pub command : is_command back ≡ true
   pub at_rest : is_running (realm_of build world) act ≡ false
 
--- then the monitor accepts the reverse
+-- then the RMM accepts the reverse
 abbrev pub NewestIsAccepted : Limits → List Event → World → MonitorView → ℕ → Act → Act → RealmAndRec → Type 0
 NewestIsAccepted limits history world monitor build act back place =
     IsMirror limits history world monitor → IsPlaceOf world build back place → CanBeUndone history world build act back

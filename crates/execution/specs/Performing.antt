@@ -1,4 +1,4 @@
--- What comes of an act on a monitor, and when it can be performed.
+-- The outcome of an operation on an RMM, and the conditions on which it can be performed.
 use Rattle.std.specs.Prelude.{◌≡◌, ◌<◌, ℕ, Bool, true, false, Option, Some, None, option_map, map, Result}
 use Rattle.std.specs.List.{All}
 use Rattle.realm_model.specs.declared.rmi.Rmi.{Rmi}
@@ -13,9 +13,9 @@ use Rattle.realm_model.specs.Step.{used_vmids}
 use Rattle.rmi_monitor.specs.View.{MonitorView, Answers, IsTaken, after_command, seen_in}
 use Rattle.realm_model.specs.declared.place.RealmAndRec.{RealmAndRec}
 
--- ---- acts
+-- ---- operations
 
--- the act is a command on the realm of its build
+-- the operation is a command on the realm of its build
 abbrev pub is_in_realm : Act → Bool
 is_in_realm Activate = true
 is_in_realm (Rtt granule ipa level) = true
@@ -31,51 +31,51 @@ is_in_realm (Exit number) = true
 is_in_realm (Poke number ipa offset value) = true
 is_in_realm _ = false
 
--- ---- what comes of an act
+-- ---- the outcome of an operation
 
 -- the realm of an RD as commands see it
 abbrev pub realm_on : MonitorView → Option ℕ → Option Seen
 realm_on monitor rd = option_map (seen_in monitor) rd
 
--- What comes of an act of a build whose realm has that RD.
+-- The outcome of an operation of a build whose realm has that RD.
 abbrev pub outcome_on : MonitorView → Option ℕ → Act → Outcome
 outcome_on monitor rd act =
     outcome_of monitor.vmids monitor.aux (used_vmids monitor.machine) act (realm_on monitor rd) (map (seen_in monitor) (named act))
 
--- What was answered, and the monitor after it, are what comes of the command.
+-- The answer, and the RMM after it, are the outcome of the command.
 pub record IsDone (old : MonitorView) (outcome : Outcome) (result : Result (Unit {0}) Rmi) (new : MonitorView) : Type 0 where
   pub answer : Answers result outcome
   pub machine : new ≡ after_command outcome old
 
 -- ---- when it can be performed
 
--- the granule is taken, where there is one
+-- the granule is taken, if there is one
 abbrev pub IsTakenAt : MonitorView → Option ℕ → Type 0
 IsTakenAt monitor None = Unit {0}
 IsTakenAt monitor (Some granule) = IsTaken monitor granule
 
--- the realm, where there is one, has a number for one more REC
+-- the realm, if there is one, has a number for one more REC
 abbrev pub HasNextNumber : MonitorView → Option ℕ → Type 0
 HasNextNumber monitor None = Unit {0}
 HasNextNumber monitor (Some rd) = (realm : RealmRow) → (cell_at monitor.machine rd).descriptor ≡ Some realm → realm.next < 65535
 
--- an act that makes a REC has a number for it
+-- an operation that creates a REC has a number for it
 abbrev pub IsNumberReady : MonitorView → Option ℕ → Act → Type 0
 IsNumberReady monitor realm (Rec granule auxiliaries number) = HasNextNumber monitor realm
 IsNumberReady monitor realm _ = Unit {0}
 
--- `rec` is the granule of the realm's REC of that number, or None where there is none, and the granule is taken
+-- `rec` is the granule of the realm's REC of that number, or None if there is none, and the granule is taken
 pub record IsRecReady (monitor : MonitorView) (realm : Option ℕ) (number : ℕ) (rec : Option ℕ) : Type 0 where
   pub is : rec ≡ rec_granule (realm_on monitor realm) number
   pub taken : IsTakenAt monitor rec
 
--- the REC that an act names, where it names one, is ready
+-- the REC that an operation names, if it names one, is ready
 abbrev pub IsRecReadyAt : MonitorView → Option ℕ → Option ℕ → Option ℕ → Type 0
 IsRecReadyAt monitor realm None rec = Unit {0}
 IsRecReadyAt monitor realm (Some number) rec = IsRecReady monitor realm number rec
 
--- The act can be performed: it is a command, the granules that it names and its build's realm are taken, there is a number
--- for the REC that it makes, and the REC that it names is ready.
+-- The operation can be performed: it is a command, and the granules that it names and its build's realm are taken.
+-- There is a number for the REC that it creates, and the REC that it names is ready.
 pub record IsReady (monitor : MonitorView) (place : RealmAndRec) (act : Act) : Type 0 where
   pub command : is_command act ≡ true
   pub granules : All (IsTaken monitor) (named act)

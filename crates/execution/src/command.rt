@@ -1,4 +1,4 @@
-//! Acts as commands of the monitor.
+//! Operations of builds as commands of the RMM.
 ghost use Rattle.std.specs.Prelude.{◌≡◌};
 ghost use Rattle.rmi_monitor.specs.View.{Answers, after_command};
 ghost use Rattle.execution.specs.Performing.{IsReady, outcome_on};
@@ -8,10 +8,10 @@ use page_arena::PageStore;
 use realm_model::{Act, RealmAndRec, Rmi};
 use rmi_monitor::Monitor;
 
-/// Performs an act of a build: the command that it stands for is given to the monitor, with what the act names. What an
-/// act says of answers, a byte that is read or the number of a REC, is taken as it is.
+/// Performs an operation of a build: its command is given to the RMM, with the granules and numbers that the operation
+/// names. An answer in the operation, a byte that is read or the number of a REC, is taken as it is.
 ///
-/// The answer and the machine after it are what comes of the act. A refusal changes nothing.
+/// The answer and the machine after it are those of the operation's definition. A refusal changes nothing.
 #[tactic(auto, unfolding(realm_model::specs::Act::named, realm_model::specs::Outcome::outcome_of))]
 pub fn perform<S: PageStore>(
     monitor: &mut Monitor<S>,

@@ -1,4 +1,4 @@
-//! Laws of acts that are performed.
+//! Theorems on operations that are performed.
 ghost use Rattle.std.specs.Prelude.{ℕ, List};
 ghost use Rattle.realm_model.specs.declared.act.Act.{Act};
 ghost use Rattle.realm_model.specs.declared.act.Event.{Event};
@@ -9,39 +9,40 @@ ghost use Rattle.realm_model.specs.declared.place.RealmAndRec.{RealmAndRec};
 ghost use Rattle.execution.specs.Blocks.{TakenIsStep, GivenBackIsStep};
 ghost use Rattle.execution.specs.Mirror.{FreshIsMirror, AskedIsReady, PerformedIsStep, NewestIsAccepted, UnRecNamesItsRec};
 
-/// A monitor that has just been built is that of the empty history.
+/// An RMM that has just been built is that of the empty history.
 pub fn a_fresh_monitor_mirrors_nothing()
     ensures { (limits : Limits) → FreshIsMirror limits }
 {}
 
-/// An act that is asked for can be performed.
+/// An operation that a build asks for can be performed.
 pub fn what_is_asked_can_be_performed()
     ensures { (limits : Limits) (history : List Event) (world : World) (monitor : MonitorView) (build : ℕ) (act : Act) (place : RealmAndRec) → AskedIsReady limits history world monitor build act place }
 {}
 
-/// What the monitor does is a step of the world, and what it refuses the world refuses.
+/// A command that the RMM performs is a step of the world, and the world refuses what the RMM refuses.
 pub fn what_is_performed_is_a_step()
     ensures { (limits : Limits) (history : List Event) (world : World) (monitor : MonitorView) (build : ℕ) (act : Act) (place : RealmAndRec) → PerformedIsStep limits history world monitor build act place }
 {}
 
-/// The monitor does not refuse the reverse of the newest act that a build has open, unless that act made a REC that
-/// runs.
+/// The RMM does not refuse the reverse of the newest operation that a build has open, unless that operation created a
+/// REC that runs.
 pub fn newest_is_accepted()
     ensures { (limits : Limits) (history : List Event) (world : World) (monitor : MonitorView) (build : ℕ) (act back : Act) (place : RealmAndRec)
         → NewestIsAccepted limits history world monitor build act back place }
 {}
 
-/// The REC that is taken away has the granule that its act names.
+/// The REC that is destroyed has the granule that its operation names.
 pub fn rec_taken_away_is_the_one_named()
     ensures { (limits : Limits) (world : World) (build : ℕ) (act : Act) → UnRecNamesItsRec limits world build act }
 {}
 
-/// Where a free block is taken from the store, that is a step of any build that there is.
+/// A free block that is taken from the store is a step of any build that there is.
 pub fn what_is_taken_is_a_step()
     ensures { (limits : Limits) (history : List Event) (world : World) (monitor : MonitorView) (build order first : ℕ) → TakenIsStep limits history world monitor build order first }
 {}
 
-/// The block of a Take that is the newest act that a build has open can be given back, and that is a step in turn.
+/// The block of a Take that is the newest operation that a build has open can be given back, and that is a step in
+/// turn.
 pub fn what_is_given_back_is_a_step()
     ensures { (limits : Limits) (history : List Event) (world : World) (monitor : MonitorView) (build order first : ℕ) → GivenBackIsStep limits history world monitor build order first }
 {}

@@ -1,9 +1,9 @@
-//! Acts on a monitor: an act of a history is performed as the command that it stands for.
+//! The operations of a history, performed on an RMM.
 //!
-//! One function performs every act but a take and its reverse, with one contract: the answer and the machine are what
-//! comes of the act in the definitions. `law` leads from there to the step of a history, and says that a reverse in turn
-//! is not refused. Take and UnTake are no commands: the monitor's `take`, `take_at` and `give` do them, and `law` says that
-//! these are steps too.
+//! One function performs each operation but a take and its reverse, with one contract: the answer and the machine are
+//! those of the operation's definition. `law` leads from there to the step of a history, and says that a reverse in
+//! turn is not refused. Take and UnTake are no commands: the RMM's `take`, `take_at` and `give` do them. `law` says
+//! that these are steps too.
 #![tactic(auto)]
 
 mod command;

@@ -1,4 +1,4 @@
-//! Acts in a realm.
+//! Operations on the tables, pages and RECs of a realm.
 ghost use Rattle.std.specs.Prelude.{◌≡◌, Some, true};
 ghost use Rattle.rmi_monitor.specs.View.{Answers, after_command};
 ghost use Rattle.execution.specs.Performing.{IsReady, is_in_realm, outcome_on};
@@ -9,8 +9,8 @@ use page_arena::PageStore;
 use realm_model::{Act, Rmi, clone_granules};
 use rmi_monitor::Monitor;
 
-// Performs an act on the tables, the pages or the RECs of a realm. Where the act names a REC, `rec` is the REC's
-// granule.
+// Performs an operation on the tables, the pages or the RECs of a realm. If the operation names a REC, `rec` is the
+// REC's granule.
 #[tactic(auto, unfolding(realm_model::specs::Act::named, realm_model::specs::Outcome::outcome_of))]
 pub(crate) fn in_realm<S: PageStore>(
     monitor: &mut Monitor<S>,

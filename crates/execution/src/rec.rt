@@ -1,4 +1,4 @@
-//! Acts on a REC of a realm.
+//! Operations on a REC of a realm.
 ghost use Rattle.std.specs.Prelude.{◌≡◌, Some, is_some, true};
 ghost use Rattle.execution.specs.Performing.{IsReady, IsDone, outcome_on};
 ghost use Rattle.realm_model.specs.Places.{rec_named};
@@ -8,7 +8,7 @@ use page_arena::PageStore;
 use realm_model::{Act, Rmi};
 use rmi_monitor::Monitor;
 
-// Performs an act on the realm's REC whose granule is `rec`.
+// Performs an operation on the realm's REC whose granule is `rec`.
 #[tactic(auto, unfolding(realm_model::specs::Act::named, realm_model::specs::Outcome::outcome_of))]
 pub(crate) fn on_rec<S: PageStore>(
     monitor: &mut Monitor<S>,

@@ -1,4 +1,4 @@
--- What was picked for a command: what the act says of what is there, and what comes of the act.
+-- The allocations of a command: the fields of its operation that they fill, and the operation's outcome.
 use Rattle.std.proofs.Common.{◌≡◌, ℕ, true, List, [], ◌∷◌, drop, Option, refl, sym, ap, ◌∙◌}
 use Rattle.std.specs.Prelude.{◌==◌, ◌&&◌, is_none, slice_index, option_map}
 use Rattle.std.specs.List.{All, list_all}

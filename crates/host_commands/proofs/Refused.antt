@@ -1,4 +1,4 @@
--- Which refusal of a list of checks is given.
+-- The refusal by a list of checks.
 use Rattle.std.proofs.Common.{◌≡◌, ℕ, true, false, cond, List, [], ◌∷◌, ◌++◌, map, Option, Some, None, Ok, Err, refl, sym, ap, ◌∙◌}
 use Rattle.std.specs.Prelude.{Result, is_none}
 use Rattle.host_commands.specs.declared.refusal.Refusal.{Refusal}

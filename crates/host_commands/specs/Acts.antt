@@ -1,4 +1,4 @@
--- The act that a command asks for.
+-- The operation that a command asks for.
 use Rattle.std.specs.Prelude.{ℕ, nat_le, nat_lt, List, [], ◌∷◌, drop, slice_get, Bool, cond, ◌&&◌, Option, Some, None, option_map, option_and_then}
 use Rattle.std.specs.Str.{bytes_eq}
 use Rattle.granule_addr.specs.Ipa.{is_width, widest_space}
@@ -10,11 +10,11 @@ use Rattle.host_commands.specs.declared.cmd.Cmd.{Cmd}
 use Rattle.host_commands.specs.declared.cmd.Cmd.TheVariants.{Take, Fill, Peek, Delegate, Realm, Rtt, Ripas, Data, Unknown, Rec, Activate, Enter, Exit, Poke}
 use Rattle.host_commands.specs.declared.allocated.Allocated.{Allocated}
 
--- the granule of the operand at that place, counted from 0
+-- the granule of the operand at that index, counted from 0
 abbrev pub of_granule : List ℕ → ℕ → (ℕ → Option Act) → Option Act
 of_granule gs place f = option_and_then f (slice_get gs place)
 
--- ---- numbers that can stand in an act
+-- ---- the numbers that an operation can have
 
 -- an IPA granule of the widest address space
 abbrev pub is_ipa : ℕ → Bool
@@ -26,23 +26,23 @@ is_level level = nat_le 1 level && nat_le level 3
 abbrev pub act_if : Bool → Act → Option Act
 act_if fits act = cond fits (Some act) None
 
--- The starting tables of a realm of that width, if realms may have it and the granules are adjacent, in that order.
+-- The starting tables of a realm of that width, if realms may have it and the granules are adjacent, in sequence.
 abbrev pub root_of : ℕ → List ℕ → Option Root
 root_of width [] = None
 root_of width (first ∷ rest) =
     let root : Root = record { first = first; width = width } in
     cond (is_width width && bytes_eq (first ∷ rest) (starting_tables root)) (Some root) None
 
--- ---- the act
+-- ---- the operation
 
--- The act of a command, of the granules of its operands and of what was picked for it.
+-- The operation of a command, with the granules of its operands and with what was allocated for it.
 --
--- There is no act where a number of the command can stand in none: an IPA granule outside the widest address space, a
+-- There is no operation if a number of the command can be in none: an IPA granule outside the widest address space, a
 -- level that no table has, a width that no realm has, or starting tables that are not adjacent. Each of these fails an
 -- input check of the command. Input checks come before all others and have one answer, so the command is refused with
 -- RMI_ERROR_INPUT, whatever else is wrong. RMM 1.0, RMI command conditions.
 --
--- A Take has no act either: it is no command of the monitor, and the store picks its block.
+-- A Take has no operation either: it is no command of the RMM, and the store chooses its block.
 unfoldable pub act_of : Cmd → List ℕ → Allocated → Option Act
 act_of (Take order) gs allocated = None
 act_of (Fill page value) gs allocated = of_granule gs 0 (λ g. Some (acts.Fill g value))

@@ -1,8 +1,8 @@
--- What the checks of a command see of a host.
+-- The view of a host's builds that the checks of a command need.
 use Rattle.std.specs.Prelude.{◌≡◌, ℕ, List, map, Bool, Option, Some, slice_get}
 
--- How many builds there are; for each build, whether it is in abort, its pages, whether it has a realm, how many acts
--- it has open, and how much of its room is left; and whether a VMID is free.
+-- The number of builds. For each build, whether it is in abort, its pages, whether it has a realm, the number of its
+-- open operations, and the room that it has left. And whether a VMID is free.
 pub record BuildsSummary : Type 0 where
   pub builds : ℕ
   pub aborting : ℕ → Bool

@@ -1,4 +1,4 @@
--- When a command is refused before the store or the monitor is asked: one list of checks for all commands, by their needs.
+-- The checks of a command before the store and the RMM decide: one list for all commands, by their needs.
 use Rattle.std.specs.Prelude.{ℕ, nat_lt, nat_le, List, [], ◌∷◌, ◌++◌, map, Bool, true, false, not, cond, Option, Some, None, is_none, Result, Ok, Err}
 use Rattle.host_commands.specs.declared.cmd.Cmd.{Cmd}
 use Rattle.host_commands.specs.declared.cmd.Cmd.TheVariants.{Take}
@@ -16,48 +16,48 @@ Check = Bool × Refusal
 
 -- ---- the checks, by number
 
--- 1 and 2
+-- refusals 1 and 2
 abbrev pub build_checks : BuildsSummary → ℕ → List Check
 build_checks view build = (nat_le view.builds build, NoBuild) ∷ (view.aborting build, Aborting) ∷ []
 
--- 3
+-- refusal 3
 abbrev pub order_checks : Cmd → List Check
 order_checks (Take order) = (nat_lt 9 order, BadOrder) ∷ []
 order_checks _ = []
 
--- 4
+-- refusal 4
 abbrev pub page_checks : BuildsSummary → ℕ → List ℕ → List Check
 page_checks view build pages = map (λ page. (is_none (granule_of_page view build page), NotLeased page)) pages
 
--- 5 and 6
+-- refusals 5 and 6
 abbrev pub realm_checks : BuildsSummary → ℕ → RealmRequirement → List Check
 realm_checks view build Either = []
 realm_checks view build NoneOf = (view.realm build, RealmThere) ∷ []
 realm_checks view build ARealm = (not (view.realm build), NoRealm) ∷ []
 
--- 9
+-- refusal 9
 abbrev pub journal_checks : BuildsSummary → ℕ → Bool → List Check
 journal_checks view build true = (nat_le 512 (view.opened build), JournalFull) ∷ []
 journal_checks view build false = []
 
--- 10
+-- refusal 10
 abbrev pub room_checks : BuildsSummary → ℕ → ℕ → List Check
 room_checks view build needed = (nat_lt (view.room_left build) needed, HistoryFull) ∷ []
 
--- 12
+-- refusal 12
 abbrev pub vmid_checks : BuildsSummary → Bool → List Check
 vmid_checks view true = (not view.vmid, NoVmid) ∷ []
 vmid_checks view false = []
 
 -- ---- the checks of a command
 
--- 5 to 12
+-- refusals 5 to 12
 unfoldable pub state_checks : BuildsSummary → ℕ → Needs → List Check
 state_checks view build needs =
     realm_checks view build needs.realm ++ (journal_checks view build needs.paired ++ (room_checks view build needs.room ++ vmid_checks view needs.vmid))
 
--- The checks that apply to a command, in the order of their numbers. 7 and 8 apply to no command. Behind these a Take
--- has 11, which the store decides, and every other command 13, which the monitor decides.
+-- The checks that apply to a command, in the order of their numbers. 7 and 8 apply to no command. After these a Take
+-- has 11, which the store decides, and every other command 13, which the RMM decides.
 unfoldable pub checks_of : BuildsSummary → ℕ → Cmd → List Check
 checks_of view build cmd =
     build_checks view build ++ (order_checks cmd ++ (page_checks view build (operands cmd) ++ state_checks view build (needs_of cmd)))

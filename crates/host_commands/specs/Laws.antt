@@ -1,4 +1,4 @@
--- How the act of a command fits the command, and what comes of it.
+-- Theorems on the operation of a command, and on its outcome.
 use Rattle.std.specs.Prelude.{◌≡◌, ◌==◌, ℕ, List, length, slice_index, true, false, Option, Some, None, Err}
 use Rattle.std.specs.List.{All}
 use Rattle.granule_addr.specs.Ipa.{is_width}
@@ -18,8 +18,8 @@ use Rattle.host_commands.specs.declared.allocated.Allocated.{Allocated}
 use Rattle.host_commands.specs.Needs.{operands, needs_of}
 use Rattle.host_commands.specs.Acts.{act_of}
 
--- The act is a forward command of the monitor, names the granules, is paired where its command is, and takes the room that
--- its command needs.
+-- The operation is a forward command of the RMM, names the granules, is paired if its command is, and takes the room
+-- that its command needs.
 pub record IsOfCommand (cmd : Cmd) (granules : List ℕ) (act : Act) : Type 0 where
   pub command : is_command act ≡ true
   pub forward : is_reverse act ≡ false
@@ -27,44 +27,44 @@ pub record IsOfCommand (cmd : Cmd) (granules : List ℕ) (act : Act) : Type 0 wh
   pub paired : is_paired act ≡ (needs_of cmd).paired
   pub room : room_taken act ≡ (needs_of cmd).room
 
--- this holds of the act of each command with as many granules as it has operands
+-- this holds of the operation of each command with as many granules as it has operands
 abbrev pub ActIsOfCommand : Cmd → List ℕ → Allocated → Act → Type 0
 ActIsOfCommand cmd granules allocated act = length granules ≡ length (operands cmd) → act_of cmd granules allocated ≡ Some act → IsOfCommand cmd granules act
 
 -- ---- what is there
 
--- What was picked for a command is what is there, by the realm of its build and its granules: the byte of a Peek is that of
--- the page, a Realm is the build's first, the number of a Rec is the realm's next.
+-- The values that were allocated for a command are those of the machine, by the realm of its build and its granules.
+-- The byte of a Peek is that of the page, a Realm is the build's first, and the number of a Rec is the realm's next.
 abbrev pub IsThere : Cmd → Allocated → Option Seen → List Seen → Type 0
 IsThere (Peek page offset) allocated realm cells = All (λ (g : Seen). slice_index g.cell.bytes offset ≡ allocated.byte) cells
 IsThere (Realm rd root width) allocated realm cells = realm ≡ None
 IsThere (Rec page auxiliaries) allocated realm cells = realm_is realm (λ d r. allocated.number == r.next) ≡ true
 IsThere _ allocated realm cells = Unit {0}
 
--- where that is so, what the act says of what is there fits
+-- if that is so, the answers in the operation agree with the machine
 abbrev pub ActFits : Cmd → List ℕ → Allocated → Act → Option Seen → List Seen → Type 0
 ActFits cmd granules allocated act realm cells = act_of cmd granules allocated ≡ Some act → IsThere cmd allocated realm cells → fits act realm cells ≡ true
 
--- ---- what comes of a command
+-- ---- the outcome of a command
 
--- What comes of the command of the monitor that a command asks for: what comes of its act, and an input error where its
--- numbers stand in no act.
+-- The outcome of the RMM's command that a command asks for: the outcome of its operation, and an input error if its
+-- numbers can be in no operation.
 abbrev pub outcome_of_act : Limits → List ℕ → Option Act → Option Seen → List Seen → Outcome
 outcome_of_act limits used None realm cells = Err error_input
 outcome_of_act limits used (Some act) realm cells = outcome_of limits.vmids limits.aux used act realm cells
 
--- The outcome does not depend on the byte or the number that was picked.
+-- The outcome does not depend on the byte or the number that was allocated.
 abbrev pub OutcomeIsOfAnyAllocation : Limits → List ℕ → Cmd → List ℕ → Allocated → Allocated → Option Seen → List Seen → Type 0
 OutcomeIsOfAnyAllocation limits used cmd granules one other realm cells =
     one.vmid ≡ other.vmid → outcome_of_act limits used (act_of cmd granules one) realm cells ≡ outcome_of_act limits used (act_of cmd granules other) realm cells
 
--- ---- numbers that stand in no act
+-- ---- the numbers that no operation can have
 
 -- the realm has a width that realms have
 abbrev pub HasWidth : Seen → Type 0
 HasWidth rd = (realm : RealmRow) → rd.cell.descriptor ≡ Some realm → is_width realm.root.width ≡ true
 
--- A command of the monitor on a realm and granules, with the numbers as they are written, is refused with RMI_ERROR_INPUT.
+-- A command of the RMM on a realm and granules, with the numbers as they are written, is refused with RMI_ERROR_INPUT.
 abbrev pub IsInputError : Cmd → Seen → List Seen → Type 0
 IsInputError (Rtt page ipa level) rd cells = on_one cells (λ g. rtt_create rd g ipa level) ≡ Err error_input
 IsInputError (Ripas ipa count) rd cells = rtt_init_ripas rd ipa count ≡ Err error_input
@@ -73,8 +73,8 @@ IsInputError (Unknown page ipa) rd cells = on_one cells (λ g. data_create_unkno
 IsInputError (Poke number ipa offset value) rd cells = guest_write rd number ipa offset value ≡ Err error_input
 IsInputError _ rd cells = Unit {0}
 
--- So where an IPA granule or a level of a command on a realm stands in no act, the monitor would refuse the command
--- with this error, whatever else is wrong.
+-- So if an IPA granule or a level of a command on a realm can be in no operation, the RMM would refuse the command with
+-- this error, whatever else is wrong.
 abbrev pub NoActIsInputError : Cmd → List ℕ → Allocated → Seen → List Seen → Type 0
 NoActIsInputError cmd granules allocated rd cells =
     length granules ≡ length (operands cmd) → act_of cmd granules allocated ≡ None → HasWidth rd → IsInputError cmd rd cells

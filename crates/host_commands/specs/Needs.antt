@@ -1,4 +1,4 @@
--- The commands: the pages that each names, and what each needs of its build.
+-- The pages that each command names, and its requirements on its build.
 use Rattle.std.specs.Prelude.{ℕ, List, [], ◌∷◌, Bool, true, false, if◌then◌else◌}
 use Rattle.std.specs.List.{range_with_len}
 use Rattle.granule_addr.specs.Ipa.{is_width}
@@ -9,11 +9,12 @@ use Rattle.host_commands.specs.declared.needs.Needs.{Needs}
 use Rattle.host_commands.specs.declared.needs.RealmRequirement.{RealmRequirement}
 use Rattle.host_commands.specs.declared.needs.RealmRequirement.TheVariants.{Either, Realm as ARealm, NoRealm}
 
--- How many starting tables are looked for: as many as a realm of that width has, and one where no realm has that width.
+-- The number of starting tables that a command of this width names: as many as a realm of that width has, and one if no
+-- realm has that width.
 abbrev pub tables_named : ℕ → ℕ
 tables_named width = if is_width width then start_count width else 1
 
--- The pages that a command names, in the order in which they are written. Starting tables are named by the first.
+-- The pages that a command names, in the sequence in which they are written. Starting tables are named by the first.
 unfoldable pub operands : Cmd → List ℕ
 operands (Take order) = []
 operands (Fill page value) = page ∷ []
@@ -33,7 +34,8 @@ operands (Poke number ipa offset value) = []
 abbrev pub needs_but_vmid : RealmRequirement → Bool → ℕ → Needs
 needs_but_vmid realm paired room = record { realm = realm; paired = paired; room = room; vmid = false }
 
--- The table: whether a realm is wanted, whether the act stays open, the room that it takes, and whether it picks a VMID.
+-- The table: whether a realm is required, whether the operation stays open, the room that it takes, and whether it
+-- needs a VMID.
 unfoldable pub needs_of : Cmd → Needs
 needs_of (Take order) = needs_but_vmid Either true 2
 needs_of (Fill page value) = needs_but_vmid Either false 1

@@ -1,4 +1,4 @@
-//! The act of a command.
+//! The operation that a command asks for.
 ghost use Rattle.std.specs.Prelude.{◌≡◌, ◌≤◌, length, slice_get, drop, true, Some, None, IfSome, if◌then◌else◌};
 ghost use Rattle.realm_model.specs.Outcome.{is_in_range};
 ghost use Rattle.realm_model.specs.declared.act.Act.TheVariants as acts;
@@ -13,7 +13,7 @@ use realm_model::Act;
 // The widest address space that a realm may have, in bits.
 const WIDEST: u8 = 43;
 
-// The IPA granule of that number, where the widest address space has it.
+// The IPA granule of that number, if the widest address space has it.
 fn ipa_of(number: u32) -> Option<IpaGran>
     ensures { result ≡ (if is_ipa number then Some number else None) }
 {
@@ -39,7 +39,7 @@ fn auxiliaries_of(granules: &[Gran]) -> ArrayVec<Gran, 16>
     auxiliaries
 }
 
-// The starting tables of a realm of that width, if realms may have it and the granules are adjacent, in that order.
+// The starting tables of a realm of that width, if realms may have it and the granules are adjacent, in sequence.
 fn starting_tables(width: u8, tables: &[Gran]) -> Option<Root>
     ensures { result ≡ root_of width tables.now }
 {
@@ -84,7 +84,7 @@ fn poke_act(number: RecNo, ipa: u32, offset: PageOff, value: u8) -> Option<Act>
     })
 }
 
-// The act of a command that names pages.
+// The operation of a command that names pages.
 #[tactic(auto, unfolding(crate::specs::Acts::act_of, crate::specs::Needs::operands))]
 fn act_on_pages(cmd: &Cmd, granules: &[Gran], allocated: Allocated) -> Option<Act>
     requires some { 1 ≤ length (operands cmd.now) }
@@ -131,12 +131,12 @@ fn act_on_pages(cmd: &Cmd, granules: &[Gran], allocated: Allocated) -> Option<Ac
     }
 }
 
-/// The act that a command asks for, of the granules of its operands and of what was picked for it.
+/// The operation that a command asks for, with the granules of its operands and with what was allocated for it.
 ///
-/// None where a number of the command can stand in no act: an IPA granule from 2^31 on, a level outside 1 to 3, a width
-/// outside 39 to 43, or starting tables that are not adjacent granules. The command is then refused with
-/// RMI_ERROR_INPUT. A Take has no act either: the store picks its block. The numbers that no command checks, values and
-/// offsets in a page, are in range.
+/// `None` comes if a number of the command can be in no operation: an IPA granule from 2^31 on, a level outside 1 to 3,
+/// a width outside 39 to 43, or starting tables that are not adjacent granules. The command is then refused with
+/// RMI_ERROR_INPUT. A Take has no operation either: the store chooses its block. The numbers that no command checks,
+/// values and offsets in a page, are in range.
 #[tactic(auto, unfolding(crate::specs::Acts::act_of, crate::specs::Needs::operands))]
 pub fn act_of(cmd: &Cmd, granules: &ArrayVec<Gran, 17>, allocated: Allocated) -> Option<Act>
     ensures act { result ≡ act_of cmd.now granules.now.items allocated }

@@ -1,14 +1,13 @@
-//! What is picked or read for a command before its act is known.
+//! The values that are allocated or read for a command before its operation is known.
 use granule_addr::{RecNo, Vmid};
 
-/// The answers that an act holds. Each is read by the commands that get it, and may be anything where a command gets
-/// none.
+/// The answers that an operation holds. Each is read by the commands that get it, and may be anything for the others.
 #[derive(Clone, Copy)]
 pub struct Allocated {
-    /// for a realm that is made: the lowest VMID that none uses
+    /// For a realm that is created, the lowest VMID that no realm has.
     pub vmid: Vmid,
-    /// for a REC that is made: the next number of its realm
+    /// For a REC that is created, the next number of its realm.
     pub number: RecNo,
-    /// for a byte that is read: the byte
+    /// For a byte that is read, the byte.
     pub byte: u8,
 }

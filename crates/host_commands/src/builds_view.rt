@@ -1,10 +1,10 @@
-//! What the checks of a command look at.
+//! The view of a host's builds that the checks of a command need.
 ghost use Rattle.std.specs.Prelude.{◌≡◌, ◌<◌, nat_lt, IsSome};
 ghost use Rattle.host_commands.specs.BuildsSummary.{BuildsSummary, granule_of_page};
 
 use granule_addr::{BuildId, Gran};
 
-/// What a host keeps of its builds, as far as the checks of a command look at it.
+/// The state of a host's builds, as far as the checks of a command need it.
 pub trait BuildsView {
     ghost seen: { Self → BuildsSummary };
 
@@ -28,12 +28,12 @@ pub trait BuildsView {
         requires { build < (seen self.now).builds }
         ensures { result ≡ (seen self.now).realm build };
 
-    /// How many acts the build has open.
+    /// The number of operations that the build has open.
     fn open_count(&self, build: BuildId) -> u16
         requires { build < (seen self.now).builds }
         ensures { result ≡ (seen self.now).opened build };
 
-    /// How much of its room the build has left.
+    /// The room that the build has left.
     fn room_left(&self, build: BuildId) -> u16
         requires { build < (seen self.now).builds }
         ensures { result ≡ (seen self.now).room_left build };

@@ -8,7 +8,7 @@ use arrayvec::ArrayVec;
 use granule_addr::{BuildId, Gran};
 use realm_model::JOURNAL_ROOM;
 
-/// Refusals 1 and 2: the build is there, and it is not in abort.
+/// Refusals 1 and 2: there is no such build, or it is in abort.
 pub fn check_build<D: BuildsView>(view: &D, build: BuildId) -> Result<(), Refusal>
     ensures { result ≡ checked (build_checks (D.seen view.now) build) }
 {
@@ -21,7 +21,7 @@ pub fn check_build<D: BuildsView>(view: &D, build: BuildId) -> Result<(), Refusa
     Ok(())
 }
 
-// Refusal 3: a block is not too large.
+// Refusal 3: a block is too large.
 fn check_order(cmd: &Cmd) -> Result<(), Refusal>
     ensures { result ≡ checked (order_checks cmd.now) }
 {
@@ -31,7 +31,7 @@ fn check_order(cmd: &Cmd) -> Result<(), Refusal>
     }
 }
 
-// Refusals 5 and 6: the build has a realm, or none.
+// Refusals 5 and 6: the build has a realm, or has none.
 fn check_realm<D: BuildsView>(
     view: &D,
     build: BuildId,
@@ -47,7 +47,7 @@ fn check_realm<D: BuildsView>(
     }
 }
 
-// Refusal 9: one more act may be open.
+// Refusal 9: no more operations can be open.
 fn check_journal<D: BuildsView>(view: &D, build: BuildId, paired: bool) -> Result<(), Refusal>
     requires { build < (D.seen view.now).builds }
     ensures { result ≡ checked (journal_checks (D.seen view.now) build paired) }
@@ -58,7 +58,7 @@ fn check_journal<D: BuildsView>(view: &D, build: BuildId, paired: bool) -> Resul
     Ok(())
 }
 
-// Refusal 10: the build has `needed` entries of its room left.
+// Refusal 10: the build has less than `needed` entries of its room left.
 fn check_room<D: BuildsView>(view: &D, build: BuildId, needed: u16) -> Result<(), Refusal>
     requires { build < (D.seen view.now).builds }
     ensures { result ≡ checked (room_checks (D.seen view.now) build needed) }
@@ -69,7 +69,7 @@ fn check_room<D: BuildsView>(view: &D, build: BuildId, needed: u16) -> Result<()
     Ok(())
 }
 
-// Refusal 12: a VMID is free.
+// Refusal 12: no VMID is free.
 fn check_vmid<D: BuildsView>(view: &D, wanted: bool) -> Result<(), Refusal>
     ensures { result ≡ checked (vmid_checks (D.seen view.now) wanted) }
 {
@@ -79,7 +79,7 @@ fn check_vmid<D: BuildsView>(view: &D, wanted: bool) -> Result<(), Refusal>
     Ok(())
 }
 
-// Refusals 5 to 12: what is asked of the build's state.
+// Refusals 5 to 12: the requirements on the build's state.
 fn check_state<D: BuildsView>(view: &D, build: BuildId, needs: &Needs) -> Result<(), Refusal>
     requires { build < (D.seen view.now).builds }
     ensures { result ≡ checked (state_checks (D.seen view.now) build needs.now) }
@@ -90,8 +90,8 @@ fn check_state<D: BuildsView>(view: &D, build: BuildId, needs: &Needs) -> Result
     check_vmid(view, needs.vmid)
 }
 
-/// The granules of the pages that a command names, in their order; or the refusal with the lowest number of those that
-/// apply to it and hold, but for those that the store and the monitor decide: 11 and 13.
+/// The granules of the pages that a command names, in sequence; or the refusal with the lowest number of those that
+/// apply to it and hold. The refusals of the store and of the RMM, 11 and 13, are not among them.
 pub fn check_needs<D: BuildsView>(
     view: &D,
     build: BuildId,

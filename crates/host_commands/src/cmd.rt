@@ -1,4 +1,4 @@
-//! Commands and steps.
+//! Commands and steps of builds.
 ghost use Rattle.std.specs.Prelude.{◌≡◌};
 
 use arrayvec::ArrayVec;
@@ -7,7 +7,7 @@ use granule_addr::{PageOff, RecNo};
 /// A command of a build.
 ///
 /// Pages are named by the build's own numbers, from 0 in the order of taking. IPA granules and levels are numbers as
-/// they were written: one that no realm has is for the monitor to refuse.
+/// they were written: the RMM refuses one that no realm has.
 #[derive(Debug, PartialEq, Eq, Drop)]
 pub enum Cmd {
     /// A block of 2^order pages is leased.
@@ -28,7 +28,7 @@ pub enum Cmd {
     Delegate {
         page: u16,
     },
-    /// A realm is made. Its starting tables are the pages from `root` on, as many as the width needs.
+    /// A realm is created. Its starting tables are the pages from `root` on, as many as the width needs.
     /// RMI_REALM_CREATE
     Realm {
         rd: u16,
@@ -81,21 +81,21 @@ pub enum Cmd {
     },
 }
 
-/// What a builder does next with its build.
+/// The next action of a builder on its build.
 #[derive(Debug, PartialEq, Eq, Drop)]
 pub enum Step {
     Ask(Cmd),
-    /// The newest open act of the build is reversed.
+    /// The newest open operation of the build is reversed.
     Undo,
-    /// All that the build has open is reversed, the newest first.
+    /// All open operations of the build are reversed, the newest first.
     Abort,
-    /// The build's point is kept, so that it can go back to it.
+    /// The build's point is kept as a mark, to which it can go back.
     Mark,
-    /// What the build has opened since its last mark is reversed, the newest first.
+    /// The operations that the build has opened since its last mark are reversed, the newest first.
     Back,
 }
 
-// The same pages again.
+// A copy of the pages.
 fn clone_pages(pages: &ArrayVec<u16, 16>) -> ArrayVec<u16, 16>
     ensures { result ≡ pages.now }
 {
@@ -107,7 +107,7 @@ fn clone_pages(pages: &ArrayVec<u16, 16>) -> ArrayVec<u16, 16>
 }
 
 impl Cmd {
-    /// The same command once more. No memory is taken.
+    /// A copy of the command. No memory is taken.
     pub fn clone(&self) -> Cmd
         ensures { result ≡ self.now }
     {

@@ -1,4 +1,4 @@
-//! Laws of the acts of commands.
+//! Theorems on the operations of commands.
 ghost use Rattle.std.specs.Prelude.{◌≡◌, ℕ, List, Option};
 ghost use Rattle.realm_model.specs.declared.act.Act.{Act};
 ghost use Rattle.realm_model.specs.Machine.{Limits, Seen};
@@ -6,24 +6,24 @@ ghost use Rattle.host_commands.specs.declared.cmd.Cmd.{Cmd};
 ghost use Rattle.host_commands.specs.declared.allocated.Allocated.{Allocated};
 ghost use Rattle.host_commands.specs.Laws.{ActIsOfCommand, ActFits, OutcomeIsOfAnyAllocation, NoActIsInputError};
 
-/// The act of a command is a forward command of the monitor. It names the granules of the operands, is paired where the
+/// The operation of a command is a forward command of the RMM. It names the granules of the operands, is paired if the
 /// table says so, and takes the room that the table says.
 pub fn act_is_that_of_its_command()
     ensures { (cmd : Cmd) (granules : List ℕ) (allocated : Allocated) (act : Act) → ActIsOfCommand cmd granules allocated act }
 {}
 
-/// Where what was picked is there, what the act says of it fits.
+/// The operation agrees with the machine, if the values that were allocated for it do.
 pub fn act_fits_what_is_there()
     ensures { (cmd : Cmd) (granules : List ℕ) (allocated : Allocated) (act : Act) (realm : Option Seen) (cells : List Seen) → ActFits cmd granules allocated act realm cells }
 {}
 
-/// What the monitor answers to a command does not depend on the byte or the number that was picked for it.
+/// The RMM's answer to a command does not depend on the byte or the number that was allocated for it.
 pub fn outcome_is_of_any_allocation()
     ensures { (limits : Limits) (used : List ℕ) (cmd : Cmd) (granules : List ℕ) (one other : Allocated) (realm : Option Seen) (cells : List Seen) → OutcomeIsOfAnyAllocation limits used cmd granules one other realm cells }
 {}
 
-/// Where an IPA granule or a level of a command stands in no act, the monitor refuses it with RMI_ERROR_INPUT, whatever else
-/// is wrong.
+/// If an IPA granule or a level of a command can be in no operation, the RMM refuses it with RMI_ERROR_INPUT, whatever
+/// else is wrong.
 pub fn no_act_is_an_input_error()
     ensures { (cmd : Cmd) (granules : List ℕ) (allocated : Allocated) (rd : Seen) (cells : List Seen) → NoActIsInputError cmd granules allocated rd cells }
 {}

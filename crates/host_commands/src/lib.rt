@@ -1,9 +1,9 @@
-//! What builds ask for: the commands as values, what each needs of its build, and the act that it asks for.
+//! The commands of builds as values: the requirements of each on its build, and the operation that it asks for.
 //!
 //! A command names pages by the build's own numbers. One table, `Needs`, has a row for each command, and one list of
-//! checks is made of it: `check_needs` answers the granules of the pages named, or the refusal with the lowest number.
-//! `act_of` makes the act of granules and of what was picked; `law` says how that act fits its command. What a host keeps
-//! of its builds is behind the trait `BuildsView`.
+//! checks follows from it. `check_needs` returns the granules of the named pages, or the refusal with the lowest
+//! number. `act_of` forms the operation from the granules and from what was allocated; `law` says how that operation
+//! fits its command. The state of a host's builds is after the trait `BuildsView`.
 #![tactic(auto)]
 
 mod act;

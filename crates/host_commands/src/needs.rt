@@ -1,11 +1,11 @@
-//! What a command needs of its build.
+//! The requirements of a command on its build.
 ghost use Rattle.std.specs.Prelude.{◌≡◌, ◌≤◌};
 ghost use Rattle.host_commands.specs.Needs.{needs_of, needs_but_vmid, tables_named};
 
 use crate::Cmd;
 use granule_addr::IpaWidth;
 
-/// Whether a command wants its build to have a realm.
+/// Whether a command requires that its build has a realm.
 #[derive(Clone, Copy)]
 pub enum RealmRequirement {
     Either,
@@ -13,20 +13,21 @@ pub enum RealmRequirement {
     NoRealm,
 }
 
-/// What a command needs of its build, a row of the table.
+/// The requirements of a command on its build: a row of the table.
 #[derive(Clone, Copy)]
 pub struct Needs {
-    /// whether there has to be a realm
+    /// Whether there has to be a realm.
     pub realm: RealmRequirement,
-    /// whether the act stays open, and so wants an entry in the journal
+    /// Whether the operation stays open, and so needs an entry in the journal.
     pub paired: bool,
-    /// how many entries of the build's room it takes: for its event, and for the reverse or the exit that it will want
+    /// The number of entries of the build's room that it takes: for its event, and for the reverse or the exit that it
+    /// will need.
     pub room: u16,
-    /// whether it picks a VMID
+    /// Whether it needs a VMID.
     pub vmid: bool,
 }
 
-/// The number of starting tables that a command of this width names: as many as a realm of that width has, and one where
+/// The number of starting tables that a command of this width names: as many as a realm of that width has, and one if
 /// no realm has that width.
 pub fn tables_named(width: u8) -> u16
     ensures value { result ≡ tables_named width }
@@ -35,7 +36,7 @@ pub fn tables_named(width: u8) -> u16
     IpaWidth::new(width).map_or(1, |width| width.start_count())
 }
 
-// Needs but for a VMID.
+// The requirements of a command that needs no VMID.
 fn but_vmid(realm: RealmRequirement, paired: bool, room: u16) -> Needs
     ensures { result ≡ needs_but_vmid realm paired room }
 {
@@ -48,7 +49,7 @@ fn but_vmid(realm: RealmRequirement, paired: bool, room: u16) -> Needs
 }
 
 impl Cmd {
-    /// What the command needs of its build.
+    /// The requirements of the command on its build.
     #[tactic(auto, unfolding(crate::specs::Needs::needs_of))]
     pub fn needs(&self) -> Needs
         ensures { result ≡ needs_of self.now }

@@ -10,7 +10,7 @@ use crate::{BuildsView, Cmd, Refusal};
 use arrayvec::ArrayVec;
 use granule_addr::{BuildId, Gran};
 
-// One page.
+// The granule of one page.
 fn find<D: BuildsView>(
     view: &D,
     build: BuildId,
@@ -29,7 +29,7 @@ fn find<D: BuildsView>(
     Ok(())
 }
 
-// Pages of a list.
+// The granules of the pages of a list.
 fn find_all<D: BuildsView>(
     view: &D,
     build: BuildId,
@@ -46,7 +46,7 @@ fn find_all<D: BuildsView>(
     Ok(())
 }
 
-// Pages with numbers from one on.
+// The granules of the pages with numbers from one on.
 fn find_run<D: BuildsView>(
     view: &D,
     build: BuildId,
@@ -66,7 +66,7 @@ fn find_run<D: BuildsView>(
     Ok(())
 }
 
-// The pages that a command names.
+// The granules of the pages that a command names.
 #[tactic(auto, unfolding(crate::specs::Needs::operands))]
 fn find_operands<D: BuildsView>(
     view: &D,
@@ -100,7 +100,7 @@ fn find_operands<D: BuildsView>(
     }
 }
 
-// The granules of the pages that a command names, or the refusal of the first that the build has not got.
+// The granules of the pages that a command names, or the refusal of the first that the build does not have.
 pub(crate) fn granules_of<D: BuildsView>(
     view: &D,
     build: BuildId,

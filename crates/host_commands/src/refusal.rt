@@ -1,4 +1,4 @@
-//! Why the host refuses.
+//! The refusals of a host, by number.
 use granule_addr::Order;
 use realm_model::Rmi;
 use thiserror::Error;
@@ -6,7 +6,7 @@ use thiserror::Error;
 /// A refusal: of those that apply and hold, the one with the lowest number is given, and nothing changes.
 #[derive(Clone, Copy, Debug, PartialEq, Eq, Error)]
 pub enum Refusal {
-    /// 1: the build isn't there.
+    /// 1: there is no such build.
     #[error("there is no such build")]
     NoBuild,
     /// 2: the build is in abort.
@@ -30,7 +30,7 @@ pub enum Refusal {
     /// 8: a REC that would have to go is running.
     #[error("a REC is running")]
     RecRunning,
-    /// 9: the build has 512 acts open.
+    /// 9: the build has 512 operations open.
     #[error("the journal is full")]
     JournalFull,
     /// 10: the command would take room that the build's reverses and exits need.
@@ -42,7 +42,7 @@ pub enum Refusal {
     /// 12: all VMIDs are in use.
     #[error("no VMID is free")]
     NoVmid,
-    /// 13: the monitor refused.
+    /// 13: the RMM refused.
     #[error("the monitor refused: {:?}, index {}", .0.status, .0.index)]
     Rmi(Rmi),
 }

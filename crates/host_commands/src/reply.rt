@@ -1,4 +1,4 @@
-//! What a build is told.
+//! The replies to accepted commands.
 ghost use Rattle.std.specs.Prelude.{◌≡◌};
 ghost use Rattle.host_commands.specs.Replies.{reply_of};
 
@@ -13,13 +13,13 @@ pub enum Reply {
     FirstPage(u16),
     /// The byte that was read.
     Byte(u8),
-    /// The VMID of the realm that was made.
+    /// The VMID of the realm that was created.
     Vmid(Vmid),
-    /// The number of the REC that was made.
+    /// The number of the REC that was created.
     Number(RecNo),
 }
 
-/// The reply to an act of a build that had `page_count` pages before it.
+/// The reply to an operation of a build that had `page_count` pages before it.
 pub fn reply_of(page_count: u16, act: &Act) -> Reply
     ensures { result ≡ reply_of page_count act.now }
 {

@@ -1,7 +1,8 @@
-//! What an undo answers.
+//! The reply to an undo.
 use realm_model::Kind;
 
-/// What an undo did: the kind of the act that was reversed, and how many the build has open after it.
+/// The result of an undo: the kind of the operation that was reversed, and the number of those that the build has open
+/// after it.
 #[derive(Clone, Copy, Debug, PartialEq, Eq)]
 pub struct Undone {
     pub kind: Kind,

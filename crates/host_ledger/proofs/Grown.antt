@@ -1,4 +1,4 @@
--- Books with one more event.
+-- The ledger with one more event.
 use Rattle.std.proofs.Common.{◌≡◌, ◌≢◌, ℕ, zero, suc, ◌+◌, ◌-◌, ◌*◌, ◌<◌, ◌≤◌, Bool, true, false, ◌&&◌, cond, take, List, [], ◌∷◌, ◌++◌}
 use Rattle.std.proofs.Common.{length, map, set, get_or, Option, Some, None, refl, sym, ap, ◌∙◌, subst, arith, ⊎_elim, vec_len, vec_capacity}
 use Rattle.std.specs.Prelude.{nat_lt, slice_get, option_map}

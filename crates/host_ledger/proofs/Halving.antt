@@ -1,4 +1,4 @@
--- A REC is found by halving, since the numbers of RECs rise.
+-- The binary search for a REC, whose numbers rise.
 use Rattle.std.proofs.Common.{◌≡◌, ℕ, zero, suc, ◌+◌, ◌<◌, ◌≤◌, List, [], ◌∷◌, cond, length, get_or, Some, None, refl, sym, ap, ◌∙◌, arith}
 use Rattle.std.proofs.lemmas.Bool.{eq-eqb, ne_eqb}
 use Rattle.realm_model.specs.RecsOpen.{granule_in, number_at, IsRising}

@@ -1,4 +1,4 @@
--- What open acts made, after one more act of their build.
+-- The lists that open operations make, after one more operation of their build.
 use Rattle.std.proofs.Common.{◌≡◌, ℕ, true, false, List, [], ◌∷◌, ◌++◌, Some, sym, ap, ◌∙◌}
 use Rattle.std.specs.List.{flat_map}
 use Rattle.std.proofs.lemmas.List.{append-nil}

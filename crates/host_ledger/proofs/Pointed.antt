@@ -1,4 +1,4 @@
--- Books whose build has another mark, or is in abort.
+-- The ledger in which a build has another mark, or is in abort.
 use Rattle.std.proofs.Common.{◌≡◌, ◌≢◌, ℕ, ◌*◌, ◌<◌, ◌≤◌, Bool, true, false, List, length, set, get_or, Option, Some, None, refl, sym, ap, ◌∙◌, subst, cond, arith, ⊎_elim}
 use Rattle.std.specs.Prelude.{nat_lt, slice_get, IfSome}
 use Rattle.std.specs.Global.{Vec}

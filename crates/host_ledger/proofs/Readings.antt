@@ -1,4 +1,4 @@
--- What is read of books.
+-- Readings of the ledger.
 use Rattle.std.proofs.Common.{◌≡◌, ℕ, ◌+◌, ◌<◌, ◌≤◌, Bool, true, false, List, [], length, take, get_or, Option, Some, None, refl, sym, ap, ◌∙◌, subst, arith}
 use Rattle.std.specs.Prelude.{nat_lt, slice_get, option_map, IfSome, IsSome}
 use Rattle.std.specs.List.{sum_by}

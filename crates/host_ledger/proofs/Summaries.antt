@@ -1,4 +1,4 @@
--- What is kept against what the checks of a command see.
+-- The records of builds, and the view that the checks of a command need.
 use Rattle.std.proofs.Common.{◌≡◌, ℕ, zero, suc, ◌+◌, ◌<◌, ◌≤◌, Bool, true, false, ◌&&◌, not, List, [], ◌∷◌, length, map, get_or, Option, Some, None, refl, sym, ap, ◌∙◌, cond, ⊎_elim, arith}
 use Rattle.std.specs.Prelude.{nat_le, slice_get, IfSome, IfNone}
 use Rattle.std.specs.List.{find, range_with_len}

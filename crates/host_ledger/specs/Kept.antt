@@ -1,4 +1,4 @@
--- What is kept beside a history, and that it is what the history says.
+-- The records beside a history, which are functions of the history.
 use Rattle.std.specs.Prelude.{◌≡◌, ℕ, nat_lt, ◌+◌, ◌-◌, ◌*◌, ◌^◌, ◌<◌, ◌≤◌, true, false, ◌&&◌, List, [], ◌∷◌, ◌++◌, map, take, Option, Some, None, length, slice_get, vec_capacity}
 use Rattle.std.specs.List.{All}
 use Rattle.std.specs.Global.{Vec}
@@ -26,11 +26,11 @@ use Rattle.host_ledger.specs.Marks.{point_of, mark_while}
 use Rattle.host_ledger.specs.Recs.{IsAbove}
 use Rattle.host_ledger.specs.View.{HostView, world_of, open_of, used, is_aborting, mark_of}
 
--- what is kept of a build that has no events
+-- the record of a build that has no events
 abbrev pub new_build : Build
 new_build = record { journal = []; events = 0; realm = None; recs = []; running = 0; aborting = false; mark = None }
 
--- ---- after an act of the build
+-- ---- after an operation of the build
 
 -- the RD of its realm
 abbrev pub rd_after : Option ℕ → Act → Option ℕ
@@ -38,25 +38,25 @@ rd_after rd (Realm d root vmid) = Some d
 rd_after rd (UnRealm d root vmid) = None
 rd_after rd _ = rd
 
--- the RECs there: a new one comes last, and the last one goes first
+-- the RECs there: a new one comes last, and the last one is removed first
 abbrev pub recs_after : List (ℕ × ℕ) → Act → List (ℕ × ℕ)
 recs_after recs (Rec granule auxiliaries number) = recs ++ (number, granule) ∷ []
 recs_after recs (UnRec granule auxiliaries number) = take (length recs - 1) recs
 recs_after recs _ = recs
 
--- how many of them run
+-- the number of them that run
 abbrev pub running_after : ℕ → Act → ℕ
 running_after running (Enter number) = running + 1
 running_after running (Exit number) = running - 1
 running_after running _ = running
 
--- its pages: those of a block that is taken come last, those of one given back are gone
+-- its pages: those of a block that is taken come last, those of one given back are removed
 abbrev pub pages_after : List ℕ → Act → List ℕ
 pages_after pages (Take order first) = pages ++ block order first
 pages_after pages (UnTake order first) = take (length pages - 2 ^ order) pages
 pages_after pages _ = pages
 
--- the build leaves abort once nothing is open, and its mark is dropped once fewer acts are open than at the mark
+-- the build leaves abort once nothing is open, and its mark is dropped once fewer operations are open than at the mark
 abbrev pub points_after : Build → Build
 points_after build = record build {
   aborting = build.aborting && nat_lt 0 (length build.journal);
@@ -74,13 +74,13 @@ build_after build act = points_after (record build {
 
 -- ---- what can be followed
 
--- a REC that is made has room and a number above the others', and a REC that exits runs
+-- a REC that is created has room and a number above the others', and a REC that exits runs
 abbrev pub CanFollowRec : Build → Act → Type 0
 CanFollowRec build (Rec granule auxiliaries number) = (length build.recs < 512) × IsAbove build.recs number
 CanFollowRec build (Exit number) = 1 ≤ build.running
 CanFollowRec build _ = Unit {0}
 
--- there is room for what is open after the act, and the numbers stay small
+-- there is room for the operations that are open after this one, and the numbers stay small
 pub record CanFollow (build : Build) (act : Act) : Type 0 where
   pub entries : length (pushed build.journal act) ≤ 512
   pub events : build.events < 16384
@@ -93,7 +93,7 @@ CanFollowPages leases build (Take order first) = (length (stack_of leases build)
 CanFollowPages leases build (UnTake order first) = 2 ^ order ≤ length (stack_of leases build)
 CanFollowPages leases build _ = Unit {0}
 
--- the block that is taken or given back lies inside the machine
+-- the block that is taken or given back is inside the machine
 abbrev pub CanFollowHolders : List (Option ℕ) → Act → Type 0
 CanFollowHolders leases (Take order first) = first + 2 ^ order ≤ length leases
 CanFollowHolders leases (UnTake order first) = first + 2 ^ order ≤ length leases
@@ -101,8 +101,8 @@ CanFollowHolders leases _ = Unit {0}
 
 -- ---- what is recorded
 
--- An act of a build can be recorded: it is in turn and a step, the build has the room that the act takes, if it takes
--- any, and where the act has a reverse, the build can have one more act open.
+-- An operation of a build can be recorded: it is in turn and a step. The build has the room that the operation takes,
+-- if it takes any. If the operation has a reverse, the build can have one more operation open.
 pub record CanRecord (host : HostView) (build : ℕ) (act : Act) : Type 0 where
   pub turn : IsInTurn host.history (by build act)
   pub next : World
@@ -110,9 +110,9 @@ pub record CanRecord (host : HostView) (build : ℕ) (act : Act) : Type 0 where
   pub room : 0 < room_taken act → used host build + room_taken act ≤ host.capacity
   pub few_open : is_paired act ≡ true → length (open_of host build) < 512
 
--- ---- what is kept
+-- ---- the invariant
 
--- what the fields stand for
+-- the meaning of the fields
 abbrev pub ledger_of : List Build → Stacks → Vmids → ℕ → ℕ → List Event → HostView
 ledger_of builds leases vmids aux capacity history = record {
   limits = record { pages = leases.room; vmids = vmids.vmids; aux = aux; builds = length builds };
@@ -122,7 +122,7 @@ ledger_of builds leases vmids aux capacity history = record {
   marks = map (λ (build : Build). build.mark) builds;
 }
 
--- What is kept of a build is what a history has of it and what the world has of its realm.
+-- The record of a build is its part of a history and the attributes of its realm in the world.
 pub record IsBuildOf (history : List Event) (world : World) (number : ℕ) (build : Build) : Type 0 where
   pub journal : build.journal ≡ open_entries number history
   pub events : build.events ≡ length (acts_of number history)
@@ -135,7 +135,8 @@ pub record HasRoom (host : HostView) (build : ℕ) : Type 0 where
   pub used : used host build ≤ host.capacity
   pub few_open : (n : ℕ) → length (open_entries build (take n host.history)) ≤ 512
 
--- A mark that is kept of a build is its own. Since it was made, the build has never had fewer acts open than at it.
+-- A mark that is kept for a build is its own. Since then the build has never had fewer operations open than at the
+-- mark.
 pub record IsMarkOf (host : HostView) (build : ℕ) (mark : Mark) : Type 0 where
   pub of_build : mark.build ≡ build
   pub stands : IsValidMark (point_of mark) host.history
@@ -145,14 +146,14 @@ pub record AreOfEach (host : HostView) : Type 0 where
   pub aborts : length host.aborting ≡ host.limits.builds
   pub marks : length host.marks ≡ host.limits.builds
 
--- A build in abort has something open, and its mark stands, where it has one.
+-- A build in abort has something open, and its mark is valid, if it has one.
 pub record PointsHold (host : HostView) (build : ℕ) : Type 0 where
   pub in_abort : is_aborting host build ≡ true → 0 < length (open_of host build)
   pub marked : (mark : Mark) → mark_of host build ≡ Some mark → IsMarkOf host build mark
 
--- The history is legal. What is kept of each build is what the history has of it; each granule is held by the build
--- that leases it; a VMID is in use exactly where a realm has it; and there is memory for all that there is room for. A
--- build in abort has something open, and marks stand.
+-- The history is legal. The record of each build is its part of the history, each granule is held by the build that
+-- leases it, and a VMID is in use exactly when a realm has it. There is memory for all that there is room for. A build
+-- in abort has something open, and marks are valid.
 pub record IsKept (host : HostView) (builds : List Build) (leases : Stacks) (holders : List (Option ℕ)) (vmids : Vmids) (events : Vec Event) : Type 0 where
   pub legal : IsLegal host.limits host.history
   pub few_builds : host.limits.builds ≤ 8

@@ -1,4 +1,4 @@
--- Marks: points of builds that they can go back to.
+-- Marks: points of builds to which they can go back.
 use Rattle.std.specs.Prelude.{ℕ, nat_le, Bool, ◌&&◌, ◌==◌, cond, Option, Some, None}
 use Rattle.host_ledger.specs.declared.mark.Mark.{Mark}
 use Rattle.realm_model.specs.Marks as marks
@@ -11,7 +11,7 @@ point_of mark = record { build = mark.build; depth = mark.length; place = mark.p
 abbrev pub is_same_mark : Mark → Mark → Bool
 is_same_mark a b = a.build == b.build && (a.length == b.length && a.place == b.place)
 
--- a mark is dropped where fewer acts are open than at it
+-- a mark is dropped if fewer operations are open than at it
 abbrev pub mark_while : ℕ → Option Mark → Option Mark
 mark_while opened None = None
 mark_while opened (Some mark) = cond (nat_le mark.length opened) (Some mark) None

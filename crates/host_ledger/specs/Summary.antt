@@ -1,4 +1,4 @@
--- What the checks of a command see of a host.
+-- The view of a host that the checks of a command need.
 use Rattle.std.specs.Prelude.{◌-◌, length, false, is_some, slice_index_or}
 use Rattle.host_commands.specs.BuildsSummary.{BuildsSummary}
 use Rattle.realm_model.specs.Places.{rd_of}

@@ -1,4 +1,4 @@
--- What a contract sees of a host of builds, and what follows from it.
+-- The view that a contract has of a host of builds, and the values that follow from it.
 use Rattle.std.specs.Prelude.{ℕ, nat_lt, List, [], ◌∷◌, ◌++◌, length, Bool, false, ◌&&◌, Option, Some, None, unwrap_or, slice_get, slice_index_or, slice_set}
 use Rattle.host_ledger.specs.declared.mark.Mark.{Mark}
 use Rattle.host_ledger.specs.Marks.{mark_while}
@@ -10,8 +10,8 @@ use Rattle.realm_model.specs.History.{replay, open_entries, pages_of}
 use Rattle.realm_model.specs.Room.{used_room}
 use Rattle.realm_model.specs.Undoing.{by}
 
--- The limits of the machine, how much room each build has in the history, the history, and for each build whether it is
--- in abort and its mark.
+-- The limits of the machine, the room of each build in the history, the history, and for each build whether it is in
+-- abort and its mark.
 pub record HostView : Type 0 where
   pub limits : Limits
   pub capacity : ℕ
@@ -35,7 +35,7 @@ pages_of_build host build = pages_of build host.history
 abbrev pub granule_of_page : HostView → ℕ → ℕ → Option ℕ
 granule_of_page host build page = slice_get (pages_of_build host build) page
 
--- how much of its room a build has used
+-- the room that a build has used
 abbrev pub used : HostView → ℕ → ℕ
 used host build = used_room build host.history (world_of host)
 
@@ -45,17 +45,17 @@ used host build = used_room build host.history (world_of host)
 abbrev pub is_aborting : HostView → ℕ → Bool
 is_aborting host build = slice_index_or host.aborting build false
 
--- an abort begins: the build is in abort, where it has anything open
+-- an abort begins: the build is in abort, if it has anything open
 abbrev pub begun : HostView → ℕ → HostView
 begun host build = record host { aborting = slice_set host.aborting build (nat_lt 0 (length (open_of host build))) }
 
 -- ---- marks
 
--- the mark that is kept of a build
+-- the mark that is kept for a build
 abbrev pub mark_of : HostView → ℕ → Option Mark
 mark_of host build = slice_index_or host.marks build None
 
--- the mark that a build is given now: how many acts it has open, and the length of the history
+-- the mark that a build gets now: the number of operations it has open, and the length of the history
 abbrev pub mark_now : HostView → ℕ → Mark
 mark_now host build = record { build = build; length = length (open_of host build); place = length host.history }
 
@@ -65,7 +65,7 @@ with_mark host build mark = record host { marks = slice_set host.marks build (So
 -- ---- events
 
 -- The host with one more event. Its build leaves abort if it then has nothing open, and its mark is dropped if it then
--- has fewer acts open than at the mark.
+-- has fewer operations open than at the mark.
 abbrev pub with_event : HostView → ℕ → Act → HostView
 with_event host build act =
     let history = host.history ++ by build act ∷ [] in

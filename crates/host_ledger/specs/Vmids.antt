@@ -7,22 +7,22 @@ use Rattle.realm_model.specs.declared.act.Act.TheVariants.{Realm, UnRealm}
 use Rattle.realm_model.specs.VmidsUsed.{is_vmid_used}
 use Rattle.host_ledger.specs.View.{HostView, world_of}
 
--- a realm may be made with the VMID: it is in range, and no realm has it
+-- a realm may be created with the VMID: it is in range, and no realm has it
 abbrev pub is_vmid_free : HostView → ℕ → Bool
 is_vmid_free host vmid = nat_le 1 vmid && nat_le vmid host.limits.vmids && not (is_vmid_used (world_of host).machine vmid)
 
--- the lowest such VMID, where there is one
+-- the lowest such VMID, if there is one
 abbrev pub lowest_vmid : HostView → Option ℕ
 lowest_vmid host = find (is_vmid_free host) (range_with_len 1 host.limits.vmids)
 
--- ---- after an act
+-- ---- after an operation
 
--- the VMID of a realm that is made is free
+-- the VMID of a realm that is created is free
 abbrev pub CanFollowVmids : Vmids → Act → Type 0
 CanFollowVmids vmids (Realm rd root vmid) = is_free vmids vmid ≡ true
 CanFollowVmids vmids _ = Unit {0}
 
--- a realm that is made has its VMID from then on, and one that ends has it no more
+-- a realm that is created has its VMID from then on, and one that ends has it no more
 abbrev pub IsVmidsAfter : Act → Vmids → Vmids → Type 0
 IsVmidsAfter (Realm rd root vmid) old new = IsClaimed old new vmid true
 IsVmidsAfter (UnRealm rd root vmid) old new = IsClaimed old new vmid false

@@ -1,4 +1,4 @@
-//! What is kept of one build.
+//! The record of one build.
 ghost use Rattle.std.specs.Prelude.{◌≡◌, nat_lt, length, IfOk};
 ghost use Rattle.host_ledger.specs.Kept.{new_build, points_after, build_after, CanFollow};
 
@@ -9,8 +9,8 @@ use granule_addr::Gran;
 use realm_model::Act;
 use std::alloc::{AllocError, Global};
 
-/// What a build has open; how many events it has in the history; the RD of its realm, the RECs there, and how many of them
-/// run; whether it is in abort, and its mark.
+/// The open operations of a build; the number of its events in the history; the RD of its realm, its RECs, and how many
+/// of them run; whether it is in abort; and its mark.
 #[derive(Drop)]
 pub(crate) struct Build {
     pub(crate) journal: Journal,
@@ -38,7 +38,7 @@ impl Build {
         })
     }
 
-    /// Follows an act of the build.
+    /// Follows an operation of the build.
     pub(crate) fn follow(&mut self, act: &Act)
         requires { CanFollow self.old act.now }
         ensures { self.new ≡ build_after self.old act.now }
@@ -61,7 +61,7 @@ impl Build {
         self.follow_points();
     }
 
-    // The abort is over once nothing is open, and the mark is dropped once fewer acts are open than at the mark.
+    // Ends the abort once nothing is open, and drops the mark once fewer operations are open than at the mark.
     fn follow_points(&mut self)
         ensures { self.new ≡ points_after self.old }
     {
@@ -76,7 +76,7 @@ impl Build {
         }
     }
 
-    /// An abort begins, where anything is open.
+    /// Begins an abort, if anything is open.
     pub(crate) fn begin_abort(&mut self)
         ensures { self.new ≡ record self.old { aborting = nat_lt 0 (length self.old.journal) } }
     {

@@ -1,4 +1,4 @@
-//! The books as what the checks of a command look at.
+//! The ledger as the view of builds that the checks of a command need.
 ghost use Rattle.host_ledger.specs.Summary.{summary_of};
 
 use crate::HostLedger;

@@ -1,4 +1,4 @@
-//! The history, and what is kept beside it.
+//! The ledger of a host: its history, and the records beside it.
 ghost use Rattle.std.specs.Prelude.{◌≡◌, ℕ, ◌<◌, ◌≤◌, [], length, drop, replicate, true, false, nat_lt, Some, None, IfOk, IfSome, option_map, slice_index_or};
 ghost use Rattle.std.specs.Bool.{OnFalse};
 ghost use Rattle.std.specs.List.{last_or};
@@ -23,7 +23,7 @@ use realm_model::{Act, Event, RealmAndRec};
 use std::alloc::{AllocError, Global};
 use std::marker::Model;
 
-/// The events of all builds in their order, and what they leave of each build.
+/// The events of all builds in sequence, and the record of each build.
 #[derive(Drop)]
 pub struct HostLedger {
     history: Vec<Event>,
@@ -49,7 +49,7 @@ impl Model for HostLedger {
     ghost invariant = { λ b. IsKept (ledger_of b.builds.items b.leases b.vmids b.aux b.capacity b.history.items) b.builds.items b.leases b.holders b.vmids b.history };
 }
 
-// What is kept of `count` builds that have no events.
+// The records of `count` builds that have no events.
 fn new_builds(alloc: Global, count: u8) -> Result<Vec<Build>, AllocError>
     ensures { IfOk result (λ builds. builds.items ≡ replicate count new_build) }
 {
@@ -60,7 +60,8 @@ fn new_builds(alloc: Global, count: u8) -> Result<Vec<Build>, AllocError>
     Ok(builds)
 }
 
-// The pages of a build follow an act: those of a block that is taken go on top, those of one given back are gone.
+// Follows an operation in the pages of a build: those of a block that is taken go on top, those of one given back are
+// removed.
 fn follow_pages(leases: &mut Leases, build: BuildId, act: &Act)
     requires there { build < length leases.old.stacks }
     requires can_follow { CanFollowPages leases.old build act.now }
@@ -73,8 +74,8 @@ fn follow_pages(leases: &mut Leases, build: BuildId, act: &Act)
     }
 }
 
-// The holders of the granules follow an act of a build: the build leases the granules of a block that it takes, and
-// nobody leases those of a block that it gives back.
+// Follows an operation in the holders of the granules. A build leases the granules of a block that it takes, and nobody
+// leases those of a block that it gives back.
 fn follow_holders(holders: &mut Holders, build: BuildId, act: &Act)
     requires { CanFollowHolders holders.old act.now }
     ensures { holders.new ≡ leases_after build act.now holders.old }
@@ -86,7 +87,8 @@ fn follow_holders(holders: &mut Holders, build: BuildId, act: &Act)
     }
 }
 
-// The VMIDs in use follow an act: the VMID of a realm that is made is in use, and that of a realm that ends is free.
+// Follows an operation in the VMIDs in use: the VMID of a realm that is created is in use, and that of a realm that
+// ends is free.
 fn follow_vmids(vmids: &mut VmidPool, act: &Act)
     requires { CanFollowVmids vmids.old act.now }
     ensures { IsVmidsAfter act.now vmids.old vmids.new }
@@ -101,8 +103,8 @@ fn follow_vmids(vmids: &mut VmidPool, act: &Act)
 }
 
 impl HostLedger {
-    /// Returns the books of `builds` builds that have no events, with room for `capacity` events of each, over a
-    /// machine of `pages` pages and `vmids` VMIDs, with `aux` auxiliaries of a REC.
+    /// Returns the ledger of `builds` builds that have no events, with capacity for `capacity` events of each. The
+    /// machine has `pages` pages and `vmids` VMIDs, with `aux` auxiliaries of a REC.
     pub fn build(
         alloc: Global,
         pages: u16,
@@ -131,8 +133,9 @@ impl HostLedger {
         })
     }
 
-    /// The events so far: a legal history. No build has used more than its room in it, or had more than 512 acts open at any
-    /// time. A build in abort has something open, and marks stand. Each build can be left out of the history.
+    /// The events so far: a legal history. No build has used more than its room in it, or had more than 512 operations
+    /// open at any time. A build in abort has something open, and each mark is one that its build can go back to. Each
+    /// build can be left out of the history.
     pub fn history(&self) -> &[Event]
         ensures events { result.now ≡ self.now.history }
         ensures legal { IsLegal self.now.limits self.now.history }
@@ -144,7 +147,7 @@ impl HostLedger {
         self.history.as_slice()
     }
 
-    /// How much room each build has in the history.
+    /// The room of each build in the history.
     pub fn capacity(&self) -> u16
         ensures value { result ≡ self.now.capacity }
         ensures few { result ≤ 16384 }
@@ -152,7 +155,7 @@ impl HostLedger {
         self.capacity
     }
 
-    /// How many builds there are.
+    /// The number of builds.
     pub fn build_count(&self) -> u8
         ensures value { result ≡ self.now.limits.builds }
         ensures few { result ≤ 8 }
@@ -171,8 +174,8 @@ impl HostLedger {
         (build.number() as usize) < self.builds.len()
     }
 
-    /// Returns how much of its room a build has used: one for each of its events, one more for each act that it has open,
-    /// and one more for each of its RECs that runs.
+    /// Returns the room that a build has used: one for each of its events, one more for each operation that it has
+    /// open, and one more for each of its RECs that runs.
     pub fn used(&self, build: BuildId) -> u16
         requires { build < self.now.limits.builds }
         ensures value { result ≡ used self.now build }
@@ -182,8 +185,8 @@ impl HostLedger {
         kept.events + kept.journal.len() + kept.running
     }
 
-    /// Returns how many acts a build has open. A build with a mark has at least as many open as at the mark, and a
-    /// build with none open is not in abort.
+    /// Returns the number of operations that a build has open. A build with a mark has at least as many open as at the
+    /// mark, and a build with none open is not in abort.
     pub fn open_count(&self, build: BuildId) -> u16
         requires { build < self.now.limits.builds }
         ensures value { result ≡ length (open_of self.now build) }
@@ -194,7 +197,7 @@ impl HostLedger {
         self.builds[build.number() as usize].journal.len()
     }
 
-    /// The newest act that a build has open.
+    /// The newest operation that a build has open.
     pub fn newest(&self, build: BuildId) -> Option<&Act>
         requires { build < self.now.limits.builds }
         ensures value { option_map (λ act. act.now) result ≡ last_or None (open_of self.now build) }
@@ -204,7 +207,7 @@ impl HostLedger {
         kept.journal.newest()
     }
 
-    /// The acts that a build has open above the first `count`, the newest last.
+    /// The operations that a build has open above the first `count`, the newest last.
     pub fn open_above(&self, build: BuildId, count: u16) -> &[Act]
         requires there { build < self.now.limits.builds }
         requires enough { count ≤ length (open_of self.now build) }
@@ -213,7 +216,7 @@ impl HostLedger {
         self.builds[build.number() as usize].journal.above(count)
     }
 
-    /// The mark that is kept of a build.
+    /// The mark that is kept for a build.
     pub fn mark(&self, build: BuildId) -> Option<Mark>
         requires { build < self.now.limits.builds }
         ensures value { result ≡ mark_of self.now build }
@@ -240,7 +243,8 @@ impl HostLedger {
         kept.recs.granule(number)
     }
 
-    /// Where an act of a build is performed: the RD of the build's realm, and the REC there that the act names.
+    /// The realm and the REC of an operation of a build: the RD of the build's realm, and the REC there that the
+    /// operation names.
     pub fn place(&self, build: BuildId, act: &Act) -> RealmAndRec
         requires { build < self.now.limits.builds }
         ensures { IsPlaceOf (world_of self.now) build act.now result }
@@ -258,7 +262,7 @@ impl HostLedger {
         }
     }
 
-    /// How many RECs of a build's realm run.
+    /// The number of RECs of a build's realm that run.
     pub fn running(&self, build: BuildId) -> u16
         requires { build < self.now.limits.builds }
         ensures { result ≡ running_count (realm_of build (world_of self.now)) }
@@ -282,7 +286,7 @@ impl HostLedger {
         self.leases.page(build, page)
     }
 
-    /// How many pages a build has.
+    /// The number of pages of a build.
     pub fn page_count(&self, build: BuildId) -> u16
         requires { build < self.now.limits.builds }
         ensures { result ≡ length (pages_of_build self.now build) }
@@ -297,7 +301,7 @@ impl HostLedger {
         self.holders.is_held_by(granule, build)
     }
 
-    /// The build that leases the granule; `None` where nobody does, or where the machine has no such granule.
+    /// The build that leases the granule; `None` if nobody does, or if the machine has no such granule.
     pub fn holder(&self, granule: Gran) -> Option<BuildId>
         ensures { result ≡ slice_index_or (world_of self.now).leases granule None }
     {
@@ -335,7 +339,7 @@ impl HostLedger {
         self.builds[build.number() as usize].mark = Some(*mark);
     }
 
-    /// Records an act of a build as the last event. No memory is taken.
+    /// Records an operation of a build as the last event. No memory is taken.
     pub fn record(&mut self, build: BuildId, act: Act)
         requires there { build < self.old.limits.builds }
         requires can { CanRecord self.old build act }

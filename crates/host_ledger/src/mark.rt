@@ -1,10 +1,10 @@
-//! Points of a build.
+//! Marks: points of a build.
 ghost use Rattle.std.specs.Prelude.{◌≡◌};
 ghost use Rattle.host_ledger.specs.Marks.{is_same_mark};
 
 use granule_addr::BuildId;
 
-/// A point of a build that it can go back to: how many acts it had open, and the place in the history.
+/// A point of a build to which it can go back: the number of operations it had open, and the place in the history.
 #[derive(Clone, Copy, Debug, PartialEq, Eq)]
 pub struct Mark {
     pub(crate) build: BuildId,
@@ -13,14 +13,14 @@ pub struct Mark {
 }
 
 impl Mark {
-    /// How many acts the build had open.
+    /// The number of operations that the build had open.
     pub fn length(&self) -> u16
         ensures { result ≡ self.now.length }
     {
         self.length
     }
 
-    /// How many events the history had.
+    /// The number of events that the history had.
     pub fn place(&self) -> u32
         ensures { result ≡ self.now.place }
     {

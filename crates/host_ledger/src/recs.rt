@@ -1,4 +1,4 @@
-//! The RECs of a build's realm.
+//! The RECs of a build's realm, by number.
 ghost use Rattle.std.specs.Prelude.{◌≡◌, ◌+◌, ◌-◌, ◌<◌, [], ◌∷◌, ◌++◌, take, length, IfOk};
 ghost use Rattle.realm_model.specs.RecsOpen.{granule_in};
 ghost use Rattle.host_ledger.specs.Recs.{IsAbove};
@@ -8,8 +8,8 @@ use realm_model::JOURNAL_ROOM;
 use std::alloc::{AllocError, Global};
 use std::marker::Model;
 
-/// The RECs of a realm, each by its number and its granule. Their numbers rise, so one is found by halving. All memory is
-/// taken when they are built: each is that of an act that is open.
+/// The RECs of a realm, each by its number and its granule. Their numbers rise, so a binary search finds one. All
+/// memory is taken when the list is built: each REC is that of an open operation.
 #[derive(Drop)]
 pub(crate) struct Recs {
     entries: Vec<(RecNo, Gran)>,
@@ -35,7 +35,7 @@ impl Recs {
         Ok(Recs { entries })
     }
 
-    /// One more REC. Its number is above all others.
+    /// Adds a REC. Its number is above all others.
     pub(crate) fn push(&mut self, number: RecNo, granule: Gran)
         requires few { length self.old < 512 }
         requires above { IsAbove self.old number }
@@ -44,7 +44,7 @@ impl Recs {
         self.entries.push_reserved((number, granule));
     }
 
-    /// The newest REC is gone.
+    /// Removes the newest REC.
     pub(crate) fn pop(&mut self)
         ensures { self.new ≡ take (length self.old - 1) self.old }
     {

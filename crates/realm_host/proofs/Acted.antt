@@ -1,4 +1,4 @@
--- An act that is asked for, performed and recorded.
+-- An operation that is asked for, performed and recorded.
 use Rattle.std.proofs.Common.{◌≡◌, ℕ, ◌<◌, Ok, Err, refl, sym, subst, arith}
 use Rattle.realm_model.specs.declared.act.Act.{Act}
 use Rattle.realm_model.specs.declared.act.Act.TheVariants.{Rec}

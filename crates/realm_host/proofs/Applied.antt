@@ -1,4 +1,4 @@
--- Recorded events that are applied: what a legal one says, and so what none is.
+-- Recorded events that are applied: the conditions of a legal one, and so of one that is not.
 use Rattle.std.proofs.Common.{◌≡◌, ℕ, ◌<◌, Bool, true, false, not, cond, List, [], ◌∷◌, ◌++◌, Option, Some, None, Result, Ok, Err, refl, sym, ap, ◌∙◌, subst}
 use Rattle.std.specs.Prelude.{map, slice_get, option_and_then, IsSome}
 use Rattle.std.specs.FinMap.{get, remove}

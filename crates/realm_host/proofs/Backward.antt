@@ -1,4 +1,4 @@
--- The reverse of the newest act that a build has open can be performed, and is not refused.
+-- The reverse of the newest operation that a build has open, which can be performed and is not refused.
 use Rattle.std.proofs.Common.{◌≡◌, ℕ, true, false, Some, None, Ok, Err, refl, sym, ap, ◌∙◌, subst, arith}
 use Rattle.std.specs.Prelude.{option_and_then, slice_get}
 use Rattle.std.specs.List.{All, last_or}

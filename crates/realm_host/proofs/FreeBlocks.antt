@@ -1,4 +1,4 @@
--- A block that is free by the flags of the store is one that nobody leases, and the other way round.
+-- Blocks that are free by the flags of the store, which are those that nobody leases.
 use Rattle.std.proofs.Common.{◌≡◌, ℕ, zero, suc, ◌+◌, ◌-◌, ◌%◌, ◌^◌, ◌<◌, ◌≤◌, Bool, true, false, List, [], ◌∷◌, length, map, Option, Some, None, refl, arith}
 use Rattle.std.specs.Prelude.{is_none, slice_get}
 use Rattle.std.specs.List.{list_any, range_with_len}

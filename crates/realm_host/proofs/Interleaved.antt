@@ -1,4 +1,4 @@
--- Hosts that differ in the order of their builds' events alone.
+-- Hosts that differ in the schedule of their builds' events alone.
 use Rattle.std.proofs.Common.{◌≡◌, ℕ, ◌-◌, ◌+◌, ◌≤◌, false, not, ◌&&◌, cond, List, [], ◌∷◌, ◌++◌, map, length, set, get_or}
 use Rattle.std.proofs.Common.{Option, Some, None, Result, Ok, Err, refl, sym, ap, ◌∙◌, subst, arith, zero, suc, true}
 use Rattle.std.specs.Prelude.{◌==◌, nat_le, nat_lt, reverse, is_some, slice_get, slice_index, slice_index_or, slice_set, unwrap_or, option_map, option_and_then}

@@ -1,4 +1,4 @@
--- An undo right after the act that it reverses leads back.
+-- An undo right after the operation that it reverses, which leads back.
 use Rattle.std.proofs.Common.{◌≡◌, ℕ, List, [], ◌∷◌, ◌++◌, Option, Some, None, refl, sym, ap, ◌∙◌, subst}
 use Rattle.std.specs.Prelude.{option_and_then}
 use Rattle.std.specs.List.{last_or}

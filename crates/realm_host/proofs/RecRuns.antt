@@ -1,4 +1,4 @@
--- The REC of a number, and whether it runs, by what stands at its granule.
+-- The REC of a number, and whether it runs, by the cell of its granule.
 use Rattle.std.proofs.Common.{◌≡◌, ℕ, Bool, false, not, List, Option, Some, None, refl, sym, ap, ◌∙◌}
 use Rattle.std.specs.Prelude.{option_map, option_and_then}
 use Rattle.std.specs.FinMap.{get}

@@ -1,4 +1,4 @@
--- Whether an act of a build made a REC that runs, over the fields of a host.
+-- The test whether an operation of a build created a REC that runs, over the fields of a host.
 use Rattle.std.proofs.Common.{◌≡◌, ℕ, ◌<◌, length, Option, Some, None, sym, ap, ◌∙◌}
 use Rattle.arrayvec.specs.declared.array_vec.ArrayVec.{ArrayVec}
 use Rattle.realm_model.specs.declared.act.Act.{Act}

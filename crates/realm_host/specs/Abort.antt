@@ -19,7 +19,7 @@ use Rattle.realm_host.specs.Served.{any_rec_running, IsServed}
 abbrev pub checks_of_begin : HostView → ℕ → List Check
 checks_of_begin host build = build_checks (summary_of host) build ++ any_rec_running host build ∷ []
 
--- The answer is how many acts are open. If there is any, the build is in abort from then on.
+-- The answer is the number of open operations. If there is any, the build is in abort from then on.
 pub record IsBegunAs (host : HostView) (build count : ℕ) (new : HostView) : Type 0 where
   pub count_is : count ≡ length (open_of host build)
   pub new_is : new ≡ begun host build
@@ -30,7 +30,8 @@ abbrev pub IsBegun : HostView → ℕ → Result ℕ Refusal → HostView → Ty
 IsBegun host build result new =
     IsServed (checks_of_begin host build) host (IsBegunAs host build) result new
 
--- From here on, as long as the build does nothing but reverses, each undo is served until nothing is open, whatever others do.
+-- From here on, as long as the build does nothing but reverses, each undo is performed until nothing is open, whatever
+-- others do.
 abbrev pub GoesOn : HostView → ℕ → Type 0
 GoesOn host build =
     (later : List Event) (then : HostView) → then.limits ≡ host.limits → then.history ≡ host.history ++ later
@@ -39,16 +40,16 @@ GoesOn host build =
 
 -- ---- the end
 
--- All that the build had open was reversed, the newest first: the world is that of the history without the build, which is
--- legal, and, as a list of events, the same as before the call.
+-- All that the build had open was reversed, the newest first. The world is that of the history without the build, which
+-- is legal and, as a list of events, the same as before the call.
 pub record LeavesNothing (host : HostView) (build : ℕ) (new : HostView) : Type 0 where
   pub history : new.history ≡ host.history ++ undoing build host.history
   pub same_others : erase build new.history ≡ erase build host.history
   pub legal : IsLegal new.limits (erase build new.history)
   pub no_trace : replay new.limits (erase build new.history) ≡ Some (world_of new)
 
--- What the build has open above the first `count` acts is undone, the newest first. The build leaves abort if nothing
--- is left open, and its mark is dropped if it lies above what is left.
+-- All that the build has open above the first `count` operations is undone, the newest first. The build leaves abort if
+-- nothing is left open, and its mark is dropped if it is above what is left.
 abbrev pub undone_to : HostView → ℕ → ℕ → HostView
 undone_to host build count = record host {
   history = host.history ++ map (by build) (reverses (reverse (drop count (open_of host build))));
@@ -56,7 +57,7 @@ undone_to host build count = record host {
   marks = slice_set host.marks build (mark_while count (mark_of host build));
 }
 
--- the build has gone down to `count` open acts
+-- the build has gone down to `count` open operations
 pub record IsDown (host : HostView) (build count : ℕ) (new : HostView) : Type 0 where
   pub new_is : new ≡ undone_to host build count
   pub legal : IsLegal new.limits new.history

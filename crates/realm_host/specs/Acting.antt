@@ -1,4 +1,4 @@
--- What is recorded of an act, and what it needs.
+-- The effect of recording an operation, and its requirements.
 use Rattle.std.specs.Prelude.{◌≡◌, ℕ, ◌+◌, ◌<◌, ◌≤◌, [], ◌∷◌, ◌++◌, length, true, false, Bool, Option, Some, None, Result, Ok, Err}
 use Rattle.std.specs.List.{last_or}
 use Rattle.realm_model.specs.declared.act.Act.{Act}
@@ -15,12 +15,13 @@ use Rattle.execution.specs.Mirror.{IsAsked}
 use Rattle.host_ledger.specs.View.{HostView, world_of, open_of, used, with_event}
 use Rattle.realm_host.specs.Refusals.{no_block}
 
--- the build has the room that an act takes, if it takes any, and can have one more act open where the act has a reverse
+-- the build has the room that an operation takes, if it takes any, and can have one more operation open if the
+-- operation has a reverse
 pub record HasRoomFor (host : HostView) (build : ℕ) (act : Act) : Type 0 where
   pub room : 0 < room_taken act → used host build + room_taken act ≤ host.capacity
   pub few_open : is_paired act ≡ true → length (open_of host build) < 512
 
--- the act is asked for, in turn, and there is room for it
+-- the operation is asked for, in turn, and there is room for it
 pub record CanAct (host : HostView) (build : ℕ) (act : Act) : Type 0 where
   pub asked : IsAsked host.limits (world_of host) build act
   pub turn : IsInTurn host.history (by build act)
@@ -31,7 +32,7 @@ pub record IsRecorded (host : HostView) (build : ℕ) (act : Act) (new : HostVie
   pub legal : IsLegal host.limits (host.history ++ by build act ∷ [])
   pub grows : new ≡ with_event host build act
 
--- The act is recorded; or it is refused with what comes of it, and nothing changes.
+-- The operation is recorded; or it is refused with its outcome, and nothing changes.
 abbrev pub IsActed : HostView → ℕ → Act → Result (Unit {0}) Rmi → HostView → Type 0
 IsActed host build act (Ok done) new = IsRecorded host build act new
 IsActed host build act (Err rmi) new = (outcome_in host.limits (world_of host) (by build act) ≡ Err rmi) × (new ≡ host)
@@ -41,16 +42,16 @@ abbrev pub IsBlockTaken : HostView → ℕ → ℕ → Option ℕ → HostView �
 IsBlockTaken host build order (Some first) new = ((no_block host order).0 ≡ false) × IsRecorded host build (Take order first) new
 IsBlockTaken host build order None new = ((no_block host order).0 ≡ true) × (new ≡ host)
 
--- An act is recorded; or the history with it would not be legal, and nothing changes.
+-- An operation is recorded; or the history with it would not be legal, and nothing changes.
 abbrev pub IsApplied : HostView → ℕ → Act → Bool → HostView → Type 0
 IsApplied host build act true new = IsRecorded host build act new
 IsApplied host build act false new = (IsLegal host.limits (host.history ++ by build act ∷ []) → ⊥) × (new ≡ host)
 
--- An act cannot be a step of the world.
+-- An operation cannot be a step of the world.
 abbrev pub IsNoStep : HostView → ℕ → Act → Type 0
 IsNoStep host build act = (next : World) → step host.limits (world_of host) (by build act) ≡ Some next → ⊥
 
--- the act is the reverse of the newest act that the build has open, which made no REC that runs
+-- the operation is the reverse of the newest operation that the build has open, which created no REC that runs
 pub record IsBack (host : HostView) (build : ℕ) (back : Act) : Type 0 where
   pub newest : Act
   pub newest_is : last_or None (open_of host build) ≡ Some newest

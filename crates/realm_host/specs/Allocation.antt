@@ -1,4 +1,4 @@
--- What is picked for a command, the act that it asks for then, and what comes of it.
+-- The values that are allocated for a command, its operation, and the outcome.
 use Rattle.std.specs.Prelude.{◌≡◌, ℕ, List, ◌∷◌, map, Option, Err, unwrap_or, slice_index}
 use Rattle.std.specs.List.{filter_map}
 use Rattle.realm_model.specs.declared.act.Act.{Act}
@@ -18,7 +18,7 @@ use Rattle.host_commands.specs.Laws.{outcome_of_act}
 use Rattle.host_ledger.specs.View.{HostView, world_of, granule_of_page}
 use Rattle.host_ledger.specs.Vmids.{lowest_vmid}
 
--- the granules of the pages that a command names, in their order
+-- the granules of the pages that a command names, in sequence
 abbrev pub granules_named : HostView → ℕ → Cmd → List ℕ
 granules_named host build cmd = filter_map (λ page. granule_of_page host build page) (operands cmd)
 
@@ -28,7 +28,7 @@ byte_read host (Peek page offset) (granule ∷ others) = slice_index (cell_at (w
 byte_read host _ _ = 0
 
 -- the lowest VMID that no realm has, the next number of the build's realm, and the byte that is there; a number that
--- does not matter where there is none
+-- does not matter if there is none
 abbrev pub allocated_for : HostView → ℕ → Cmd → List ℕ → Allocated
 allocated_for host build cmd granules = record {
   vmid = unwrap_or (lowest_vmid host) 1;
@@ -36,18 +36,18 @@ allocated_for host build cmd granules = record {
   byte = byte_read host cmd granules;
 }
 
--- the act of a command but a Take, its page numbers turned into granules by the build's pages
+-- the operation of a command but a Take, its page numbers turned into granules by the build's pages
 abbrev pub act_asked : HostView → ℕ → Cmd → Option Act
 act_asked host build cmd =
     act_of cmd (granules_named host build cmd) (allocated_for host build cmd (granules_named host build cmd))
 
--- what comes of that act in the world
+-- the outcome of that operation in the world
 abbrev pub outcome_asked : HostView → ℕ → Cmd → Outcome
 outcome_asked host build cmd =
     outcome_of_act host.limits (used_vmids (world_of host).machine) (act_asked host build cmd) (realm_of build (world_of host))
     (map (seen (world_of host).machine) (granules_named host build cmd))
 
--- the monitor refuses to read the byte of a Peek
+-- the RMM refuses to read the byte of a Peek
 abbrev pub IsPeekRefused : HostView → Cmd → List ℕ → Rmi → Type 0
 IsPeekRefused host (Peek page offset) (granule ∷ others) rmi = host_peek (seen (world_of host).machine granule) ≡ Err rmi
 IsPeekRefused host _ _ rmi = ⊥

@@ -1,4 +1,4 @@
--- Which answer a call gets, and which event is recorded.
+-- The answer to a call, and the event that is recorded.
 use Rattle.std.specs.Prelude.{◌≡◌, ℕ, ◌-◌, [], ◌∷◌, ◌++◌, length, Some, None, Result, Ok, Err, option_and_then}
 use Rattle.std.specs.List.{last_or}
 use Rattle.realm_model.specs.Kind.{act_kind}
@@ -20,27 +20,27 @@ use Rattle.realm_host.specs.Call.{Call, Ask, Undo}
 use Rattle.realm_host.specs.Allocation.{act_asked}
 use Rattle.realm_host.specs.Refusals.{refusal_of}
 
--- The act is that of the call, its page numbers turned into granules by the build's pages. The block of a Take may be
--- any; what else is picked is fixed. An undo is the reverse of the newest act that the build has open.
+-- The operation is that of the call, its page numbers turned into granules by the build's pages. The block of a Take
+-- may be any; all other allocations are fixed. An undo is the reverse of the newest operation that the build has open.
 abbrev pub IsActOf : HostView → ℕ → Call → Act → Type 0
 IsActOf host build (Ask (Take order)) act = (first : ℕ) × (act ≡ acts.Take order first)
 IsActOf host build (Ask cmd) act = act_asked host build cmd ≡ Some act
 IsActOf host build Undo act = option_and_then reverse_of (last_or None (open_of host build)) ≡ Some act
 
--- No refusal holds, and the one event of the act, which is legal, ends the history.
+-- No refusal holds, and the one event of the operation, which is legal, ends the history.
 pub record IsAccepted (host : HostView) (build : ℕ) (call : Call) (act : Act) (new : HostView) : Type 0 where
   pub not_refused : refusal_of host build call ≡ None
   pub act_of : IsActOf host build call act
   pub legal : IsLegal host.limits (host.history ++ by build act ∷ [])
   pub grows : new ≡ with_event host build act
 
--- The reply is that to the act.
+-- The reply is that to the operation.
 pub record IsReplied (host : HostView) (build : ℕ) (cmd : Cmd) (reply : Reply) (new : HostView) : Type 0 where
   pub act : Act
   pub accepted : IsAccepted host build (Ask cmd) act new
   pub reply_is : reply ≡ reply_of (length (pages_of_build host build)) act
 
--- An undo is told the kind of the act that was open, and how many are left.
+-- The reply to an undo is the kind of the operation that was open, and the number of those that are left.
 pub record IsUndone (host : HostView) (build : ℕ) (undone : Undone) (new : HostView) : Type 0 where
   pub act : Act
   pub accepted : IsAccepted host build Undo act new
@@ -54,7 +54,7 @@ IsAnswer host build (Ask cmd) (Replied reply) new = IsReplied host build cmd rep
 IsAnswer host build Undo (WasUndone undone) new = IsUndone host build undone new
 IsAnswer host build _ _ new = ⊥
 
--- what `command` and `undo` return, as an answer
+-- the result of `command` and `undo`, as an answer
 abbrev pub replied : Result Reply Refusal → HostAnswer
 replied (Ok reply) = Replied reply
 replied (Err refusal) = Refused refusal

@@ -1,7 +1,7 @@
 -- The calls of a host that end its history with one event.
 use Rattle.host_commands.specs.declared.cmd.Cmd.{Cmd}
 
--- a command of a build, or the undo of its newest open act
+-- a command of a build, or the undo of its newest open operation
 pub data Call : Type 0 where
   Ask : Cmd → Call
   Undo : Call

@@ -1,4 +1,4 @@
--- A host, at the start and always.
+-- A host at its boot, and its invariant.
 use Rattle.std.specs.Prelude.{ℕ, ◌≤◌}
 use Rattle.realm_model.specs.Machine.{Limits}
 use Rattle.rmi_monitor.specs.View.{MonitorView}
@@ -19,8 +19,8 @@ pub record IsInRange (limits : Limits) (capacity : ℕ) : Type 0 where
   pub some_page : 1 ≤ limits.pages
   pub few_pages : limits.pages ≤ 4096
 
--- What always holds of a host: its monitor has the machine that its history leads to, and a page is free exactly where
--- nobody leases it. Its numbers are in their ranges.
+-- The invariant of a host: its RMM has the machine that its history leads to, and a page is free exactly when nobody
+-- leases it. Its numbers are in their ranges.
 pub record IsWhole (host : HostView) (monitor : MonitorView) : Type 0 where
   pub mirror : IsMirror host.limits host.history (world_of host) monitor
   pub in_range : IsInRange host.limits host.capacity

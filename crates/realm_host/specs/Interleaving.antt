@@ -1,4 +1,4 @@
--- Two hosts that differ in the order of their builds' events alone, and that no call tells apart.
+-- Two hosts that differ in the schedule of their builds' events alone, and that no call distinguishes.
 use Rattle.std.specs.Prelude.{◌≡◌, ℕ, List, map, Option, option_map, Result}
 use Rattle.realm_model.specs.History.{IsLegal}
 use Rattle.realm_model.specs.Interleaving.{HasSameEvents}
@@ -10,18 +10,18 @@ use Rattle.realm_host.specs.Answer.{IsAnswer}
 use Rattle.realm_host.specs.Call.{Call}
 use Rattle.realm_host.specs.declared.reply.HostAnswer.{HostAnswer}
 
--- how many acts were open at the mark of each build
+-- the number of open operations at the mark of each build
 abbrev pub depths_of : HostView → List (Option ℕ)
 depths_of host = map (λ mark. option_map (λ (m : Mark). m.length) mark) host.marks
 
--- Both are legal, of the same machine, and have the same events of each build, each build's in the same order.
+-- Both are legal, of the same machine, and have the same events of each build, each build's in the same sequence.
 pub record DidTheSame (host twin : HostView) : Type 0 where
   pub legal : IsLegal host.limits host.history
   pub twin_legal : IsLegal twin.limits twin.history
   pub limits : twin.limits ≡ host.limits
   pub events : HasSameEvents host.history twin.history
 
--- They have the same world, and for each build the same acts open, the same pages, and as much of its room used.
+-- They have the same world, and for each build the same open operations, the same pages, and as much of its room used.
 pub record AreIndistinguishable (host twin : HostView) : Type 0 where
   pub world : world_of twin ≡ world_of host
   pub opened : (build : ℕ) → open_of twin build ≡ open_of host build
@@ -35,7 +35,7 @@ pub record DifferInInterleaving (host twin : HostView) : Type 0 where
   pub aborting : twin.aborting ≡ host.aborting
   pub depths : depths_of twin ≡ depths_of host
 
--- What can be answered to one can be answered to the other, and after it they differ in the order alone again.
+-- An answer to one is an answer to the other, and after it they differ in the schedule alone again.
 pub record IsAlsoAnswered (IsAnswered : HostView → Type 0) (new : HostView) : Type 0 where
   pub then : HostView
   pub answered : IsAnswered then

@@ -30,15 +30,15 @@ IsMarked host build result new =
 
 -- ---- the way back
 
--- this is the mark that is kept of the build
+-- this is the mark that is kept for the build
 abbrev pub is_kept : HostView → ℕ → Mark → Bool
 is_kept host build mark = elim (mark_of host build) [ Some kept ↦ is_same_mark kept mark | None ↦ false ]
 
--- 7
+-- refusal 7
 abbrev pub not_kept : HostView → ℕ → Mark → Check
 not_kept host build mark = (not (is_kept host build mark), NothingToUndo)
 
--- 8: an act above the mark made a REC that runs
+-- refusal 8: an operation above the mark created a REC that runs
 abbrev pub rec_running_above : HostView → ℕ → Mark → Check
 rec_running_above host build mark =
     (list_any (is_running (realm_of build (world_of host))) (above (point_of mark) host.history), RecRunning)
@@ -47,7 +47,7 @@ abbrev pub checks_of_back : HostView → ℕ → Mark → List Check
 checks_of_back host build mark =
     build_checks (summary_of host) build ++ (not_kept host build mark ∷ rec_running_above host build mark ∷ [])
 
--- How many acts are above the mark, or why the build cannot go back to it.
+-- The number of operations above the mark, or the reason why the build cannot go back to it.
 abbrev pub way_back : HostView → ℕ → Mark → Result ℕ Refusal
 way_back host build mark = elim (first_that_holds (checks_of_back host build mark)) [
   | Some refusal ↦ Err refusal

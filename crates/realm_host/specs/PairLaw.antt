@@ -1,4 +1,4 @@
--- An undo right after the act that it reverses.
+-- An undo right after the operation that it reverses.
 use Rattle.std.specs.Prelude.{◌≡◌, ℕ, List, [], ◌∷◌, ◌++◌, true}
 use Rattle.realm_model.specs.declared.act.Act.{Act}
 use Rattle.realm_model.specs.declared.act.Event.{Event}
@@ -7,8 +7,8 @@ use Rattle.realm_model.specs.Ownership.{OwnsSame}
 use Rattle.realm_model.specs.Undoing.{by}
 use Rattle.host_ledger.specs.View.{HostView, world_of}
 
--- Where the last event of the whole history is an act of the build that has a reverse, it is this act that is reversed,
--- and the new world owns the same as the world before that event.
+-- If the last event of the whole history is an operation of the build that has a reverse, it is this operation that is
+-- reversed. The new world owns the same as the world before that event.
 abbrev pub LeadsBack : HostView → ℕ → HostView → Type 0
 LeadsBack host build new =
     (before : List Event) (act : Act) → host.history ≡ before ++ by build act ∷ [] → is_paired act ≡ true

@@ -1,4 +1,4 @@
--- What is read of granules, and of a build's realm. RMM 1.0, Granule, Realm and REC attributes, RTT entry.
+-- The readings of granules, and of a build's realm. RMM 1.0, Granule, Realm and REC attributes, RTT entry.
 use Rattle.std.specs.Prelude.{ℕ, nat_lt, List, length, Option, Some, None, option_map, option_and_then, slice_index_or, if◌then◌else◌}
 use Rattle.std.specs.FinMap.{get}
 use Rattle.granule_addr.specs.Ipa.{first_covered}
@@ -14,7 +14,7 @@ use Rattle.realm_host.specs.declared.reading.RowView.{RowView}
 
 -- ---- granules
 
--- a granule's state, the build that leases it, and the RD of its realm, where the machine has it
+-- a granule's state, the build that leases it, and the RD of its realm, if the machine has it
 abbrev pub granule_at : World → ℕ → Option GranuleView
 granule_at world granule = if nat_lt granule (length world.machine) then Some (record {
   state = (cell_at world.machine granule).state;
@@ -44,10 +44,10 @@ rec_at world build number =
 
 -- ---- rows
 
--- the row where the walk of an IPA granule ends, with its place
+-- the row at which the walk of an IPA granule ends, with its IPA granule
 abbrev pub row_view : ℕ → Walk → RowView
 row_view ipa end = record { level = end.level; first = first_covered end.level ipa; entry = end.row }
 
--- where the walk ends in the realm of a build, if the realm has the IPA granule
+-- the row at which the walk ends in the realm of a build, if the realm has the IPA granule
 abbrev pub row_at : World → ℕ → ℕ → ℕ → Option RowView
 row_at world build ipa level = option_map (row_view ipa) (option_and_then (λ (realm : RealmRow). walk_of realm ipa level) (row_of world build))

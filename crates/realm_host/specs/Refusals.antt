@@ -1,4 +1,4 @@
--- When the host refuses: the checks of each call, in the order of the refusals' numbers.
+-- The refusals of the host: the checks of each call, in the order of the refusals' numbers.
 use Rattle.std.specs.Prelude.{ℕ, nat_lt, nat_le, List, [], ◌∷◌, ◌++◌, length, Bool, true, false, not, ◌&&◌, Option, Some, None, Ok, Err}
 use Rattle.std.specs.List.{list_any, list_all, last_or, range_with_len}
 use Rattle.realm_model.specs.Act.{block}
@@ -18,22 +18,22 @@ use Rattle.realm_host.specs.Allocation.{outcome_asked}
 
 -- ---- by number; those of a command but 11 and 13 are its checks by its needs
 
--- 1
+-- refusal 1
 abbrev pub no_build : HostView → ℕ → Check
 no_build host build = (nat_le host.limits.builds build, NoBuild)
 
--- 7
+-- refusal 7
 abbrev pub nothing_to_undo : HostView → ℕ → Check
 nothing_to_undo host build = (nat_lt (length (open_of host build)) 1, NothingToUndo)
 
--- the newest act that a build has open made a REC that runs
+-- the newest operation that a build has open created a REC that runs
 abbrev pub is_newest_running : HostView → ℕ → Bool
 is_newest_running host build = elim (last_or None (open_of host build)) [
   | Some act ↦ is_running (realm_of build (world_of host)) act
   | None ↦ false
 ]
 
--- 8
+-- refusal 8
 abbrev pub rec_running : HostView → ℕ → Check
 rec_running host build = (is_newest_running host build, RecRunning)
 
@@ -41,24 +41,24 @@ rec_running host build = (is_newest_running host build, RecRunning)
 abbrev pub is_free_block : World → ℕ → ℕ → Bool
 is_free_block world order first = is_block_start order first && list_all (is_leased_to None world.leases) (block order first)
 
--- 11
+-- refusal 11
 abbrev pub no_block : HostView → ℕ → Check
 no_block host order =
     (not (list_any (is_free_block (world_of host) order) (range_with_len 0 (length (world_of host).leases))), NoBlock order)
 
--- 13: the monitor refuses, with the first check that fails
+-- refusal 13: the RMM refuses, with the first check that fails
 abbrev pub refused_by : Outcome → List Check
 refused_by (Ok updates) = []
 refused_by (Err rmi) = (true, Rmi rmi) ∷ []
 
--- 11 of a Take, and 13 of any other command
+-- refusal 11 of a Take, and 13 of any other command
 abbrev pub last_checks : HostView → ℕ → Cmd → List Check
 last_checks host build (Take order) = no_block host order ∷ []
 last_checks host build cmd = refused_by (outcome_asked host build cmd)
 
 -- ---- the checks of a call
 
--- A reverse has kept its room, and the monitor refuses only the reverse of a REC that runs.
+-- A reverse has kept its room, and the RMM refuses only the reverse of a REC that runs.
 abbrev pub checks_of_call : HostView → ℕ → Call → List Check
 checks_of_call host build (Ask cmd) = checks_of (summary_of host) build cmd ++ last_checks host build cmd
 checks_of_call host build Undo = no_build host build ∷ nothing_to_undo host build ∷ rec_running host build ∷ []

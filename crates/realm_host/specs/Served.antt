@@ -1,4 +1,4 @@
--- How a call with checks of its own is answered: with the first that holds, or as it says.
+-- The answer to a call with checks of its own: the first that holds, or its result.
 use Rattle.std.specs.Prelude.{◌≡◌, ℕ, nat_lt, List, Result, Ok, Err, Some, None}
 use Rattle.host_commands.specs.declared.refusal.Refusal.{Refusal}
 use Rattle.host_commands.specs.declared.refusal.Refusal.TheVariants.{RecRunning}
@@ -7,11 +7,11 @@ use Rattle.realm_model.specs.Running.{running_count}
 use Rattle.realm_model.specs.World.{realm_of}
 use Rattle.host_ledger.specs.View.{HostView, world_of}
 
--- 8 of an abort: a REC of the build runs
+-- refusal 8 of an abort: a REC of the build runs
 abbrev pub any_rec_running : HostView → ℕ → Check
 any_rec_running host build = (nat_lt 0 (running_count (realm_of build (world_of host))), RecRunning)
 
--- The first check that holds is the refusal, and nothing changes; where none holds, `IsDone` holds of value and host.
+-- The first check that holds is the refusal, and nothing changes; if none holds, `IsDone` holds of value and host.
 abbrev pub IsServed : {A : Type 0} → List Check → HostView → (A → HostView → Type 0) → Result A Refusal → HostView → Type 0
 IsServed checks host IsDone (Err refusal) new = (first_that_holds checks ≡ Some refusal) × (new ≡ host)
 IsServed checks host IsDone (Ok value) new = (first_that_holds checks ≡ None) × IsDone value new

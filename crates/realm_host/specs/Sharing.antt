@@ -20,14 +20,15 @@ use Rattle.realm_model.specs.declared.act.Event.{Event}
 
 -- ---- calls
 
--- An act of a build that is applied as recorded: it is exactly where it can be, and nothing changes elsewhere.
+-- An operation of a build that is applied as recorded: it is applied exactly when it can be, and nothing changes
+-- elsewhere.
 pub record IsApplyAnswer (host : HostView) (build : ℕ) (act : Act) (result : Bool) (new : HostView) : Type 0 where
   pub answer : (result ≡ true) ↔ CanApply host (by build act)
   pub applied : OnTrue result (new ≡ with_event host build act)
   pub unchanged : OnFalse result (new ≡ host)
 
--- What a build asks of a host, and what it is answered: a command or an undo, the begin of an abort, an abort as a whole,
--- a mark, the way back to one, a recorded act.
+-- A question of a build to a host with its answer: a command or an undo, the begin of an abort, an abort as a whole, a
+-- mark, the way back to one, a recorded operation.
 pub data AnsweredCall : Type 0 where
   Calls : Call → HostAnswer → AnsweredCall
   Begins : Result ℕ Refusal → AnsweredCall
@@ -45,19 +46,21 @@ IsAnsweredSo host build (Marks result) new = IsMarked host build result new
 IsAnsweredSo host build (GoesBack mark result) new = IsBackAnswer host build mark result new
 IsAnsweredSo host build (Applies act result) new = IsApplyAnswer host build act result new
 
--- A recorded act is applied even to a build in abort. So it is asked of other builds alone; all else of any build.
+-- A recorded operation is applied even to a build in abort. So it is one of other builds alone; any other question may
+-- be of any build.
 abbrev pub MayBeAsked : ℕ → ℕ → AnsweredCall → Type 0
 MayBeAsked build other (Applies act result) = other ≢ build
 MayBeAsked build other _ = Unit {0}
 
--- Calls of any builds, one after another. The build is in abort before each of them, so at most the last one ends the abort.
+-- Calls of any builds, one after another. The build is in abort before each of them, so at most the last one ends the
+-- abort.
 abbrev pub AreWhileAborting : ℕ → HostView → List (ℕ × AnsweredCall) → HostView → Type 0
 AreWhileAborting build host [] new = new ≡ host
 AreWhileAborting build host ((other, call) ∷ calls) new =
     (is_aborting host build ≡ true) × MayBeAsked build other call
     × ((then : HostView) × (IsAnsweredSo host other call then × AreWhileAborting build then calls new))
 
--- ---- what comes of them
+-- ---- their outcome
 
 -- An abort of the build began at the host `old`, and all calls since have led to `host`:
 pub record IsInAbortSince (old : HostView) (build : ℕ) (host : HostView) : Type 0 where
@@ -67,7 +70,7 @@ pub record IsInAbortSince (old : HostView) (build : ℕ) (host : HostView) : Typ
   pub since : host.history ≡ old.history ++ later
   pub reverses : All (IsOthersOrReverse build) later
   pub legal : IsLegal host.limits host.history
-  -- the build is in abort just as long as it has something open, and its next undo is served then;
+  -- the build is in abort just as long as it has something open, and its next undo is performed then;
   pub in_abort : is_aborting host build ≡ nat_lt 0 (length (open_of host build))
   pub served : open_of host build ≢ [] → refusal_of host build Undo ≡ None
   -- the history is that of an abort, and without the build it is legal too.

@@ -1,4 +1,4 @@
-//! Aborts: all that a build has open is undone.
+//! Aborts: the undo of all that a build has open.
 ghost use Rattle.std.specs.Prelude.{◌≡◌, ◌<◌, ◌≤◌, drop, false, length};
 ghost use Rattle.std.specs.List.{list_any};
 ghost use Rattle.std.specs.Result.{OnOk};
@@ -13,9 +13,9 @@ use host_commands::check_build;
 use page_arena::PageStore;
 
 impl<S: PageStore> Host<S> {
-    /// Begins the abort of a build, and returns how many acts it has open. From then on, until it has none, the host refuses
-    /// each command of the build, and serves each undo of it, whatever other builds do. If the build has nothing open, nothing
-    /// is begun.
+    /// Begins the abort of a build, and returns the number of operations that it has open. From then on, until it has
+    /// none, the host refuses each command of the build, and performs each undo of it, whatever other builds do. If the
+    /// build has nothing open, no abort begins.
     ///
     /// Refused with NoBuild, with Aborting, or with RecRunning if a REC of the build runs. This is no event.
     pub fn begin_abort(&mut self, build: BuildId) -> Result<u16, Refusal>
@@ -31,8 +31,8 @@ impl<S: PageStore> Host<S> {
         Ok(count)
     }
 
-    /// Undoes all that a build has open, the newest first, and returns how many acts that were. An abort that was begun ends
-    /// with it. The world is then that of the history without the build.
+    /// Undoes all that a build has open, the newest first, and returns the number of operations that were undone. An
+    /// abort that was begun ends with it. The world is then that of the history without the build.
     ///
     /// Refused with NoBuild, or with RecRunning if a REC of the build runs; then nothing changes.
     pub fn abort(&mut self, build: BuildId) -> Result<u16, Refusal>
@@ -50,15 +50,15 @@ impl<S: PageStore> Host<S> {
         Ok(count)
     }
 
-    // Undoes what a build has open above the first `count` acts, the newest first. The caller has seen that none of these
-    // made a REC that runs.
+    // Undoes what a build has open above the first `count` operations, the newest first. The caller has checked that
+    // none of these created a REC that runs.
     pub(crate) fn undo_down_to(&mut self, build: BuildId, count: u16)
         requires there { build < self.old.limits.builds }
         requires enough { count ≤ length (open_of self.old build) }
         requires rest { list_any (is_running (realm_of build (world_of self.old))) (drop count (open_of self.old build)) ≡ false }
         ensures { IsDown self.old build count self.new }
     {
-        // (no undo is refused here: that is a law of histories, newest_can_be_undone)
+        // (no undo is refused here: that is a theorem on histories, newest_can_be_undone)
         for _ in count..self.ledger.open_count(build) {
             let Ok(_) = self.undo(build) else {
                 unreachable!()

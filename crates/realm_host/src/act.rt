@@ -1,4 +1,4 @@
-//! An act, performed and recorded: all commands but a Take go through here, and their reverses.
+//! An operation, performed and recorded: the way of all commands but a Take, and of their reverses.
 ghost use Rattle.realm_host.specs.Acting.{CanAct, IsActed};
 
 use crate::Host;
@@ -8,7 +8,7 @@ use page_arena::PageStore;
 use realm_model::{Act, Rmi};
 
 impl<S: PageStore> Host<S> {
-    // Performs an act that is asked for, and records it. A refusal changes nothing.
+    // Performs an operation that is asked for, and records it. A refusal changes nothing.
     pub(crate) fn act(&mut self, build: BuildId, act: Act) -> Result<(), Rmi>
         requires { CanAct self.old build act }
         ensures { IsActed self.old build act result self.new }

@@ -1,4 +1,4 @@
-//! What is picked or read for a command before its act is known.
+//! The values that are allocated or read for a command before its operation is known.
 ghost use Rattle.std.specs.Prelude.{◌≡◌, Some, IfOk, IfErr, length, slice_get, unwrap_or};
 ghost use Rattle.std.specs.List.{All};
 ghost use Rattle.realm_model.specs.Running.{next_number};
@@ -15,7 +15,7 @@ use page_arena::PageStore;
 use realm_model::Rmi;
 
 impl<S: PageStore> Host<S> {
-    // What is picked for a command with these granules. Refused where the monitor refuses to read a byte.
+    // The values that are allocated for a command with these granules. Refused if the RMM refuses to read a byte.
     pub(crate) fn allocated_for(
         &self,
         build: BuildId,
@@ -52,7 +52,7 @@ impl<S: PageStore> Host<S> {
         }
     }
 
-    // The lowest VMID that no realm has; 1 where there is none.
+    // The lowest VMID that no realm has; 1 if there is none.
     fn vmid(&self) -> Vmid
         ensures { result ≡ unwrap_or (lowest_vmid self.now) 1 }
     {
@@ -62,7 +62,7 @@ impl<S: PageStore> Host<S> {
         }
     }
 
-    // The number that the next REC of a build's realm gets; 0 where it has none.
+    // The number that the next REC of a build's realm gets; 0 if it has none.
     fn number(&self, build: BuildId) -> RecNo
         ensures { result ≡ next_number (realm_of build (world_of self.now)) }
     {

@@ -1,4 +1,4 @@
-//! Recorded events, applied again with what was picked for them.
+//! Recorded events, applied again with the block, the VMID or the number that they have.
 ghost use Rattle.std.specs.Prelude.{◌≡◌, ◌↔◌, ◌<◌, Some, true, false};
 ghost use Rattle.std.specs.Bool.{OnTrue, OnFalse};
 ghost use Rattle.std.specs.List.{list_all};
@@ -20,7 +20,7 @@ use granule_addr::{BuildId, Gran, Order, Root};
 use page_arena::PageStore;
 use realm_model::{Act, Event, JOURNAL_ROOM};
 
-// How many entries of its build's room an act takes.
+// The number of entries of its build's room that an operation takes.
 #[tactic(auto, unfolding(realm_model::specs::Room::room_taken, realm_model::specs::Act::reverse_of, realm_model::specs::Act::is_reverse))]
 fn room_taken(act: &Act) -> u16
     ensures { result ≡ room_taken act.now }
@@ -34,7 +34,8 @@ fn room_taken(act: &Act) -> u16
     }
 }
 
-// The numbers of a command that no check of the monitor looks at are in range: reading one shows the range of its type.
+// Shows that the numbers of a command that the RMM does not check are in range: reading one shows the range of its
+// type.
 fn check_ranges(act: &Act)
     requires { is_command act.now ≡ true }
     ensures { is_in_range act.now ≡ true }
@@ -55,12 +56,12 @@ fn check_ranges(act: &Act)
 }
 
 impl<S: PageStore> Host<S> {
-    /// Applies a recorded event as the last of the history, with the block, the VMID and the number that were picked for
-    /// it, and returns whether it was applied.
+    /// Applies a recorded event as the last of the history, with the block, the VMID and the number that it has.
+    /// Returns whether it was applied.
     ///
     /// Returns `false`, and changes nothing, if and only if the history with the event would not be legal, its build
-    /// has too little room left for it, or it has a reverse and its build has 512 acts open. Whether the build is in
-    /// abort does not matter.
+    /// has too little room left for it, or it has a reverse and its build has 512 operations open. Whether the build is
+    /// in abort does not matter.
     pub fn apply_recorded(&mut self, event: &Event) -> bool
         ensures answer { (result ≡ true) ↔ CanApply self.old event.now }
         ensures applied { OnTrue result (self.new ≡ with_event self.old event.now.build event.now.act) }
@@ -81,7 +82,7 @@ impl<S: PageStore> Host<S> {
         }
     }
 
-    // Whether a build has the room that an act takes, and can have one more act open where the act has a reverse.
+    // Whether a build has the room that an operation takes, and can have one more operation open if it has a reverse.
     pub(crate) fn has_room_for(&self, build: BuildId, act: &Act) -> bool
         requires { build < self.now.limits.builds }
         ensures { (result ≡ true) ↔ HasRoomFor self.now build act.now }
@@ -91,7 +92,7 @@ impl<S: PageStore> Host<S> {
             && (!act.is_paired() || self.ledger.open_count(build) < JOURNAL_ROOM)
     }
 
-    // Takes the block that was picked, where it is free.
+    // Takes the block that was allocated, if it is free.
     fn apply_take(&mut self, build: BuildId, order: Order, first: Gran) -> bool
         requires there { build < self.old.limits.builds }
         requires room { HasRoomFor self.old build (acts.Take order first) }
@@ -105,7 +106,8 @@ impl<S: PageStore> Host<S> {
         true
     }
 
-    // Reverses the newest act that a build has open, if `act` is its reverse and the newest act made no REC that runs.
+    // Reverses the newest operation that a build has open, if `act` is its reverse and the newest operation created no
+    // REC that runs.
     fn apply_reverse(&mut self, build: BuildId, act: &Act) -> bool
         requires there { build < self.old.limits.builds }
         requires kind { is_reverse act.now ≡ true }
@@ -124,7 +126,7 @@ impl<S: PageStore> Host<S> {
         true
     }
 
-    // Performs a command, if the build leases the granules that it names, and what it says is there.
+    // Performs a command, if the build leases the granules that it names, and its answers agree with the machine.
     fn apply_forward(&mut self, build: BuildId, act: &Act) -> bool
         requires there { build < self.old.limits.builds }
         requires legal { IsLegal self.old.limits self.old.history }
@@ -155,7 +157,7 @@ impl<S: PageStore> Host<S> {
         true
     }
 
-    // Whether a build leases the granule of that number, where there is one.
+    // Whether a build leases the granule of that number, if there is one.
     fn leases_number(&self, build: BuildId, number: u16) -> bool
         ensures { result ≡ is_leased_to (Some build) (world_of self.now).leases number }
     {
@@ -177,7 +179,7 @@ impl<S: PageStore> Host<S> {
         true
     }
 
-    // Whether a build leases the granules that a forward act names.
+    // Whether a build leases the granules that a forward operation names.
     #[tactic(auto, unfolding(realm_model::specs::Act::named))]
     fn leases_named(&self, build: BuildId, act: &Act) -> bool
         requires forward { is_reverse act.now ≡ false }
@@ -213,7 +215,7 @@ impl<S: PageStore> Host<S> {
         }
     }
 
-    // Whether what a forward act says of the realm, the next REC and the byte that is read is there.
+    // Whether the realm, the next REC and the byte in a forward operation are those of the machine.
     #[tactic(auto, unfolding(realm_model::specs::Outcome::fits, realm_model::specs::Act::named))]
     fn is_there(&self, build: BuildId, act: &Act) -> bool
         requires there { build < self.now.limits.builds }

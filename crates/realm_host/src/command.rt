@@ -15,16 +15,17 @@ use realm_model::Rmi;
 impl<S: PageStore> Host<S> {
     /// Performs a command of a build and returns the reply to it. One event then ends the history.
     ///
-    /// Where the command is refused, returns the refusal with the lowest number of those that apply and hold; then
-    /// nothing changes. No memory is taken, which tests see and no clause says, and neither the machine nor the history nor a
-    /// journal is searched, which is read in the code.
+    /// If the command is refused, returns the refusal with the lowest number of those that apply and hold; then nothing
+    /// changes. No memory is taken, which tests check and no clause says. The machine, the history and the journals are
+    /// not searched, as the code shows.
     pub fn command(&mut self, build: BuildId, cmd: Cmd) -> Result<Reply, Refusal>
         ensures { IsAnswer self.old build (Ask cmd) (replied result) self.new }
     {
         self.ask(build, &cmd)
     }
 
-    /// Performs a command of a build, as `command` does, and leaves it to the caller: a plan asks its commands without a copy.
+    /// Performs a command of a build, as `command` does, and only borrows it: a plan asks for its commands without a
+    /// copy.
     pub fn ask(&mut self, build: BuildId, cmd: &Cmd) -> Result<Reply, Refusal>
         ensures { IsAnswer self.old build (Ask cmd.now) (replied result) self.new }
     {
@@ -36,7 +37,7 @@ impl<S: PageStore> Host<S> {
             Ok(allocated) => allocated,
             Err(rmi) => return Err(Refusal::Rmi(rmi)),
         };
-        // (a number that no act can hold is an input error at once)
+        // (a number that no operation can hold is an input error at once)
         let Some(act) = act_of(cmd, &granules, allocated) else {
             return Err(Refusal::Rmi(Rmi::INPUT));
         };
@@ -47,7 +48,7 @@ impl<S: PageStore> Host<S> {
         Ok(reply)
     }
 
-    // A block of free pages is leased, for a Take that passed its checks.
+    // Leases a block of free pages, for a Take that passed its checks.
     fn take(&mut self, build: BuildId, order: u8) -> Result<Reply, Refusal>
         requires there { build < self.old.limits.builds }
         requires passed { first_that_holds (checks_of (summary_of self.old) build (cmd.Take order)) ≡ None }

@@ -1,4 +1,4 @@
-//! The host, its memory, and what can be read of it.
+//! The host, its memory, and its readings.
 ghost use Rattle.std.specs.Prelude.{◌≡◌, ◌<◌, ◌≤◌, ℕ, length, replicate, true, IfOk, IfErr, IfSome, option_map, sum};
 ghost use Rattle.granule_addr.specs.Page.{zero_page};
 ghost use Rattle.realm_model.specs.Machine.{cell_at};
@@ -68,10 +68,10 @@ impl<S: PageStore> Host<S> {
         }
     }
 
-    /// Returns the accepted commands of all builds, in their order. They are a legal history, in which no build has used
-    /// more than its room, or had more than 512 acts open at any time. If a build is in abort, it has something open; if it
-    /// has a mark, the mark stands. Each build can be left out: what is left is a legal history too, and leads to the world
-    /// without that build. The numbers of a host are in their ranges.
+    /// Returns the accepted commands of all builds, in sequence. They are a legal history, in which no build has used
+    /// more than its room, or had more than 512 operations open at any time. If a build is in abort, it has something
+    /// open. If it has a mark, it can go back to it. Each build can be left out: the rest is a legal history too, and
+    /// leads to the world without that build. The numbers of a host are in their ranges.
     pub fn history(&self) -> &[Event]
         ensures events { result.now ≡ self.now.history }
         ensures in_range { IsInRange self.now.limits self.now.capacity }
@@ -84,22 +84,22 @@ impl<S: PageStore> Host<S> {
         self.ledger.history()
     }
 
-    /// Returns the books of the host: all that contracts see of it, and what the checks of a command look at. None of the
-    /// machine's memory is in them.
+    /// Returns the ledger of the host: all that contracts see of it, and the view that the checks of a command need. It
+    /// has none of the machine's memory.
     pub fn ledger(&self) -> &HostLedger
         ensures { result.now ≡ self.now }
     {
         &self.ledger
     }
 
-    /// How much room each build has in the history.
+    /// The room of each build in the history.
     pub fn capacity(&self) -> u16
         ensures { result ≡ self.now.capacity }
     {
         self.ledger.capacity()
     }
 
-    /// How many builds there are.
+    /// The number of builds.
     pub fn build_count(&self) -> u8
         ensures value { result ≡ self.now.limits.builds }
         ensures few { result ≤ 8 }
@@ -107,7 +107,7 @@ impl<S: PageStore> Host<S> {
         self.ledger.build_count()
     }
 
-    /// Returns how many pages a build has, and 0 if there is no such build.
+    /// Returns the number of pages of a build, and 0 if there is no such build.
     pub fn page_count(&self, build: BuildId) -> u16
         ensures { result ≡ length (pages_of_build self.now build) }
     {
@@ -150,7 +150,7 @@ impl<S: PageStore> Host<S> {
         Some(*realm.measurement())
     }
 
-    /// How many pages nobody leases.
+    /// The number of pages that nobody leases.
     pub fn free_count(&self) -> u16
         ensures { result ≡ length (free_set (world_of self.now)) }
     {
@@ -169,8 +169,8 @@ impl<S: PageStore> Host<S> {
         }
     }
 
-    /// Returns the realm of a build, or None if it has none: its state, its VMID, its starting tables with the width of its
-    /// IPAs, the number of its next REC, and its measurement. A walk of its tables begins at level 1.
+    /// Returns the realm of a build, or None if it has none: its state, its VMID, its starting tables with the width of
+    /// its IPAs, the number of its next REC, and its measurement. A walk of its tables begins at level 1.
     pub fn realm(&self, build: BuildId) -> Option<&RealmDesc>
         ensures { option_copied result ≡ option_map attributes_of (row_of (world_of self.now) build) }
     {
@@ -185,7 +185,7 @@ impl<S: PageStore> Host<S> {
 }
 
 impl<S: PageStore + Drop> Host<S> {
-    /// Returns the books, and gives back all memory of the machine.
+    /// Returns the ledger, and gives back all memory of the machine.
     pub fn into_ledger(self) -> HostLedger
         ensures { result ≡ self }
     {

@@ -1,4 +1,4 @@
-//! Laws of hosts.
+//! Theorems on hosts.
 ghost use Rattle.std.specs.Prelude.{ℕ, List, Result, Ok};
 ghost use Rattle.host_ledger.specs.View.{HostView};
 ghost use Rattle.host_commands.specs.declared.refusal.Refusal.{Refusal};
@@ -9,25 +9,27 @@ ghost use Rattle.realm_host.specs.Sharing.{AnsweredCall, AreWhileAborting, IsInA
 ghost use Rattle.realm_host.specs.declared.reply.HostAnswer.{HostAnswer};
 ghost use Rattle.realm_model.specs.History.{IsLegal};
 
-/// Hosts of the same machine in which each build did the same have the same world, and keep the same of each build.
+/// Hosts of the same machine in which each build did the same have the same world, and the same record of each build.
 pub fn schedule_is_not_observed()
     ensures { (host twin : HostView) → DidTheSame host twin → AreIndistinguishable host twin }
 {}
 
-/// No command, undo or abort tells apart two hosts that differ only in the order of their builds' events, however many
-/// calls are made. Each answer of the one, with what is picked for it, is an answer of the other, and the hosts after
-/// it again differ only in that order.
+/// No command, undo or abort distinguishes two hosts that differ only in the schedule of their builds' events, however
+/// many calls are made. Each answer of the one, with what is allocated for it, is an answer of the other. The hosts
+/// after it again differ only in that schedule.
 pub fn no_call_reveals_the_schedule()
     ensures call { (host twin : HostView) (build : ℕ) (call : Call) (answer : HostAnswer) (new : HostView) → DifferInInterleaving host twin → CallRevealsNothing host twin build call answer new }
     ensures begin { (host twin : HostView) (build : ℕ) (result : Result ℕ Refusal) (new : HostView) → DifferInInterleaving host twin → BeginRevealsNothing host twin build result new }
     ensures abort { (host twin : HostView) (build : ℕ) (result : Result ℕ Refusal) (new : HostView) → DifferInInterleaving host twin → AbortRevealsNothing host twin build result new }
 {}
 
-/// An abort during which other builds go on. `old` is a host at which `begin_abort` began one, and `calls` are all calls since, of
-/// any builds, each as its contract lets it be answered. While the build has something open, its events are reverses alone, since
-/// anything else that it asks is refused, and none of its undos is refused. Once it has nothing open, it has left no trace.
+/// An abort during which other builds go on. `old` is a host at which `begin_abort` began one, and `calls` are all
+/// calls since, of any builds, each as its contract lets it be answered. While the build has something open, its events
+/// are reverses alone: any other request of it is refused, and none of its undos is. Once it has nothing open, it has
+/// left nothing behind.
 ///
-/// `apply_recorded` is a call of other builds alone: it applies any legal event for which there is room, even one of a build in abort.
+/// `apply_recorded` is a call of other builds alone: it applies any legal event for which there is room, even one of a
+/// build in abort.
 pub fn aborts_are_shared()
     ensures { (old begun host : HostView) (build count : ℕ) (calls : List (ℕ × AnsweredCall)) → IsLegal old.limits old.history
         → IsBegun old build (Ok count) begun → AreWhileAborting build begun calls host → IsInAbortSince old build host }

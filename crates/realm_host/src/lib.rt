@@ -1,8 +1,8 @@
 //! The host of realm builds: commands, undo, and a history that each build can be left out of.
 //!
-//! A host is seen as its limits, the room that each build has in its history, the history, which builds are in abort, and
-//! the mark of each. All else that it holds is a function of these: the world is the replay of the history, and the books
-//! keep of each build what the history has of it.
+//! A host is seen as its limits, the room that each build has in its history, the history, which builds are in abort,
+//! and the mark of each. All else that it holds is a function of these: the world is the replay of the history, and the
+//! ledger has the record of each build.
 #![tactic(auto)]
 
 mod abort;

@@ -1,4 +1,4 @@
-//! Marks: points that a build can go back to.
+//! Marks: points of a build to which it can go back.
 ghost use Rattle.std.specs.Prelude.{◌≡◌, ◌<◌};
 ghost use Rattle.std.specs.Bool.{OnTrue};
 ghost use Rattle.std.specs.List.{list_any};
@@ -18,8 +18,8 @@ use page_arena::PageStore;
 use realm_model::Act;
 
 impl<S: PageStore> Host<S> {
-    /// Keeps the point of a build, in place of an older mark, and returns it as a mark. The mark is dropped by the reverse that
-    /// leaves the build with fewer acts open than it has now.
+    /// Keeps the point of a build, in place of an older mark, and returns it as a mark. The mark is dropped by the
+    /// reverse that leaves the build with fewer operations open than it has now.
     ///
     /// Refused with NoBuild or with Aborting. This is no event.
     pub fn mark(&mut self, build: BuildId) -> Result<Mark, Refusal>
@@ -31,8 +31,8 @@ impl<S: PageStore> Host<S> {
         Ok(mark)
     }
 
-    /// Returns how many acts a build has open above a mark, or the refusal that `rollback_to` would give. If there is
-    /// no refusal, the mark stands, and the build can go back to it.
+    /// Returns the number of operations that a build has open above a mark, or the refusal that `rollback_to` would
+    /// give. If there is no refusal, the mark is valid, and the build can go back to it.
     pub fn check_back(&self, build: BuildId, mark: Mark) -> Result<u16, Refusal>
         ensures value { result ≡ way_back self.now build mark }
         ensures stands { OnOk result (IsMarkOf self.now build mark) }
@@ -49,12 +49,12 @@ impl<S: PageStore> Host<S> {
         Ok(self.ledger.open_count(build) - mark.length())
     }
 
-    /// Undoes what a build has opened above a mark, the newest first, and returns how many acts that were. The world then owns
-    /// the same as that of the history without what the build did after the mark; what is not the build's is exactly the same.
-    /// The mark stays.
+    /// Undoes what a build has opened above a mark, the newest first, and returns the number of operations that were
+    /// undone. The world then owns the same as that of the history without what the build did after the mark; what is
+    /// not the build's is exactly the same. The mark stays.
     ///
-    /// Refused with NoBuild, with Aborting, with NothingToUndo if this is not the mark that is kept of the build, or with
-    /// RecRunning if an act above it made a REC that runs; then nothing changes.
+    /// Refused with NoBuild, with Aborting, with NothingToUndo if this is not the mark that is kept for the build, or
+    /// with RecRunning if an operation above it created a REC that runs; then nothing changes.
     pub fn rollback_to(&mut self, build: BuildId, mark: Mark) -> Result<u16, Refusal>
         ensures { IsBackAnswer self.old build mark result self.new }
     {
@@ -63,7 +63,7 @@ impl<S: PageStore> Host<S> {
         Ok(count)
     }
 
-    // Whether this is the mark that is kept of a build.
+    // Whether this is the mark that is kept for a build.
     fn is_kept(&self, build: BuildId, mark: Mark) -> bool
         requires { build < self.now.limits.builds }
         ensures value { result ≡ is_kept self.now build mark }
@@ -75,7 +75,7 @@ impl<S: PageStore> Host<S> {
         }
     }
 
-    // Whether any of a build's acts made a REC that runs.
+    // Whether any of a build's operations created a REC that runs.
     fn is_any_running(&self, build: BuildId, acts: &[Act]) -> bool
         requires { build < self.now.limits.builds }
         ensures { result ≡ list_any (is_running (realm_of build (world_of self.now))) acts.now }

@@ -1,4 +1,4 @@
-//! What is read of granules, of realms with their RECs and rows, and of what builds have open.
+//! Readings of granules, of realms with their RECs and rows, and of open operations.
 ghost use Rattle.std.specs.Prelude.{◌≡◌, ◌+◌, ◌<◌, IfSome, option_map};
 ghost use Rattle.granule_addr.specs.Ipa.{covered_count, first_covered, widest_space};
 ghost use Rattle.realm_model.specs.Places.{rd_of};
@@ -23,8 +23,7 @@ pub struct GranuleView {
     pub realm: Option<Gran>,
 }
 
-/// A row of a realm's translation: its level, the first IPA granule that it covers, and what stands there. RMM 1.0, RTT
-/// entry.
+/// A row of a realm's translation: its level, the first IPA granule that it covers, and its entry. RMM 1.0, RTT entry.
 #[derive(Clone, Copy, Debug, PartialEq, Eq)]
 pub struct RowView {
     pub level: Level,
@@ -33,7 +32,7 @@ pub struct RowView {
 }
 
 impl RowView {
-    /// Returns the number of the first IPA granule behind those that the row covers.
+    /// Returns the number of the first IPA granule after those that the row covers.
     pub fn next(&self) -> u32
         ensures { result ≡ self.now.first + covered_count self.now.level }
     {
@@ -41,7 +40,7 @@ impl RowView {
     }
 }
 
-// How many IPA granules a row of a level covers.
+// The number of IPA granules that a row of a level covers.
 fn covered_count(level: Level) -> u32
     ensures { result ≡ covered_count level }
 {
@@ -62,14 +61,14 @@ fn first_covered(ipa: u32, level: Level) -> IpaGran
 }
 
 impl<S: PageStore> Host<S> {
-    /// How many auxiliary granules a REC has. RMM 1.0, RMI_REC_AUX_COUNT.
+    /// The number of auxiliary granules of a REC. RMM 1.0, RMI_REC_AUX_COUNT.
     pub fn rec_aux_count(&self) -> u8
         ensures { result ≡ self.now.limits.aux }
     {
         self.monitor.rec_aux_count()
     }
 
-    /// How many pages the machine has.
+    /// The number of pages of the machine.
     pub fn pages(&self) -> u16
         ensures { result ≡ self.now.limits.pages }
     {
@@ -91,7 +90,7 @@ impl<S: PageStore> Host<S> {
         })
     }
 
-    /// The RD of a build's realm; None where it has none.
+    /// The RD of a build's realm; None if it has none.
     pub fn rd(&self, build: BuildId) -> Option<Gran>
         ensures value { result ≡ rd_of build (world_of self.now) }
         ensures inside { IfSome result (λ rd. rd < self.now.limits.pages) }
@@ -103,8 +102,8 @@ impl<S: PageStore> Host<S> {
         }
     }
 
-    /// Returns the granule of the REC of that number in a build's realm, and its state and auxiliaries, or None if there is
-    /// no such REC. Each number is below that of the realm's next REC.
+    /// Returns the granule of the REC of that number in a build's realm, and its state and auxiliaries, or None if
+    /// there is no such REC. Each number is below that of the realm's next REC.
     pub fn rec(&self, build: BuildId, number: RecNo) -> Option<(Gran, &Rec)>
         ensures { option_map (λ rec. (rec.0, rec.1.now)) result ≡ rec_at (world_of self.now) build number }
     {
@@ -116,9 +115,9 @@ impl<S: PageStore> Host<S> {
         Some((granule, rec))
     }
 
-    /// Returns the row at which the walk of an IPA granule towards a level ends in a build's realm: the first row on the
-    /// way that is not TABLE, or the one of that level. Returns None if the build has no realm, or if the IPA granule is
-    /// not in the realm's address space.
+    /// Returns the row at which the walk of an IPA granule towards a level ends in a build's realm: the first row on
+    /// the way that is not TABLE, or the one of that level. Returns None if the build has no realm, or if the IPA
+    /// granule is not in the realm's address space.
     ///
     /// `ipa` is the number of an IPA granule. Walks to level 3, the first from 0 and each next one from `next` of the
     /// row before, list all rows but those that are TABLE. RMM 1.0, RTT walk.
@@ -135,7 +134,7 @@ impl<S: PageStore> Host<S> {
         })
     }
 
-    /// Returns what a build has open, the newest last. It is empty if there is no such build.
+    /// Returns the operations that a build has open, the newest last. The list is empty if there is no such build.
     pub fn open_acts(&self, build: BuildId) -> &[Act]
         ensures { result.now ≡ open_of self.now build }
     {
@@ -146,8 +145,8 @@ impl<S: PageStore> Host<S> {
         }
     }
 
-    /// Whether the newest act that a build has open made a REC that runs, and so cannot be undone now. False if there is no such
-    /// build.
+    /// Whether the newest operation that a build has open created a REC that runs, and so cannot be undone now. False
+    /// if there is no such build.
     pub fn is_newest_running(&self, build: BuildId) -> bool
         ensures { result ≡ is_newest_running self.now build }
     {
@@ -167,8 +166,8 @@ impl<S: PageStore> Host<S> {
         self.ledger.has_build(build) && self.ledger.is_aborting(build)
     }
 
-    /// The mark that is kept of a build, if there is one. It stands; `check_back` says whether the build can go back to
-    /// it now.
+    /// The mark that is kept for a build, if there is one. It is valid; `check_back` says whether the build can go back
+    /// to it now.
     pub fn kept_mark(&self, build: BuildId) -> Option<Mark>
         ensures value { result ≡ mark_of self.now build }
         ensures stands { IfSome result (IsMarkOf self.now build) }

@@ -1,7 +1,7 @@
-//! What the host answers.
+//! The answer of a host.
 use host_commands::{Refusal, Reply, Undone};
 
-/// The answer to a step.
+/// The answer of a host to a step.
 #[derive(Clone, Copy, Debug, PartialEq, Eq)]
 pub enum HostAnswer {
     Replied(Reply),

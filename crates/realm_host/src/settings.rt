@@ -1,4 +1,4 @@
-//! How large a host is.
+//! The size of a host.
 ghost use Rattle.std.specs.Prelude.{◌≡◌, ◌≤◌, ◌↔◌, IsSome, IfSome};
 
 use realm_model::{LEAST_HISTORY, MOST_HISTORY};

@@ -1,4 +1,4 @@
-//! Undo: the reverse of a build's newest open act.
+//! The undo: the reverse of a build's newest open operation.
 ghost use Rattle.std.specs.Prelude.{◌≡◌, ◌<◌, IfOk};
 ghost use Rattle.std.specs.Result.{OnOk};
 ghost use Rattle.realm_model.specs.History.{IsLegal};
@@ -18,12 +18,13 @@ use page_arena::PageStore;
 use realm_model::{Act, kind_of};
 
 impl<S: PageStore> Host<S> {
-    /// Reverses the newest act that a build has open, whatever other builds did since, and returns its kind and how many acts
-    /// are left open.
+    /// Reverses the newest operation that a build has open, whatever other builds did since. Returns its kind and the
+    /// number of operations that are left open.
     ///
-    /// Refused with NoBuild, with NothingToUndo if the build has nothing open, or with RecRunning if that act made a REC that
-    /// runs; then nothing changes. An undo right after the act that it reverses leads back to a world in which everybody has
-    /// the same granules and mappings. If it leaves nothing open, the world is that of the history without the build.
+    /// Refused with NoBuild, with NothingToUndo if the build has nothing open, or with RecRunning if that operation
+    /// created a REC that runs; then nothing changes. An undo right after the operation that it reverses leads back to
+    /// a world in which everybody has the same granules and mappings. If it leaves nothing open, the world is that of
+    /// the history without the build.
     pub fn undo(&mut self, build: BuildId) -> Result<Undone, Refusal>
         ensures answer { IsAnswer self.old build Undo (undone result) self.new }
         ensures pair { OnOk result (LeadsBack self.old build self.new) }
@@ -38,7 +39,7 @@ impl<S: PageStore> Host<S> {
         if self.is_running(build, newest) {
             return Err(Refusal::RecRunning);
         }
-        // (an open act has a kind and a reverse)
+        // (an open operation has a kind and a reverse)
         let kind = kind_of(newest).unwrap();
         let back = reverse_of(newest).unwrap();
         let left = self.ledger.open_count(build) - 1;
@@ -46,7 +47,7 @@ impl<S: PageStore> Host<S> {
         Ok(Undone { kind, left })
     }
 
-    // Whether an act of a build made a REC that runs, and so cannot be undone.
+    // Whether an operation of a build created a REC that runs, and so cannot be undone.
     pub(crate) fn is_running(&self, build: BuildId, act: &Act) -> bool
         requires { build < self.now.limits.builds }
         ensures { result ≡ is_running (realm_of build (world_of self.now)) act.now }
@@ -63,7 +64,7 @@ impl<S: PageStore> Host<S> {
         }
     }
 
-    // Performs a reverse. The monitor refuses only the reverse of a REC that runs.
+    // Performs a reverse. The RMM refuses only the reverse of a REC that runs.
     pub(crate) fn reverse(&mut self, build: BuildId, back: Act)
         requires there { build < self.old.limits.builds }
         requires legal { IsLegal self.old.limits self.old.history }

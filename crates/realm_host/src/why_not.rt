@@ -1,4 +1,4 @@
-//! Why a recorded event cannot be applied.
+//! The reason why a recorded event cannot be applied.
 ghost use Rattle.realm_host.specs.Recorded.{IsWhyNot};
 
 use crate::Host;
@@ -6,14 +6,14 @@ use page_arena::PageStore;
 use realm_model::Event;
 use thiserror::Error;
 
-/// What stands in the way of a recorded event.
+/// The reason why a recorded event cannot be applied.
 #[derive(Clone, Copy, Debug, PartialEq, Eq, Error)]
 pub enum WhyNot {
-    /// It takes more room of the history than its build has left, or its build has 512 acts open already and it would
-    /// add one.
+    /// It takes more room of the history than its build has left, or its build has 512 operations open already and it
+    /// would add one.
     #[error("its build has not the room that it takes")]
     NoRoom,
-    /// It is a reverse, and the newest act that its build has open is another one, or made a REC that runs.
+    /// It is a reverse, and the newest operation that its build has open is another one, or created a REC that runs.
     #[error("it is not the reverse of the newest act that its build has open")]
     NotNewest,
     /// The rules have no such step here.
@@ -22,9 +22,9 @@ pub enum WhyNot {
 }
 
 impl<S: PageStore> Host<S> {
-    /// Returns the first thing that stands in the way of a recorded event that `apply_recorded` has refused: NoStep if
-    /// there is no such build, NoRoom, NotNewest for a reverse, and NoStep for any other act. For an event that can be
-    /// applied it says nothing.
+    /// Returns the first reason why `apply_recorded` refused a recorded event: NoStep if there is no such build,
+    /// NoRoom, NotNewest for a reverse, and NoStep for any other operation. For an event that can be applied the value
+    /// means nothing.
     pub fn why_not(&self, event: &Event) -> WhyNot
         ensures { IsWhyNot self.now event.now result }
     {

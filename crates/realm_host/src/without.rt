@@ -1,4 +1,4 @@
-//! A history without a build, on a host of its own.
+//! The history without a build, applied to a host of its own.
 ghost use Rattle.std.specs.Prelude.{◌≡◌};
 ghost use Rattle.realm_host.specs.Recorded.{fresh_like, IsWithout};
 
@@ -7,9 +7,9 @@ use granule_addr::BuildId;
 use host_ledger::HostLedger;
 use page_arena::PageStore;
 
-/// Applies the history in a host's books, without the events of a build, to a host that has just been booted, with the
-/// same settings and as many pages. Each event is accepted in turn. That host then has the history without the build,
-/// and the world without it.
+/// Applies the history in a host's ledger, without the events of a build, to a host that has just been booted. That
+/// host has the same settings and as many pages. Each event is accepted in turn. It then has the history without the
+/// build, and the world without it.
 pub fn apply_without<S: PageStore>(ledger: &HostLedger, build: BuildId, fresh: &mut Host<S>)
     requires { fresh.old ≡ fresh_like ledger.now }
     ensures { IsWithout ledger.now build fresh.new }

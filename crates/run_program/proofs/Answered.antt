@@ -1,4 +1,4 @@
--- What a host answers fits.
+-- The answers of a host, which match its history.
 use Rattle.std.proofs.Common.{◌≡◌, ℕ, ◌<◌, ◌≤◌, cond, List, [], ◌∷◌, ◌++◌, map, Option, Some, None, refl, sym, ap, ◌∙◌, subst, arith}
 use Rattle.std.specs.Prelude.{slice_get, nat_lt, is_none, option_and_then, if◌then◌else◌}
 use Rattle.std.specs.List.{All, filter_map, cons_option}

@@ -1,4 +1,4 @@
--- What a command or an undo did.
+-- The effect of a command or an undo.
 use Rattle.std.proofs.Common.{◌≡◌, ℕ, ◌-◌, ◌↔◌, Bool, true, false, List, length, drop, Option, Some, None, sym, ap, ◌∙◌}
 use Rattle.std.specs.Prelude.{IsTrue, slice_get, option_map, option_and_then}
 use Rattle.std.specs.List.{last_or}

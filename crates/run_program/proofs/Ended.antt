@@ -1,4 +1,4 @@
--- How a run of all workers ends.
+-- The ends of a run of all workers.
 use Rattle.std.proofs.Common.{◌≡◌, inl, inr, ℕ, ◌∷◌, [], ◌++◌, List, length, sym, subst, ◌∙◌, ap, ap₂}
 use Rattle.std.specs.Global.{Vec}
 use Rattle.std.specs.List.{AllZip, flat_map}

@@ -1,4 +1,4 @@
--- Why a run in threads has no text.
+-- The reasons why a run in threads has no text.
 use Rattle.std.proofs.Common.{ℕ}
 use Rattle.realm_plan.specs.Plan.{Plan}
 use Rattle.realm_program.specs.Printed.{IsFaultOfText}

@@ -1,4 +1,4 @@
--- Pages by what is open, and lists of granules.
+-- Pages by the open operations, and lists of granules.
 use Rattle.std.proofs.Common.{Bool, true, false, subst, ◌≡◌, ℕ, zero, suc, ◌+◌, ◌^◌, ◌<◌, List, [], ◌∷◌, ◌++◌, length}
 use Rattle.std.proofs.Common.{map, drop, get_or, Option, Some, None, refl, sym, ap, ◌∙◌, arith, length-append}
 use Rattle.std.specs.Prelude.{slice_get, option_and_then, nat_lt, ◌&&◌, if◌then◌else◌}

@@ -1,4 +1,4 @@
--- How far a report and a history are read.
+-- The state of reading a report and a history.
 use Rattle.std.proofs.Common.{◌≡◌, ℕ, zero, suc, ◌+◌, ◌<◌, ◌≤◌, ◌↔◌, Bool, true, false, cond, List, [], ◌∷◌, ◌++◌, length, take, drop, get_or}
 use Rattle.std.proofs.Common.{nat_eq, Option, Some, None, refl, sym, ap, ◌∙◌, subst, inl, inr, arith, length-drop, add-zero, below_more}
 use Rattle.std.specs.Prelude.{slice_get, IsTrue, IfSome, IsSomeAnd}

@@ -1,4 +1,4 @@
--- What holds of reports holds of the workers that left them.
+-- Properties of reports, and of the workers that left them.
 use Rattle.std.proofs.Common.{◌≡◌, ℕ, ◌++◌, List, [], ◌∷◌, refl, sym, subst, ap₂}
 use Rattle.std.specs.Global.{Vec}
 use Rattle.std.specs.List.{AllZip, flat_map}

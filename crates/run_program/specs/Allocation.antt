@@ -1,4 +1,4 @@
--- What an act holds of what was picked for it.
+-- The allocations that an operation holds.
 use Rattle.std.specs.Prelude.{ℕ}
 use Rattle.host_commands.specs.declared.allocated.Allocated.{Allocated}
 use Rattle.realm_model.specs.declared.act.Act.{Act}
@@ -7,7 +7,7 @@ use Rattle.realm_model.specs.declared.act.Act.TheVariants.{Peek, Realm, Rec}
 abbrev pub allocation : ℕ → ℕ → ℕ → Allocated
 allocation vmid number byte = record { vmid = vmid; number = number; byte = byte }
 
--- what was picked for an act; what the act does not hold may be anything
+-- the values that were allocated for an operation; those that it does not hold may be anything
 abbrev pub allocated_in : Act → Allocated
 allocated_in (Realm rd root vmid) = allocation vmid 0 0
 allocated_in (Rec granule auxiliaries number) = allocation 1 number 0

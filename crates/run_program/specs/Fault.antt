@@ -1,4 +1,4 @@
--- Why nothing is printed of a run in threads.
+-- The fault of the program for a run in threads that has no text.
 use Rattle.run_program.specs.declared.fault.RunFault.{RunFault}
 use Rattle.run_program.specs.declared.fault.RunFault.TheVariants as run_fault
 use Rattle.realm_program.specs.declared.fault.Fault.{Fault}

@@ -1,4 +1,4 @@
--- The text of a report: each of its lines is told as that of a turn.
+-- The text of a report: each of its lines is like that of a turn.
 use Rattle.std.specs.Prelude.{ℕ, ◌==◌, Bool, true, false, not, ◌&&◌, if◌then◌else◌, List, [], ◌∷◌, ◌++◌, Option, Some, None, slice_get}
 use Rattle.host_commands.specs.declared.cmd.Cmd.TheVariants.{Exit}
 use Rattle.host_commands.specs.declared.cmd.Step.TheVariants.{Ask, Undo}
@@ -14,24 +14,24 @@ use Rattle.plan_replay.specs.Turn.{undoes_many}
 use Rattle.plan_replay.specs.declared.answer.TurnAnswer.{TurnAnswer}
 use Rattle.plan_replay.specs.declared.answer.TurnAnswer.TheVariants as tells
 
--- The step that a line is of: the plan's at that place, as it stands there. What is asked after a refusal is told as the
--- step that would ask for it.
+-- The step of a line: the plan's at that index, as it is there. A question after a refusal is written as the step that
+-- would ask it.
 abbrev pub step_of_line : List PlanStep → Asked → Option PlanStep
 step_of_line steps (asked.Step place) = slice_get steps place
 step_of_line steps (asked.Exit number) = Some (Whole (Ask (Exit number)))
 step_of_line steps asked.Undo = Some (Whole Undo)
 
--- both are of the plan's step at the same place
+-- both are of the plan's step at the same index
 abbrev pub is_same_step : Asked → Asked → Bool
 is_same_step (asked.Step place) (asked.Step other) = place == other
 is_same_step _ _ = false
 
--- A line ends its step where the next line is of something else, or there is none.
+-- A line ends its step if the next line is of something else, or there is none.
 abbrev pub ends_step : Asked → Option ReportLine → Bool
 ends_step this None = true
 ends_step this (Some next) = not (is_same_step this next.asked)
 
--- What a line tells of its answer: of an undo, whether an abort or a step back ends with it.
+-- The answer that a line has: of an undo, whether an abort or a step back ends with it.
 abbrev pub answer_of_line : Answer → Bool → TurnAnswer
 answer_of_line (answer.Replied reply) ends = tells.Replied reply
 answer_of_line (answer.Undone undone) ends = if ends then tells.Ended undone.kind else tells.Undone undone.kind

@@ -1,4 +1,4 @@
--- What is printed of reports.
+-- The text of reports.
 use Rattle.std.specs.Prelude.{ℕ, List, [], codes, slice_index_or}
 use Rattle.std.specs.Global.{Vec}
 use Rattle.host_commands.specs.declared.cmd.Step.{Step}
@@ -11,10 +11,10 @@ use Rattle.builders.specs.declared.report.Report.{Report}
 abbrev pub steps_of_build : Plan → ℕ → List PlanStep
 steps_of_build plan build = slice_index_or plan.builds build []
 
--- the lines of a report, which tell the steps as they stand in the plan
+-- the lines of a report, which have the steps as they are in the plan
 abbrev pub report_lines : Plan → Report × Vec Step → List ℕ
 report_lines plan (report, asks) = report_text report.build (steps_of_build plan report.build) report.lines.items
 
--- The reports tell the events of the history, one by one.
+-- The last line, which says that the reports match the events of the history, one by one.
 abbrev pub audit_line : List ℕ
 audit_line = codes "audit ok\n"

@@ -1,4 +1,4 @@
--- What a run in threads prints.
+-- The text of a run in threads.
 use Rattle.std.specs.Prelude.{ℕ, List}
 use Rattle.realm_plan.specs.Plan.{Plan}
 use Rattle.run_program.specs.Order.{ScheduleIsNotRevealed}
@@ -13,13 +13,14 @@ use Rattle.realm_program.specs.declared.fault.Fault.TheVariants.{Memory, Stuck, 
 abbrev pub IsThreadsText : (ℕ → ℕ → Type 0) → (ℕ → ℕ → Type 0) → Plan → List ℕ → Type 0
 IsThreadsText passes stops plan text = threads.IsWorkersText plan passes stops (opening_host plan) text
 
--- Why there is no such text: allocation failed, a worker waited in vain, or a report does not fit the history.
+-- The reason why there is no such text: allocation failed, a worker waited in vain, or a report does not match the
+-- history.
 abbrev pub IsWithoutThreadsText : (ℕ → ℕ → Type 0) → (ℕ → ℕ → Type 0) → Plan → Fault → Type 0
 IsWithoutThreadsText passes stops plan Memory = Unit {0}
 IsWithoutThreadsText passes stops plan (Stuck build) = threads.IsWithoutWorkersText plan passes stops (opening_host plan) (why.Stuck build)
 IsWithoutThreadsText passes stops plan Mismatch = threads.IsWithoutWorkersText plan passes stops (opening_host plan) why.Mismatch
 IsWithoutThreadsText passes stops plan fault = ⊥
 
--- The order in which the builds of a run came through the lock is not printed, whatever the plan.
+-- The sequence in which the builds of a run took the lock is not printed, whatever the plan.
 abbrev pub ScheduleIsNotPrinted : (ℕ → ℕ → Type 0) → (ℕ → ℕ → Type 0) → Type 0
 ScheduleIsNotPrinted passes stops = (plan : Plan) → ScheduleIsNotRevealed plan passes stops (opening_host plan)

@@ -1,4 +1,4 @@
--- Runs of a plan in threads, and what is printed of one.
+-- Runs of a plan in threads, and the text of one.
 use Rattle.std.specs.Prelude.{◌≡◌, ◌⊎◌, ℕ, true, false, List, [], ◌++◌, map, length, All}
 use Rattle.std.specs.Global.{Vec}
 use Rattle.std.specs.List.{AllZip, flat_map, range_with_len}
@@ -34,14 +34,14 @@ new_workers plan = map (new_worker plan) (range_with_len 0 (length plan.builds))
 abbrev pub worker_seats : List WorkerView → List SeatView
 worker_seats workers = map (λ worker. worker.seat) workers
 
--- what a worker leaves as a report, with its steps
+-- the report that a worker leaves, with its steps
 abbrev pub IsReportOf : WorkerView → Report × Vec Step → Type 0
 IsReportOf worker (report, asks) = (report.build ≡ worker.seat.build) × (report.lines.items ≡ worker.lines) × (asks.items ≡ worker.steps)
 
 -- ---- runs
 
--- The workers of the plan's builds have run, started with the host `opened`, and this is the host that they leave. For
--- each build, the gate lets the turns of `passes` pass, and stops those of `stops`.
+-- The workers of the plan's builds have run, started with the host `opened`, and this is the host after them. For each
+-- build, the gate lets the turns of `passes` pass, and stops those of `stops`.
 pub record IsEndedRun (plan : Plan) (passes stops : ℕ → ℕ → Type 0) (opened host : HostView) (workers : List WorkerView) : Type 0 where
   pub run : AreRun opened passes stops (new_workers plan) workers
   pub ended : All (λ worker. worker.ended ≡ true) workers
@@ -55,19 +55,19 @@ pub record AreLeft (plan : Plan) (passes stops : ℕ → ℕ → Type 0) (opened
   pub seats_are : seats ≡ worker_seats workers
   pub reports_are : AllZip IsReportOf workers reports
 
--- the worker's accepted lines tell its build's events in the history, one by one
+-- the worker's accepted lines match its build's events in the history, one by one
 abbrev pub WorkerFits : List Event → WorkerView → Type 0
 WorkerFits history worker = DoesFit worker.seat.build worker.steps worker.lines history
 
--- ---- what is printed
+-- ---- the text
 
 -- the lines of a worker's report
 abbrev pub worker_text : Plan → WorkerView → List ℕ
 worker_text plan worker = report_text worker.seat.build (steps_of_build plan worker.seat.build) worker.lines
 
--- The text of some run in which each worker has ended: its history is legal, each seat has what the history has of the
--- seat's build, and each report fits the history. The text is the lines of the reports by build, the map of the
--- history, and the line of the audit.
+-- The text of some run in which each worker has ended: its history is legal, each seat has its build's part of the
+-- history, and each report matches the history. The text is the lines of the reports by build, the map of the history,
+-- and the line of the audit.
 pub record IsWorkersText (plan : Plan) (passes stops : ℕ → ℕ → Type 0) (opened : HostView) (text : List ℕ) : Type 0 where
   pub host : HostView
   pub workers : List WorkerView
@@ -78,14 +78,15 @@ pub record IsWorkersText (plan : Plan) (passes stops : ℕ → ℕ → Type 0) (
 
 -- ---- why there is no text
 
--- In some run the worker of this build, and of no lower one, has waited in vain for its next turn, which the gate stops.
+-- In some run the worker of this build, and of no lower one, has waited in vain for its next turn, which the gate
+-- stops.
 pub record IsStuck (plan : Plan) (passes stops : ℕ → ℕ → Type 0) (opened : HostView) (build : ℕ) : Type 0 where
   pub workers : List WorkerView
   pub run : AreRun opened passes stops (new_workers plan) workers
   pub waits : IsLowestWaiting workers build
 
--- Some run has ended with a seat whose events are not those that the history has of its build, or with a report that does not
--- fit.
+-- Some run has ended with a seat whose events are not its build's part of the history, or with a report that does not
+-- match.
 pub record IsMismatch (plan : Plan) (passes stops : ℕ → ℕ → Type 0) (opened : HostView) : Type 0 where
   pub host : HostView
   pub workers : List WorkerView

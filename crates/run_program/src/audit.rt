@@ -1,4 +1,4 @@
-//! A report beside a history.
+//! The comparison of a report with a history.
 ghost use Rattle.std.specs.Prelude.{◌≡◌, ◌↔◌, ◌≤◌, length, drop, slice_get, true, IfOk, IfSome, OnOk};
 ghost use Rattle.std.specs.List.{All};
 ghost use Rattle.realm_model.specs.Stack.{pushed};
@@ -12,7 +12,7 @@ use host_commands::Step;
 use realm_model::{Act, Event};
 use std::alloc::{AllocError, Global};
 
-// The place of a build's next event from `from` on, or the end of the history.
+// The index of a build's next event from `from` on, or the end of the history.
 fn next_of(history: &[Event], build: BuildId, from: usize) -> usize
     requires { from ≤ length history.now }
     ensures within { result ≤ length history.now }
@@ -27,7 +27,7 @@ fn next_of(history: &[Event], build: BuildId, from: usize) -> usize
     history.len()
 }
 
-// What is open after one more act.
+// Follows an operation in the list of open ones.
 fn follow(opened: &mut Vec<Act>, act: &Act) -> Result<(), AllocError>
     ensures { OnOk result (opened.new.items ≡ pushed opened.old.items act.now) }
 {
@@ -39,15 +39,15 @@ fn follow(opened: &mut Vec<Act>, act: &Act) -> Result<(), AllocError>
     Ok(())
 }
 
-/// Whether the lines of a report tell the events of its build in a history, one by one.
+/// Whether the lines of a report match the events of its build in a history, one by one.
 ///
 /// The steps are the build's plan. The history is any list of events, and need not be legal. There are as many accepted
-/// lines as events of the build, and each asked for what its event did: for the command's act, page numbers turned into
-/// granules by the pages that the build had then, or for the reverse of what it had opened last. Its answer is the one
-/// that a host gives for that. A line of a mark tells how many acts were open. A line of a step that the plan does not
-/// have fits nowhere.
+/// lines as events of the build, and the question of each is that of its event. For a command, the event has the
+/// command's operation, with page numbers turned into granules by the pages that the build had then. For an undo, it
+/// has the reverse of what the build had opened last. The answer is the one that a host gives for that. A line of a
+/// mark has the number of operations that were open. A line of a step that the plan does not have matches nothing.
 ///
-/// The error comes where the list of what is open cannot grow, and only there.
+/// The one error is that the list of open operations cannot grow.
 pub fn fits(
     alloc: Global,
     history: &[Event],
@@ -70,7 +70,7 @@ pub fn fits(
     Ok(next == history.len())
 }
 
-/// Whether each of these reports fits the history, each beside the steps of its build's plan: as `fits` says of one.
+/// Whether each of these reports matches the history, each with the steps of its build's plan: as `fits` says of one.
 pub fn fit_all(
     alloc: Global,
     history: &[Event],

@@ -1,4 +1,4 @@
-//! What a command did, and what was told of it.
+//! The comparison of a command and its reply with an event.
 ghost use Rattle.std.specs.Prelude.{◌≡◌, ◌↔◌, length, IsTrue};
 ghost use Rattle.std.specs.List.{flat_map};
 ghost use Rattle.host_commands.specs.Replies.{reply_of};
@@ -11,7 +11,7 @@ use granule_addr::{RecNo, Vmid};
 use host_commands::{Allocated, Cmd, Reply, act_of, reply_of};
 use realm_model::Act;
 
-// What was picked for an act, as far as the act holds it.
+// The values that were allocated for an operation, as far as the operation holds them.
 fn allocated_for(act: &Act) -> Allocated
     ensures { result ≡ allocated_in act.now }
 {
@@ -29,7 +29,7 @@ fn allocated_for(act: &Act) -> Allocated
     allocated
 }
 
-// Whether an act is a command's, of the granules of its pages.
+// Whether an operation is a command's, of the granules of its pages.
 fn is_made_of(opened: &[Act], cmd: &Cmd, act: &Act) -> bool
     ensures { IsTrue result ↔ IsMadeOf (flat_map pages_held opened.now) cmd.now act.now }
 {
@@ -42,7 +42,7 @@ fn is_made_of(opened: &[Act], cmd: &Cmd, act: &Act) -> bool
     }
 }
 
-// Whether an act is a command's. The block of a Take may be any.
+// Whether an operation is a command's. The block of a Take may be any.
 fn is_act_of(opened: &[Act], cmd: &Cmd, act: &Act) -> bool
     ensures { IsTrue result ↔ IsFittingAct (flat_map pages_held opened.now) cmd.now act.now }
 {
@@ -53,7 +53,7 @@ fn is_act_of(opened: &[Act], cmd: &Cmd, act: &Act) -> bool
     }
 }
 
-// Whether a reply is that to an act. A Take is told how many pages there were.
+// Whether a reply is that to an operation. The reply to a Take is the number of pages before it.
 fn is_reply_to(opened: &[Act], reply: &Reply, act: &Act) -> bool
     ensures { IsTrue result ↔ (reply.now ≡ reply_of (length (flat_map pages_held opened.now)) act.now) }
 {
@@ -64,7 +64,7 @@ fn is_reply_to(opened: &[Act], reply: &Reply, act: &Act) -> bool
     }
 }
 
-/// Whether a command of a build that has these acts open did this act, and was told this of it.
+/// Whether a command of a build that has these operations open performed this operation, and got this reply to it.
 pub(crate) fn is_replied(opened: &[Act], cmd: &Cmd, reply: &Reply, act: &Act) -> bool
     ensures { IsTrue result ↔ IsFittingReply (flat_map pages_held opened.now) cmd.now reply.now act.now }
 {

@@ -1,4 +1,4 @@
-//! Why there is no text of a run in threads.
+//! The faults of a run in threads that has no text.
 ghost use Rattle.std.specs.Prelude.{◌≡◌};
 ghost use Rattle.run_program.specs.declared.fault.RunFault.TheVariants.{Memory};
 
@@ -6,7 +6,7 @@ use granule_addr::BuildId;
 use std::alloc::AllocError;
 use thiserror::Error;
 
-/// Why there is no text of a run in threads.
+/// The reason why there is no text of a run in threads.
 #[derive(Clone, Copy, Debug, PartialEq, Eq, Error)]
 pub enum RunFault {
     /// Allocation failed.

@@ -1,4 +1,4 @@
-//! Laws of what fits.
+//! A theorem on reports and histories.
 ghost use Rattle.std.specs.Prelude.{ℕ};
 ghost use Rattle.host_ledger.specs.View.{HostView};
 ghost use Rattle.host_ledger.specs.declared.mark.Mark.{Mark};
@@ -7,8 +7,8 @@ ghost use Rattle.host_commands.specs.declared.reply.Reply.{Reply};
 ghost use Rattle.host_commands.specs.declared.undo_reply.Undone.{Undone};
 ghost use Rattle.run_program.specs.Hosts.{HostReplyFits, HostUndoFits, HostMarkFits};
 
-/// What a host answers to an accepted command or undo fits the one event that ends its history then, by what the build had
-/// before it. What it tells of a mark fits too.
+/// A host's answer to an accepted command or undo matches the one event that ends its history then, by what the build
+/// had before it. Its answer to a mark matches too.
 pub fn answers_of_a_host_fit()
     ensures reply { (host : HostView) (build : ℕ) (cmd : Cmd) (reply : Reply) (new : HostView) → HostReplyFits host build cmd reply new }
     ensures undo { (host : HostView) (build : ℕ) (undone : Undone) (new : HostView) → HostUndoFits host build undone new }

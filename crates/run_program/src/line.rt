@@ -1,4 +1,4 @@
-//! Whether a line fits.
+//! The comparison of a report's line with an event.
 ghost use Rattle.std.specs.Prelude.{◌≡◌, ◌↔◌, Option, slice_get, IsTrue, IsSomeAnd};
 ghost use Rattle.std.specs.List.{flat_map};
 ghost use Rattle.realm_model.specs.History.{pages_held};
@@ -20,7 +20,8 @@ pub(crate) fn is_done(answer: &Answer) -> bool
     matches!(answer, Answer::Replied(_) | Answer::Undone(_))
 }
 
-// Whether the answer to a command fits a build that has these acts open, and its next event at a place of the history.
+// Whether the answer to a command matches a build that has these operations open, and its next event at an index of the
+// history.
 fn command_fits(opened: &[Act], history: &[Event], next: usize, cmd: &Cmd, answer: &Answer) -> bool
     ensures { IsTrue result ↔ AnswerFits (flat_map pages_held opened.now) opened.now (slice_get history.now next) (question.Do cmd.now) answer.now }
 {
@@ -34,7 +35,7 @@ fn command_fits(opened: &[Act], history: &[Event], next: usize, cmd: &Cmd, answe
     }
 }
 
-// Whether the answer to an undo fits.
+// Whether the answer to an undo matches.
 fn undo_fits(opened: &[Act], history: &[Event], next: usize, answer: &Answer) -> bool
     ensures { IsTrue result ↔ AnswerFits (flat_map pages_held opened.now) opened.now (slice_get history.now next) question.Undo answer.now }
 {
@@ -48,7 +49,7 @@ fn undo_fits(opened: &[Act], history: &[Event], next: usize, answer: &Answer) ->
     }
 }
 
-// Whether the answer to a mark fits, whatever event is the next.
+// Whether the answer to a mark matches, whatever event is the next.
 fn mark_fits(opened: &[Act], answer: &Answer) -> bool
     ensures { (next : Option Event) → IsTrue result ↔ AnswerFits (flat_map pages_held opened.now) opened.now next question.Mark answer.now }
 {
@@ -59,7 +60,7 @@ fn mark_fits(opened: &[Act], answer: &Answer) -> bool
     }
 }
 
-// Whether the answer to what a step asks fits.
+// Whether the answer to a step's question matches.
 fn step_fits(opened: &[Act], history: &[Event], next: usize, step: &Step, answer: &Answer) -> bool
     ensures { IsTrue result ↔ AnswerFits (flat_map pages_held opened.now) opened.now (slice_get history.now next) (question_of_step step.now) answer.now }
 {
@@ -70,8 +71,8 @@ fn step_fits(opened: &[Act], history: &[Event], next: usize, step: &Step, answer
     }
 }
 
-/// Whether a line of a build that has these acts open asks for something, and its answer fits. The build's next event is
-/// at that place of the history.
+/// Whether a line of a build that has these operations open has a question, and its answer matches. The build's next
+/// event is at that index of the history.
 pub(crate) fn line_fits(
     opened: &[Act],
     history: &[Event],

@@ -1,4 +1,4 @@
-//! A worker for each build of a plan.
+//! The workers of a plan's builds.
 ghost use Rattle.std.specs.Prelude.{◌≡◌, ◌<◌, map, vec_len, IfOk};
 ghost use Rattle.std.specs.List.{range_with_len};
 ghost use Rattle.realm_plan.specs.Asked.{asked};
@@ -11,7 +11,7 @@ use host_commands::Step;
 use realm_plan::{Plan, PlanStep};
 use std::alloc::{AllocError, Global};
 
-// What steps of a plan ask.
+// The questions of the steps of a plan.
 fn asked_of(alloc: Global, steps: &[PlanStep]) -> Result<Vec<Step>, AllocError>
     ensures { IfOk result (λ asks. asks.items ≡ map asked steps.now) }
 {
@@ -40,7 +40,7 @@ fn worker_of<L: Ledgers>(
     }
 }
 
-/// The worker of each build, which has asked nothing, in their order.
+/// The worker of each build, which has asked nothing, in sequence.
 pub fn workers_of<L: Ledgers>(
     alloc: Global,
     plan: &Plan,

@@ -1,4 +1,4 @@
-//! The granules of a command's pages, by what a build has open.
+//! The granules of a command's pages, from the operations that a build has open.
 ghost use Rattle.std.specs.Prelude.{◌≡◌, ◌↔◌, ◌+◌, ◌<◌, ◌≤◌, length, IsTrue, IfSome, IfNone};
 ghost use Rattle.std.specs.List.{flat_map, range_with_len};
 ghost use Rattle.host_commands.specs.Needs.{operands};
@@ -10,7 +10,7 @@ use granule_addr::{Gran, MOST_PAGES};
 use host_commands::{Cmd, tables_named};
 use realm_model::Act;
 
-// How many pages an open act holds.
+// The number of pages that an open operation holds.
 fn held_count(act: &Act) -> u16
     ensures value { result ≡ length (pages_held act.now) }
     ensures few { result ≤ 512 }
@@ -21,7 +21,7 @@ fn held_count(act: &Act) -> u16
     }
 }
 
-// The granule of one of the pages that an open act holds.
+// The granule of one of the pages that an open operation holds.
 fn held_granule(act: &Act, place: u16) -> Option<Gran>
     requires there { place < length (pages_held act.now) }
     requires few { place < 512 }
@@ -33,7 +33,7 @@ fn held_granule(act: &Act, place: u16) -> Option<Gran>
     }
 }
 
-// The granule of a page of a build that has these acts open.
+// The granule of a page of a build that has these operations open.
 fn granule_at(opened: &[Act], page: usize) -> Option<Gran>
     ensures { result ≡ granule_of_number (flat_map pages_held opened.now) page }
 {
@@ -48,7 +48,7 @@ fn granule_at(opened: &[Act], page: usize) -> Option<Gran>
     None
 }
 
-/// Whether a build that has these acts open has `count` pages.
+/// Whether a build that has these operations open has `count` pages.
 pub(crate) fn has_pages(opened: &[Act], count: u16) -> bool
     ensures { IsTrue result ↔ (length (flat_map pages_held opened.now) ≡ count) }
 {
@@ -63,7 +63,7 @@ pub(crate) fn has_pages(opened: &[Act], count: u16) -> bool
     left == 0
 }
 
-// Puts the granules of these pages at the end. None where one of them is not there, or is no granule of a machine.
+// Appends the granules of these pages. None if one of them is not there, or is no granule of a machine.
 fn push_granules(granules: &mut ArrayVec<Gran, 17>, opened: &[Act], pages: &[u16]) -> Option<()>
     requires room { length granules.old.items + length pages.now ≤ 17 }
     ensures some { IfSome result (λ _. ArePushed (flat_map pages_held opened.now) pages.now granules.old.items granules.new.items) }
@@ -75,7 +75,7 @@ fn push_granules(granules: &mut ArrayVec<Gran, 17>, opened: &[Act], pages: &[u16
     Some(())
 }
 
-// Puts the granules of `count` pages from `first` on at the end. None as above.
+// Appends the granules of `count` pages from `first` on. None as above.
 fn push_run(granules: &mut ArrayVec<Gran, 17>, opened: &[Act], first: u16, count: u16) -> Option<()>
     requires room { length granules.old.items + count ≤ 17 }
     ensures some { IfSome result (λ _. ArePushed (flat_map pages_held opened.now) (range_with_len first count) granules.old.items granules.new.items) }
@@ -87,8 +87,8 @@ fn push_run(granules: &mut ArrayVec<Gran, 17>, opened: &[Act], first: u16, count
     Some(())
 }
 
-/// The granules of the pages that a command names, for a build that has these acts open. None where one of the pages is
-/// not there, or is no granule of a machine.
+/// The granules of the pages that a command names, for a build that has these operations open. None if one of the pages
+/// is not there, or is no granule of a machine.
 #[tactic(auto, unfolding(host_commands::specs::Needs::operands))]
 pub(crate) fn granules_of(opened: &[Act], cmd: &Cmd) -> Option<ArrayVec<Gran, 17>>
     ensures some { IfSome result (λ granules. AreGranules (flat_map pages_held opened.now) (operands cmd.now) granules.items) }

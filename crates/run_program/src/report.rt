@@ -1,4 +1,4 @@
-//! The lines of a report.
+//! The text of a report: a line for each answer.
 ghost use Rattle.std.specs.Prelude.{◌≡◌, ◌++◌, OnOk, Some, string_bytes};
 ghost use Rattle.plan_replay.specs.Turn.{undoes_many};
 ghost use Rattle.run_program.specs.Report.{step_of_line, ends_step, answer_of_line, line_text, report_text};
@@ -10,7 +10,7 @@ use plan_replay::{TurnAnswer, push_turn};
 use realm_plan::PlanStep;
 use std::alloc::AllocError;
 
-// Whether a step undoes any number of acts, with a line for each.
+// Whether a step undoes any number of operations, with a line for each.
 fn undoes_many(step: &PlanStep) -> bool
     ensures { result ≡ undoes_many step.now }
 {
@@ -30,7 +30,7 @@ fn ends_step(asked: Asked, next: Option<ReportLine>) -> bool
     }
 }
 
-// What a line tells of its answer: of an undo, whether an abort or a step back ends with it.
+// The answer that a line has: of an undo, whether an abort or a step back ends with it.
 fn answer_of_line(answer: Answer, ends: bool) -> TurnAnswer
     ensures { result ≡ answer_of_line answer ends }
 {
@@ -44,7 +44,7 @@ fn answer_of_line(answer: Answer, ends: bool) -> TurnAnswer
     }
 }
 
-// Appends a line of a step. The next line is looked at only to see whether it is of that step too.
+// Appends a line of a step. The next line says only whether this step goes on.
 fn push_step_line(
     text: &mut String,
     build: BuildId,
@@ -58,7 +58,7 @@ fn push_step_line(
     push_turn(text, build, step, answer_of_line(line.answer, ends))
 }
 
-// Appends a line, if its step is in the plan. The next line is looked at only to see whether it is of the same step.
+// Appends a line, if its step is in the plan. The next line says only whether the step goes on.
 fn push_line(
     text: &mut String,
     build: BuildId,
@@ -81,9 +81,9 @@ fn push_line(
     }
 }
 
-/// Appends the lines of a report, each as the line of a turn: the build, the step as it stands in the plan, and the answer.
-/// An undo is told as `done` at the last line of an abort or a step back, also where the worker was cut short there. A line
-/// whose place the plan does not have is left out: no report of the plan has one. At an `Err` the text may have got a part.
+/// Appends the lines of a report, each as the line of a turn: the build, the step as it is in the plan, and the answer.
+/// An undo is `done` in the last line of an abort or a step back, also if the worker was stopped there. A line whose
+/// index the plan does not have is left out: no report of the plan has one. At an `Err` the text may have a part.
 pub(crate) fn push_report(
     text: &mut String,
     steps: &[PlanStep],

@@ -1,4 +1,4 @@
-//! A plan in, the text of its run in threads out.
+//! The run of a plan in threads, from a reader to a writer.
 ghost use Rattle.std.specs.Prelude.{◌≡◌, ◌+◌, ◌≤◌, ◌↔◌, ◌⊎◌, false, true, Err, IfOk, IfErr, string_bytes};
 ghost use Rattle.realm_plan.specs.PlanView.{plan_view};
 ghost use Rattle.realm_program.specs.Printed.{IsEnd};
@@ -18,7 +18,7 @@ use std::marker::Sync;
 use std::sync::Wait;
 use std::thread::Threads;
 
-// The program's word for why there is no text.
+// The fault of the program for a run that has no text.
 fn fault_of(fault: RunFault) -> Fault
     ensures { result ≡ fault_of_run fault }
 {
@@ -43,14 +43,14 @@ fn threads_text_of<H: Threads + Wait + Sync, G: Gate + Sync>(
     run_text(rt, alloc, plan, host, gate).map_err(fault_of)
 }
 
-/// Reads a plan, runs each of its builds by a worker in a thread of its own, with its turns from the gate, and writes
-/// the text of the run. The plan's order of turns plays no part. The order in which the builds came through the lock is
-/// not printed: runs of a plan in which each build got the same answers, with the same picks, have the same text.
+/// Reads a plan, and runs each of its builds by a worker in a thread of its own, with its turns from the gate. Writes
+/// the text of the run. The plan's schedule plays no part. The sequence in which the builds took the lock is not
+/// printed. Runs of a plan in which each build got the same answers, with the same allocations, have the same text.
 ///
-/// The text is made whole before any of it is written. Errors: the fault of a plan; Stuck, with the lowest build whose
-/// worker waited in vain for a turn; Mismatch, where the events of a build's seat are not what the history has of the
-/// build, or a report does not fit it; Memory, where allocation failed; Device, where a read failed and nothing is
-/// written, or where a write failed and a prefix of the text is written.
+/// The text is complete before any of it is written. Errors: the fault of a plan; Stuck, with the lowest build whose
+/// worker waited in vain for a turn; Mismatch, if the events of a build's seat are not the build's part of the history,
+/// or a report does not match it; Memory, if allocation failed; Device, if a read failed and nothing is written, or if
+/// a write failed and a prefix of the text is written.
 pub fn run<H: Threads + Wait + Sync, R: Read, W: Write, G: Gate + Sync>(
     rt: &H,
     alloc: Global,

@@ -1,4 +1,4 @@
-//! The text of a run.
+//! The text of a run in threads.
 ghost use Rattle.std.specs.Prelude.{◌≡◌, ◌++◌, ◌⊎◌, OnOk, IfOk, IfErr, All, string_bytes};
 ghost use Rattle.std.specs.List.{flat_map};
 ghost use Rattle.plan_replay.specs.Run.{map_text};
@@ -36,7 +36,8 @@ fn push_reports(
     Ok(())
 }
 
-// The lines of the reports, the map of the host, and the line that says that they fit. The one error is that allocation failed.
+// The lines of the reports, the map of the host, and the line that says that they match. The one error is that
+// allocation failed.
 fn text_of<S: PageStore>(
     alloc: Global,
     plan: &Plan,
@@ -52,7 +53,7 @@ fn text_of<S: PageStore>(
     Ok(text)
 }
 
-/// The text, if each report fits the host's history. Errors: Mismatch, where one does not; Memory, where allocation
+/// The text, if each report matches the host's history. Errors: Mismatch, if one does not; Memory, if allocation
 /// failed.
 pub fn audited_text_of<S: PageStore>(
     alloc: Global,

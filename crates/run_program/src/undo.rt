@@ -1,4 +1,4 @@
-//! What an undo did, and what was told of it.
+//! The comparison of an undo and its reply with an event.
 ghost use Rattle.std.specs.Prelude.{◌≡◌, ◌↔◌, Some, IsTrue};
 ghost use Rattle.realm_model.specs.Kind.{act_kind};
 ghost use Rattle.run_program.specs.Fitting.{IsFittingUndo};
@@ -16,7 +16,7 @@ fn is_of_kind(act: &Act, kind: Kind) -> bool
     }
 }
 
-/// Whether an undo of a build that has these acts open did this act, and was told this of it.
+/// Whether an undo of a build that has these operations open performed this operation, and got this reply to it.
 pub(crate) fn is_undone(opened: &[Act], undone: &Undone, act: &Act) -> bool
     ensures { IsTrue result ↔ IsFittingUndo opened.now undone.now act.now }
 {

@@ -1,4 +1,4 @@
-//! What workers leave.
+//! The seats and the reports that workers leave.
 ghost use Rattle.std.specs.Prelude.{◌≡◌, IfOk};
 ghost use Rattle.std.specs.List.{AllZip};
 ghost use Rattle.run_program.specs.Workers.{worker_seats, IsReportOf};
@@ -7,14 +7,14 @@ use builders::{Ledgers, Report, Seat, Worker};
 use host_commands::Step;
 use std::alloc::{AllocError, Global};
 
-/// What workers leave: the seats, and the reports, each with its steps.
+/// The results of workers: the seats, and the reports, each with its steps.
 #[derive(Drop)]
 pub struct Ends<L: Ledgers> {
     pub seats: Vec<Seat<L>>,
     pub reports: Vec<(Report, Vec<Step>)>,
 }
 
-/// The seat and the report of each worker, in their order.
+/// The seat and the report of each worker, in sequence.
 pub(crate) fn ends_of<L: Ledgers>(
     alloc: Global,
     workers: Vec<Worker<L>>,

@@ -1,4 +1,4 @@
-//! All builds of a plan at once.
+//! The run of all builds of a plan at once.
 ghost use Rattle.std.specs.Prelude.{◌≡◌, [], map, vec_len, string_bytes, IfOk, IfErr};
 ghost use Rattle.realm_plan.specs.PlanView.{plan_view};
 ghost use Rattle.run_program.specs.Workers.{AreLeft, IsWithoutWorkersText, IsWorkersText};
@@ -20,7 +20,7 @@ use std::marker::{Brand, Send, Sync};
 use std::sync::Wait;
 use std::thread::Threads;
 
-// Runs the workers of the plan's builds in new seats of a shared host to their end, and returns what they leave.
+// Runs the workers of the plan's builds in new seats of a shared host to their end, and returns their results.
 fn work_all<
     R: Threads + Wait + Sync,
     S: PageStore + Send,
@@ -100,12 +100,12 @@ fn run_with<
     run_shared(rt, alloc, plan, shared, seats, gate)
 }
 
-/// Runs each build of a plan by a worker in a thread of its own, on a host that has no history, and gives the text of the
-/// run, made whole in memory: the lines of the reports by build, the host's map, and `audit ok`. Runs in which each build got
-/// the same have the same map, in whatever order the builds came through the lock.
+/// Runs each build of a plan by a worker in a thread of its own, on a host that has no history. Returns the text of the
+/// run, complete in memory: the lines of the reports by build, the host's map, and `audit ok`. Runs in which each build
+/// got the same have the same map, in whatever sequence the builds took the lock.
 ///
-/// Errors: Stuck, with the lowest build whose worker waited in vain for a turn of the gate; Mismatch, where the host is not
-/// closed, or a report does not fit its history; Memory, where allocation failed.
+/// Errors: Stuck, with the lowest build whose worker waited in vain for a turn of the gate; Mismatch, if the host is
+/// not closed, or a report does not match its history; Memory, if allocation failed.
 pub fn run_text<R: Threads + Wait + Sync, S: PageStore + Drop + Send, G: Gate + Sync>(
     rt: &R,
     alloc: Global,

@@ -1,4 +1,4 @@
-//! How long a block takes to come and go.
+//! The time of taking a block and giving it back.
 use crate::{Fault, tell};
 use buddy::BuddyArena;
 use granule_addr::{Gran, Order};
@@ -7,7 +7,7 @@ use std::alloc::Global;
 
 const TIMES: u32 = 200_000;
 
-// A block of 512 pages is taken, as the store picks it, and given back.
+// Takes a block of 512 pages, by the store's choice, and gives it back.
 #[tactic(auto, using(page_arena::specs::Blocks::taken_block))]
 fn comes_and_goes(arena: &mut BuddyArena, order: Order) -> bool {
     match arena.take(order) {
@@ -19,7 +19,7 @@ fn comes_and_goes(arena: &mut BuddyArena, order: Order) -> bool {
     }
 }
 
-// The same block is taken by its name, and given back.
+// Takes the same block by its first granule, and gives it back.
 #[tactic(auto, using(page_arena::specs::Blocks::taken_block))]
 fn is_named_and_goes(arena: &mut BuddyArena, order: Order, first: Gran) -> bool {
     if !arena.take_at(order, first) {
@@ -29,8 +29,8 @@ fn is_named_and_goes(arena: &mut BuddyArena, order: Order, first: Gran) -> bool 
     true
 }
 
-/// Blocks of a store of `pages` pages come and go, by their names or as the store picks them. Nothing else happens
-/// between the lines.
+/// Takes and gives back blocks of a store of `pages` pages, by their first granules or by the store's choice. Nothing
+/// else happens between the lines.
 pub(crate) fn come_and_go(
     rt: &impl Print,
     alloc: Global,

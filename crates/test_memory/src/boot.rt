@@ -1,4 +1,4 @@
-//! A host that is booted once more where it was refused memory.
+//! The boot of a host, once more after it was refused memory.
 ghost use Rattle.std.specs.Prelude.{◌≡◌, [], true, length, replicate, IfOk};
 ghost use Rattle.granule_addr.specs.Page.{zero_page};
 
@@ -8,7 +8,7 @@ use page_arena::{BuildError, PageStore};
 use realm_host::{Host, Settings};
 use std::alloc::Global;
 
-// Boots over a store, and once more over the same one where there was no memory.
+// Boots over a store, and once more over the same one if there was no memory.
 fn boot<S: PageStore + Drop>(
     rt: &impl Print,
     alloc: Global,

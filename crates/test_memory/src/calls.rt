@@ -7,7 +7,7 @@ use granule_addr::{BuildId, PageOff, RecNo};
 use realm_host::{Cmd, Host, Mark, Refusal};
 use std::alloc::Global;
 
-/// How many calls were accepted, and how many refused.
+/// The numbers of calls that were accepted and that were refused.
 #[derive(Drop)]
 pub(crate) struct Tally {
     accepted: u32,
@@ -36,7 +36,7 @@ impl Tally {
     }
 }
 
-/// A command that makes a realm, lets a REC of it run, or asks for something else in turn.
+/// A command that creates a realm, enters a REC of it, or asks for something else in turn.
 pub(crate) fn command(turn: u8) -> Cmd {
     let offset = PageOff::new(4095).unwrap();
     match turn {
@@ -93,26 +93,26 @@ fn realm_command(turn: u8, offset: PageOff) -> Cmd {
         20 => Cmd::Exit {
             number: RecNo::new(0),
         },
-        // A page that the build has not got.
+        // A page that the build does not have.
         _ => Cmd::Fill { page: 8, value: 0 },
     }
 }
 
-/// How many commands there are.
+/// The number of commands.
 pub(crate) const TURNS: u8 = 22;
 
-// A build asks how far its mark is, and goes back to it.
+// Asks for a mark's distance, and goes back to it.
 fn go_back(host: &mut Host<BuddyArena>, build: BuildId, mark: &Mark, tally: &mut Tally) {
     tally.count(&host.check_back(build, *mark));
     tally.count(&host.rollback_to(build, *mark));
 }
 
-// The commands, and what a build can ask for beside them. The answers are counted.
+// Asks for the commands, and for what a build can ask for beside them. The answers are counted.
 fn ask_all(host: &mut Host<BuddyArena>, build: BuildId, tally: &mut Tally) {
     for turn in 0..TURNS {
         let answer = host.command(build, command(turn));
         tally.count(&answer);
-        // The newest act made the REC that runs, so this is refused.
+        // The newest operation created the REC that runs, so this is refused.
         if turn == 17 {
             tally.count(&host.undo(build));
         }
@@ -139,7 +139,7 @@ fn read_all(host: &Host<BuddyArena>, build: BuildId) -> u32 {
     seen.saturating_add(u32::from(has_realm))
 }
 
-/// Two builds make all calls of a host of their own. One of them aborts act by act, the other stays.
+/// Makes all calls of a host of its own for two builds. One of them aborts step by step, the other stays.
 pub(crate) fn all_calls(rt: &impl Print, alloc: Global) -> Result<Host<BuddyArena>, Fault> {
     let mut host = booted(rt, alloc)?;
     let mut tally = Tally::new();

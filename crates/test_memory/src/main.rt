@@ -1,8 +1,8 @@
-//! Tests alone: what was handed in comes back where memory is refused, and after that no call takes any.
+//! A test program: arguments come back if memory is refused, and after boot no call takes any.
 //!
-//! `tests/allocations` refuses each allocation of this program in turn: a host is then booted or shared, or a worker built, at
-//! the second try, from what came back of the first. It counts the allocations between a line `quiet` and the line after it,
-//! and compares the times of the last three such parts.
+//! `tests/allocations` refuses each allocation of this program in turn: a host is then booted or shared, or a worker
+//! built, at the second try, from what came back of the first. It counts the allocations between a line `quiet` and the
+//! line after it, and compares the times of the last three such parts.
 #![tactic(auto)]
 
 mod blocks;
@@ -17,10 +17,10 @@ use std::process::ExitCode;
 use std::sync::Wait;
 use std::thread::Threads;
 
-/// Why the program stops.
+/// The reason why the program stops.
 #[derive(Clone, Copy)]
 pub(crate) enum Fault {
-    /// Memory was refused where nothing was handed in.
+    /// Memory was refused to a call that got nothing to give back.
     Memory,
     /// Something else went wrong, which should not happen.
     Other,
@@ -38,12 +38,12 @@ impl<T: Drop> From<AllocFailed<T>> for Fault {
     }
 }
 
-/// Prints a line. Where that fails, the line is missing.
+/// Prints a line. If that fails, the line is missing.
 pub(crate) fn tell(rt: &impl Print, line: &str) {
     let _told = println!(rt; "{line}");
 }
 
-/// Something is done, at the first try or at the second.
+/// Prints that an action succeeded, at the first try or at the second.
 pub(crate) fn tell_try(rt: &impl Print, what: &str, is_second: bool) {
     let _told = if is_second {
         println!(rt; "{what} at the second try")

@@ -1,4 +1,4 @@
-//! Recorded events.
+//! Recorded events, applied to a fresh host.
 use crate::boot::booted;
 use crate::{Fault, tell};
 use buddy::BuddyArena;
@@ -6,7 +6,7 @@ use realm_host::Host;
 use realm_model::Event;
 use std::alloc::Global;
 
-// How many events of a history a host accepts, one after the other.
+// The number of events of a history that a host accepts, one after the other.
 fn apply_all(host: &mut Host<BuddyArena>, history: &[Event]) -> u32 {
     let mut applied: u32 = 0;
     for event in history {
@@ -15,7 +15,7 @@ fn apply_all(host: &mut Host<BuddyArena>, history: &[Event]) -> u32 {
     applied
 }
 
-/// A fresh host gets the whole history of another.
+/// Applies the whole history of a host to a fresh one.
 pub(crate) fn applies_again(
     rt: &impl Print,
     alloc: Global,

@@ -14,7 +14,7 @@ use std::marker::{Brand, Send, Sync};
 use std::sync::Wait;
 use std::thread::Threads;
 
-// Every call through the lock. The answers are counted.
+// Makes every call through the lock. The answers are counted.
 fn ask_all<R: Wait, L: Ledgers>(
     rt: &R,
     shared: &Shared<BuddyArena, L>,
@@ -35,7 +35,7 @@ fn ask_all<R: Wait, L: Ledgers>(
     tally.count(&shared.undo(rt, seat));
 }
 
-// Takes a page and fills it, and goes back to a mark.
+// Steps that take a page and fill it, and go back to a mark.
 fn few_steps(alloc: Global) -> Result<Vec<Step>, Fault> {
     let take = Step::Ask(Cmd::Take { order: 0 });
     let delegate = Step::Ask(Cmd::Delegate { page: 0 });
@@ -43,7 +43,7 @@ fn few_steps(alloc: Global) -> Result<Vec<Step>, Fault> {
     Ok(Vec::from_array(alloc, [take, Step::Mark, delegate, Step::Back, fill])?)
 }
 
-// A worker, built of what came back where there was no memory for one.
+// A worker, built of what came back if there was no memory for one.
 fn built_again<L: Ledgers>(
     alloc: Global,
     back: (AllocError, Seat<L>, Vec<Step>),
@@ -59,7 +59,7 @@ fn built_again<L: Ledgers>(
     }
 }
 
-// A worker for the last of the seats, built once more of what came back where there was no memory.
+// A worker for the last of the seats, built once more of what came back if there was no memory.
 fn last_worker<L: Ledgers>(
     rt: &impl Print,
     alloc: Global,
@@ -80,7 +80,7 @@ fn last_worker<L: Ledgers>(
     Ok(worker)
 }
 
-// One build asks through its seat, and the others' workers run. The answers are told.
+// Asks through one build's seat, and runs the others' workers. The answers are printed.
 fn in_quiet<R: Print + Threads + Wait + Sync, L: Ledgers + Send + Sync>(
     rt: &R,
     shared: &Shared<BuddyArena, L>,
@@ -117,7 +117,7 @@ fn ask_and_work<R: Print + Threads + Wait + Sync, L: Ledgers + Send + Sync>(
     Ok(())
 }
 
-// A shared host, started from what came back where there was no memory to share it.
+// A shared host, started from what came back if there was no memory to share it.
 fn shared_again<L: Ledgers>(
     alloc: Global,
     back: (AllocError, Blanks, Host<BuddyArena>),
@@ -133,7 +133,7 @@ fn shared_again<L: Ledgers>(
     }
 }
 
-// A shared host and its seats, started once more where there was no memory.
+// A shared host and its seats, started once more if there was no memory.
 fn started<L: Ledgers>(
     rt: &impl Print,
     alloc: Global,
@@ -171,7 +171,7 @@ fn close<L: Ledgers>(
     }
 }
 
-// Shares a host, and once more where there was no memory. It is closed in the end.
+// Shares a host, and once more if there was no memory. It is closed in the end.
 fn share<R: Print + Threads + Wait + Sync, L: Ledgers + Send + Sync>(
     rt: &R,
     alloc: Global,
@@ -187,7 +187,7 @@ fn share<R: Print + Threads + Wait + Sync, L: Ledgers + Send + Sync>(
     close(rt, shared, seats)
 }
 
-/// A shared host is started, worked on and closed.
+/// Starts a shared host, works on it and closes it.
 pub(crate) fn work<R: Print + Threads + Wait + Sync>(rt: &R, alloc: Global) -> Result<(), Fault> {
     let host = booted(rt, alloc)?;
     share::<R, Brand>(rt, alloc, Blanks::new(), host)
