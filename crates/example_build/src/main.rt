@@ -1,4 +1,4 @@
-//! One build by calls: commands, a refusal that is matched on, an undo, an abort, and the history.
+//! An example of one build: commands, a refusal that is matched on, an undo, an abort, and the history.
 #![tactic(auto)]
 
 use anyhow::Result;
@@ -17,7 +17,7 @@ fn booted(alloc: Global) -> Result<Host<PlainStore>> {
     }
 }
 
-// Asks for a command, and tells the answer.
+// Asks for a command, and prints the answer.
 fn ask(rt: &impl Print, host: &mut Host<PlainStore>, build: BuildId, cmd: Cmd) -> io::Result<()> {
     match host.command(build, cmd) {
         Ok(reply) => println!(rt; "{reply:?}"),
@@ -44,7 +44,7 @@ fn build(rt: &impl Print, host: &mut Host<PlainStore>, build: BuildId) -> io::Re
     println!(rt; "{:?}", host.abort(build))
 }
 
-// Tells what a build is answered, the history that this leaves, and how many pages are free then.
+// Prints the answers of a build, its history, and the number of free pages after it.
 fn show(rt: &impl Print, host: &mut Host<PlainStore>) -> io::Result<()> {
     build(rt, host, BuildId::new(0).unwrap())?;
     for event in host.history() {

@@ -1,5 +1,5 @@
-//! A history from standard input, applied to a host event by event, up to the first that is refused; and the map that it
-//! leads to.
+//! An example of a history from standard input: it is applied to a host event by event, up to the first that is
+//! refused. Then the map of the host is printed.
 #![tactic(auto)]
 
 use anyhow::{Context, Result};
@@ -9,7 +9,7 @@ use realm_host::{Host, PlainStore, Settings};
 use std::alloc::Global;
 use std::io;
 
-// A host of the size that an opening names.
+// A host of the size in an opening.
 fn opened(alloc: Global, opening: &Opening) -> Result<Host<PlainStore>> {
     let settings = Settings::new(
         opening.vmids,
@@ -30,7 +30,7 @@ fn apply(host: &mut Host<PlainStore>, line: &str) -> Result<()> {
     Ok(())
 }
 
-// Applies the lines behind the first, and tells each, up to one that cannot be applied.
+// Applies the lines after the first, and prints each, up to one that cannot be applied.
 fn apply_all(rt: &impl Print, host: &mut Host<PlainStore>, text: &str) -> io::Result<()> {
     for line in text.lines().skip(1) {
         if let Err(error) = apply(host, line) {

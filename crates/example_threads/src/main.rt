@@ -1,4 +1,5 @@
-//! Two builds in threads of their own, on one host behind a lock: each has a seat, and the seats close the host.
+//! An example of two builds in threads of their own, on one host behind a lock: each has a seat, and the seats close
+//! the host.
 #![tactic(auto)]
 
 ghost use Rattle.std.specs.Prelude.{◌≡◌, [], IfOk};
@@ -21,7 +22,7 @@ fn booted(alloc: Global) -> Result<Host<PlainStore>>
     Ok(Host::boot(alloc, settings, store).map_err(|(error, _store)| error)?)
 }
 
-// What each build does: it takes two pages, delegates the first, and fills the second.
+// Builds in one thread: takes two pages, delegates the first, and fills the second.
 fn build<L: Ledgers>(
     rt: &impl Wait,
     shared: &Shared<PlainStore, L>,

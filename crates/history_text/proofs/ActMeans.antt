@@ -1,4 +1,4 @@
--- An act in its ranges is what its word and numbers mean.
+-- The meaning of an operation's own word and numbers, if they are in its ranges.
 use Rattle.std.proofs.Common.{◌≡◌, ℕ, ◌≤◌, [], ◌∷◌, replicate, true, eqb, ltb, not, Some, refl}
 use Rattle.std.specs.List.{list_all}
 use Rattle.std.proofs.lemmas.Bool.{le-leb}

@@ -1,4 +1,4 @@
--- A word and its numbers mean no act but the one that they spell.
+-- The spelling of the operation that a word and its numbers mean.
 use Rattle.std.proofs.Common.{◌≡◌, ℕ, List, Some, codes, refl}
 use Rattle.decimal_text.specs.Ranges.{AreAtMost}
 use Rattle.decimal_text.specs.Rows.{none, one, two, three, four}

@@ -1,4 +1,4 @@
--- Acts are a grammar: each is what its text means, and a text means no other.
+-- The grammar of operations: each is the meaning of its text, and of no other.
 use Rattle.std.proofs.Common.{◌≡◌, ℕ, List, Some, IsUtf8}
 use Rattle.std.proofs.lemmas.Str.{IsUtf8-from_ascii, IsAscii-append}
 use Rattle.decimal_text.proofs.Grammars.{IsGrammar, meaning_of_spelled, spelled_from_meaning}

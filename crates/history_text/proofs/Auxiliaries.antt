@@ -1,4 +1,4 @@
--- The granule of a REC, its number and its auxiliary granules are not more numbers than are read.
+-- A bound of the numbers of a REC: its granule, its number and its auxiliary granules are not more than are read.
 use Rattle.std.proofs.Common.{ℕ, zero, suc, ◌≤◌, List, [], ◌∷◌, ◌++◌, length, replicate, arith}
 use Rattle.decimal_text.specs.Numbers.{AreNumbers}
 use Rattle.decimal_text.specs.Ranges.{AreAtMost}

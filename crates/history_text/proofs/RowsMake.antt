@@ -1,4 +1,4 @@
--- What the rows with more than maxima make.
+-- The values of the rows with more conditions than maxima.
 use Rattle.std.proofs.Common.{◌≡◌, ℕ, ◌≤◌, List, [], ◌∷◌, length, replicate, Bool, true, false, get_or, cond, leb, ◌&&◌, Option, Some, None, option_map, refl, subst}
 use Rattle.std.specs.Option.{option_zip}
 use Rattle.std.proofs.lemmas.Bool.{le-leb, leb-true, and_parts}

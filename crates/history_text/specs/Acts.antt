@@ -1,4 +1,4 @@
--- The act that is written with a word and its numbers, as a function: a row for each word.
+-- The operation of a word and its numbers, as a function: a row for each word.
 use Rattle.std.specs.Prelude.{ℕ, nat_le, ◌&&◌, List, [], ◌∷◌, codes, if◌then◌else◌, Option, Some, None, option_map}
 use Rattle.std.specs.Option.{option_or}
 use Rattle.std.specs.Str.{bytes_eq}
@@ -81,6 +81,6 @@ act_at word ns =
     option_or (page_act_at word ns) (option_or (realm_act_at word ns)
     (option_or (table_act_at word ns) (option_or (data_act_at word ns) (rec_act_at word ns))))
 
--- the act of a text: the word before the first space, and a number behind each
+-- the operation of a text: the word before the first space, and a number after each
 abbrev pub act_of_text : List ℕ → Option Act
 act_of_text text = meaning_of_text act_at text

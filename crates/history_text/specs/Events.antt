@@ -1,10 +1,10 @@
--- Events as they are written.
+-- The text of an event.
 use Rattle.std.specs.Prelude.{◌≡◌, ℕ, ◌<◌, List, ◌∷◌, ◌++◌}
 use Rattle.std.specs.Fmt.{decimal}
 use Rattle.realm_model.specs.declared.act.Event.{Event}
 use Rattle.history_text.specs.Written.{act_text, IsActInRange}
 
--- the build, a space, and what it did
+-- the build, a space, and its operation
 abbrev pub event_text : Event → List ℕ
 event_text event = decimal event.build ++ (32 ∷ act_text event.act)
 

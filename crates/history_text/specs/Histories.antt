@@ -1,4 +1,4 @@
--- Histories as they are written: the size of the machine, and an event a line.
+-- The text of a history: the size of the machine, and an event a line.
 use Rattle.std.specs.Prelude.{◌≡◌, ℕ, ◌≤◌, List, [], ◌∷◌, ◌++◌, codes, Option, Some, None}
 use Rattle.std.specs.List.{flat_map}
 use Rattle.decimal_text.specs.Grammar.{spelled}
@@ -15,7 +15,7 @@ opening_numbers o = o.pages ∷ o.vmids ∷ o.aux ∷ o.history ∷ o.builds ∷
 abbrev pub opening_maxima : List ℕ
 opening_maxima = 4096 ∷ 255 ∷ 16 ∷ 16384 ∷ 8 ∷ []
 
--- the first line: that this is a history, as they are written by version 1, and the size of the machine
+-- the first line: the word and the version of a history, and the size of the machine
 abbrev pub opening_text : Opening → List ℕ
 opening_text o = spelled (codes "history 1") (opening_numbers o)
 

@@ -1,6 +1,6 @@
--- Acts as they are written: a word, and its numbers in their ranges. Granules and IPA granules stand as their numbers,
--- the starting tables of a realm as the first of them and its IPA width. What was picked for an act, or answered to it,
--- stands last; only the auxiliary granules of a REC stand behind its number.
+-- The spelling of operations: a word, and its numbers in their ranges. Granules and IPA granules are their numbers, and
+-- the starting tables of a realm are the first of them and its IPA width. A value that was allocated or answered is
+-- last, but for the auxiliary granules of a REC, which are after its number.
 use Rattle.std.specs.Prelude.{ℕ, ◌≤◌, List, [], ◌∷◌, codes, replicate}
 use Rattle.arrayvec.specs.ArrayVec.{array_vec_len}
 use Rattle.decimal_text.specs.Grammar.{spelled}
@@ -26,7 +26,7 @@ offset = 4095
 abbrev pub ipa : ℕ
 ipa = 2147483647
 
--- the greatest IPA width. RMM 1.0, Realm attributes; which widths there are is this profile's own
+-- the greatest IPA width. RMM 1.0, Realm attributes; the range is this profile's own
 abbrev pub width : ℕ
 width = 43
 
@@ -56,7 +56,8 @@ written_act (Enter number) = written (codes "enter") (number ∷ []) (u16 ∷ []
 written_act (Exit number) = written (codes "exit") (number ∷ []) (u16 ∷ [])
 written_act (Poke number i o value) = written (codes "poke") (number ∷ i ∷ o ∷ value ∷ []) (u16 ∷ ipa ∷ offset ∷ u8 ∷ [])
 
--- Beside the maxima: the least IPA width, VMID and level of a table, and how many auxiliary granules a REC has at most.
+-- The bounds beside the maxima: the least IPA width, VMID and level of a table, and the most auxiliary granules of a
+-- REC.
 abbrev pub HasBounds : Act → Type 0
 HasBounds (Realm rd root vmid) = (39 ≤ root.width) × (1 ≤ vmid)
 HasBounds (UnRealm rd root vmid) = (39 ≤ root.width) × (1 ≤ vmid)
@@ -70,6 +71,6 @@ pub record IsActInRange (act : Act) : Type 0 where
   pub at_most : AreAtMost (written_act act).numbers (written_act act).maxima
   pub bounds : HasBounds act
 
--- the word, and each number in decimal behind one space
+-- the word, and each number in decimal after one space
 abbrev pub act_text : Act → List ℕ
 act_text act = spelled (written_act act).word (written_act act).numbers

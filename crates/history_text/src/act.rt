@@ -1,4 +1,4 @@
-//! The act that a word and its numbers are.
+//! The reading of an operation from a word and its numbers.
 ghost use Rattle.std.specs.Prelude.{◌≡◌, ◌≤◌};
 ghost use Rattle.decimal_text.specs.Rows.{none, one, two, three, four};
 ghost use Rattle.decimal_text.specs.Written.{u8, u16};
@@ -25,7 +25,7 @@ const U8: u32 = 255;
 
 const U16: u32 = 65_535;
 
-/// The most numbers that an act has: a REC's granule, its number, and its auxiliary granules.
+/// The most numbers of an operation: a REC's granule, its number, and its auxiliary granules.
 const MOST_NUMBERS: usize = 18;
 
 fn order_of(number: u32) -> Order
@@ -130,7 +130,7 @@ fn table(numbers: &[u32]) -> Option<(Gran, IpaGran, Level)>
     Some((granule_of(granule), ipa_of(ipa), level))
 }
 
-// The first IPA granule of a range, and how many there are.
+// The first IPA granule of a range, and the number of its granules.
 fn range(numbers: &[u32]) -> Option<(IpaGran, u16)>
     ensures { result ≡ two ipa u16 (λ i count. (i, count)) numbers.now }
 {
@@ -195,7 +195,7 @@ fn rec_number(numbers: &[u32]) -> Option<RecNo>
     Some(RecNo::new(number as u16))
 }
 
-// The number of a REC, the IPA granule and the offset that it writes at, and the value.
+// The number of a REC, the IPA granule and the offset of its write, and the value.
 fn written(numbers: &[u32]) -> Option<(RecNo, IpaGran, PageOff, u8)>
     ensures { result ≡ four u16 ipa offset u8 (λ number i o value. (number, i, o, value)) numbers.now }
 {
@@ -221,7 +221,7 @@ fn rec_act(word: &str, numbers: &[u32]) -> Option<Act>
     }
 }
 
-// The act that the word and its numbers are.
+// The operation that the word and its numbers are.
 fn act(word: &str, numbers: &[u32]) -> Option<Act>
     ensures { result ≡ act_at word.now numbers.now }
 {
@@ -232,8 +232,8 @@ fn act(word: &str, numbers: &[u32]) -> Option<Act>
         .or_else(|| rec_act(word, numbers))
 }
 
-/// The act that the text is: a word and its numbers, one space before each number and nothing else; the numbers in decimal,
-/// without a sign and without leading zeros, and each in its range. It takes no memory.
+/// The operation that the text is: a word and its numbers, one space before each number and nothing else. The numbers
+/// are in decimal, without a sign and without leading zeros, and each in its range. No memory is taken.
 pub fn act_from_text(text: &str) -> Option<Act>
     ensures { result ≡ act_of_text text.now }
 {

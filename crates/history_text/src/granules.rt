@@ -1,4 +1,4 @@
-//! Numbers of granules and of IPA granules.
+//! Numbers of granules and of IPA granules in a text.
 ghost use Rattle.std.specs.Prelude.{◌≡◌, ◌≤◌};
 ghost use Rattle.decimal_text.specs.Rows.{up_to};
 ghost use Rattle.history_text.specs.Written.{granule, ipa};
@@ -32,7 +32,7 @@ pub fn ipa_of(number: u32) -> IpaGran
     IpaGran::new(number, WIDEST).unwrap()
 }
 
-/// The granules, where there are no more than 16.
+/// The granules, if there are no more than 16.
 pub fn granules_of(numbers: &[u32]) -> Option<ArrayVec<Gran, MOST_AUXILIARIES>>
     ensures { result ≡ up_to 16 granule numbers.now }
 {

@@ -1,4 +1,4 @@
-//! Laws of events as text.
+//! Theorems on the text of events.
 ghost use Rattle.std.specs.Prelude.{◌≡◌, ℕ, ◌≤◌, List, length, replicate};
 ghost use Rattle.decimal_text.specs.Ranges.{AreAtMost};
 ghost use Rattle.realm_model.specs.declared.act.Event.{Event};
@@ -13,7 +13,7 @@ use realm_model::{Act, Event};
 /// The most bytes of a line, without its line feed.
 pub const MOST_LINE: u16 = 256;
 
-/// No two events have one text.
+/// No two events have the same text.
 pub fn event_texts_are_injective()
     ensures { (text : List ℕ) (a b : Event) → IsEventText text a → IsEventText text b → a ≡ b }
 {}
@@ -33,7 +33,7 @@ fn granules_in_range(granules: &[Gran])
     }
 }
 
-// Reading a number shows the range of its type.
+// Shows the range of a number's type, by reading it.
 fn read<T: Copy>(_numbers: T) {}
 
 fn act_in_range(act: &Act)

@@ -1,4 +1,4 @@
-//! The first line of a history.
+//! The first line of a history: the size of its machine.
 ghost use Rattle.std.specs.Prelude.{◌≡◌, ◌↔◌, true, IfSome, IfNone};
 ghost use Rattle.decimal_text.specs.Ranges.{AreAtMost};
 ghost use Rattle.history_text.specs.declared.opening.Opening.{Opening};
@@ -11,7 +11,7 @@ use std::fmt;
 const MAXIMA: [u32; 5] = [4096, 255, 16, 16_384, 8];
 
 /// The size of the machine of a history: its pages, its VMIDs, the auxiliary granules of each REC, the room of each
-/// build in the history, and the builds.
+/// build in the history, and the number of builds.
 #[derive(Clone, Copy)]
 pub struct Opening {
     pub pages: u16,
@@ -58,12 +58,13 @@ impl Opening {
     }
 }
 
-/// The opening that the line is, if it is one, and there is a machine of that size: of 1 to 4,096 pages, 1 to 255 VMIDs, up
-/// to 16 auxiliary granules, a room of 16 to 16,384, and 1 to 8 builds. It takes no memory.
+/// The opening that the line is, if it is one, and there is a machine of that size. A machine has 1 to 4,096 pages, 1
+/// to 255 VMIDs and up to 16 auxiliary granules. The room is 16 to 16,384, and there are 1 to 8 builds. No memory is
+/// taken.
 pub fn parse_opening(line: &[u8]) -> Option<Opening>
-    // What is found is the opening with this text.
+    // The opening that is returned has this text.
     ensures found { IfSome result (λ opening. IsOpeningText line.now opening) }
-    // Where none is found, no opening has this text.
+    // If none is returned, no opening has this text.
     ensures none { IfNone result ((opening : Opening) → IsOpeningText line.now opening → ⊥) }
 {
     let Some(rest) = line.strip_prefix(b"history 1") else {

@@ -1,4 +1,4 @@
-//! Acts as they are spelled.
+//! The words and the numbers of operations, as a history spells them.
 ghost use Rattle.std.specs.Prelude.{◌≡◌, [], ◌∷◌, ◌≤◌, length};
 ghost use Rattle.history_text.specs.Written.{written_act};
 
@@ -6,10 +6,10 @@ use arrayvec::ArrayVec;
 use granule_addr::{Gran, IpaGran, PageOff, RecNo, Root, Vmid};
 use realm_model::Act;
 
-/// As many numbers as an act can have: the granule of a REC, its number, and 16 auxiliary granules.
+/// The most numbers of an operation: the granule of a REC, its number, and 16 auxiliary granules.
 const MOST_NUMBERS: usize = 18;
 
-/// The word of an act.
+/// The word of an operation.
 pub fn word_of(act: &Act) -> &'static str
     ensures { result.now ≡ (written_act act.now).word }
 {
@@ -92,7 +92,7 @@ fn rec_numbers(granule: Gran, number: RecNo, auxiliaries: &[Gran]) -> ArrayVec<u
     numbers
 }
 
-/// The numbers of an act, in the order of its text.
+/// The numbers of an operation, in the order of its text.
 pub fn numbers_of(act: &Act) -> ArrayVec<u32, MOST_NUMBERS>
     ensures { result.items ≡ (written_act act.now).numbers }
 {

@@ -1,4 +1,4 @@
--- A run leaves the settings of its host as they are.
+-- The settings of a host, which a run leaves as they are.
 use Rattle.std.proofs.Common.{◌≡◌, ℕ, ◌-◌, ◌==◌, true, false, List, [], ◌∷◌, Option, Some, None, Result, Ok, Err, ap, ap₂, sym, ◌∙◌}
 use Rattle.std.specs.Bool.{OnTrue, OnFalse}
 use Rattle.host_ledger.specs.View.{HostView}

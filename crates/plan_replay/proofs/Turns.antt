@@ -1,4 +1,4 @@
--- The turn of a step does not count steps; and where a build is.
+-- The turn of a step, which does not count steps; and the cursor of a build.
 use Rattle.std.proofs.Common.{◌≡◌, ℕ, List, length, slice_index_or, ◌<◌, ◌≤◌, ◌-◌, arith, ◌==◌, true, false, Result, Ok, Err, ap}
 use Rattle.std.specs.Bool.{OnTrue, OnFalse}
 use Rattle.std.proofs.lemmas.List.{get_or_default}

@@ -1,4 +1,4 @@
--- What the turns of an abort tell of the machine.
+-- The meaning of an abort's turns for the machine.
 use Rattle.std.specs.Prelude.{◌≡◌, ℕ, [], true, false, Some}
 use Rattle.host_ledger.specs.View.{HostView, world_of, open_of, is_aborting}
 use Rattle.realm_model.specs.History.{erase, replay, IsLegal}
@@ -6,7 +6,8 @@ use Rattle.plan_replay.specs.Run.{Position, place_of}
 use Rattle.plan_replay.specs.declared.answer.TurnAnswer.{TurnAnswer}
 use Rattle.plan_replay.specs.declared.answer.TurnAnswer.TheVariants.{Undone, Ended, Nothing, Refused}
 
--- The build has nothing open and is out of abort, and the world is that of the history without the build's events, which is legal.
+-- The build has nothing open and is out of abort, and the world is that of the history without the build's events,
+-- which is legal.
 pub record HasLeftNothing (host : HostView) (build : ℕ) : Type 0 where
   pub none_open : open_of host build ≡ []
   pub over : is_aborting host build ≡ false
@@ -14,9 +15,9 @@ pub record HasLeftNothing (host : HostView) (build : ℕ) : Type 0 where
   pub legal_without : IsLegal host.limits (erase build host.history)
   pub no_trace : replay host.limits (erase build host.history) ≡ Some (world_of host)
 
--- What holds after a turn of an abort, by its answer. The abort is done: the build has left nothing. One act was undone, and more
--- are to come: the build is in abort. It is refused: this was the abort's first turn, and the host is as it was. There is no
--- other answer.
+-- The state after a turn of an abort, by its answer. The abort is done: the build has left nothing. One operation was
+-- undone, and more are to come: the build is in abort. It is refused: this was the abort's first turn, and the host is
+-- as it was. There is no other answer.
 abbrev pub ReportsOfAbort : TurnAnswer → Position → ℕ → Position → Type 0
 ReportsOfAbort (Ended kind) from build to = HasLeftNothing to.host build
 ReportsOfAbort Nothing from build to = HasLeftNothing to.host build

@@ -1,4 +1,4 @@
--- Where builds are in their plans.
+-- The cursors of builds in their plans.
 use Rattle.std.specs.Prelude.{◌+◌, ◌==◌, if◌then◌else◌, None}
 use Rattle.plan_replay.specs.declared.place.PlanCursor.{PlanCursor}
 

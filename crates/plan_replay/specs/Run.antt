@@ -1,4 +1,4 @@
--- The runs of a plan, and what is printed of one.
+-- The runs of a plan, and the text of one.
 use Rattle.std.specs.Prelude.{◌≡◌, ℕ, List, [], ◌∷◌, ◌++◌, length, replicate, sum, Option, Some, None, slice_get, slice_index, slice_index_or, slice_set, option_and_then}
 use Rattle.std.specs.List.{flat_map, range_with_len}
 use Rattle.host_ledger.specs.View.{HostView, world_of, pages_of_build}
@@ -18,12 +18,12 @@ use Rattle.plan_replay.specs.declared.place.PlanCursor.{PlanCursor}
 
 -- ---- runs
 
--- How far a run is: the host, and where each build is in its plan.
+-- The state of a run: the host, and the cursor of each build in its plan.
 pub record Position : Type 0 where
   pub host : HostView
   pub places : List PlanCursor
 
--- What is told of a turn: the build, and its step with the answer, or nothing where it has no step left.
+-- The line of a turn: the build, and its step with the answer, or nothing if it has no step left.
 pub record Turn : Type 0 where
   pub build : ℕ
   pub told : Option (PlanStep × TurnAnswer)
@@ -39,8 +39,8 @@ place_of places build = slice_index_or places build first_place
 abbrev pub step_after : Plan → ℕ → ℕ → Option PlanStep
 step_after plan build done = option_and_then (λ steps. slice_get steps done) (slice_get plan.builds build)
 
--- Without a step nothing changes. A step has its turn, with an answer that the host may give, and is used up once no undo of
--- it is left; until then the build's next turn is the step's again.
+-- Without a step nothing changes. A step has its turn, with an answer that the host may give, and is used up once no
+-- undo of it is left. Until then the build's next turn is the step's again.
 abbrev pub IsTurnOf : Option PlanStep → Position → Turn → Position → Type 0
 IsTurnOf None from turn to = (turn.told ≡ None) × (to ≡ from)
 IsTurnOf (Some step) from turn to =
@@ -79,7 +79,7 @@ page_text host build page =
 abbrev pub pages_text : HostView → ℕ → List ℕ
 pages_text host build = flat_map (page_text host build) (range_with_len 0 (length (pages_of_build host build)))
 
--- the line of a build's realm, where it has one
+-- the line of a build's realm, if it has one
 abbrev pub realm_text : ℕ → Option (RealmState × ℕ) → List ℕ
 realm_text build None = []
 realm_text build (Some realm) = realm_line build realm.0 realm.1
@@ -87,7 +87,7 @@ realm_text build (Some realm) = realm_line build realm.0 realm.1
 abbrev pub build_text : HostView → ℕ → List ℕ
 build_text host build = pages_text host build ++ realm_text build (realm_at (world_of host) build)
 
--- The map: the pages of each build in rising number, then its realm, and last how many pages nobody leases.
+-- The map: the pages of each build in rising number, then its realm, and last the number of pages that nobody leases.
 abbrev pub map_text : HostView → List ℕ
 map_text host = flat_map (build_text host) (range_with_len 0 8) ++ free_line (length (free_set (world_of host)))
 

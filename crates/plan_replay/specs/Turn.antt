@@ -1,4 +1,4 @@
--- What a turn does with its build's step, and what it tells of it.
+-- The effect of a turn by its build's step, and its answer.
 use Rattle.std.specs.Prelude.{◌≡◌, ℕ, ◌-◌, ◌==◌, Bool, true, false, if◌then◌else◌, Option, Some, None, Result, Ok, Err}
 use Rattle.std.specs.Bool.{OnTrue, OnFalse}
 use Rattle.host_ledger.specs.View.{HostView}
@@ -20,7 +20,7 @@ use Rattle.plan_replay.specs.declared.answer.TurnAnswer.{TurnAnswer}
 use Rattle.plan_replay.specs.declared.answer.TurnAnswer.TheVariants as tells
 use Rattle.plan_replay.specs.declared.place.PlanCursor.{PlanCursor}
 
--- ---- steps of one turn: the host's answer is told
+-- ---- steps of one turn: the answer is the host's
 
 abbrev pub answer_of_command : Result Reply Refusal → TurnAnswer
 answer_of_command (Ok reply) = tells.Replied reply
@@ -40,7 +40,7 @@ pub record IsUndoTurn (host : HostView) (build : ℕ) (answer : TurnAnswer) (new
   pub is_answer : IsAnswer host build call.Undo (undone result) new
   pub told : answer ≡ answer_of_undo result
 
--- a mark is told by its length
+-- the answer of a mark is its length
 abbrev pub answer_of_mark : Result Mark Refusal → TurnAnswer
 answer_of_mark (Ok mark) = tells.Marked mark.length
 answer_of_mark (Err refusal) = tells.Refused refusal
@@ -58,18 +58,18 @@ pub record IsMarkTurn (host : HostView) (build : ℕ) (place : PlanCursor) (answ
 
 -- ---- steps of many turns: an undo at each
 
--- An abort and a step back undo any number of acts, with a line for each.
+-- An abort and a step back undo any number of operations, with a line for each.
 abbrev pub undoes_many : PlanStep → Bool
 undoes_many (Whole Abort) = true
 undoes_many (Whole Back) = true
 undoes_many _ = false
 
--- The kind of what was undone is told, and whether it was the last.
+-- The answer is the kind of the operation that was undone, and whether it was the last.
 abbrev pub answer_of_one : ℕ → Result Undone Refusal → TurnAnswer
 answer_of_one left (Ok it) = if left == 0 then tells.Ended it.kind else tells.Undone it.kind
 answer_of_one left (Err refusal) = tells.Refused refusal
 
--- nothing is left to do where an undo is refused
+-- nothing is left to do if an undo is refused
 abbrev pub left_after : ℕ → Result Undone Refusal → ℕ
 left_after left (Ok it) = left
 left_after left (Err refusal) = 0
@@ -81,14 +81,14 @@ pub record IsOneOfMany (host : HostView) (build : ℕ) (place : PlanCursor) (lef
   pub told : answer ≡ answer_of_one left result
   pub place_is : after ≡ record place { left = left_after left result }
 
--- The turn of a step that has a number of acts to undo, or is refused: one of the acts is undone, if there is any.
+-- The turn of a step that has a number of operations to undo, or is refused: one of them is undone, if there is any.
 abbrev pub IsTurnOfMany : Result ℕ Refusal → HostView → ℕ → PlanCursor → TurnAnswer → HostView → PlanCursor → Type 0
 IsTurnOfMany (Err refusal) host build place answer new after = (answer ≡ tells.Refused refusal) × (new ≡ host) × (after ≡ place)
 IsTurnOfMany (Ok count) host build place answer new after =
     OnTrue (count == 0) ((answer ≡ tells.Nothing) × (new ≡ host) × (after ≡ place))
     × OnFalse (count == 0) (IsOneOfMany host build place (count - 1) answer new after)
 
--- How many acts an abort has to undo. Its first turn begins it.
+-- The number of operations that an abort has to undo. Its first turn begins it.
 abbrev pub IsToAbort : HostView → ℕ → PlanCursor → Result ℕ Refusal → HostView → Type 0
 IsToAbort host build place count new =
     OnTrue (place.left == 0) (IsBegun host build count new)
@@ -100,12 +100,12 @@ pub record IsAbortTurn (host : HostView) (build : ℕ) (place : PlanCursor) (ans
   pub to_undo : IsToAbort host build place count begun
   pub is_turn : IsTurnOfMany count begun build place answer new after
 
--- how many acts are above the build's last mark
+-- the number of operations above the build's last mark
 abbrev pub above_mark : HostView → ℕ → Option Mark → Result ℕ Refusal
 above_mark host build (Some mark) = way_back host build mark
 above_mark host build None = Err NothingToUndo
 
--- How many acts a way back has to undo. Its first turn asks for those above the build's last mark.
+-- The number of operations that a way back has to undo. Its first turn asks for those above the build's last mark.
 abbrev pub to_go_back : HostView → ℕ → PlanCursor → Result ℕ Refusal
 to_go_back host build place = if place.left == 0 then above_mark host build place.mark else Ok place.left
 

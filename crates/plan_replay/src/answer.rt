@@ -1,19 +1,19 @@
-//! What turns tell, and how.
+//! The answer of a turn, and its text.
 use host_commands::{Refusal, Reply};
 use realm_host::Kind;
 use realm_plan::{KindWord, RefusalText, ReplyText};
 use std::fmt;
 
-/// What a turn tells of its step.
+/// The answer of a turn to its step.
 #[derive(Clone, Copy)]
 pub enum TurnAnswer {
     /// The command was accepted.
     Replied(Reply),
-    /// The build's point is kept, with that many acts open.
+    /// The build's point is kept as a mark, with that many operations open.
     Marked(u16),
-    /// An act was undone; if in an abort or a way back, more are to come.
+    /// An operation was undone; in an abort or a way back, more are to come.
     Undone(Kind),
-    /// The last act of an abort or of a way back was undone.
+    /// The last operation of an abort or of a way back was undone.
     Ended(Kind),
     /// An abort or a way back had nothing to undo.
     Nothing,

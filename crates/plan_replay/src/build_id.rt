@@ -1,9 +1,9 @@
-//! Builds by their place in a plan.
+//! The number of a build from its index in a plan.
 ghost use Rattle.std.specs.Prelude.{◌≡◌, ◌<◌};
 
 use granule_addr::BuildId;
 
-/// The build at a place.
+/// The build at an index of a plan.
 pub(crate) fn id_of(place: usize) -> BuildId
     requires { place < 8 }
     ensures { result ≡ place }

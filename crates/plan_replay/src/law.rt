@@ -1,4 +1,4 @@
-//! Laws of runs and maps.
+//! Theorems on runs and maps.
 ghost use Rattle.std.specs.Prelude.{◌≡◌, ℕ, List, Some};
 ghost use Rattle.host_ledger.specs.View.{HostView};
 ghost use Rattle.host_commands.specs.declared.cmd.Step.TheVariants.{Abort};
@@ -10,14 +10,15 @@ ghost use Rattle.plan_replay.specs.Aborts.{ReportsOfAbort};
 ghost use Rattle.plan_replay.specs.Run.{Position, Turn, start, IsTurn, AreTurns, map_text};
 ghost use Rattle.plan_replay.specs.declared.answer.TurnAnswer.{TurnAnswer};
 
-/// Hosts of the same machine in which each build did the same have the same map, in whatever order the builds did it.
+/// Hosts of the same machine in which each build did the same have the same map, in whatever schedule the builds did
+/// it.
 pub fn no_map_reveals_the_schedule()
     ensures { (host twin : HostView) → DidTheSame host twin → map_text twin ≡ map_text host }
 {}
 
-/// In a run from a host with a legal history, what the turns of an abort tell is true, whatever other builds did between them. After
-/// a turn that tells that the abort is done, its build has left nothing. After each earlier turn of the abort the build is in abort,
-/// and only the first can be refused.
+/// In a run from a host with a legal history, the lines of an abort's turns are true, whatever other builds did between
+/// them. After a turn whose line says that the abort is done, its build has left nothing. After each earlier turn of
+/// the abort the build is in abort, and only the first can be refused.
 pub fn aborts_are_reported()
     ensures { (plan : Plan) (host : HostView) (order : List ℕ) (turns : List Turn) (from to : Position) (turn : Turn) (answer : TurnAnswer)
         → IsLegal host.limits host.history → AreTurns plan order (start host) turns from → IsTurn plan from turn to

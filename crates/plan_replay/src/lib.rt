@@ -1,8 +1,9 @@
-//! The runs of a plan on a host: its turns, their lines, and the map of the host in the end.
+//! The run of a plan on a host: its turns, their lines, and the map of the host in the end.
 //!
-//! A turn asks the host for the next step of its build, and tells the step as it stands in the plan, with the host's own
-//! answer (`specs/Turn.antt`, `specs/Run.antt`, `specs/Text.antt`). An abort and a way back take a turn for each act that they
-//! undo. What a plan is and how a step is spelled is `realm_plan`'s; nothing here reads or writes a device.
+//! A turn asks the host for the next step of its build. Its line has the step as it is in the plan, with the host's own
+//! answer (`specs/Turn.antt`, `specs/Run.antt`, `specs/Text.antt`). An abort and a way back take a turn for each
+//! operation that they undo. `realm_plan` says what a plan is and how a step is spelled; nothing here reads or writes a
+//! device.
 #![tactic(auto)]
 
 mod answer;

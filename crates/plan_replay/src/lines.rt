@@ -7,8 +7,8 @@ use granule_addr::BuildId;
 use realm_plan::{PlanStep, StepText};
 use std::alloc::AllocError;
 
-/// Appends the line of a turn: the build, the step as it stands in the plan, and the answer. At an `Err` the text may have
-/// got a part of it.
+/// Appends the line of a turn: the build, the step as it is in the plan, and the answer. At an `Err` the text may have
+/// a part of it.
 pub fn push_turn(
     text: &mut String,
     build: BuildId,

@@ -1,11 +1,11 @@
-//! Where a build is in its plan.
+//! The cursor of a build in its plan.
 ghost use Rattle.std.specs.Prelude.{◌≡◌, ◌<◌};
 ghost use Rattle.plan_replay.specs.Place.{first_place, moved_on};
 
 use realm_host::Mark;
 
-/// Where a build is in its plan: how many steps it has done, how many undos are left of the one under way, and its last
-/// mark.
+/// The position of a build in its plan: the number of steps done, the number of undos left of the one under way, and
+/// its last mark.
 #[derive(Clone, Copy)]
 pub struct PlanCursor {
     pub done: usize,
@@ -14,7 +14,7 @@ pub struct PlanCursor {
 }
 
 impl PlanCursor {
-    /// Before the first step.
+    /// The cursor before the first step.
     pub fn first() -> PlanCursor
         ensures { result ≡ first_place }
     {
@@ -25,7 +25,7 @@ impl PlanCursor {
         }
     }
 
-    /// Behind a turn: its step is used up, unless undos of it are left.
+    /// Moves on after a turn: its step is used up, unless undos of it are left.
     pub fn move_on(&mut self)
         requires { self.old.done < 1024 }
         ensures { self.new ≡ moved_on self.old }

@@ -13,7 +13,7 @@ use realm_host::Host;
 use realm_plan::{Plan, PlanStep, push_idle};
 use std::alloc::AllocError;
 
-/// The step of a build that comes after `done` others; None where it has no more.
+/// The step of a build that comes after `done` others; None if it has no more.
 pub fn step_after(plan: &Plan, build: usize, done: usize) -> Option<&PlanStep>
     ensures value { option_map (λ step. step.now) result ≡ nth_step (plan_view plan.now) build done }
     ensures few { IfSome result (λ _. done < 1024) }
@@ -24,7 +24,7 @@ pub fn step_after(plan: &Plan, build: usize, done: usize) -> Option<&PlanStep>
     }
 }
 
-/// One turn of a build: its next step, if one is left, with what the host answered.
+/// One turn of a build: its next step, if one is left, with the host's answer.
 pub fn take_turn<'a, S: PageStore>(
     host: &mut Host<S>,
     plan: &'a Plan,
@@ -61,7 +61,7 @@ fn turn<S: PageStore>(
     }
 }
 
-/// Does the turns of a plan, and appends their lines. At an `Err` allocation failed.
+/// Performs the turns of a plan, and appends their lines. At an `Err` allocation failed.
 pub fn run_turns<S: PageStore>(
     host: &mut Host<S>,
     plan: &Plan,

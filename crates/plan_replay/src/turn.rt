@@ -1,4 +1,4 @@
-//! The turn of a step.
+//! The turn of a step, by the kind of the step.
 ghost use Rattle.std.specs.Prelude.{◌≡◌};
 ghost use Rattle.realm_plan.specs.Asked.{asked};
 ghost use Rattle.plan_replay.specs.Turn.{to_go_back, IsCommandTurn, IsUndoTurn, IsMarkTurn, IsOneOfMany, IsTurnOfMany, IsToAbort, IsAbortTurn, IsStepTurn};
@@ -66,7 +66,7 @@ fn one_of_many<S: PageStore>(
     }
 }
 
-// The turn of a step that has `count` acts to undo, or is refused.
+// The turn of a step that has `count` operations to undo, or is refused.
 fn turn_of_many<S: PageStore>(
     host: &mut Host<S>,
     build: BuildId,
@@ -82,7 +82,7 @@ fn turn_of_many<S: PageStore>(
     }
 }
 
-// How many acts an abort has to undo. Its first turn begins it.
+// The number of operations that an abort has to undo. Its first turn begins it.
 fn to_abort<S: PageStore>(
     host: &mut Host<S>,
     build: BuildId,
@@ -108,7 +108,7 @@ fn abort_turn<S: PageStore>(
     turn_of_many(host, build, place, count)
 }
 
-// How many acts a way back has to undo. Its first turn asks for those above the build's last mark.
+// The number of operations that a way back has to undo. Its first turn asks for those above the build's last mark.
 fn to_go_back<S: PageStore>(
     host: &Host<S>,
     build: BuildId,
@@ -132,7 +132,7 @@ fn back_turn<S: PageStore>(host: &mut Host<S>, build: BuildId, place: &mut PlanC
     turn_of_many(host, build, place, count)
 }
 
-// The turn of a build's step, and what it tells.
+// The turn of a build's step, and its answer.
 fn step_turn<S: PageStore>(
     host: &mut Host<S>,
     build: BuildId,
@@ -150,7 +150,8 @@ fn step_turn<S: PageStore>(
     }
 }
 
-/// The turn of a step of a build's plan, and what it tells. The place says afterwards how many undos of the step are left.
+/// The turn of a step of a build's plan, and its answer. The cursor says afterwards how many undos of the step are
+/// left.
 pub fn plan_turn<S: PageStore>(
     host: &mut Host<S>,
     build: BuildId,

@@ -1,4 +1,4 @@
--- The steps of a plan are spelled as they stand in its document.
+-- The spelling of a plan's steps, which is that in its document.
 use Rattle.std.proofs.Common.{◌≡◌, ℕ, ◌+◌, List, [], ◌∷◌, length, map, Option, Some, None, Result, Ok, Err, option_map, refl, sym, ap, inl, inr}
 use Rattle.std.specs.Prelude.{nat_lt, IfOk}
 use Rattle.std.proofs.lemmas.Bool.{cases_Bool}

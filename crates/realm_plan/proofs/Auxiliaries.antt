@@ -1,4 +1,4 @@
--- A REC's page and its auxiliary pages are not more numbers than are read.
+-- A bound of the numbers of a REC: its page and its auxiliary pages are not more than are read.
 use Rattle.std.proofs.Common.{ℕ, ◌≤◌, List, ◌∷◌, length, replicate, arith}
 use Rattle.decimal_text.specs.Numbers.{AreNumbers}
 use Rattle.decimal_text.specs.Ranges.{AreAtMost}

@@ -1,4 +1,4 @@
--- The parts of a plan are read one after another: the first that fails is its fault.
+-- The parts of a plan, read one after another: the first that fails is its fault.
 use Rattle.std.proofs.Common.{◌≡◌, ℕ, List, length, Result, Ok, refl}
 use Rattle.realm_plan.specs.declared.step.PlanStep.{PlanStep}
 use Rattle.realm_plan.specs.Contents.{Contents}

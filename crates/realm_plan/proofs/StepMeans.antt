@@ -1,4 +1,4 @@
--- A step in its ranges is what its word and numbers mean.
+-- The meaning of a step's own word and numbers, if they are in its ranges.
 use Rattle.std.proofs.Common.{◌≡◌, [], ◌∷◌, true, eqb, not, Some, refl}
 use Rattle.std.specs.List.{list_all}
 use Rattle.std.proofs.lemmas.Bool.{le-leb}

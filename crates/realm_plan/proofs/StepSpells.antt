@@ -1,4 +1,4 @@
--- A word and its numbers mean no step but the one that they spell.
+-- The spelling of the step that a word and its numbers mean.
 use Rattle.std.proofs.Common.{◌≡◌, ℕ, List, [], ◌∷◌, true, false, cond, leb, Some, None, option_map, codes, refl, subst}
 use Rattle.std.proofs.lemmas.Bool.{leb-true}
 use Rattle.decimal_text.specs.Ranges.{AreAtMost}

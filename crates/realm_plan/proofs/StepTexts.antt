@@ -1,4 +1,4 @@
--- Steps are a grammar: each is what its text means, and a text means no other.
+-- The grammar of steps: each is the meaning of its text, and of no other.
 use Rattle.std.proofs.Common.{◌≡◌, ℕ, List, Option, Some, None, sym, ◌∙◌}
 use Rattle.std.specs.Prelude.{IfSome, IfNone}
 use Rattle.decimal_text.proofs.Grammars.{IsGrammar, meaning_of_spelled, spelled_from_meaning}

@@ -1,4 +1,4 @@
--- The texts of what is answered.
+-- The texts of answers.
 use Rattle.std.specs.Prelude.{ℕ, List, [], ◌∷◌, ◌++◌, codes}
 use Rattle.std.specs.Fmt.{decimal}
 use Rattle.decimal_text.specs.Numbers.{spelled_numbers}
@@ -39,7 +39,7 @@ refusal_name (refusal.NoBlock order) = codes "11 NoBlock"
 refusal_name refusal.NoVmid = codes "12 NoVmid"
 refusal_name (refusal.Rmi rmi) = codes "13 Rmi"
 
--- what it is about: the page, the order, or the status and the index
+-- the numbers that it names: the page, the order, or the status and the index
 abbrev pub refusal_numbers : Refusal → List ℕ
 refusal_numbers (refusal.NotLeased page) = page ∷ []
 refusal_numbers (refusal.NoBlock order) = order ∷ []
@@ -49,7 +49,7 @@ refusal_numbers _ = []
 abbrev pub refusal_text : Refusal → List ℕ
 refusal_text refusal = refusal_name refusal ++ spelled_numbers (refusal_numbers refusal)
 
--- the build's number of the first page, the byte, the VMID or the REC's number, where one is told
+-- the numbers of a reply: the build's number of the first page, the byte, the VMID or the REC's number
 abbrev pub reply_numbers : Reply → List ℕ
 reply_numbers reply.Done = []
 reply_numbers (reply.FirstPage page) = page ∷ []

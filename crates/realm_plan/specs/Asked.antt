@@ -1,4 +1,4 @@
--- What a step asks of the host.
+-- The request of a step to the host.
 use Rattle.host_commands.specs.declared.cmd.Cmd.TheVariants.{Realm}
 use Rattle.host_commands.specs.declared.cmd.Step.{Step}
 use Rattle.host_commands.specs.declared.cmd.Step.TheVariants.{Ask}

@@ -1,4 +1,4 @@
--- What the keys of a plan hold, before any limit is looked at.
+-- The contents of a plan's keys, before limits are checked.
 use Rattle.std.specs.Prelude.{ℕ, ℤ, pos, Bool, true, ◌&&◌, List, [], ◌∷◌, codes, if◌then◌else◌, Option, Some, None, option_map, option_and_then}
 use Rattle.std.specs.List.{list_any}
 use Rattle.std.specs.Str.{bytes_eq}
@@ -14,7 +14,7 @@ abbrev pub has_only : List (List ℕ) → Members → Bool
 has_only names no_members = true
 has_only names (member key value more) = list_any (bytes_eq key) names && has_only names more
 
--- the whole number, or the default where there is no value
+-- the whole number, or the default if there is no value
 abbrev pub whole_of : Option ℤ → Option Data → Option ℤ
 whole_of default None = default
 whole_of default (Some value) = as_integer value
@@ -55,7 +55,7 @@ build_texts_of (item value more) = step_texts_of value >>= (λ b. option_map (λ
 abbrev pub builds_at : Members → Option (List (List (List ℕ)))
 builds_at ms = get_member (codes "build") ms >>= as_array >>= build_texts_of
 
--- where there is no order, it is the empty one
+-- if there is no schedule, it is the empty one
 abbrev pub order_numbers_of : Option Data → Option (List ℤ)
 order_numbers_of None = Some []
 order_numbers_of (Some value) = as_array value >>= wholes_of
@@ -68,7 +68,7 @@ pub record Contents : Type 0 where
   pub order : List ℤ
   pub builds : List (List (List ℕ))
 
--- What a document holds: nothing where a key is missing, unknown or of the wrong kind.
+-- The contents of a document: nothing if a key is missing, unknown or of the wrong kind.
 unfoldable pub contents_of : Members → Option Contents
 contents_of ms =
     if has_only plan_keys ms then

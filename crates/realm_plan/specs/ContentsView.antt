@@ -1,4 +1,4 @@
--- What the code's `Contents` stands for.
+-- The view of the code's `Contents`.
 use Rattle.std.specs.Prelude.{map}
 use Rattle.realm_plan.specs.Contents.{Contents}
 use Rattle.realm_plan.specs.declared.contents.Contents as code

@@ -1,4 +1,4 @@
--- Lines of an output that tell no answer.
+-- Lines of an output that have no answer.
 use Rattle.std.specs.Prelude.{ℕ, List, [], ◌∷◌, ◌++◌, codes}
 use Rattle.std.specs.Fmt.{decimal}
 use Rattle.decimal_text.specs.Numbers.{spelled_numbers}
@@ -21,13 +21,13 @@ state_word RecAux = codes "REC_AUX"
 state_word Data = codes "DATA"
 state_word Rtt = codes "RTT"
 
--- the sum of the bytes, which is told of a page that the host can read, and of a realm's data
+-- the sum of the bytes, which is in the line of a page that the host can read, and of a realm's data
 abbrev pub sum_numbers : GranuleState → ℕ → List ℕ
 sum_numbers Undelegated sum = sum ∷ []
 sum_numbers Data sum = sum ∷ []
 sum_numbers _ sum = []
 
--- the build, its number of the page, the state, and the sum of the page's bytes where it is told
+-- the build, its number of the page, the state, and the sum of the page's bytes if the line has it
 abbrev pub page_line : ℕ → ℕ → GranuleState → ℕ → List ℕ
 page_line build page state sum =
     decimal build ++ (codes " page" ++ (then_number page ++ (32 ∷ state_word state ++ (spelled_numbers (sum_numbers state sum) ++ 10 ∷ []))))
@@ -40,6 +40,6 @@ realm_word realm.Active = codes "ACTIVE"
 abbrev pub realm_line : ℕ → RealmState → ℕ → List ℕ
 realm_line build state vmid = decimal build ++ (codes " realm " ++ (realm_word state ++ (codes " vmid" ++ (then_number vmid ++ 10 ∷ []))))
 
--- how many pages nobody leases
+-- the number of pages that nobody leases
 abbrev pub free_line : ℕ → List ℕ
 free_line count = codes "free" ++ (then_number count ++ 10 ∷ [])

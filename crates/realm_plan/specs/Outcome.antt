@@ -1,4 +1,4 @@
--- A value or the one fault, and what a call says of it.
+-- A value or the one fault, and the result of a call that returns it.
 use Rattle.std.specs.Prelude.{◌≡◌, Result, Ok, Err, Option, Some, None}
 use Rattle.realm_plan.specs.declared.fault.PlanFault.{PlanFault}
 use Rattle.realm_plan.specs.declared.fault.PlanError.{PlanError}
@@ -9,7 +9,7 @@ abbrev pub ◌>>=◌ : {A B : Type 0} → Result A PlanFault → (A → Result B
 (Ok x) >>= f = f x
 (Err e) >>= f = Err e
 
--- the value, or this fault where there is none
+-- the value, or this fault if there is none
 abbrev pub or_fault : {A : Type 0} → PlanFault → Option A → Result A PlanFault
 or_fault fault None = Err fault
 or_fault fault (Some x) = Ok x
@@ -18,7 +18,7 @@ abbrev pub Fails : {Y : Type 0} → PlanError → Result Y PlanFault → Type 0
 Fails errors.Memory read = Unit {0}
 Fails (errors.Fault fault) read = read ≡ Err fault
 
--- A call gave what is read, as `view` sees it, or the fault that is read; too little memory says nothing.
+-- A call returned the value, as `view` sees it, or the fault. Its error of too little memory says nothing.
 abbrev pub Gives : {X Y : Type 0} → (X → Y) → Result X PlanError → Result Y PlanFault → Type 0
 Gives view (Ok x) read = read ≡ Ok (view x)
 Gives view (Err e) read = Fails e read

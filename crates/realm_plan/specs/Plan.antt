@@ -24,19 +24,19 @@ abbrev pub builds_of : ℕ → List (List (List ℕ)) → Result (List (List Pla
 builds_of b [] = Ok []
 builds_of b (texts ∷ more) = steps_of b 0 texts >>= (λ ss. builds_of (b + 1) more >>= (λ bs. Ok (ss ∷ bs)))
 
--- the build that an entry of the order names, among `count` builds
+-- the build that an entry of the schedule names, among `count` builds
 abbrev pub build_named : ℕ → ℤ → Option ℕ
 build_named count (pos n) = if nat_lt n count then Some n else None
 build_named count (negsuc n) = None
 
--- the builds of the turns from place k on
+-- the builds of the turns from index k on
 abbrev pub order_of : ℕ → ℕ → List ℤ → Result (List ℕ) PlanFault
 order_of count k [] = Ok []
 order_of count k (entry ∷ entries) = or_fault (fault.Order k) (build_named count entry) >>= (λ b. order_of count (k + 1) entries >>= (λ bs. Ok (b ∷ bs)))
 
 -- ---- limits
 
--- the number, where it is one from `low` to `high`
+-- the number, if it is one from `low` to `high`
 abbrev pub between : ℕ → ℕ → ℤ → Result ℕ PlanFault
 between low high (pos n) = if nat_le low n && nat_le n high then Ok n else Err fault.Limit
 between low high (negsuc n) = Err fault.Limit

@@ -1,4 +1,4 @@
--- What the code's `Plan` stands for.
+-- The view of the code's `Plan`.
 use Rattle.std.specs.Prelude.{map}
 use Rattle.realm_plan.specs.Plan.{Plan}
 use Rattle.realm_plan.specs.declared.plan.Plan as code

@@ -1,4 +1,4 @@
--- The step that is written with a word and its numbers, as a function: a row for each word.
+-- The step of a word and its numbers, as a function: a row for each word.
 use Rattle.std.specs.Prelude.{ℕ, nat_le, List, [], ◌∷◌, codes, if◌then◌else◌, Option, None, option_map}
 use Rattle.std.specs.Option.{option_or}
 use Rattle.std.specs.Str.{bytes_eq}
@@ -23,7 +23,7 @@ page_step_at word ns =
     else if bytes_eq word (codes "delegate") then one page (λ p. whole (Delegate p)) ns
     else None
 
--- a realm whose width is left out has two numbers, and three otherwise
+-- a realm without a width has two numbers, and three otherwise
 abbrev pub short_realm_at : List ℕ → Option PlanStep
 short_realm_at ns = two page page (λ rd root. WidthLeftOut rd root) ns
 
@@ -73,6 +73,6 @@ step_at word ns =
     option_or (page_step_at word ns) (option_or (realm_step_at word ns)
     (option_or (table_step_at word ns) (option_or (rec_step_at word ns) (way_back_step_at word ns))))
 
--- the step of a text: the word before the first space, and a number behind each
+-- the step of a text: the word before the first space, and a number after each
 abbrev pub step_of : List ℕ → Option PlanStep
 step_of text = meaning_of_text step_at text

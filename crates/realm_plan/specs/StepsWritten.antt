@@ -1,4 +1,4 @@
--- Steps as they are written: a word, and its numbers in their ranges, all of which begin at 0.
+-- The spelling of steps: a word, and its numbers in their ranges, all of which begin at 0.
 use Rattle.std.specs.Prelude.{◌≡◌, ℕ, ◌≤◌, List, [], ◌∷◌, codes, replicate}
 use Rattle.arrayvec.specs.ArrayVec.{array_vec_len}
 use Rattle.decimal_text.specs.Grammar.{spelled}
@@ -42,11 +42,11 @@ written_step (Whole Mark) = written (codes "mark") [] []
 written_step (Whole Back) = written (codes "back") [] []
 written_step (WidthLeftOut rd root) = written (codes "realm") (rd ∷ root ∷ []) (page ∷ page ∷ [])
 
--- the word, and each number in decimal behind one space
+-- the word, and each number in decimal after one space
 abbrev pub spelling_of : Written → List ℕ
 spelling_of it = spelled it.word it.numbers
 
--- how a plan spells a step, and a turn line tells it
+-- the spelling of a step in a plan and in the line of a turn
 abbrev pub spelling : PlanStep → List ℕ
 spelling step = spelling_of (written_step step)
 

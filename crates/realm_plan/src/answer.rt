@@ -1,4 +1,4 @@
-//! How a turn line tells what was answered.
+//! The text of an answer in the line of a turn.
 ghost use Rattle.std.specs.Prelude.{◌≡◌};
 ghost use Rattle.realm_plan.specs.Answers.{kind_word, refusal_name, refusal_numbers};
 
@@ -9,11 +9,11 @@ use host_commands::{Refusal, Reply};
 use realm_model::Kind;
 use std::fmt;
 
-/// The word for an act that was undone.
+/// The word for an operation that was undone.
 #[derive(Clone, Copy)]
 pub struct KindWord(pub Kind);
 
-/// The number and the name of a refusal, and what it is about.
+/// The number and the name of a refusal, and the numbers that it names.
 #[derive(Clone, Copy)]
 pub struct RefusalText(pub Refusal);
 
@@ -96,7 +96,7 @@ fn refusal_name(refusal: Refusal) -> &'static str
     }
 }
 
-// What a refusal is about.
+// The numbers that a refusal names.
 fn refusal_numbers(refusal: Refusal) -> ArrayVec<u32, MOST_NUMBERS>
     ensures { result.items ≡ refusal_numbers refusal }
 {

@@ -1,4 +1,4 @@
-//! The step that a word and its numbers are.
+//! The reading of a step from a word and its numbers.
 ghost use Rattle.std.specs.Prelude.{◌≡◌, codes};
 ghost use Rattle.decimal_text.specs.Rows.{none, one};
 ghost use Rattle.decimal_text.specs.Written.{u16};
@@ -37,7 +37,7 @@ fn page_step(word: &str, numbers: &[u32]) -> Option<PlanStep>
     }
 }
 
-// A realm whose width is left out.
+// A realm without a width.
 fn short_realm(numbers: &[u32]) -> Option<PlanStep>
     ensures { result ≡ short_realm_at numbers.now }
 {

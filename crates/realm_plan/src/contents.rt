@@ -1,4 +1,4 @@
-//! What the keys of a plan hold, before any limit is looked at.
+//! The contents of a plan's keys, before limits are checked.
 ghost use Rattle.std.specs.Prelude.{◌≡◌, List, map, Some, None, IfOk, option_map, option_and_then};
 ghost use Rattle.std.specs.List.{list_any};
 ghost use Rattle.std.specs.Str.{bytes_eq};
@@ -25,7 +25,7 @@ fn array_at<'a>(table: &'a Table, key: &str) -> Option<&'a Array>
     value_at(table, key)?.as_array()
 }
 
-/// The whole number at the key, or the default where the key is missing.
+/// The whole number at the key, or the default if the key is missing.
 fn whole_at(table: &Table, key: &str, default: Option<i64>) -> Option<i64>
     ensures { result ≡ whole_of default (get_member key.now (table_view table.now)) }
 {
@@ -154,7 +154,7 @@ fn builds_at<'a>(alloc: Global, table: &'a Table) -> Result<Option<Vec<Vec<&'a s
     builds_of(alloc, array)
 }
 
-/// The entries of the order. Where the key is missing there are none.
+/// The entries of the schedule. If the key is missing there are none.
 fn order_of(alloc: Global, value: Option<&Value>) -> Result<Option<Vec<i64>>, AllocError>
     ensures { IfOk result (λ r. option_map (λ v. v.items) r
         ≡ order_numbers_of (option_map (λ v. view v.now) value.entry)) }
@@ -168,7 +168,7 @@ fn order_of(alloc: Global, value: Option<&Value>) -> Result<Option<Vec<i64>>, Al
     wholes_of(alloc, array)
 }
 
-/// What a plan holds, before any limit is looked at.
+/// The contents of a plan, before limits are checked.
 #[derive(Drop)]
 pub struct Contents<'a> {
     pub pages: i64,
@@ -183,7 +183,7 @@ impl<'a> Contents<'a> {
     ghost use Rattle.realm_plan.specs.Contents.{contents_of};
     ghost use Rattle.realm_plan.specs.ContentsView.{contents_view};
 
-    /// What the document holds, or nothing where a key is missing, unknown or of the wrong kind.
+    /// The contents of the document, or nothing if a key is missing, unknown or of the wrong kind.
     #[tactic(auto, unfolding(crate::specs::Contents::contents_of))]
     pub fn of(alloc: Global, table: &'a Table) -> Result<Option<Contents<'a>>, AllocError>
         ensures { IfOk result (λ r. option_map contents_view r ≡ contents_of (table_view table.now)) }

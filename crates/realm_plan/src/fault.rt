@@ -1,11 +1,11 @@
-//! Why bytes are no plan.
+//! The faults of bytes that are no plan.
 ghost use Rattle.std.specs.Prelude.{◌≡◌};
 ghost use Rattle.realm_plan.specs.declared.fault.PlanError.TheVariants.{Memory};
 
 use std::alloc::{AllocError, AllocFailed};
 use thiserror::Error;
 
-/// The fault of the bytes. If they have several, it is the one that stands first here.
+/// The fault of the bytes. If they have several, it is the one that comes first here.
 #[derive(Clone, Copy, Debug, PartialEq, Eq, Error)]
 pub enum PlanFault {
     /// The bytes are no UTF-8, or no TOML.
@@ -20,12 +20,12 @@ pub enum PlanFault {
     /// An entry of `order` names no build: the first one, counted from 0.
     #[error("plan 23 order {place}")]
     Order { place: usize },
-    /// A number or a length is outside its limits. Where there are too many bytes, this comes before all others.
+    /// A number or a length is outside its limits. If there are too many bytes, this comes before all others.
     #[error("plan 24 limit")]
     Limit,
 }
 
-/// Why no plan is given.
+/// The reason why no plan is returned.
 #[derive(Clone, Copy, Debug, Error)]
 pub enum PlanError {
     /// Allocation failed.

@@ -1,4 +1,4 @@
-//! A law of steps.
+//! A theorem on steps.
 ghost use Rattle.std.specs.Prelude.{◌≡◌, ℕ, List};
 ghost use Rattle.realm_plan.specs.declared.step.PlanStep.{PlanStep};
 ghost use Rattle.realm_plan.specs.StepsWritten.{IsStepText};

@@ -1,8 +1,8 @@
-//! The plan of builds: from bytes to a plan, or to the one fault of the bytes.
+//! The plan of builds: the reading of bytes as a plan, or the one fault of the bytes.
 //!
-//! Values to values: nothing here reads a device or knows a host. `Plan::from_bytes` gives the plan that the bytes are, or
-//! the one fault that `plan_of` names. `step_from_text` reads a step, and `StepText` writes one; the texts of answers and the
-//! lines of a map are here too, so that each has one place.
+//! All functions go from values to values: none reads a device or knows a host. `Plan::from_bytes` returns the plan
+//! that the bytes are, or the one fault that `plan_of` names. `step_from_text` reads a step, and `StepText` writes one.
+//! The texts of answers and the lines of a map are here too, so that each has one place.
 #![tactic(auto)]
 
 mod answer;

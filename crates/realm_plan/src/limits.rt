@@ -29,7 +29,7 @@ pub struct Numbers {
     pub history: u16,
 }
 
-/// The number, where it is one from `low` to `high`.
+/// The number, if it is one from `low` to `high`.
 fn between(low: u16, high: u16, whole: i64) -> Result<u16, PlanError>
     ensures value { Gives (λ n. n) result (between_at low high whole) }
     ensures low { IfOk result (λ n. low ≤ n) }
@@ -52,7 +52,7 @@ fn within(holds: bool) -> Result<(), PlanError>
     }
 }
 
-/// The numbers, where each is within its limits.
+/// The numbers, if each is within its limits.
 #[tactic(auto, unfolding(crate::specs::Plan::plan_numbers_of))]
 pub fn numbers_of(contents: &Contents<'_>) -> Result<Numbers, PlanError>
     ensures value { Gives (λ n. n) result (plan_numbers_of (contents_view contents.now)) }

@@ -1,4 +1,4 @@
-//! Lines of an output that tell no answer. Each is appended whole; at an `Err` the text may have got a part of it.
+//! Lines of an output that have no answer. Each is appended whole; at an `Err` the text may have a part of it.
 ghost use Rattle.std.specs.Prelude.{◌≡◌, ◌++◌, OnOk, string_bytes};
 ghost use Rattle.realm_plan.specs.Lines.{state_word, sum_numbers, realm_word, idle_line, page_line, realm_line, free_line};
 
@@ -24,7 +24,7 @@ pub fn state_word(state: GranuleState) -> &'static str
     }
 }
 
-// The sum of a granule's bytes, where it is told.
+// The sum of a granule's bytes, if its line has it.
 fn sum_numbers(state: GranuleState, sum: u32) -> ArrayVec<u32, MOST_NUMBERS>
     ensures { result.items ≡ sum_numbers state sum }
 {
@@ -51,7 +51,7 @@ pub fn push_idle(text: &mut String, build: BuildId) -> Result<(), AllocError>
     writeln!(text, "{} - idle", build.number())
 }
 
-/// Appends the line of a build's page in the map. The sum of its bytes is told where it is UNDELEGATED or DATA.
+/// Appends the line of a build's page in the map. The line has the sum of its bytes if it is UNDELEGATED or DATA.
 pub fn push_page(
     text: &mut String,
     build: BuildId,
@@ -85,7 +85,7 @@ pub fn push_realm(
     writeln!(text, "{build} realm {word} vmid {}", vmid.number())
 }
 
-/// Appends the last line of the map: how many pages nobody leases.
+/// Appends the last line of the map: the number of pages that nobody leases.
 pub fn push_free(text: &mut String, count: u16) -> Result<(), AllocError>
     ensures { OnOk result (string_bytes text.new ≡ string_bytes text.old ++ free_line count) }
 {

@@ -1,9 +1,9 @@
-//! Numbers behind a word.
+//! The numbers after a word.
 ghost use Rattle.std.specs.Prelude.{◌≡◌, [], ◌∷◌};
 
 use arrayvec::ArrayVec;
 
-/// As many numbers as a word can have: the page of a REC, and 16 auxiliaries.
+/// The most numbers of a word: the page of a REC, and 16 auxiliaries.
 pub const MOST_NUMBERS: usize = 17;
 
 pub fn one(first: u32) -> ArrayVec<u32, MOST_NUMBERS>

@@ -1,8 +1,8 @@
-//! What the numbers of a step can be, besides all those of a type.
+//! The operands of a step that are no plain numbers: pages and offsets.
 use decimal_text::Operand;
 use granule_addr::PageOff;
 
-/// The greatest number of a build's page, as many as the largest machine has.
+/// The greatest number of a build's page: there are as many as the largest machine has.
 pub const MOST_PAGE: u16 = 4095;
 
 /// The greatest offset in a page.

@@ -1,4 +1,4 @@
-//! What is to be run.
+//! The plan: a machine, the builds on it, and their turns.
 ghost use Rattle.std.specs.Prelude.{◌≡◌, ◌<◌, ◌≤◌, map, All, IfOk, vec_len};
 
 use crate::PlanStep;
@@ -82,11 +82,11 @@ impl Plan {
         })
     }
 
-    /// The plan that the bytes are, or their one fault. `Memory` is given only where allocation failed.
+    /// The plan that the bytes are, or their one fault. `Memory` comes only if allocation failed.
     #[tactic(auto, unfolding(crate::specs::Plan::plan_of))]
     pub fn from_bytes(alloc: Global, bytes: &[u8]) -> Result<Plan, PlanError>
         ensures value { Gives plan_view result (plan_of bytes.now) }
-        // Its steps are spelled as they stand in the document.
+        // Its steps are spelled as in the document.
         ensures as_written { IfOk result (λ plan. written_steps bytes.now
             ≡ Some (map (map spelling) (plan_view plan).builds)) }
     {

@@ -1,4 +1,4 @@
-//! Steps as plans and turn lines spell them.
+//! The spelling of steps in plans and turn lines.
 ghost use Rattle.std.specs.Prelude.{◌≡◌, ◌∷◌, ◌≤◌, length};
 
 use crate::numbers::{MOST_NUMBERS, one};

@@ -5,17 +5,17 @@ ghost use Rattle.realm_plan.specs.Asked.{asked};
 use granule_addr::IpaWidth;
 use host_commands::{Cmd, Step};
 
-/// A step as it stands in a plan.
+/// A step as a plan writes it.
 #[derive(Drop)]
 pub enum PlanStep {
     /// Every number is written.
     Whole(Step),
-    /// A realm whose width is left out, and so the least: 39. RMI_REALM_CREATE
+    /// A realm without a width, which has the least one: 39. RMI_REALM_CREATE
     WidthLeftOut { rd: u16, root: u16 },
 }
 
 impl PlanStep {
-    /// What the step asks of the host. No memory is taken.
+    /// The request of the step to the host. No memory is taken.
     pub fn asked(&self) -> Step
         ensures { result ≡ asked self.now }
     {

@@ -35,7 +35,7 @@ pub(crate) fn builds_of(alloc: Global, texts: &[Vec<&str>]) -> Result<Vec<Vec<Pl
     Ok(found)
 }
 
-/// The build that an entry of the order names, among `count` builds.
+/// The build that an entry of the schedule names, among `count` builds.
 fn build_named(count: usize, entry: i64) -> Option<usize>
     ensures value { result ≡ build_named_at count entry }
     ensures below { IfSome result (λ build. build < count) }
@@ -61,7 +61,7 @@ pub fn order_of(alloc: Global, count: usize, entries: &[i64]) -> Result<Vec<usiz
     Ok(found)
 }
 
-/// The same builds by their names, in a byte each.
+/// The builds by their numbers, in a byte each.
 pub(crate) fn turns_of(alloc: Global, builds: &[usize]) -> Result<Vec<BuildId>, AllocError>
     requires { All (λ build. build < 8) builds.now }
     ensures { IfOk result (λ turns. turns.items ≡ builds.now) }

@@ -1,4 +1,4 @@
--- How the printing of a plan ends.
+-- The ends of the printing of a plan.
 use Rattle.std.proofs.Common.{◌≡◌, ◌↔◌, ℕ, List, Option, IfSome, Ok, Err, Bool, true, false, refl}
 use Rattle.std.specs.Io.KnownBytes.{Appends}
 use Rattle.realm_plan.specs.Outcome.{Fails}

@@ -1,4 +1,4 @@
--- What is kept of an input, one read after another.
+-- The bytes that are kept of an input, one read after another.
 use Rattle.std.proofs.Common.{◌≡◌, ℕ, ◌≤◌, List, [], ◌++◌, length, take, Option, Some, None, sym, ap, ◌∙◌}
 use mathlib.Core.List.{append-nil}
 use Rattle.std.specs.Prelude.{IfSome}

@@ -1,4 +1,4 @@
--- No plan has more bytes than are kept.
+-- A bound of the bytes of a plan: no more than are kept.
 use Rattle.std.proofs.Common.{◌≡◌, ℕ, suc, ◌<◌, List, length, length-take-le, take, true, false, ltb, Option, Some, None, Result, Err, sym, ap, ◌∙◌, arith, inl, inr}
 use Rattle.std.specs.Prelude.{IfSome}
 use Rattle.std.proofs.lemmas.Bool.{cases_Bool, lt-ltb, ltb-true}

@@ -1,5 +1,4 @@
--- What is printed of a plan, and how that ends. What is asked for says which texts a plan has, and why it may have
--- none.
+-- The printing of a plan's text, and its end. The parameters say which texts a plan has, and why it may have none.
 use Rattle.std.specs.Prelude.{◌≡◌, ℕ, Bool, true, false, List, Option, IfSome, Result, Ok, Err}
 use Rattle.std.specs.Io.KnownBytes.{Appends, Keeps}
 use Rattle.realm_plan.specs.Plan.{Plan, plan_of}
@@ -13,7 +12,7 @@ use Rattle.realm_program.specs.declared.fault.Fault.TheVariants.{Plan as PlanIsF
 abbrev pub IsPlanOf : Option (List ℕ) → Plan → Type 0
 IsPlanOf input plan = IfSome input (λ bytes. plan_of bytes ≡ Ok plan)
 
--- Why no plan is read: allocation failed, a read failed, or the input has this one fault.
+-- The reason why no plan is read: allocation failed, a read failed, or the input has this one fault.
 abbrev pub HasNoPlan : Option (List ℕ) → Fault → Type 0
 HasNoPlan input (PlanIsFaulty fault) = IfSome input (λ bytes. plan_of bytes ≡ Err fault)
 HasNoPlan input Memory = Unit {0}

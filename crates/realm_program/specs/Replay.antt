@@ -1,4 +1,4 @@
--- What a replay prints.
+-- The text of a replay.
 use Rattle.std.specs.Prelude.{◌≡◌, ◌<◌, ◌≤◌, ℕ, List, [], ◌++◌, length, Option, Some, None}
 use Rattle.host_ledger.specs.View.{HostView}
 use Rattle.host_ledger.specs.Booted.{booted}
@@ -45,7 +45,7 @@ abbrev pub IsAskedText : Option ℕ → Plan → List ℕ → Type 0
 IsAskedText None plan text = IsText plan text
 IsAskedText (Some build) plan text = IsErasedText plan build text
 
--- Why there is no text of a plan: allocation failed, or the plan has no such build to leave out. No recorded
+-- The reason why there is no text of a plan: allocation failed, or the plan has no such build to leave out. No recorded
 -- event is ever refused.
 abbrev pub IsWithoutText : Option ℕ → Plan → Fault → Type 0
 IsWithoutText erase plan Memory = Unit {0}

@@ -1,11 +1,11 @@
--- How the program ends.
+-- The exit status of the program.
 use Rattle.std.specs.Prelude.{◌≡◌, ◌⊎◌, ℕ, Result, Ok, Err}
 use Rattle.command_line.specs.Stop.{status_of_stop}
 use Rattle.command_line.specs.declared.stop.Stop.{Stop}
 use Rattle.realm_program.specs.Fault.{status_of}
 use Rattle.realm_program.specs.declared.fault.Fault.{Fault}
 
--- a program that has done what it was asked for ends with 0
+-- a program that has performed what it was asked for ends with 0
 abbrev pub status_of_outcome : Result (Unit {0}) (Stop Fault) → ℕ
 status_of_outcome (Ok _) = 0
 status_of_outcome (Err stop) = status_of_stop status_of stop

@@ -1,4 +1,4 @@
-//! Hosts over pages that are all free.
+//! The boot of hosts over pages that are all free.
 ghost use Rattle.std.specs.Prelude.{◌≡◌, ◌≤◌, IfOk};
 ghost use Rattle.realm_host.specs.Host.{booted_by};
 ghost use Rattle.realm_plan.specs.PlanView.{plan_view};

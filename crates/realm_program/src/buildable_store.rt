@@ -8,7 +8,7 @@ use std::alloc::Global;
 
 /// A store that can be built of any number of pages that a machine can have.
 pub trait BuildableStore: PageStore + Drop {
-    /// A store of `pages` pages, all free and zero. `BadSize` comes exactly where `pages` is not 1 to 4,096; the only
+    /// A store of `pages` pages, all free and zero. `BadSize` comes exactly when `pages` is not 1 to 4,096; the only
     /// other error is `Memory`.
     fn built(alloc: Global, pages: u16) -> Result<Self, BuildError>
         ensures bad_size { IsErrOf result BuildError.BadSize ↔ ((pages < 1) ⊎ (4096 < pages)) }

@@ -1,4 +1,4 @@
-//! Why a run is not printed.
+//! The faults of a run that is not printed whole.
 ghost use Rattle.std.specs.Prelude.{◌≡◌};
 ghost use Rattle.realm_program.specs.declared.fault.Fault.TheVariants.{Memory, Device};
 
@@ -10,7 +10,7 @@ use realm_plan::{PlanError, PlanFault};
 use std::alloc::AllocError;
 use thiserror::Error;
 
-/// Why nothing is printed, or only a prefix of the text. Its line goes to standard error.
+/// The reason why nothing is printed, or only a prefix of the text. Its line goes to standard error.
 #[derive(Clone, Copy, Debug, PartialEq, Eq, Error)]
 pub enum Fault {
     /// The input is no plan.
@@ -25,8 +25,8 @@ pub enum Fault {
     /// A build's worker waited in vain for a turn.
     #[error("thread")]
     Stuck(BuildId),
-    /// In a run in threads: what workers report, or what their seats have noted, does not fit the history. In runs in
-    /// many orders: an order of turns cannot begin as the run before it says.
+    /// In a run in threads: the workers' reports, or the trails of their seats, do not fit the history. In runs of many
+    /// schedules: a schedule cannot begin as the run before it says.
     #[error("mismatch")]
     Mismatch,
     /// A read or a write failed.

@@ -1,4 +1,4 @@
-//! The whole of an input, as far as a plan may be long.
+//! The whole of an input, up to the greatest length of a plan.
 ghost use Rattle.std.specs.Prelude.{◌≡◌, ◌+◌, ◌≤◌, ◌↔◌, [], false, true, IfOk, IfSome, Err};
 ghost use Rattle.realm_program.specs.Whole.{kept_of};
 ghost use Rattle.realm_program.specs.declared.input.ReadError.TheVariants.{Device};
@@ -7,13 +7,13 @@ use checked_io::Told;
 use std::alloc::Global;
 use std::io::Read;
 
-/// How many bytes are kept of an input: one more than a plan may have.
+/// The number of bytes that are kept of an input: one more than a plan may have.
 pub const KEPT: usize = 1_048_577;
 
-/// How often a reader is asked at most for one input.
+/// The most reads of one input.
 pub const MOST_READS: usize = 1_048_578;
 
-/// Why an input is not given.
+/// The reason why an input is not returned.
 #[derive(Clone, Copy)]
 pub enum ReadError {
     /// Allocation failed.
@@ -22,8 +22,8 @@ pub enum ReadError {
     Device,
 }
 
-// An empty list of bytes, with room for all that is kept, if there is memory for it. A list that grows is copied, and
-// takes the memory of both meanwhile.
+// An empty list of bytes with capacity for all that is kept, if there is memory for it. A list that grows is copied,
+// and takes the memory of both meanwhile.
 fn room(alloc: Global) -> Vec<u8>
     ensures { result.items ≡ [] }
 {
@@ -33,9 +33,9 @@ fn room(alloc: Global) -> Vec<u8>
     }
 }
 
-/// All that the reader gives, or its first 1,048,577 bytes where there are more.
+/// All bytes of the reader, or its first 1,048,577 bytes if there are more.
 ///
-/// `Device` is given where a read failed, and `Memory` only where allocation failed.
+/// `Device` comes if a read failed, and `Memory` only if allocation failed.
 pub fn read_whole<R: Read>(alloc: Global, input: &mut Told<R>) -> Result<Vec<u8>, ReadError>
     requires { input.old.failed ≡ false }
     ensures told { (input.new.failed ≡ true) ↔ (result ≡ Err Device) }

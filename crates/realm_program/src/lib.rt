@@ -1,8 +1,8 @@
-//! The parts of the program that replay a plan, and how the program ends.
+//! The replay of a plan as a part of the program, and the ends of the program.
 //!
-//! `print` goes from the bytes of a plan to a text of it, over any reader and any writer, and `Fault` is each reason not to
-//! have printed it, with its exit status; `replay` prints the text of a run. Nothing here looks at the process that it runs
-//! in: a caller hands in the devices.
+//! `print` goes from the bytes of a plan to a text of it, over any reader and any writer. `Fault` is each reason not to
+//! have printed the text, with its exit status. `replay` prints the text of a run. Nothing here depends on the process
+//! that it runs in: a caller hands in the devices.
 #![tactic(auto)]
 
 mod boot_host;

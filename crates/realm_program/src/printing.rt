@@ -1,4 +1,4 @@
-//! A plan in, a text of it out: what all such texts have in common.
+//! The printing of a text of a plan: the way that all such texts have in common.
 ghost use Rattle.std.specs.Prelude.{◌≡◌, ◌+◌, ◌≤◌, ◌↔◌, ◌⊎◌, ℕ, List, false, true, Err, IfOk, IfErr};
 ghost use Rattle.realm_plan.specs.Plan.{Plan as PlanModel};
 ghost use Rattle.realm_plan.specs.PlanView.{plan_view};
@@ -19,7 +19,7 @@ pub trait PlanText {
 
     ghost is_without: { Self → PlanModel → FaultModel → Type 0 };
 
-    /// The text of a plan, made whole in memory, or why there is none.
+    /// The text of a plan, complete in memory, or the reason why there is none.
     fn text_of(&self, alloc: Global, plan: &Plan) -> Result<Vec<u8>, Fault>
         ensures ok { IfOk result (λ text. is_text self.now (plan_view plan.now) text.items) }
         ensures err { IfErr result (λ fault. is_without self.now (plan_view plan.now) fault) }
@@ -28,8 +28,8 @@ pub trait PlanText {
 
 /// Reads a plan, and writes the text of it that is asked for.
 ///
-/// The text is made whole before any of it is written. Errors: the fault of a plan; why it has no text; Device, where a
-/// read failed and nothing is written, or where a write failed and a prefix of the text is written.
+/// The text is complete before any of it is written. Errors: the fault of a plan; the reason why it has no text;
+/// Device, if a read failed and nothing is written, or if a write failed and a prefix of the text is written.
 pub fn print<T: PlanText, R: Read, W: Write>(
     asked: &T,
     alloc: Global,

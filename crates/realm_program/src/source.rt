@@ -1,4 +1,4 @@
-//! The plan that an input is.
+//! The reading of a plan from an input.
 ghost use Rattle.std.specs.Prelude.{◌≡◌, ◌+◌, ◌≤◌, ◌↔◌, false, true, IfOk, IfErr, Err};
 ghost use Rattle.realm_plan.specs.PlanView.{plan_view};
 ghost use Rattle.realm_program.specs.Printed.{IsPlanOf, HasNoPlan};
@@ -11,7 +11,7 @@ use realm_plan::Plan;
 use std::alloc::Global;
 use std::io::Read;
 
-/// Reads a plan. Errors: its fault; Memory, where allocation failed; Device, where a read failed.
+/// Reads a plan. Errors: its fault; Memory, if allocation failed; Device, if a read failed.
 pub fn plan_in<R: Read>(alloc: Global, input: &mut Told<R>) -> Result<Plan, Fault>
     requires { input.old.failed ≡ false }
     ensures told { (input.new.failed ≡ true) ↔ (result ≡ Err Device) }

@@ -1,4 +1,4 @@
-//! A plan in, the text of its run out.
+//! The text of a plan's run, and of the map with one build left out.
 ghost use Rattle.std.specs.Prelude.{◌≡◌, ◌+◌, ◌<◌, ◌≤◌, ◌↔◌, ◌⊎◌, ◌≢◌, [], false, true, Err, IfOk, IfErr, string_bytes, vec_len};
 ghost use Rattle.std.specs.Result.{OnOk};
 ghost use Rattle.plan_replay.specs.Run.{IsReportedRun};
@@ -47,7 +47,7 @@ fn push_text<S: BuildableStore>(
     push_map(text, &host)
 }
 
-/// The text of a run of the plan, made whole in memory. The one error is that allocation failed.
+/// The text of a run of the plan, complete in memory. The one error is that allocation failed.
 pub fn text_of<S: BuildableStore>(alloc: Global, plan: &Plan) -> Result<String, AllocError>
     ensures { IfOk result (λ text. IsText (plan_view plan.now) (string_bytes text)) }
 {
@@ -56,7 +56,7 @@ pub fn text_of<S: BuildableStore>(alloc: Global, plan: &Plan) -> Result<String, 
     Ok(text)
 }
 
-// The books after a run of the plan. Its lines are let go, and the memory of its machine is given back.
+// The ledger after a run of the plan. Its lines are dropped, and the memory of its machine is given back.
 fn ledger_of(alloc: Global, plan: &Plan) -> Result<HostLedger, AllocError>
     ensures { IfOk result (RunLeadsTo (plan_view plan.now)) }
 {
@@ -65,8 +65,8 @@ fn ledger_of(alloc: Global, plan: &Plan) -> Result<HostLedger, AllocError>
     Ok(host.into_ledger())
 }
 
-/// The map of a host's history without the build's events: it is applied to a fresh host of the plan. The one error is that
-/// allocation failed.
+/// The map of a host's history without the build's events. The history is applied to a fresh host of the plan. The one
+/// error is that allocation failed.
 pub fn map_without(
     alloc: Global,
     plan: &Plan,
@@ -112,7 +112,7 @@ fn asked_text_of(alloc: Global, plan: &Plan, erase: Option<BuildId>) -> Result<S
     }
 }
 
-// What a replay prints.
+// The text of a replay.
 #[derive(Drop)]
 struct Replayed {
     erase: Option<BuildId>,
@@ -128,12 +128,12 @@ impl PlanText for Replayed {
     }
 }
 
-/// Reads a plan, runs it, and writes the text of the run; or, where a build is to be left out, the map that its history
+/// Reads a plan, runs it, and writes the text of the run. If a build is to be left out, writes the map that its history
 /// leads to without the build's events.
 ///
-/// The text is made whole before any of it is written. Errors: the fault of a plan; EraseNamesNoBuild, where the build
-/// to be left out is not one of the plan's; Memory, where allocation failed; Device, where a read failed and nothing is
-/// written, or where a write failed and a prefix of the text is written.
+/// The text is complete before any of it is written. Errors: the fault of a plan; EraseNamesNoBuild, if the build to be
+/// left out is not one of the plan's; Memory, if allocation failed; Device, if a read failed and nothing is written, or
+/// if a write failed and a prefix of the text is written.
 pub fn replay<R: Read, W: Write>(
     alloc: Global,
     input: &mut Told<R>,

@@ -1,5 +1,5 @@
-//! Replays plans of builds, or runs them in threads: a plan comes on standard input, and the text of its run goes to
-//! standard output.
+//! The program that replays plans of builds, or runs them in threads: a plan comes on standard input, and the text of
+//! its run goes to standard output.
 #![tactic(auto)]
 
 ghost use Rattle.std.specs.Prelude.{◌≡◌, false, IfErr};
@@ -18,7 +18,7 @@ use std::rt::Env;
 use std::sync::Wait;
 use std::thread::Threads;
 
-/// Does what the command line asks for, from an input to an output.
+/// Performs what the command line asks for, from an input to an output.
 fn perform<H: Env + AllocGlobal + Threads + Wait + Sync, R: Read, W: Write>(
     rt: &H,
     input: &mut Told<R>,
@@ -36,7 +36,7 @@ fn perform<H: Env + AllocGlobal + Threads + Wait + Sync, R: Read, W: Write>(
     Ok(())
 }
 
-/// The exit status. Where the program stops, standard error is told why.
+/// The exit status. If the program stops, standard error has the reason.
 fn end(rt: &HostRuntime, outcome: Result<(), Stop<Fault>>) -> ExitCode
     ensures value { exit_status result ≡ status_of_outcome outcome }
     ensures stops { IfErr outcome (λ _. IsStatus (exit_status result)) }

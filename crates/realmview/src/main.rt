@@ -1,5 +1,6 @@
-//! Shows plans: what is wrong with one, why its steps are refused, what other orders of its turns come to, the history of its run as
-//! text, its run as data and as a page, and the map that a history leads to. The plan or the history is a file, or standard input.
+//! The program that shows plans and histories. It prints the faults of a plan, the reasons of its refusals and the
+//! results of its other schedules. It prints the history of its run, its run as data and as a page, and the map of a
+//! history. The plan or the history is a file, or standard input.
 #![tactic(auto)]
 
 ghost use Rattle.std.specs.Prelude.{◌≡◌, IfErr};
@@ -15,7 +16,7 @@ use meter::Meter;
 use std::process::ExitCode;
 use view_program::{ViewError, ViewOutcome, ViewSubcommand, run};
 
-/// The input that is awaited.
+/// The kind of input that is awaited.
 fn awaited(asked: ViewSubcommand) -> &'static str {
     match asked {
         ViewSubcommand::Apply(_) => "a history",
@@ -31,7 +32,7 @@ fn painting(asked: ViewSubcommand) -> Option<Painting> {
     }
 }
 
-/// Does what the command line asks for.
+/// Performs what the command line asks for.
 fn show(rt: &HostRuntime) -> Result<Ended<ViewOutcome>, Stop<ViewError>> {
     let alloc = rt.alloc();
     let words = arguments::<_, ViewError>(rt)?;
@@ -48,7 +49,7 @@ fn show(rt: &HostRuntime) -> Result<Ended<ViewOutcome>, Stop<ViewError>> {
     Ended::of_run(outcome, output.is_closed())
 }
 
-/// The exit status. Where the program stops, standard error is told why. The errors of a plan stand on standard output.
+/// The exit status. If the program stops, standard error has the reason. The faults of a plan are on standard output.
 fn end(rt: &HostRuntime, outcome: Result<Ended<ViewOutcome>, Stop<ViewError>>) -> ExitCode
     ensures value { exit_status result ≡ view_exit_status outcome }
     ensures stops { IfErr outcome (λ _. IsStatus (exit_status result)) }

@@ -1,4 +1,4 @@
-//! How far an exploration has come, on a terminal.
+//! The progress of an exploration, on a terminal.
 use schedules::{Expected, Progress};
 use std::cell::Cell;
 use std::io::IsTerminal;
@@ -7,12 +7,12 @@ use std::time::Instant;
 /// Milliseconds from one line to the next.
 const PAUSE: u128 = 200;
 
-/// From how many orders on a run is long enough to be told of before it begins.
+/// The least number of schedules of a long run, which is announced before it begins.
 const LONG: u64 = 10_000;
 
-/// Tells on standard error what orders are run, where that is a terminal: before a long run how many there are, and
-/// meanwhile how many have been run, five times a second at most. Each line of these is written over the one before
-/// it.
+/// The lines on standard error that say which schedules are run, if that is a terminal. Before a long run there is one
+/// with the number of schedules. Meanwhile there is one with the number run so far, five times a second at most. Each
+/// line is written over the one before it.
 #[derive(Drop)]
 pub struct Meter<'a> {
     rt: &'a HostRuntime,
@@ -22,7 +22,7 @@ pub struct Meter<'a> {
 }
 
 impl Meter<'_> {
-    /// Begins to count the time. Where standard error is no terminal, nothing is told.
+    /// Begins to count the time. If standard error is no terminal, nothing is printed.
     pub fn new(rt: &HostRuntime) -> Meter<'_> {
         let begun = if rt.stderr().is_terminal() {
             Instant::now(rt).ok()
@@ -37,13 +37,13 @@ impl Meter<'_> {
         }
     }
 
-    // How many pauses have passed since the beginning, where anything is told.
+    // The number of pauses since the beginning, if anything is printed.
     fn passed(&self) -> Option<u128> {
         let since = self.begun?.elapsed(self.rt).ok()?;
         Some(since.as_millis() / PAUSE)
     }
 
-    // Tells how many orders a plan has, and how many of them are run at most.
+    // Prints the number of schedules of a plan, and the most of them that are run.
     fn tell_begin(&self, expected: Expected, most: u64) {
         let about = if expected.is_exact { "" } else { "about " };
         let _lost = match expected.orders {
@@ -55,7 +55,7 @@ impl Meter<'_> {
         };
     }
 
-    /// Takes the last line away.
+    /// Clears the last line.
     pub fn end(&self) {
         if self.pauses.get() > 0 {
             let _lost = eprint!(self.rt; "\r\x1b[K");

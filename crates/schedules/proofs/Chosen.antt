@@ -1,4 +1,4 @@
--- What can be chosen, and one more choice.
+-- The possible choices, and one more choice.
 use Rattle.std.proofs.Common.{◌≡◌, ℕ, zero, suc, ◌<◌, Bool, true, false, List, [], ◌∷◌, ◌++◌, length, get_or, take, drop, drop-cons, ◌+◌, Some, refl, ap, sym, subst, ◌∙◌, cond, arith}
 use Rattle.std.specs.List.{find, range_with_len}
 use Rattle.std.proofs.lemmas.List.{take-append-drop, take_more}

@@ -1,4 +1,4 @@
--- Orders rise.
+-- The rise of the visited schedules.
 use Rattle.std.proofs.Common.{◌≡◌, ℕ, ◌<◌, Bool, true, false, ◌&&◌, inl, inr, List, [], ◌∷◌, ◌++◌, Option, Some, None, All, refl, sym, subst, ◌∙◌, arith}
 use Rattle.std.specs.Prelude.{nat_lt, option_map, AllPairs}
 use Rattle.std.specs.List.{range_with_len}

@@ -1,4 +1,4 @@
--- A run of an order is a run of the plan that has this order.
+-- A run of a schedule, which is a run of the plan that has this schedule.
 use Rattle.std.proofs.Common.{◌≡◌, ◌<◌, subst, None, inl, inr, ℕ, ◌==◌, Bool, true, false, if◌then◌else◌, List, [], ◌∷◌, ◌++◌, map, All, append_assoc, append-nil, refl, sym, ap, ◌∙◌}
 use Rattle.std.proofs.lemmas.List.Elements.{All-nil, All-cons}
 use Rattle.std.specs.List.{flat_map}

@@ -1,4 +1,4 @@
--- What the derived `==` of ends of steps says: it decides `≡`.
+-- The derived `==` of ends of steps, which decides `≡`.
 use Rattle.std.proofs.Common.{◌≡◌, Bool, Option, Some, None, refl, ap}
 use Rattle.std.specs.Bool.{Decides}
 use Rattle.std.specs.Option.{option_eq}

@@ -1,4 +1,4 @@
--- Orders that are drawn, one after the other.
+-- Schedules that are drawn, one after the other.
 use Rattle.std.proofs.Common.{◌≡◌, ℕ, ◌+◌, List, [], ◌∷◌, ◌++◌, length, length-append, refl, subst, arith}
 use Rattle.rand_core.specs.Stream.{Stream}
 use Rattle.host_ledger.specs.View.{HostView}

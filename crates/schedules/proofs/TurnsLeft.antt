@@ -1,4 +1,4 @@
--- Each turn leaves fewer.
+-- The bound of turns, which each turn lowers.
 use Rattle.std.proofs.Common.{◌≡◌, ◌≢◌, ℕ, zero, suc, ◌+◌, ◌-◌, ◌*◌, ◌^◌, ◌<◌, ◌==◌, if◌then◌else◌, true, false, List, [], ◌∷◌, length, Option, Some, None, Result, Ok, Err, ◌⊎◌}
 use Rattle.std.proofs.Common.{inl, inr, slice_set, slice_index_or, replicate, ap, sym, subst, ◌∙◌, refl, arith}
 use Rattle.std.specs.Prelude.{slice_get, is_some, option_and_then}

@@ -1,4 +1,4 @@
--- Builds that have nothing open are not seen in a map.
+-- Builds that have nothing open, which are not seen in a map.
 use Rattle.std.proofs.Common.{◌≡◌, ℕ, List, [], Some, inl, inr, sym, ap, ◌∙◌}
 use Rattle.std.specs.Prelude.{unwrap_or}
 use Rattle.std.specs.List.{flat_map}

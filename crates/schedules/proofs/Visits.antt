@@ -1,4 +1,4 @@
--- Orders that are run, one after the other.
+-- Schedules that are run, one after the other.
 use Rattle.std.proofs.Common.{◌≡◌, ℕ, ◌+◌, ◌<◌, Bool, MatchBool, true, false, List, [], ◌∷◌, ◌++◌, length, length-append, Option, Some, None, string_bytes, vec_len, refl, sym, ◌∙◌, ap, subst, arith}
 use Rattle.std.proofs.lemmas.List.{length-map}
 use Rattle.std.specs.declared.alloc.Global.{Global}

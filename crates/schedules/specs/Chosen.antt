@@ -1,4 +1,4 @@
--- The runs of a plan in orders that are chosen turn by turn.
+-- The runs of a plan in schedules that are chosen turn by turn.
 use Rattle.std.specs.Prelude.{◌≡◌, ℕ, ◌==◌, if◌then◌else◌, Bool, true, List, [], ◌∷◌, ◌++◌, map, All, Option, Some, None, is_some}
 use Rattle.std.specs.List.{find, range_with_len}
 use Rattle.host_ledger.specs.View.{HostView}
@@ -13,12 +13,12 @@ use Rattle.schedules.specs.Next.{could}
 use Rattle.schedules.specs.declared.choice.Choice.{Choice}
 use Rattle.schedules.specs.declared.step_end.StepEnd.{StepEnd}
 
--- ---- what can be chosen
+-- ---- the possible choices
 
 abbrev pub has_left : Plan → List PlanCursor → ℕ → Bool
 has_left plan places build = is_some (step_after plan build (place_of places build).done)
 
--- which of eight builds have a step left
+-- for each of eight builds, whether it has a step left
 unfoldable pub builds_left : Plan → List PlanCursor → List Bool
 builds_left plan places = map (has_left plan places) (range_with_len 0 8)
 
@@ -26,14 +26,14 @@ builds_left plan places = map (has_left plan places) (range_with_len 0 8)
 unfoldable pub lowest_of : List Bool → Option ℕ
 lowest_of left = find (could left) (range_with_len 0 8)
 
--- The choice says which builds have a step left here, and is one of them.
+-- The choice has the builds with a step left here, and is one of them.
 pub record IsOpen (plan : Plan) (places : List PlanCursor) (choice : Choice) : Type 0 where
   pub left : choice.left ≡ builds_left plan places
   pub could : could choice.left choice.build ≡ true
 
 -- ---- steps
 
--- How far a run is, and how the steps that are used up ended.
+-- The state of a run, and the ends of the steps that are used up.
 pub record Stage : Type 0 where
   pub at : Position
   pub ends : List StepEnd
@@ -49,7 +49,7 @@ abbrev pub refusal_of_turn : Option (PlanStep × TurnAnswer) → Option Refusal
 refusal_of_turn None = None
 refusal_of_turn (Some told) = refusal_in told.1
 
--- the end of a turn's step, where the turn uses it up
+-- the end of a turn's step, if the turn uses it up
 abbrev pub ended : Turn → ℕ → ℕ → List StepEnd
 ended turn before after =
     if before == after then [] else record { build = turn.build; step = before; refusal = refusal_of_turn turn.told } ∷ []
@@ -73,7 +73,7 @@ AreChosen plan from (choice ∷ choices) to =
 abbrev pub first_stage : HostView → Stage
 first_stage host = record { at = start host; ends = [] }
 
--- A run of the plan in the order of these choices, until no build has a step left: it leads to `to`, and the steps
+-- A run of the plan in the schedule of these choices, until no build has a step left: it leads to `to`, and the steps
 -- ended as noted.
 pub record IsChosenRun (plan : Plan) (from : HostView) (choices : List Choice) (to : HostView) (noted : List StepEnd) : Type 0 where
   pub last : Stage
@@ -82,13 +82,13 @@ pub record IsChosenRun (plan : Plan) (from : HostView) (choices : List Choice) (
   pub host : last.at.host ≡ to
   pub ends : last.ends ≡ noted
 
--- An order begins with these choices, and goes on with the lowest build that has a step left.
+-- A schedule begins with these choices, and goes on with the lowest build that has a step left.
 pub record IsLowestAfter (front choices : List Choice) : Type 0 where
   pub more : List Choice
   pub appended : choices ≡ front ++ more
   pub lowest : All (λ choice. lowest_of choice.left ≡ Some choice.build) more
 
--- The choices cannot be kept to: behind the first of them, `front`, the next one is not open.
+-- The choices cannot be kept to: after the first of them, `front`, the next one is not open.
 pub record CannotBeKept (plan : Plan) (from : Stage) (choices : List Choice) : Type 0 where
   pub front : List Choice
   pub choice : Choice

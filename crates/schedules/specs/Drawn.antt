@@ -1,4 +1,5 @@
--- Orders that are drawn: at each turn, one of the builds that have a step left has it, as a stream of random numbers says.
+-- Schedules that are drawn: at each turn, a stream of random numbers says which of the builds that have a step left has
+-- it.
 use Rattle.std.specs.Prelude.{◌≡◌, ℕ, ◌%◌, Bool, List, [], ◌∷◌, length, filter, Option, Some, None, slice_get, string_bytes}
 use Rattle.std.specs.List.{range_with_len}
 use Rattle.rand_core.specs.Stream.{Stream, next_u32}
@@ -15,7 +16,7 @@ use Rattle.schedules.specs.declared.totals.Totals.{Totals}
 unfoldable pub builds_with_steps : List Bool → List ℕ
 builds_with_steps left = filter (could left) (range_with_len 0 8)
 
--- the one of these builds that the next number draws: its place is the number modulo how many builds there are
+-- the one of these builds that the next number draws: its index is the number modulo the count of builds
 abbrev pub drawn : Stream → List Bool → Option ℕ
 drawn stream left = slice_get (builds_with_steps left) ((next_u32 stream).0 % length (builds_with_steps left))
 
@@ -30,20 +31,20 @@ pub record IsDrawnTo (plan : Plan) (stream : Stream) (from : Stage) (choices : L
   pub chosen : AreChosen plan from choices to
   pub whole : lowest_of (builds_left plan to.at.places) ≡ None
 
--- The run of an order that is drawn, and its map.
+-- The run of a schedule that is drawn, and its map.
 pub record IsDrawn (plan : Plan) (host : HostView) (stream : Stream) (visit : Visit) (after : Stream) : Type 0 where
   pub are_drawn : AreDrawn stream visit.choices after
   pub to : HostView
   pub is_run : IsChosenRun plan host visit.choices to visit.ends
   pub map : string_bytes visit.map ≡ map_text to
 
--- The runs of orders that are drawn one after the other.
+-- The runs of schedules that are drawn one after the other.
 abbrev pub AreSamples : Plan → HostView → Stream → List Visit → Stream → Type 0
 AreSamples plan host stream [] after = after ≡ stream
 AreSamples plan host stream (visit ∷ visits) after =
     (between : Stream) × IsDrawn plan host stream visit between × AreSamples plan host between visits after
 
--- The totals of the runs of `count` orders that the stream draws.
+-- The totals of the runs of `count` schedules that the stream draws.
 pub record IsSampled (plan : Plan) (host : HostView) (stream : Stream) (count : ℕ) (totals : Totals) : Type 0 where
   pub visits : List Visit
   pub after : Stream

@@ -1,4 +1,4 @@
--- What is said of all orders of a plan.
+-- The result of an exploration of a plan's schedules.
 use Rattle.std.specs.Prelude.{◌≡◌, ℕ, ◌≤◌, Bool, List, [], length, Option, Some, is_none}
 use Rattle.std.specs.Bool.{OnFalse}
 use Rattle.host_ledger.specs.View.{HostView}
@@ -8,7 +8,7 @@ use Rattle.schedules.specs.Totals.{Visit, AreTotals}
 use Rattle.schedules.specs.declared.choice.Choice.{Choice}
 use Rattle.schedules.specs.declared.totals.Totals.{Totals}
 
--- The totals of the runs of orders, from the lowest order on: of all that there are, or of the first `most`.
+-- The totals of the runs of schedules, from the lowest on: of all that there are, or of the first `most`.
 pub record IsExplored (plan : Plan) (host : HostView) (most : ℕ) (totals : Totals) (is_whole : Bool) : Type 0 where
   pub visits : List Visit
   pub rest : Option (List Choice)

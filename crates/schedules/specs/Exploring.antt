@@ -1,4 +1,4 @@
--- What one more order comes to, and why orders may not be run.
+-- The outcome of one more schedule, and the reasons why schedules may not be run.
 use Rattle.std.specs.Prelude.{◌≡◌, List, [], ◌∷◌, ◌++◌, length, Some, string_bytes}
 use Rattle.std.specs.declared.alloc.Global.{Global}
 use Rattle.std.specs.declared.string.String.{String}
@@ -24,33 +24,34 @@ pub record IsAdded (plan : Plan) (host : HostView) (choices : List Choice) (ends
   pub counted : (visits : List Visit) → AreTotals (length plan.builds) visits old
       → AreTotals (length plan.builds) (visits ++ record { choices = choices; ends = ends; map = map } ∷ []) new
 
--- The order that begins with `front` was run on a host of its own, had the turns `choices`, and is counted.
+-- The schedule that begins with `front` was run on a host of its own, had the turns `choices`, and is counted.
 pub record IsScheduleCounted (plan : Plan) (front choices : List Choice) (old new : Totals) : Type 0 where
   pub visit : Visit
   pub choices_are : visit.choices ≡ choices
   pub is_visit : IsVisit plan (opening_host plan) front visit
   pub counted : (visits : List Visit) → AreTotals (length plan.builds) visits old → AreTotals (length plan.builds) (visits ++ visit ∷ []) new
 
--- An order that the stream draws was run on a host of its own, and is counted.
+-- A schedule that the stream draws was run on a host of its own, and is counted.
 pub record IsDrawnAndCounted (plan : Plan) (stream after : Stream) (old new : Totals) : Type 0 where
   pub visit : Visit
   pub is_drawn : IsDrawn plan (opening_host plan) stream visit after
   pub counted : (visits : List Visit) → AreTotals (length plan.builds) visits old → AreTotals (length plan.builds) (visits ++ visit ∷ []) new
 
--- why the order that begins with `front` was not run: allocation failed, or these turns cannot be kept to
+-- the reason why the schedule that begins with `front` was not run: allocation failed, or these turns cannot be kept to
 abbrev pub IsNotRun : Plan → List Choice → Fault → Type 0
 IsNotRun plan front Memory = Unit {0}
 IsNotRun plan front Mismatch = CannotBeKept plan (first_stage (opening_host plan)) front
 IsNotRun plan front fault = ⊥
 
--- Orders were run, and the next one cannot begin as the run before it says.
+-- Schedules were run, and the next one cannot begin as the run before it says.
 pub record IsBroken (plan : Plan) : Type 0 where
   pub visits : List Visit
   pub front : List Choice
   pub are_visits : AreVisits plan (opening_host plan) (Some []) visits (Some front)
   pub cannot : CannotBeKept plan (first_stage (opening_host plan)) front
 
--- why the orders of a plan are not run: allocation failed, or a host did not give the same answers to the same calls
+-- the reason why the schedules of a plan are not run: allocation failed, or a host did not give the same answers to the
+-- same calls
 abbrev pub IsNotExplored : Plan → Fault → Type 0
 IsNotExplored plan Memory = Unit {0}
 IsNotExplored plan Mismatch = IsBroken plan

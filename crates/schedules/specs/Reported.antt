@@ -1,4 +1,4 @@
--- What the lines of a run tell of how its steps end.
+-- The ends of a run's steps, by the lines of the run.
 use Rattle.std.specs.Prelude.{◌≡◌, ◌⊎◌, ℕ, List, [], ◌∷◌, map, None}
 use Rattle.std.specs.List.{All, flat_map}
 use Rattle.host_ledger.specs.View.{HostView}
@@ -7,7 +7,7 @@ use Rattle.plan_replay.specs.Run.{Turn, Position, AreTurns, start}
 use Rattle.schedules.specs.Chosen.{refusal_of_turn}
 use Rattle.schedules.specs.declared.step_end.StepEnd.{StepEnd}
 
--- a turn, and the end of its step, where it has one
+-- a turn, and the end of its step, if it has one
 pub record Line : Type 0 where
   pub turn : Turn
   pub noted : List StepEnd

@@ -1,4 +1,4 @@
--- Orders that give each build all the turns that it needs: in rotation, or one build after the other.
+-- Schedules that give each build all the turns that it needs: in rotation, or one build after the other.
 use Rattle.std.specs.Prelude.{◌≡◌, ℕ, ◌+◌, ◌&&◌, nat_le, Bool, List, [], ◌∷◌, All, Option, Some, None}
 use Rattle.std.specs.List.{find, range_with_len}
 use Rattle.std.specs.Option.{option_or}
@@ -14,7 +14,7 @@ use Rattle.schedules.specs.declared.step_end.StepEnd.{StepEnd}
 abbrev pub lowest_from : ℕ → List Bool → Option ℕ
 lowest_from from left = find (λ build. nat_le from build && could left build) (range_with_len 0 8)
 
--- The build whose turn it is where the rotation has come to `from`: the lowest from there on that has a step left, or
+-- The build whose turn it is when the rotation has come to `from`: the lowest from there on that has a step left, or
 -- else the lowest of all.
 unfoldable pub in_rotation : ℕ → List Bool → Option ℕ
 in_rotation from left = option_or (lowest_from from left) (lowest_of left)

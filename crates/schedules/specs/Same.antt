@@ -1,4 +1,4 @@
--- Whether two ends of steps are the same.
+-- Equality of ends of steps.
 use Rattle.std.specs.Prelude.{Bool}
 use Rattle.schedules.specs.declared.step_end.StepEnd.{StepEnd}
 use Rattle.schedules.specs.contracts.step_end.StepEndPartialEq.TheImpl.{ghosts}

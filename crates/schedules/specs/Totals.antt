@@ -1,4 +1,4 @@
--- What runs come to.
+-- The totals of runs.
 use mathlib.Core.Bool.{beq}
 use Rattle.std.specs.Prelude.{◌≡◌, ℕ, ◌==◌, nat_eq, Bool, not, ◌&&◌, List, map, filter, length, is_some, string_bytes}
 use Rattle.std.specs.List.{flat_map, list_any, range_with_len}
@@ -11,7 +11,7 @@ use Rattle.schedules.specs.declared.choice.Choice.{Choice}
 use Rattle.schedules.specs.declared.step_end.StepEnd.{StepEnd}
 use Rattle.schedules.specs.declared.totals.Totals.{Totals}
 
--- What is counted of a run: its order, how its steps ended, and the map in the end.
+-- The outcome of a run: its schedule, the ends of its steps, and the map in the end.
 pub record Visit : Type 0 where
   pub choices : List Choice
   pub ends : List StepEnd

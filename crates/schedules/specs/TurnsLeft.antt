@@ -1,4 +1,4 @@
--- How many turns a run can still have.
+-- A bound of the turns that a run can still have.
 use Rattle.std.specs.Prelude.{◌≡◌, ℕ, ◌+◌, ◌-◌, ◌*◌, ◌^◌, ◌==◌, if◌then◌else◌, Bool, false, List, ◌∷◌, length, Option, Some, None}
 use Rattle.realm_plan.specs.declared.step.PlanStep.{PlanStep}
 use Rattle.realm_plan.specs.Plan.{Plan}
@@ -10,7 +10,7 @@ abbrev pub is_of_many : Option PlanStep → Bool
 is_of_many None = false
 is_of_many (Some step) = undoes_many step
 
--- Undos are left only of a step that undoes any number of acts.
+-- Undos are left only of a step that undoes any number of operations.
 pub record AreSteady (plan : Plan) (places : List PlanCursor) : Type 0 where
   pub all : length places ≡ 8
   pub steady : (build : ℕ) → is_of_many (step_after plan build (place_of places build).done) ≡ false → (place_of places build).left ≡ 0

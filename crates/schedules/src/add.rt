@@ -1,4 +1,4 @@
-//! One more run is counted.
+//! The counting of one more run in the totals.
 ghost use Rattle.std.specs.Prelude.{◌≡◌, ◌++◌, ◌-◌, ◌^◌, ◌<◌, ℕ, nat_eq, [], ◌∷◌, List, map, filter, OnOk};
 ghost use Rattle.std.specs.List.{list_any, range_with_len};
 ghost use Rattle.schedules.specs.Same.{same_end};
@@ -12,7 +12,7 @@ use crate::tally::Tally;
 use crate::totals::Totals;
 use std::alloc::{AllocError, Global};
 
-// Counts how the steps of an order ended.
+// Counts the ends of the steps of a schedule.
 fn count_ends(
     alloc: Global,
     tallies: &mut Vec<Tally<StepEnd>>,
@@ -69,7 +69,7 @@ fn count_smooth(
 }
 
 impl Totals {
-    /// The totals of no order.
+    /// The totals of no schedule.
     pub fn new(alloc: Global) -> Totals
         ensures { (builds : ℕ) → AreTotals builds [] result }
     {
@@ -82,8 +82,8 @@ impl Totals {
         }
     }
 
-    /// Counts the run of one more order of a plan of `builds` builds. At an `Err` allocation failed, and a part of the run
-    /// may be counted: the totals are then those of no list of runs.
+    /// Counts the run of one more schedule of a plan of `builds` builds. At an `Err` allocation failed, and a part of
+    /// the run may be counted: the totals are then those of no list of runs.
     pub fn add(
         &mut self,
         alloc: Global,

@@ -1,4 +1,4 @@
-//! One more thing that an order shows.
+//! The counting of an outcome of a schedule in its tally.
 ghost use Rattle.std.specs.Prelude.{◌≡◌, ◌++◌, [], ◌∷◌, List, map, OnOk, IfOk};
 ghost use Rattle.schedules.specs.Tally.{Sighting, counted, counted_of, bump, is_known};
 
@@ -6,14 +6,14 @@ use crate::choice::Choice;
 use crate::tally::Tally;
 use std::alloc::{AllocError, Global};
 
-/// The builds of the turns, in their order. At an `Err` allocation failed.
+/// The builds of the turns, in sequence. At an `Err` allocation failed.
 pub(crate) fn builds_of(alloc: Global, order: &[Choice]) -> Result<Vec<usize>, AllocError>
     ensures { IfOk result (λ builds. builds.items ≡ map (λ choice. choice.build) order.now) }
 {
     order.iter().map(|choice| choice.build).collect(alloc)
 }
 
-// Adds one to the tally of a thing, if it has one.
+// Adds one to the tally of an outcome, if it has one.
 fn bump<K: Eq>(tallies: &mut [Tally<K>], thing: &K) -> bool
     ensures bumped { map counted_of tallies.new ≡ map (bump K.eq thing.now) (map counted_of tallies.old) }
     ensures known { result ≡ is_known K.eq thing.now tallies.old }
@@ -28,7 +28,7 @@ fn bump<K: Eq>(tallies: &mut [Tally<K>], thing: &K) -> bool
     is_known
 }
 
-/// Counts a thing that an order shows. At an `Err` allocation failed.
+/// Counts an outcome of a schedule. At an `Err` allocation failed.
 pub(crate) fn count<K: Eq + Drop>(
     alloc: Global,
     tallies: &mut Vec<Tally<K>>,

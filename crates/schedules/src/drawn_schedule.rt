@@ -1,4 +1,4 @@
-//! A run of a plan in an order that is drawn.
+//! The run of a plan in a schedule that is drawn at random.
 ghost use Rattle.std.specs.Prelude.{◌≡◌, [], OnOk, IfSome, IfNone};
 ghost use Rattle.rand_core.specs.Stream.{next_u32};
 ghost use Rattle.realm_plan.specs.PlanView.{plan_view};
@@ -31,7 +31,7 @@ fn builds_with_steps(left: &[bool; 8]) -> ArrayVec<usize, 8>
     builds
 }
 
-// Draws one of the builds that have a step left. Where none has, no number is used up.
+// Draws one of the builds that have a step left. If none has, no number is used up.
 fn draw<R: Rng>(rng: &mut R, left: &[bool; 8]) -> Option<usize>
     ensures value { result ≡ drawn (R.stream rng.old) left.now }
     ensures used { IfSome result (λ _. R.stream rng.new ≡ (next_u32 (R.stream rng.old)).1) }
@@ -69,7 +69,7 @@ fn go_on_drawn<S: PageStore, R: Rng>(
 }
 
 /// Runs a plan on a host: at each turn one of the builds that have a step left is drawn, until none has. The choices
-/// are then those of the whole order, and each end of a step is noted. At an `Err` allocation failed.
+/// are then those of the whole schedule, and each end of a step is noted. At an `Err` allocation failed.
 pub fn run_drawn<S: PageStore, R: Rng>(
     host: &mut Host<S>,
     plan: &Plan,

@@ -1,18 +1,18 @@
-//! How many orders a plan has, before they are run. Nothing but the words of a meter depends on it.
+//! The number of schedules of a plan, before they are run. Only the words of a progress meter depend on it.
 use host_commands::Step;
 use realm_plan::{Plan, PlanStep};
 
-/// How many orders a plan has.
+/// The number of schedules of a plan.
 #[derive(Clone, Copy)]
 pub struct Expected {
-    /// None where there are 2^64 or more.
+    /// None if there are 2^64 or more.
     pub orders: Option<u64>,
-    /// Whether each build has as many turns in every order. An abort or a way back may have more in one than in
+    /// Whether each build has as many turns in every schedule. An abort or a way back may have more in one than in
     /// another.
     pub is_exact: bool,
 }
 
-// Whether a step may have more turns in one order than in another.
+// Whether a step may have more turns in one schedule than in another.
 fn varies(step: &PlanStep) -> bool {
     matches!(
         step,
@@ -20,7 +20,7 @@ fn varies(step: &PlanStep) -> bool {
     )
 }
 
-// How many of the turns are a build's.
+// The number of turns of a build.
 fn turns_of(order: &[usize], build: usize) -> u64 {
     let mut count: u64 = 0;
     for turn in order {
@@ -31,7 +31,7 @@ fn turns_of(order: &[usize], build: usize) -> u64 {
     count
 }
 
-// In how many ways `more` turns can stand among `turns` others.
+// The number of ways in which `more` turns can be placed among `turns` others.
 fn ways(turns: u64, more: u64) -> Option<u64> {
     let mut count: u128 = 1;
     for place in 1..=more {
@@ -44,7 +44,7 @@ fn ways(turns: u64, more: u64) -> Option<u64> {
     u64::try_from(count).ok()
 }
 
-// How many orders there are in which each build has as many turns as in this one: the multinomial of these numbers.
+// The number of schedules in which each build has as many turns as in this one: the multinomial of these numbers.
 fn schedules_like(order: &[usize]) -> Option<u64> {
     let mut turns: u64 = 0;
     let mut count: u64 = 1;
@@ -57,7 +57,7 @@ fn schedules_like(order: &[usize]) -> Option<u64> {
 }
 
 impl Expected {
-    /// How many orders a plan has, by one of them.
+    /// The number of schedules of a plan, from one of them.
     pub fn of(plan: &Plan, order: &[usize]) -> Expected {
         let mut builds = plan.builds.iter();
         let is_exact = !builds.any(|steps| steps.iter().any(|step| varies(step)));

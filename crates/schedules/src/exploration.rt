@@ -1,4 +1,4 @@
-//! All orders are run, one after the other.
+//! The run of all schedules, one after the other.
 ghost use Rattle.std.specs.Prelude.{◌≡◌, ◌-◌, ◌^◌, ◌<◌, OnOk, IfOk, IfErr};
 ghost use Rattle.realm_plan.specs.PlanView.{plan_view};
 ghost use Rattle.realm_program.specs.Replay.{opening_host};
@@ -17,7 +17,7 @@ use realm_plan::Plan;
 use realm_program::{Fault, boot};
 use std::alloc::{AllocError, Global};
 
-/// What the orders of a plan come to: all that there are, or the first ones.
+/// The outcomes of the schedules of a plan: of all that there are, or of the first ones.
 #[derive(Drop)]
 pub struct Explored {
     pub totals: Totals,
@@ -25,7 +25,7 @@ pub struct Explored {
     pub is_whole: bool,
 }
 
-// Counts a run that led to this host, and tries that no build with nothing open is seen in the map.
+// Counts a run that led to this host, and checks that no build with nothing open is seen in the map.
 fn count_run(
     alloc: Global,
     plan: &Plan,
@@ -47,8 +47,8 @@ fn count_run(
     Ok(())
 }
 
-// Runs the order that begins with the choices on a host of its own, and counts it. The choices are then those of the
-// whole order.
+// Runs the schedule that begins with the choices on a host of its own, and counts it. The choices are then those of the
+// whole schedule.
 fn visit(
     alloc: Global,
     plan: &Plan,
@@ -68,7 +68,7 @@ fn visit(
     Ok(())
 }
 
-// Runs an order that is drawn on a host of its own, and counts it.
+// Runs a schedule that is drawn on a host of its own, and counts it.
 fn visit_drawn<R: Rng>(
     alloc: Global,
     plan: &Plan,
@@ -86,9 +86,9 @@ fn visit_drawn<R: Rng>(
     Ok(())
 }
 
-/// Runs `count` orders of a plan's turns, each on a host of its own. The build of each turn is drawn from those with a
-/// step left, and an order may come more than once. What the plan says of its order is set aside. `progress` is told of
-/// each. At an `Err` allocation failed.
+/// Runs `count` schedules of a plan's turns, each on a host of its own. The build of each turn is drawn from those with
+/// a step left, and a schedule may come more than once. The plan's own schedule is not used. Each run is reported to
+/// `progress`. At an `Err` allocation failed.
 pub fn sample<R: Rng, P: Progress>(
     alloc: Global,
     plan: &Plan,
@@ -108,11 +108,11 @@ pub fn sample<R: Rng, P: Progress>(
     Ok(totals)
 }
 
-/// Runs the orders of a plan's turns, from the lowest on, at most `most` of them, each on a host of its own. What the
-/// plan says of its order is set aside. `progress` is told of each.
+/// Runs the schedules of a plan's turns, from the lowest on, at most `most` of them, each on a host of its own. The
+/// plan's own schedule is not used. Each run is reported to `progress`.
 ///
-/// Errors: Memory, where allocation failed; Mismatch, where an order cannot begin as the run before it says, which
-/// never happens on a host that gives the same answers to the same calls.
+/// Errors: Memory, if allocation failed; Mismatch, if a schedule cannot begin as the run before it says, which never
+/// happens on a host that gives the same answers to the same calls.
 pub fn explore<P: Progress>(
     alloc: Global,
     plan: &Plan,

@@ -1,4 +1,4 @@
-//! That a build with nothing open leaves nothing behind is a theorem. Here it is tried.
+//! The test that a build with nothing open leaves nothing behind, which is a theorem too.
 ghost use Rattle.std.specs.Prelude.{◌≡◌, true, [], IfOk, string_bytes};
 ghost use Rattle.host_ledger.specs.View.{open_of};
 ghost use Rattle.plan_replay.specs.Run.{map_text};
@@ -29,8 +29,8 @@ fn is_unseen(
     Ok(without.as_str() == map)
 }
 
-/// Whether the map of a host is that of its history without each build that has nothing open, as it has to be. The one error is
-/// that allocation failed.
+/// Whether the map of a host is that of its history without each build that has nothing open, as it has to be. The one
+/// error is that allocation failed.
 pub(crate) fn leave_nothing(
     alloc: Global,
     plan: &Plan,

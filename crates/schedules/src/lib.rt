@@ -1,5 +1,5 @@
-//! Orders of the turns of a plan: all of them, one after the other, or some that are drawn; and the orders that give each
-//! build all the turns that it needs.
+//! The schedules of a plan: all of them, one after the other, or some that are drawn; and those that give each build
+//! all the turns that it needs.
 #![tactic(auto)]
 
 mod add;

@@ -1,4 +1,4 @@
-//! The lines of what orders come to.
+//! The lines of the outcomes of schedules.
 ghost use Rattle.std.specs.Prelude.{◌≡◌, ◌++◌, OnOk, string_bytes};
 ghost use Rattle.std.specs.List.{flat_map};
 ghost use Rattle.realm_plan.specs.PlanView.{plan_view};
@@ -12,7 +12,7 @@ use realm_plan::{Plan, PlanStep, RefusalText, StepText};
 use std::alloc::AllocError;
 use std::fmt;
 
-/// How a step ended: accepted, or refused.
+/// The end of a step: accepted, or refused.
 #[derive(Clone, Copy)]
 struct EndWords(Option<Refusal>);
 
@@ -30,7 +30,7 @@ impl fmt::Display for EndWords {
     }
 }
 
-/// Appends the line of how many orders there are: exactly `orders`, or more.
+/// Appends the line of the number of schedules: exactly `orders`, or more.
 pub(crate) fn push_count(text: &mut String, orders: u64, is_whole: bool) -> Result<(), AllocError>
     ensures { OnOk result (string_bytes text.new ≡ string_bytes text.old ++ schedules_line orders is_whole) }
 {
@@ -41,14 +41,14 @@ pub(crate) fn push_count(text: &mut String, orders: u64, is_whole: bool) -> Resu
     }
 }
 
-/// Appends the line of how many orders were drawn.
+/// Appends the line of the number of schedules that were drawn.
 pub(crate) fn push_drawn_count(text: &mut String, orders: u64) -> Result<(), AllocError>
     ensures { OnOk result (string_bytes text.new ≡ string_bytes text.old ++ drawn_line orders) }
 {
     writeln!(text, "orders drawn {orders}")
 }
 
-// Appends how many of `orders` orders show a thing, and the first of them where not all do.
+// Appends how many of `orders` schedules have an outcome, and the first of them if not all do.
 fn push_shown(text: &mut String, orders: u64, count: u64, first: &[usize]) -> Result<(), AllocError>
     ensures { OnOk result (string_bytes text.new ≡ string_bytes text.old ++ shown_text orders count first.now) }
 {
@@ -59,7 +59,7 @@ fn push_shown(text: &mut String, orders: u64, count: u64, first: &[usize]) -> Re
     }
 }
 
-// What is said of whole orders.
+// The words for the outcome of whole schedules.
 fn whole_words(is_refused: bool) -> &'static str
     ensures { result.now ≡ whole_words is_refused }
 {
@@ -70,7 +70,7 @@ fn whole_words(is_refused: bool) -> &'static str
     }
 }
 
-/// Appends the lines of how many orders had a step that was refused, or none.
+/// Appends the lines of the number of schedules with a step that was refused, and with none.
 pub(crate) fn push_wholes(
     text: &mut String,
     orders: u64,
@@ -85,7 +85,7 @@ pub(crate) fn push_wholes(
     Ok(())
 }
 
-// Appends the line of how a step of a build ended.
+// Appends the line of an end of a build's step.
 fn push_end(
     text: &mut String,
     orders: u64,
@@ -106,7 +106,7 @@ fn push_end(
     push_shown(text, orders, tally.count, &tally.first)
 }
 
-/// Appends the lines of how a step of a build ended, if the plan has it.
+/// Appends the lines of the ends of a build's step, if the plan has it.
 pub(crate) fn push_step(
     text: &mut String,
     plan: &Plan,
@@ -127,7 +127,7 @@ pub(crate) fn push_step(
     Ok(())
 }
 
-// Appends the line of a build that was never refused in some orders.
+// Appends the line of a build that was never refused in some schedules.
 fn push_never_refused(
     text: &mut String,
     orders: u64,
@@ -140,7 +140,7 @@ fn push_never_refused(
     Ok(())
 }
 
-/// Appends the line of how often a build was never refused.
+/// Appends the line of the number of schedules in which a build was never refused.
 pub(crate) fn push_smooth(
     text: &mut String,
     orders: u64,

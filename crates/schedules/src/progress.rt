@@ -1,11 +1,11 @@
-//! Who is told how far an exploration has come.
+//! The receiver of an exploration's progress.
 use crate::expected::Expected;
 
-/// Who is told how far an exploration has come. Nothing in the exploration depends on what is done with that.
+/// The receiver of an exploration's progress. Nothing in the exploration depends on what it does.
 pub trait Progress {
-    /// At most `most` orders will be run.
+    /// At most `most` schedules will be run.
     fn begins(&self, expected: Expected, most: u32);
 
-    /// `orders` orders have been run.
+    /// `orders` schedules have been run.
     fn told(&self, orders: u64);
 }

@@ -1,4 +1,4 @@
-//! A run of a plan in which builds take turns in rotation.
+//! The run of a plan in which builds take turns in rotation.
 ghost use Rattle.std.specs.Prelude.{◌≡◌, [], OnOk};
 ghost use Rattle.realm_plan.specs.PlanView.{plan_view};
 ghost use Rattle.schedules.specs.Chosen.{IsChosenRun, stage_at};
@@ -21,7 +21,7 @@ fn lowest_from(from: usize, left: &[bool; 8]) -> Option<usize>
     (0..8).find(|build| *build >= from && left[*build])
 }
 
-// The build whose turn it is where the rotation has come to `from`.
+// The build whose turn it is when the rotation has come to `from`.
 fn in_rotation(from: usize, left: &[bool; 8]) -> Option<usize>
     ensures { result ≡ in_rotation from left.now }
 {
@@ -56,7 +56,7 @@ fn go_on_in_rotation<S: PageStore>(
 }
 
 /// Runs a plan on a host: builds take turns in rotation, each that has a step left, until none has. The choices are
-/// then those of the whole order, and each end of a step is noted. At an `Err` allocation failed.
+/// then those of the whole schedule, and each end of a step is noted. At an `Err` allocation failed.
 pub(crate) fn run_in_rotation<S: PageStore>(
     host: &mut Host<S>,
     plan: &Plan,

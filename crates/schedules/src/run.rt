@@ -1,4 +1,4 @@
-//! A run of a plan in an order that is chosen turn by turn.
+//! The run of a plan in a schedule that is chosen turn by turn.
 ghost use Rattle.std.specs.Prelude.{◌≡◌, ◌^◌, ◌<◌, ◌↔◌, IsTrue, true, OnOk, IfOk, vec_len};
 ghost use Rattle.std.specs.Bool.{OnTrue, OnFalse, MatchBool};
 ghost use Rattle.realm_plan.specs.PlanView.{plan_view};
@@ -16,7 +16,7 @@ use realm_host::Host;
 use realm_plan::Plan;
 use std::alloc::AllocError;
 
-// Where a build is in its plan.
+// The cursor of a build in its plan.
 fn place_at(places: &[PlanCursor; 8], build: usize) -> PlanCursor
     requires { build < 8 }
     ensures value { result ≡ place_of places.now build }
@@ -26,7 +26,7 @@ fn place_at(places: &[PlanCursor; 8], build: usize) -> PlanCursor
     places[build]
 }
 
-/// Which builds have a step left.
+/// The builds that have a step left.
 #[tactic(auto, unfolding(crate::specs::Chosen::builds_left))]
 pub(crate) fn builds_left(plan: &Plan, places: &[PlanCursor; 8]) -> [bool; 8]
     ensures { result ≡ builds_left (plan_view plan.now) places.now }
@@ -55,7 +55,7 @@ fn refusal_in(answer: TurnAnswer) -> Option<Refusal>
     }
 }
 
-/// One turn of a build that has a step left. Where the turn uses the step up, its end is noted.
+/// Takes one turn of a build that has a step left. If the turn uses the step up, its end is noted.
 pub(crate) fn take_step<S: PageStore>(
     host: &mut Host<S>,
     plan: &Plan,
@@ -85,7 +85,7 @@ pub(crate) fn take_step<S: PageStore>(
     Ok(())
 }
 
-// Whether a choice can be made here: it says which builds have a step left, and is one of them.
+// Whether a choice can be made here: it has the builds with a step left, and is one of them.
 fn is_open(plan: &Plan, places: &[PlanCursor; 8], choice: &Choice) -> bool
     ensures { IsTrue result ↔ IsOpen (plan_view plan.now) places.now choice.now }
 {
@@ -95,7 +95,7 @@ fn is_open(plan: &Plan, places: &[PlanCursor; 8], choice: &Choice) -> bool
     choice.left == builds_left(plan, places) && choice.left[choice.build]
 }
 
-// Takes the turns that are chosen, as far as each can be.
+// Takes the turns that are chosen, as long as each can be taken.
 fn keep_to<S: PageStore>(
     host: &mut Host<S>,
     plan: &Plan,
@@ -140,10 +140,10 @@ fn go_on<S: PageStore>(
     Ok(())
 }
 
-/// Runs a plan on a host, in the order that begins with the choices and goes on with the lowest build that has a step left,
-/// until none has. The choices are then those of the whole order, and each end of a step is noted.
+/// Runs a plan on a host, in the schedule that begins with the choices and goes on with the lowest build that has a
+/// step left, until none has. The choices are then those of the whole schedule, and each end of a step is noted.
 ///
-/// `false` comes exactly where the choices cannot be kept to, since they are not those of a run like this. At an `Err`
+/// `false` comes exactly when the choices cannot be kept to, since they are not those of a run like this. At an `Err`
 /// allocation failed, and the host is that of a part of the run: some of the turns, with their choices and ends.
 pub fn run_schedule<S: PageStore>(
     host: &mut Host<S>,

@@ -1,7 +1,7 @@
-//! Orders as plans spell them.
+//! The text of a schedule in a plan.
 use std::fmt;
 
-/// Builds, each behind a comma and a space.
+/// Builds, each after a comma and a space.
 #[derive(Clone, Copy)]
 struct MoreTurns<'a>(&'a [usize]);
 
@@ -19,7 +19,7 @@ impl fmt::Display for MoreTurns<'_> {
     }
 }
 
-/// The builds of turns, as the line of a plan that gives it this order.
+/// The builds of turns, as the line of a plan that gives it this schedule.
 #[derive(Clone, Copy)]
 pub(crate) struct ScheduleText<'a>(pub &'a [usize]);
 

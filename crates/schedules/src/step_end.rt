@@ -1,7 +1,7 @@
-//! How steps end.
+//! The end of a step.
 use host_commands::Refusal;
 
-/// A build's step that is used up, and why it was refused, if it was.
+/// A build's step that is used up, and the reason of its refusal, if it was refused.
 #[derive(Clone, Copy, PartialEq, Eq)]
 pub struct StepEnd {
     pub build: usize,

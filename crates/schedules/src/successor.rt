@@ -1,4 +1,4 @@
-//! The order that comes next.
+//! The next schedule in lexicographic order.
 ghost use Rattle.std.specs.Prelude.{◌≡◌, [], None, Some};
 ghost use Rattle.std.specs.Bool.{OnTrue, OnFalse};
 ghost use Rattle.schedules.specs.Next.{next_build, next_of};
@@ -12,8 +12,9 @@ fn next_build(choice: &Choice) -> Option<usize>
     (0..8).find(|build| *build > choice.build && choice.left[*build])
 }
 
-/// Goes on to what the next order begins with: as many of these turns as possible, and then a turn of the lowest build
-/// above the one that was chosen there. `false`, with nothing chosen, comes exactly where this is the last order.
+/// Moves on to the beginning of the next schedule: as many of these turns as possible, and then a turn of the lowest
+/// build above the one that was chosen there. `false`, with nothing chosen, comes exactly when this is the last
+/// schedule.
 pub fn next_schedule(choices: &mut Vec<Choice>) -> bool
     ensures next { OnTrue result (next_of choices.old.items ≡ Some choices.new.items) }
     ensures last { OnFalse result (next_of choices.old.items ≡ None) }

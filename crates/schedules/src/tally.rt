@@ -1,10 +1,10 @@
-//! How often things were shown, and by which order first.
+//! The tally of an outcome: the number of schedules that have it, and the first of them.
 ghost use Rattle.std.specs.Prelude.{◌≡◌, ◌++◌, [], ◌∷◌, map, OnOk};
 
 use crate::choice::Choice;
 use std::alloc::{AllocError, Global};
 
-/// A thing that orders show, how many did, and the builds of the first one's turns.
+/// An outcome of schedules, how many have it, and the builds of the first one's turns.
 #[derive(Drop)]
 pub struct Tally<K> {
     pub thing: K,

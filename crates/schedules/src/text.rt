@@ -1,4 +1,4 @@
-//! What the orders of a plan come to, as text.
+//! The text of the outcomes of a plan's schedules.
 ghost use Rattle.std.specs.Prelude.{◌≡◌, ◌++◌, OnOk, string_bytes};
 ghost use Rattle.std.specs.List.{flat_map, range_with_len};
 ghost use Rattle.realm_plan.specs.PlanView.{plan_view};
@@ -10,7 +10,7 @@ use crate::{Tally, Totals};
 use realm_plan::Plan;
 use std::alloc::AllocError;
 
-// How many steps a build has.
+// The number of steps of a build.
 fn step_count(plan: &Plan, build: usize) -> usize
     ensures { result ≡ step_count (plan_view plan.now) build }
 {
@@ -20,7 +20,7 @@ fn step_count(plan: &Plan, build: usize) -> usize
     }
 }
 
-// Appends the lines of how the steps of a build ended.
+// Appends the lines of the ends of a build's steps.
 fn push_build(
     text: &mut String,
     plan: &Plan,
@@ -35,7 +35,7 @@ fn push_build(
     Ok(())
 }
 
-// Appends the lines of how the steps of the first `builds` builds ended.
+// Appends the lines of the ends of the steps of the first `builds` builds.
 fn push_builds(
     text: &mut String,
     plan: &Plan,
@@ -50,7 +50,7 @@ fn push_builds(
     Ok(())
 }
 
-// Appends the lines of how often each of the first `builds` builds was never refused.
+// Appends the lines that say how often each of the first `builds` builds was never refused.
 fn push_smooths(
     text: &mut String,
     orders: u64,
@@ -75,8 +75,9 @@ fn push_maps(text: &mut String, orders: u64, maps: &[Tally<String>]) -> Result<(
     Ok(())
 }
 
-// Appends in how many orders nothing was refused; for each step of each build, how it ended, in how many orders and in
-// which one first; for each build, in how many orders it was never refused; and the maps in the end.
+// Appends the number of schedules in which nothing was refused. Then, for each step of each build, how it ended, in how
+// many schedules and in which one first; for each build, the number of schedules in which it was never refused; and the
+// maps in the end.
 fn push_totals(text: &mut String, plan: &Plan, totals: &Totals) -> Result<(), AllocError>
     ensures { OnOk result (string_bytes text.new ≡ string_bytes text.old ++ totals_text (plan_view plan.now) totals.now) }
 {
@@ -89,9 +90,10 @@ fn push_totals(text: &mut String, plan: &Plan, totals: &Totals) -> Result<(), Al
     Ok(())
 }
 
-/// Appends what the orders of a plan come to: how many there are; in how many nothing was refused; for each step of
-/// each build, how it ended, in how many orders and in which one first; for each build, in how many orders it was never
-/// refused; and the maps in the end. At an `Err` allocation failed, and the text may have a part of it.
+/// Appends the outcomes of the schedules of a plan: how many there are, and in how many nothing was refused. Then, for
+/// each step of each build, how it ended, in how many schedules and in which one first; for each build, the number of
+/// schedules in which it was never refused; and the maps in the end. At an `Err` allocation failed, and the text may
+/// have a part of it.
 pub fn push_schedules(text: &mut String, plan: &Plan, explored: &Explored) -> Result<(), AllocError>
     ensures { OnOk result (string_bytes text.new ≡ string_bytes text.old ++ schedules_text (plan_view plan.now) explored.now.totals explored.now.is_whole) }
 {
@@ -99,8 +101,8 @@ pub fn push_schedules(text: &mut String, plan: &Plan, explored: &Explored) -> Re
     push_totals(text, plan, &explored.totals)
 }
 
-/// Appends what orders that were drawn come to, as `push_schedules` does, with another line for how many they are. At an
-/// `Err` allocation failed, and the text may have a part of it.
+/// Appends the outcomes of schedules that were drawn, as `push_schedules` does, with another line for their number. At
+/// an `Err` allocation failed, and the text may have a part of it.
 pub fn push_drawn(text: &mut String, plan: &Plan, totals: &Totals) -> Result<(), AllocError>
     ensures { OnOk result (string_bytes text.new ≡ string_bytes text.old ++ drawn_text (plan_view plan.now) totals.now) }
 {

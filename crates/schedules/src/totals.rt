@@ -1,15 +1,15 @@
-//! What runs come to.
+//! The totals of runs.
 use crate::step_end::StepEnd;
 use crate::tally::Tally;
 
-/// What the runs of orders come to.
+/// The totals of the runs of schedules.
 #[derive(Drop)]
 pub struct Totals {
-    /// How many orders were run.
+    /// The number of schedules that were run.
     pub orders: u64,
-    /// Whether any step of an order was refused.
+    /// Whether any step of a schedule was refused.
     pub wholes: Vec<Tally<bool>>,
-    /// How steps ended, each with how many orders and the first of them.
+    /// The ends of steps, each with the number of schedules and the first of them.
     pub ends: Vec<Tally<StepEnd>>,
     /// The maps in the end.
     pub maps: Vec<Tally<String>>,

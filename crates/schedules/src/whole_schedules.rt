@@ -1,4 +1,4 @@
-//! Orders that give each build all the turns that it needs.
+//! Schedules that give each build all the turns that it needs.
 ghost use Rattle.std.specs.Prelude.{IfOk};
 ghost use Rattle.realm_plan.specs.PlanView.{plan_view};
 ghost use Rattle.realm_program.specs.Replay.{opening_host};
@@ -13,7 +13,7 @@ use realm_program::boot;
 use std::alloc::{AllocError, Global};
 
 /// The builds of the turns of a run on a fresh host, in which the builds that have a step left take turns in rotation,
-/// until none has. What the plan says of its order is set aside. At an `Err` allocation failed.
+/// until none has. The plan's own schedule is not used. At an `Err` allocation failed.
 pub fn schedule_in_rotation(alloc: Global, plan: &Plan) -> Result<Vec<usize>, AllocError>
     ensures { IfOk result (λ order. IsWholeSchedule (AreInRotation 0) (plan_view plan.now)
         (opening_host (plan_view plan.now)) order.items) }
@@ -26,7 +26,7 @@ pub fn schedule_in_rotation(alloc: Global, plan: &Plan) -> Result<Vec<usize>, Al
 }
 
 /// The builds of the turns of a run on a fresh host, in which one build after the other, from the lowest on, has all
-/// its turns. What the plan says of its order is set aside. At an `Err` allocation failed.
+/// its turns. The plan's own schedule is not used. At an `Err` allocation failed.
 pub fn schedule_one_by_one(alloc: Global, plan: &Plan) -> Result<Vec<usize>, AllocError>
     ensures { IfOk result (λ order. IsWholeSchedule AreOneByOne (plan_view plan.now)
         (opening_host (plan_view plan.now)) order.items) }

@@ -1,4 +1,5 @@
-//! Tests alone: replays a plan over the plain store, as `realmhost replay` does over raw pages. Both print the same text.
+//! A test program: replays a plan over the plain store, as `realmhost replay` does over raw pages. Both print the same
+//! text.
 #![tactic(auto)]
 
 use checked_io::Told;

@@ -1,4 +1,4 @@
--- How the application of a history ends.
+-- The ends of the application of a history.
 use Rattle.std.proofs.Common.{◌≡◌, ◌↔◌, ◌+◌, ℕ, length, List, [], ◌∷◌, Option, Some, None, IfSome, Ok, Err, Bool, true, false, refl, ap, ◌∙◌, arith}
 use Rattle.std.specs.Io.KnownBytes.{Appends, prepend_known}
 use Rattle.host_ledger.specs.View.{HostView}

@@ -1,4 +1,4 @@
--- How a check ends.
+-- The ends of a check.
 use Rattle.std.proofs.Common.{◌≡◌, ◌↔◌, ℕ, List, Option, Some, None, Ok, Err, Bool, true, false, refl, sym, ap, ◌∙◌, subst, string_bytes}
 use Rattle.std.specs.Prelude.{IfSome, is_ok}
 use Rattle.realm_plan.specs.Plan.{plan_of}

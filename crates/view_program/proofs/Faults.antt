@@ -1,4 +1,4 @@
--- What becomes of a line that cannot be read.
+-- The fault of a line that cannot be read.
 use Rattle.std.proofs.Common.{List, ℕ, Option}
 use Rattle.host_ledger.specs.View.{HostView}
 use Rattle.checked_io.specs.declared.lines.LineError.{LineError}

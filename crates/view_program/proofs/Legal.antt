@@ -1,4 +1,4 @@
--- Lines that are taken are texts of a legal history.
+-- Lines that are applied, which are texts of a legal history.
 use Rattle.std.proofs.Common.{◌≡◌, ℕ, List, [], ◌∷◌, ◌++◌, refl, sym, ap, ◌∙◌, append_assoc, subst}
 use mathlib.Core.List.{append-nil}
 use Rattle.realm_model.specs.declared.act.Event.{Event}

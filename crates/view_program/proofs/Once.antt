@@ -1,4 +1,4 @@
--- Lines that are a history are so in one way, and have no line at which they stop.
+-- The uniqueness of a history's reading: lines that are a history do not stop.
 use Rattle.std.proofs.Common.{◌≡◌, ℕ, List, [], ◌∷◌, ◌++◌, refl, sym, ap, ◌∙◌, subst}
 use Rattle.realm_model.specs.declared.act.Event.{Event}
 use Rattle.host_ledger.specs.View.{HostView, with_event}

@@ -1,4 +1,4 @@
--- How the printing of a plan's text ends.
+-- The ends of the printing of a plan's text.
 use Rattle.std.proofs.Common.{◌≡◌, ℕ, List, Option, Ok, Err, Bool, true, false, refl, ap, sym, ◌∙◌, string_bytes}
 use Rattle.std.specs.Prelude.{IfSome}
 use Rattle.realm_plan.specs.Plan.{Plan, plan_of}

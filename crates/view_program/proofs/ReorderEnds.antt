@@ -1,4 +1,4 @@
--- How the writing of a plan with another order ends.
+-- The ends of the writing of a plan with another schedule.
 use Rattle.std.proofs.Common.{◌≡◌, ℕ, List, Option, Err, Bool, true, false, refl, string_bytes}
 use Rattle.std.specs.Prelude.{IfSome}
 use Rattle.checked_io.specs.Whole.{AppendsFront}

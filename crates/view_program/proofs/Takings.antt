@@ -1,4 +1,4 @@
--- Lines that a host takes, one after another.
+-- Lines that a host applies, one after another.
 use Rattle.std.proofs.Common.{◌≡◌, ◌↔◌, Bool, true, false, Ok, Err, ℕ, ◌+◌, ◌<◌, List, [], ◌∷◌, ◌++◌, length, length-append, Option, Some, None}
 use Rattle.std.proofs.Common.{IfSome, refl, sym, ap, ◌∙◌, append_assoc, arith, subst}
 use mathlib.Core.List.{append-nil}

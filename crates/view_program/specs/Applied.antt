@@ -1,4 +1,4 @@
--- A history that is applied, line by line, to the machine that it opens.
+-- The map of a history that is applied, line by line, to the machine that it opens.
 use Rattle.std.specs.Prelude.{◌≡◌, ◌+◌, ◌<◌, ◌≤◌, ℕ, List, [], ◌∷◌, ◌++◌, length, Option, Some, None, IfSome}
 use Rattle.realm_model.specs.declared.act.Event.{Event}
 use Rattle.realm_model.specs.History.{IsLegal}
@@ -32,8 +32,8 @@ abbrev pub AreTaken : HostView → List (List ℕ) → HostView → Type 0
 AreTaken old [] new = new ≡ old
 AreTaken old (line ∷ lines) new = (mid : HostView) × IsLineTaken old line mid × AreTaken mid lines new
 
--- The lines are a history: the first opens a machine, and the others are events, each of which can be applied after those
--- before it. They lead to this host.
+-- The lines are a history: the first opens a machine, and the others are events, each of which can be applied after
+-- those before it. They lead to this host.
 pub record IsHistory (lines : List (List ℕ)) (o : Opening) (host : HostView) : Type 0 where
   pub first : List ℕ
   pub events : List (List ℕ)
@@ -41,13 +41,13 @@ pub record IsHistory (lines : List (List ℕ)) (o : Opening) (host : HostView) :
   pub opens : IsOpeningText first o
   pub taken : AreTaken (host_of_opening o) events host
 
--- each line is the text of the event at its place
+-- each line is the text of the event at its index
 abbrev pub AreTexts : List (List ℕ) → List Event → Type 0
 AreTexts [] [] = Unit {0}
 AreTexts (line ∷ lines) (event ∷ events) = IsEventText line event × AreTexts lines events
 AreTexts _ _ = ⊥
 
--- Behind the first line stand the texts of the host's events, which are a legal history.
+-- After the first line come the texts of the host's events, which are a legal history.
 pub record IsLegalText (lines : List (List ℕ)) (host : HostView) : Type 0 where
   pub first : List ℕ
   pub events : List (List ℕ)
@@ -55,7 +55,7 @@ pub record IsLegalText (lines : List (List ℕ)) (host : HostView) : Type 0 wher
   pub texts : AreTexts events host.history
   pub legal : IsLegal host.limits host.history
 
--- the input is such lines, where it is known
+-- the input is such lines, if it is known
 pub record IsHistoryIn (input : Option (List ℕ)) (o : Opening) (host : HostView) : Type 0 where
   pub lines : List (List ℕ)
   pub of_input : IfSome input (λ bytes. lines_in bytes ≡ lines)
@@ -91,7 +91,8 @@ pub record StopsAt (IsReason : HostView → List ℕ → Type 0) (lines : List (
   pub number_is : number ≡ length before + 1
   pub reason : IsReason host line
 
--- Why the input is no history, where it is known. That allocation or a device failed is no matter of its lines.
+-- The reason why the input is no history, if it is known. A failure of allocation or of a device is no matter of its
+-- lines.
 abbrev pub IsNoHistoryIn : Option (List ℕ) → ViewError → Type 0
 IsNoHistoryIn input NoOpening = IfSome input (λ bytes. OpensNone (lines_in bytes))
 IsNoHistoryIn input (NoEvent number) = IfSome input (λ bytes. StopsAt (λ host line. IsNoEvent line) (lines_in bytes) number)
@@ -113,7 +114,7 @@ abbrev pub IsMap : Option ℕ → Opening → HostView → List ℕ → Type 0
 IsMap None o host text = text ≡ map_text host
 IsMap (Some build) o host text = IsMapOfHistoryWithout o host build text
 
--- Why there is no map: allocation failed, or the build to be left out is not one of the machine's.
+-- The reason why there is no map: allocation failed, or the build to be left out is not one of the machine's.
 abbrev pub HasNoMap : Option ℕ → Opening → ViewError → Type 0
 HasNoMap erase o Memory = Unit {0}
 HasNoMap (Some build) o EraseNamesNoBuild = o.builds ≤ build

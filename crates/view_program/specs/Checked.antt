@@ -1,4 +1,4 @@
--- The report on bytes as a plan, how its writing ends, and the end of what is asked of bytes that are no plan.
+-- The report on bytes as a plan, the end of its writing, and the end of a request on bytes that are no plan.
 use Rattle.std.specs.Prelude.{◌≡◌, Bool, true, false, List, ℕ, Option, IfSome, Result, Ok, Err, is_ok, string_bytes}
 use Rattle.std.specs.Io.KnownBytes.{Appends, Keeps}
 use Rattle.realm_plan.specs.Plan.{plan_of}
@@ -19,7 +19,7 @@ verdict_of false = HasErrors
 abbrev pub IsReportOn : List ℕ → Option (List ℕ) → LintReport → Type 0
 IsReportOn source input report = IfSome input (λ bytes. IsReport source (kept_of bytes) report)
 
--- the errors are written exactly where the input is no plan
+-- the errors are written exactly when the input is no plan
 abbrev pub IsVerdictOn : Option (List ℕ) → ViewOutcome → Type 0
 IsVerdictOn input verdict = IfSome input (λ bytes. verdict ≡ verdict_of (is_ok (plan_of bytes)))
 
@@ -64,7 +64,7 @@ pub record AreErrorsOfBytes (source bytes errors : List ℕ) : Type 0 where
   pub text : errors ≡ string_bytes report.text
   pub no_plan : is_ok (plan_of bytes) ≡ false
 
--- why bytes give no plan: their errors, or allocation failed
+-- the reason why bytes are no plan: their errors, or allocation failed
 abbrev pub GivesNoPlan : List ℕ → List ℕ → ViewError → Type 0
 GivesNoPlan source bytes (NoPlan errors) = AreErrorsOfBytes source bytes (string_bytes errors)
 GivesNoPlan source bytes Memory = Unit {0}

@@ -1,4 +1,4 @@
--- What the orders of a plan come to, as text.
+-- The text of the outcomes of a plan's schedules.
 use Rattle.std.specs.Prelude.{◌≡◌, ℕ, Bool, List}
 use Rattle.rand_core.specs.Steps.{stream_of, steps_u64_high}
 use Rattle.rand_core.specs.Stream.{Stream}
@@ -16,7 +16,7 @@ use Rattle.schedules.specs.Lines.{schedules_text, drawn_text}
 use Rattle.command_line.specs.declared.realmview.Schedules.{Schedules}
 use Rattle.command_line.specs.declared.realmview.Schedules.TheVariants.{First, Drawn}
 
--- what the orders of a plan come to, from the lowest on: all that there are, or the first `most`
+-- the outcomes of the schedules of a plan, from the lowest on: of all that there are, or of the first `most`
 pub record IsFirstText (most : ℕ) (plan : Plan) (text : List ℕ) : Type 0 where
   pub totals : Totals
   pub is_whole : Bool
@@ -27,7 +27,7 @@ pub record IsFirstText (most : ℕ) (plan : Plan) (text : List ℕ) : Type 0 whe
 abbrev pub random_numbers : ℕ → Stream
 random_numbers seed = stream_of (steps_u64_high plus_plus) (of_seed (splitmix_seed 32 seed))
 
--- what `count` orders, drawn by the numbers of a seed, come to
+-- the outcomes of `count` schedules that are drawn by the numbers of a seed
 pub record IsDrawnText (count seed : ℕ) (plan : Plan) (text : List ℕ) : Type 0 where
   pub totals : Totals
   pub sampled : IsSampled plan (opening_host plan) (random_numbers seed) count totals
@@ -37,7 +37,7 @@ abbrev pub IsSchedulesText : Schedules → Plan → List ℕ → Type 0
 IsSchedulesText (First most) plan text = IsFirstText most plan text
 IsSchedulesText (Drawn count seed) plan text = IsDrawnText count seed plan text
 
--- why there is no such text: allocation failed, or a host did not give the same answers to the same calls
+-- the reason why there is no such text: allocation failed, or a host did not give the same answers to the same calls
 abbrev pub IsWithoutSchedules : Schedules → Plan → Fault → Type 0
 IsWithoutSchedules (First most) plan fault = IsNotExplored plan fault
 IsWithoutSchedules (Drawn count seed) plan Memory = Unit {0}

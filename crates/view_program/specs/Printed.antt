@@ -1,4 +1,4 @@
--- What is printed of a history that is applied, and how that ends.
+-- The printing of the map of a history, and its end.
 use Rattle.std.specs.Prelude.{ℕ, Bool, true, false, List, Option, None, Result, Ok, Err, string_bytes}
 use Rattle.std.specs.Io.KnownBytes.{Appends, Keeps}
 use Rattle.host_ledger.specs.View.{HostView}
@@ -65,10 +65,10 @@ IsApplyEnd erase unread input old new (Err Memory) = Keeps old new
 IsApplyEnd erase unread input old new (Err Device) = IsApplyEndOfDevice erase unread input old new
 IsApplyEnd erase unread input old new (Err fault) = ⊥
 
--- ---- what is asked
+-- ---- the request
 
--- The end of a text that a plan has: it is printed whole or not at all, unless a write fails on the way. Of an input that is no
--- plan the fault has the errors.
+-- The end of a text that a plan has: it is printed whole or not at all, unless a write fails on the way. For an input
+-- that is no plan the fault has the errors.
 abbrev pub IsPlanEnd : (plan.Plan → List ℕ → Type 0) → (plan.Plan → plan_fault.Fault → Type 0) → List ℕ → Bool → Option (List ℕ) → Option (List ℕ) → Option (List ℕ) → Result (Unit {0}) ViewError → Type 0
 IsPlanEnd texts without source unread input old new (Ok done) = IsPrinted texts input old new
 IsPlanEnd texts without source unread input old new (Err (NoPlan errors)) = AreErrorsOf source input (string_bytes errors) × Keeps old new
@@ -77,7 +77,7 @@ IsPlanEnd texts without source unread input old new (Err Memory) = Keeps old new
 IsPlanEnd texts without source unread input old new (Err Device) = IsEndOfDevice texts unread input old new
 IsPlanEnd texts without source unread input old new (Err fault) = ⊥
 
--- the end of what is done where no plan is checked
+-- the end of a request for which no plan is checked
 abbrev pub EndsAs : (Result (Unit {0}) ViewError → Type 0) → Result ViewOutcome ViewError → Type 0
 EndsAs IsEndOf (Ok Done) = IsEndOf (Ok tt)
 EndsAs IsEndOf (Ok HasErrors) = ⊥

@@ -1,4 +1,4 @@
--- Plans that are given an order with all the turns that their builds need.
+-- Plans with another schedule, which has all the turns that their builds need.
 use Rattle.std.specs.Prelude.{◌≡◌, ℕ, Bool, true, false, List, Option, Result, Ok, Err, string_bytes}
 use Rattle.std.specs.Io.KnownBytes.{Appends, Keeps}
 use Rattle.realm_plan.specs.Plan as plan
@@ -15,7 +15,7 @@ use Rattle.view_program.specs.declared.fault.ViewError.{ViewError}
 use Rattle.view_program.specs.Checked.{AreErrorsOf}
 use Rattle.view_program.specs.declared.fault.ViewError.TheVariants.{NoPlan, Plan, OrderOutsideLimits, Memory, Device}
 
--- ---- the order
+-- ---- the schedule
 
 abbrev pub rule_of : SchedulingPolicy → List Choice → Type 0
 rule_of InRotation = AreInRotation 0
@@ -28,7 +28,7 @@ IsOrderOf turns it order = IsWholeSchedule (rule_of turns) it (opening_host it) 
 
 -- ---- the text
 
--- the text is a plan, whose own order is such an order
+-- the text is a plan, whose own schedule is such a one
 pub record IsWholeText (turns : SchedulingPolicy) (text : List ℕ) : Type 0 where
   pub it : plan.Plan
   pub is_plan : plan.plan_of text ≡ Ok it
@@ -36,14 +36,14 @@ pub record IsWholeText (turns : SchedulingPolicy) (text : List ℕ) : Type 0 whe
 
 -- ---- why there is none
 
--- why a text is not taken as a plan with such an order
+-- the reason why a text is not taken as a plan with such a schedule
 abbrev pub IsNotWhole : List ℕ → ViewError → Type 0
 IsNotWhole text OrderOutsideLimits = plan.plan_of text ≡ Err plan_fault.Limit
 IsNotWhole text (Plan run_fault.Mismatch) = Unit {0}
 IsNotWhole text Memory = Unit {0}
 IsNotWhole text fault = ⊥
 
--- why a plan is not written with such an order
+-- the reason why a plan is not written with such a schedule
 abbrev pub IsNotReordered : ViewError → Type 0
 IsNotReordered OrderOutsideLimits = Unit {0}
 IsNotReordered (Plan run_fault.Mismatch) = Unit {0}
@@ -52,7 +52,7 @@ IsNotReordered fault = ⊥
 
 -- ---- the end
 
--- the input is a plan, and so is the text, with such an order
+-- the input is a plan, and so is the text, with such a schedule
 pub record IsReorderedIn (turns : SchedulingPolicy) (input : Option (List ℕ)) (text : List ℕ) : Type 0 where
   pub read : plan.Plan
   pub of_input : IsPlanOf input read

@@ -1,4 +1,4 @@
--- Events that a host takes from the lines to come.
+-- Events that a host applies from the next lines.
 use Rattle.std.specs.Prelude.{◌≡◌, ◌+◌, ℕ, List, ◌∷◌, ◌++◌, length, Option, IfSome}
 use Rattle.host_ledger.specs.View.{HostView}
 use Rattle.checked_io.specs.Lines.{lines_in}
@@ -6,13 +6,13 @@ use Rattle.view_program.specs.Applied.{AreTaken, IsNoEvent, IsEventRefused}
 use Rattle.view_program.specs.declared.fault.ViewError.{ViewError}
 use Rattle.view_program.specs.declared.fault.ViewError.TheVariants.{NoEvent, Refused, Memory, Device}
 
--- all lines to come are taken
+-- all next lines are applied
 pub record AreLinesTaken (input : Option (List ℕ)) (old new : HostView) : Type 0 where
   pub lines : List (List ℕ)
   pub of_input : IfSome input (λ bytes. lines_in bytes ≡ lines)
   pub taken : AreTaken old lines new
 
--- a host does not take this line, whose number follows from how many events it has
+-- a host does not apply this line, whose number follows from the number of its events
 abbrev pub IsUntaken : HostView → List ℕ → ViewError → Type 0
 IsUntaken host line (NoEvent number) = (number ≡ length host.history + 2) × IsNoEvent line
 IsUntaken host line (Refused number why words) = (number ≡ length host.history + 2) × IsEventRefused why host line
@@ -27,7 +27,7 @@ pub record AreCutShort (old : HostView) (lines : List (List ℕ)) (fault : ViewE
   pub taken : AreTaken old before mid
   pub untaken : IsUntaken mid line fault
 
--- why not all lines to come are taken
+-- the reason why not all next lines are applied
 abbrev pub AreNotTaken : Option (List ℕ) → HostView → ViewError → Type 0
 AreNotTaken input old (NoEvent number) = IfSome input (λ bytes. AreCutShort old (lines_in bytes) (NoEvent number))
 AreNotTaken input old (Refused number why words) = IfSome input (λ bytes. AreCutShort old (lines_in bytes) (Refused number why words))

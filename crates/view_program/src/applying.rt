@@ -1,4 +1,4 @@
-//! A history in, the map of the machine that it leads to out.
+//! The map of a history: events are read and applied to a host.
 ghost use Rattle.std.specs.Prelude.{◌≡◌, ◌<◌, ◌↔◌, ◌⊎◌, false, true, Err, IfOk, IfErr, string_bytes};
 ghost use Rattle.realm_host.specs.Recorded.{fresh_like};
 ghost use Rattle.history_text.specs.Histories.{IsSize};
@@ -18,7 +18,7 @@ use realm_host::{Host, apply_without};
 use std::alloc::{AllocError, Global};
 use std::io::{Read, Write};
 
-// The host that the history in the input leads to, and the size of its machine.
+// The host of the history in the input, and the size of its machine.
 fn host_in<R: Read>(
     alloc: Global,
     input: &mut Told<R>,
@@ -74,15 +74,15 @@ fn asked_map(
     Ok(map_without(alloc, opening, host, build)?)
 }
 
-/// Reads a history, applies each of its events as it is recorded, and writes the map of the machine that it leads to; or,
-/// where a build is to be left out, the map that the history without the build's events leads to.
+/// Reads a history, applies each of its events as it is recorded, and writes the map of the machine. If a build is to
+/// be left out, writes the map of the history without the build's events.
 ///
-/// The map is made whole before any of it is written. Errors: NoOpening, where the first line opens no machine, or
-/// there is none; NoEvent, with the first line that is no event, or Refused, with the first event that cannot be
-/// applied, whichever comes first; EraseNamesNoBuild, where all is a history and the build to be left out is not one of
-/// the machine's; Memory, where allocation failed; Device, where a read failed and nothing is written, or where a write
-/// failed and a prefix of the map is written. The input is read line by line, and of a line no more than 256 bytes are
-/// kept.
+/// The map is complete before any of it is written. The input is read line by line, and of a line no more than 256
+/// bytes are kept. Errors: NoOpening, if the first line opens no machine, or there is none; NoEvent, with the first
+/// line that is no event, or Refused, with the first event that cannot be applied, whichever comes first;
+/// EraseNamesNoBuild, if all is a history and the build to be left out is not one of the machine's; Memory, if
+/// allocation failed; Device, if a read failed and nothing is written, or if a write failed and a prefix of the map is
+/// written.
 pub fn apply<R: Read, W: Write>(
     alloc: Global,
     input: &mut Told<R>,

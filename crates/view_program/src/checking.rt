@@ -10,12 +10,12 @@ use realm_program::read_whole;
 use std::alloc::Global;
 use std::io::{Read, Write};
 
-/// How what was asked for ended.
+/// The outcome of a subcommand.
 #[derive(Clone, Copy)]
 pub enum ViewOutcome {
-    /// It is done.
+    /// The subcommand is done.
     Done,
-    /// What was checked is no plan, and its errors are written.
+    /// The input that was checked is no plan, and its errors are written.
     HasErrors,
 }
 
@@ -30,11 +30,11 @@ fn verdict_of(is_plan: bool) -> ViewOutcome
     }
 }
 
-/// Reads bytes, and writes what is wrong with them as a plan: all errors, if they are no plan; if they are one, its
-/// likely slips and how much it has.
+/// Reads bytes, and writes the findings on them as a plan: all errors, if they are no plan; if they are one, its likely
+/// slips and its size.
 ///
-/// The text is made whole before any of it is written. Errors: Memory, where allocation failed; Device, where a read
-/// failed and nothing is written, or where a write failed and a prefix of the text is written.
+/// The text is complete before any of it is written. Errors: Memory, if allocation failed; Device, if a read failed and
+/// nothing is written, or if a write failed and a prefix of the text is written.
 pub fn check<R: Read, W: Write>(
     alloc: Global,
     source: &str,

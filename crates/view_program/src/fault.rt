@@ -1,4 +1,4 @@
-//! Why nothing is printed, or only a prefix of the text.
+//! The errors of a text that is not printed whole.
 ghost use Rattle.std.specs.Prelude.{◌≡◌};
 ghost use Rattle.view_program.specs.declared.fault.ViewError.TheVariants.{Plan, Memory, Device};
 
@@ -9,8 +9,8 @@ use realm_program::ReadError;
 use std::alloc::AllocError;
 use thiserror::Error;
 
-/// Why what was asked for is not printed, or only a prefix of the text. Its line goes to standard error. Lines are
-/// counted from 1.
+/// The reason why a text is not printed, or only a prefix of it. Its line goes to standard error. Lines are counted
+/// from 1.
 #[derive(Debug, Drop, Error)]
 pub enum ViewError {
     /// The input is no plan: its errors, as `check` writes them.
@@ -25,7 +25,7 @@ pub enum ViewError {
     /// The line is no event.
     #[error("line {0} is no event")]
     NoEvent(usize),
-    /// The event of the line cannot be applied, for this reason, which the words say.
+    /// The event of the line cannot be applied, for this reason, with its words.
     #[error("line {0} is refused: {2}")]
     Refused(usize, WhyNot, String),
     /// The build to be left out is not one of the machine's.

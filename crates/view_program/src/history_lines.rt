@@ -1,4 +1,4 @@
-//! The lines of a history, taken by a host.
+//! The lines of a history, applied to a host.
 ghost use Rattle.std.specs.Prelude.{◌≡◌, ◌↔◌, ◌+◌, true, false, length, Err, IfOk, IfErr, OnOk};
 ghost use Rattle.std.specs.Io.KnownBytes.{prepend_known};
 ghost use Rattle.checked_io.specs.Lines.{IsLine};
@@ -49,7 +49,7 @@ fn take_line<S: PageStore>(alloc: Global, host: &mut Host<S>, line: &[u8]) -> Re
     }
 }
 
-/// Applies the events of the lines to come, in their order, up to the first line that is no event or cannot be applied.
+/// Applies the events of the next lines, in sequence, up to the first line that is no event or cannot be applied.
 pub fn take_lines<R: Read, S: PageStore>(
     alloc: Global,
     lines: &mut Lines,

@@ -1,4 +1,4 @@
-//! Laws of histories that are applied.
+//! Theorems on histories that are applied.
 ghost use Rattle.std.specs.Prelude.{◌≡◌, ℕ, List};
 ghost use Rattle.realm_model.specs.History.{IsLegal};
 ghost use Rattle.host_ledger.specs.View.{HostView};
@@ -6,13 +6,13 @@ ghost use Rattle.history_text.specs.declared.opening.Opening.{Opening};
 ghost use Rattle.realm_host.specs.declared.why_not.WhyNot.{WhyNot};
 ghost use Rattle.view_program.specs.Applied.{IsHistory, IsLegalText, OpensNone, IsNoEvent, IsEventRefused, StopsAt};
 
-/// Lines that are a history are the texts of the events of their host, in their order, and these are a legal history.
+/// Lines that are a history are the texts of the events of their host, in sequence, and these are a legal history.
 pub fn what_is_applied_is_legal()
     ensures { (lines : List (List ℕ)) (o : Opening) (host : HostView) → IsHistory lines o host → IsLegalText lines host }
 {}
 
-/// Lines are a history in one way, of one machine and with one host, or they stop in one of three ways: they open no machine,
-/// or a line is no event, or one is refused. No lines are both.
+/// Lines are a history in one way, of one machine and with one host, or they stop in one of three ways. Those that stop
+/// open no machine, or have a line that is no event, or an event that is refused. No lines are both.
 pub fn histories_do_not_stop()
     ensures machine { (lines : List (List ℕ)) (o p : Opening) (host other : HostView) → IsHistory lines o host → IsHistory lines p other → o ≡ p }
     ensures host { (lines : List (List ℕ)) (o p : Opening) (host other : HostView) → IsHistory lines o host → IsHistory lines p other → host ≡ other }

@@ -1,13 +1,13 @@
-//! The parts of the program that reads: the history of a plan as text, a history applied to a machine, what is wrong with a
-//! plan, why its steps are refused, what its orders come to, the plan with all the turns that it needs, its run as data and as
-//! a page, the command line, and why the program stops.
+//! The parts of the program that shows plans and histories: each of its texts, its command line, and the reasons why it
+//! stops.
 //!
 //! `Histories`, `Reasons`, `Documents`, `Pages` and `Exploring` are the texts of plans that `print` writes. `apply`
-//! goes from the lines of a history to the map of the machine that it leads to, `check` from bytes to the findings on them as a
-//! plan, `reorder` from a plan to the same plan with another order. Each of them is for any reader and any writer, and `run` does
-//! what the command line asks for.
-//! Whatever they say of a run they take from a host. Nothing here looks at the process that it runs in: a caller hands in the
-//! words and the devices.
+//! goes from the lines of a history to the map of its machine. `check` goes from bytes to the findings on them as a
+//! plan, and `reorder` from a plan to the same plan with another schedule. Each of them is for any reader and any
+//! writer, and `run` performs what the command line asks for.
+//!
+//! All that they say of a run comes from a host. Nothing here depends on the process that it runs in: a caller hands in
+//! the words and the devices.
 #![tactic(auto)]
 
 mod applying;

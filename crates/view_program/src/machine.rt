@@ -1,4 +1,4 @@
-//! The machine that a history is of.
+//! The machine of a history.
 ghost use Rattle.std.specs.Prelude.{◌≡◌, IfOk};
 ghost use Rattle.history_text.specs.Histories.{IsSize};
 ghost use Rattle.view_program.specs.Applied.{host_of_opening};

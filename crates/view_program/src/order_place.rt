@@ -1,7 +1,7 @@
 //! The place of `order` in the text of a plan.
 //!
-//! The text is one that the reader of TOML has taken, so only what comes next is asked. Where something comes that is
-//! not expected, the place behind the last key that was read is given.
+//! The text is one that the reader of TOML has accepted, so only the next item is checked. If an unexpected item comes,
+//! the place after the last key that was read is returned.
 use std::alloc::{AllocError, Global};
 use toml_parser::text::{first, skip, skip_blank, skip_ws};
 use toml_parser::{Key, ParseError, dotted_key, quoted, starts_string, unquoted};
@@ -11,16 +11,16 @@ use toml_parser::{Key, ParseError, dotted_key, quoted, starts_string, unquoted};
 pub struct OrderPlace {
     pub from: usize,
     pub to: usize,
-    /// Whether the value of a key `order` stands there. Else a line with the key can be put there.
+    /// Whether the value of a key `order` is in this part. Else a line with the key can be put there.
     pub is_value: bool,
 }
 
-/// Why a key cannot be read.
+/// The reason why a key cannot be read.
 #[derive(Drop)]
 enum Lost {
     /// Allocation failed.
     Memory,
-    /// What comes next is not what was expected.
+    /// The next item is not the expected one.
     Unread,
 }
 
@@ -33,8 +33,7 @@ impl From<ParseError> for Lost {
     }
 }
 
-/// The value of the key `order` of a plan; or, where there is none, the place below the last key above the first
-/// header.
+/// The value of the key `order` of a plan; or, if there is none, the place below the last key above the first header.
 pub fn order_place(alloc: Global, text: &str) -> Result<OrderPlace, AllocError> {
     let mut below = 0;
     let mut rest = skip_blank(text.strip_prefix('\u{feff}').unwrap_or(text), true);
@@ -59,12 +58,12 @@ pub fn order_place(alloc: Global, text: &str) -> Result<OrderPlace, AllocError> 
     })
 }
 
-// How many bytes of the text stand before the rest of it.
+// The number of bytes of the text before the rest of it.
 fn before(text: &str, rest: &str) -> usize {
     text.len().saturating_sub(rest.len())
 }
 
-// The value of the key, from its beginning up to what comes behind it.
+// The value of the key, from its beginning up to the text after it.
 fn part(text: &str, value: &str, after: &str) -> OrderPlace {
     OrderPlace {
         from: before(text, value),
@@ -77,7 +76,7 @@ fn is_order(key: &Key) -> bool {
     key.path.is_empty() && key.last.as_str() == "order"
 }
 
-// What stands below the line that begins here.
+// The text below the line that begins here.
 fn line_below(s: &str) -> &str {
     match s.split_once('\n') {
         Some((_, below)) => below,
@@ -85,7 +84,7 @@ fn line_below(s: &str) -> &str {
     }
 }
 
-// A key, the text from its value on, and the text behind the value.
+// A key, the text from its value on, and the text after the value.
 fn pair(alloc: Global, s: &str) -> Result<(Key, &str, &str), Lost> {
     let (key, equals) = dotted_key(alloc, s)?;
     let value = skip_ws(after_byte(equals)?);
@@ -93,7 +92,7 @@ fn pair(alloc: Global, s: &str) -> Result<(Key, &str, &str), Lost> {
     Ok((key, value, after))
 }
 
-// The text behind a value.
+// The text after a value.
 fn after_value(alloc: Global, s: &str) -> Result<&str, Lost> {
     let mut rest = s;
     let mut depth: usize = 0;
@@ -108,7 +107,7 @@ fn after_value(alloc: Global, s: &str) -> Result<&str, Lost> {
     Err(Lost::Unread)
 }
 
-// The text behind a string, a scalar that is a whole value, or a byte, where `depth` arrays and tables are open.
+// The text after a string, a scalar that is a whole value, or a byte, inside `depth` open arrays and tables.
 fn after_part(alloc: Global, s: &str, depth: usize) -> Result<&str, Lost> {
     let next = first(s);
     if starts_string(s) {
@@ -120,7 +119,7 @@ fn after_part(alloc: Global, s: &str, depth: usize) -> Result<&str, Lost> {
     }
 }
 
-// The text behind what was read.
+// The text after what was read.
 fn behind<T: Drop>(read: Result<(T, &str), ParseError>) -> Result<&str, Lost> {
     match read {
         Ok((_, after)) => Ok(after),
@@ -128,7 +127,7 @@ fn behind<T: Drop>(read: Result<(T, &str), ParseError>) -> Result<&str, Lost> {
     }
 }
 
-// How many arrays and tables are open behind a byte.
+// The number of arrays and tables that are open after a byte.
 fn depth_after(depth: usize, byte: u8) -> usize {
     match byte {
         b'[' | b'{' => depth.saturating_add(1),
@@ -137,7 +136,7 @@ fn depth_after(depth: usize, byte: u8) -> usize {
     }
 }
 
-// The text behind its first byte, where that is a character.
+// The text after its first byte, if that is a character.
 fn after_byte(s: &str) -> Result<&str, Lost> {
     let byte = first(s);
     if byte == 0 || byte >= 128 {

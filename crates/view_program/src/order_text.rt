@@ -1,11 +1,11 @@
-//! The text of an order: the value of a plan's key `order`.
+//! The text of a schedule: the value of a plan's key `order`.
 use std::alloc::{AllocError, Global};
 use std::fmt;
 
-/// The most turns that stand on the line of the key. Such a line has up to 100 columns.
+/// The most turns on the line of the key. Such a line has up to 100 columns.
 const MOST_ON_ONE: usize = 30;
 
-/// The turns of each line below the key, where there are more. Such a line has up to 100 columns too.
+/// The turns of each line below the key, if there are more. Such a line has up to 100 columns too.
 const TURNS_A_LINE: usize = 32;
 
 /// Turns, with a comma between two of them.
@@ -33,7 +33,7 @@ fn push_lines(text: &mut String, order: &[usize]) -> Result<(), AllocError> {
     text.push_str("]")
 }
 
-/// The order as an array: on one line where it fits, or else in lines of 32 turns.
+/// The schedule as an array: on one line if it fits, or else in lines of 32 turns.
 pub fn order_array(alloc: Global, order: &[usize]) -> Result<String, AllocError> {
     let mut text = String::new(alloc);
     if order.len() > MOST_ON_ONE {

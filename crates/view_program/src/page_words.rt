@@ -1,4 +1,5 @@
-//! The words of a page beside the run and its worlds: the reasons of refusals, and the title. They are tested, not proved.
+//! The words of a page beside the run and its worlds: the reasons of refusals, and the title. They are tested, not
+//! proved.
 use crate::plan_title::plan_title;
 use buddy::BuddyArena;
 use explain::{Explanation, explain_turns};
@@ -70,7 +71,8 @@ fn push_title(alloc: Global, text: &mut String, source: &[u8]) -> Result<(), All
     push_string(text, title.as_str())
 }
 
-/// The members of a page's data beside the run and its worlds, with a comma before each: the refused turns, and the title.
+/// The members of a page's data beside the run and its worlds, with a comma before each: the refused turns, and the
+/// title.
 pub(crate) fn further_members(
     alloc: Global,
     plan: &Plan,

@@ -1,4 +1,4 @@
-//! The histories of runs.
+//! The text of the history of a run.
 ghost use Rattle.std.specs.Prelude.{◌≡◌, IfOk, IfErr, string_bytes};
 ghost use Rattle.realm_plan.specs.PlanView.{plan_view};
 ghost use Rattle.realm_program.specs.Replay.{opening_host, IsWithoutText};
@@ -69,8 +69,8 @@ fn run_text(alloc: Global, plan: &Plan, erase: Option<BuildId>) -> Result<String
     text_after_run(alloc, plan, &mut host, erase)
 }
 
-/// The histories of runs of plans, whole or without a build. A plan has none where the build is not one of its own
-/// (EraseNamesNoBuild), or where allocation failed.
+/// The histories of runs of plans, whole or without a build. A plan has none if the build is not one of its own
+/// (EraseNamesNoBuild), or if allocation failed.
 #[derive(Drop)]
 pub struct Histories {
     /// The build that is left out.

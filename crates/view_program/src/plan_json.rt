@@ -1,4 +1,4 @@
-//! The documents of runs.
+//! The JSON documents of runs.
 ghost use Rattle.std.specs.Prelude.{None, IfOk, string_bytes};
 ghost use Rattle.realm_plan.specs.PlanView.{plan_view};
 ghost use Rattle.realm_program.specs.Replay.{IsWithoutText, opening_host};
@@ -13,7 +13,7 @@ use realm_program::{Fault, boot};
 use run_json::run_document;
 use std::alloc::{AllocError, Global};
 
-/// The document of a run of the plan, and the books in the end.
+/// The document of a run of the plan, and the ledger in the end.
 pub(crate) fn run_of(alloc: Global, plan: &Plan) -> Result<(String, HostLedger), AllocError>
     ensures { IfOk result (λ ran. IsDocument (plan_view plan.now) (opening_host (plan_view plan.now)) ran.1 (string_bytes ran.0)) }
 {
@@ -22,7 +22,7 @@ pub(crate) fn run_of(alloc: Global, plan: &Plan) -> Result<(String, HostLedger),
     Ok((document, host.into_ledger()))
 }
 
-/// The documents of runs of plans. A plan has none only where allocation failed.
+/// The documents of runs of plans. A plan has none only if allocation failed.
 #[derive(Drop)]
 pub struct Documents;
 

@@ -1,4 +1,4 @@
-//! A plan in, the same plan with an order that gives each build all the turns that it needs out.
+//! The plan with a schedule that gives each build all the turns that it needs.
 ghost use Rattle.std.specs.Prelude.{◌≡◌, ◌+◌, ◌≤◌, ◌↔◌, ◌⊎◌, false, true, Err, IfOk, IfErr, OnOk};
 ghost use Rattle.realm_plan.specs.PlanView.{plan_view};
 ghost use Rattle.view_program.specs.Reordered.{IsOrderOf, IsWholeText, IsNotWhole, IsNotReordered, IsReorderEnd};
@@ -17,7 +17,7 @@ use std::alloc::{AllocError, Global};
 use std::io::{Read, Write};
 use std::str::from_utf8;
 
-// The order of a run of the plan in which each build has all the turns that it needs.
+// The schedule of a run of the plan in which each build has all the turns that it needs.
 fn order_of(alloc: Global, plan: &Plan, turns: SchedulingPolicy) -> Result<Vec<usize>, AllocError>
     ensures { IfOk result (λ order. IsOrderOf turns (plan_view plan.now) order.items) }
 {
@@ -27,7 +27,7 @@ fn order_of(alloc: Global, plan: &Plan, turns: SchedulingPolicy) -> Result<Vec<u
     }
 }
 
-// The text that goes to the place: the order, or a line with the key and the order.
+// The text that is put at the place: the schedule, or a line with the key and the schedule.
 fn part_for(
     alloc: Global,
     bytes: &[u8],
@@ -64,14 +64,14 @@ fn with_part(
     Ok(text)
 }
 
-// The text of a plan with this order in the place of its own.
+// The text of a plan with this schedule in place of its own.
 fn with_order(alloc: Global, bytes: &[u8], order: &[usize]) -> Result<Vec<u8>, AllocError> {
     let place = order_place(alloc, from_utf8(bytes).unwrap_or(""))?;
     let part = part_for(alloc, bytes, place, order)?;
     with_part(alloc, bytes, place.from, place.to, &part)
 }
 
-// Whether a plan's own order gives each build all the turns that it needs.
+// Whether a plan's own schedule gives each build all the turns that it needs.
 fn has_whole_schedule(
     alloc: Global,
     plan: &Plan,
@@ -88,7 +88,7 @@ fn has_whole_schedule(
     Ok(own == order)
 }
 
-// Reads a text back: it is to be a plan whose order gives each build all the turns that it needs.
+// Reads a text back: it has to be a plan whose schedule gives each build all the turns that it needs.
 fn read_back(alloc: Global, text: &[u8], turns: SchedulingPolicy) -> Result<(), ViewError>
     ensures ok { OnOk result (IsWholeText turns text.now) }
     ensures err { IfErr result (IsNotWhole text.now) }
@@ -101,7 +101,7 @@ fn read_back(alloc: Global, text: &[u8], turns: SchedulingPolicy) -> Result<(), 
     }
 }
 
-// The text of a plan, with its whole order.
+// The text of a plan, with its whole schedule.
 fn reordered(
     alloc: Global,
     bytes: &[u8],
@@ -117,14 +117,15 @@ fn reordered(
     Ok(text)
 }
 
-/// Reads a plan, and writes it with an order that gives each build all the turns that it needs, aborts and ways back
-/// included: the value of `order` is another one, and all else of the text is as it was. What is written is read back
-/// before: its order is that of a run of itself, in which each turn is of a build that has a step left, until none has.
+/// Reads a plan, and writes it with a schedule that gives each build all the turns that it needs, aborts and ways back
+/// included. The value of `order` is another one, and the rest of the text is as it was. The text is read back before
+/// it is written: its schedule is that of a run of itself, in which each turn is of a build that has a step left, until
+/// none has.
 ///
-/// The text is made whole before any of it is written. Errors: NoPlan, with the errors of an input that is no plan;
-/// OrderOutsideLimits, where the plan would have too many turns or bytes; Memory, where allocation failed; Device,
-/// where a read failed and nothing is written, or where a write failed and a prefix of the text is written. Mismatch
-/// never comes on a host that gives the same answers to the same calls.
+/// The text is complete before any of it is written. Errors: NoPlan, with the errors of an input that is no plan;
+/// OrderOutsideLimits, if the plan would have too many turns or bytes; Memory, if allocation failed; Device, if a read
+/// failed and nothing is written, or if a write failed and a prefix of the text is written. Mismatch never comes on a
+/// host that gives the same answers to the same calls.
 pub fn reorder<R: Read, W: Write>(
     alloc: Global,
     source: &str,

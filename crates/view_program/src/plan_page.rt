@@ -18,7 +18,7 @@ use realm_program::{Fault, boot};
 use run_json::{Comma, page_of, push_world};
 use std::alloc::{AllocError, Global};
 
-// The build at a place.
+// The build at an index of the plan.
 fn id_of(place: usize) -> BuildId
     requires { place < 8 }
     ensures { result ≡ place }
@@ -41,7 +41,7 @@ fn fresh_without(
     Ok(fresh)
 }
 
-// Appends the world of a host behind those of the builds below.
+// Appends the world of a host after those of the builds below.
 fn push_next(
     alloc: Global,
     text: &mut String,
@@ -92,7 +92,8 @@ fn push_end(text: &mut String, members: &str) -> Result<(), AllocError>
     write!(text, "]{members}}}")
 }
 
-// The data of a page: the document of a run of the plan, the worlds without each build, the words for refusals, and the title.
+// The data of a page: the document of a run of the plan, the worlds without each build, the words for refusals, and the
+// title.
 fn page_data(alloc: Global, plan: &Plan, source: &[u8]) -> Result<String, AllocError>
     ensures { IfOk result (λ text. IsPageData (plan_view plan.now) (string_bytes text)) }
 {
@@ -105,8 +106,8 @@ fn page_data(alloc: Global, plan: &Plan, source: &[u8]) -> Result<String, AllocE
     Ok(text)
 }
 
-/// Pages for browsers that show runs of plans. A page has the document of the run, and beside it the worlds of the run's history
-/// without each build, each of them made by a machine of its own. A plan has none only where allocation failed.
+/// Pages for browsers that show runs of plans. A page has the document of the run, and the worlds of the run's history
+/// without each build, each of them made by a machine of its own. A plan has none only if allocation failed.
 #[derive(Drop)]
 pub struct Pages;
 

@@ -13,7 +13,7 @@ use realm_plan::Plan;
 use realm_program::{Fault, boot};
 use std::alloc::{AllocError, Global};
 
-// Appends the line of a turn, and below it why the turn is refused, if it is.
+// Appends the line of a turn, and below it the reason of its refusal, if it is refused.
 fn push_turn(
     alloc: Global,
     text: &mut String,
@@ -72,8 +72,8 @@ fn why_text(alloc: Global, plan: &Plan, all: bool) -> Result<String, AllocError>
     Ok(text)
 }
 
-/// The texts of runs of plans: the line of each turn, with the check that fails below it if it is refused; the map in the
-/// end; and what each abort lacks that is under way then. A plan has none only where allocation failed.
+/// The texts of runs of plans: the line of each turn, with the check that fails below it if it is refused; the map in
+/// the end; and what each unfinished abort lacks then. A plan has none only if allocation failed.
 #[derive(Drop)]
 pub struct Reasons {
     /// Whether the checks that passed before are listed too.

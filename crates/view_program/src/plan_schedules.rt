@@ -1,4 +1,4 @@
-//! What the orders of plans come to.
+//! The outcomes of the schedules of plans.
 ghost use Rattle.std.specs.Prelude.{◌≡◌, IfOk, IfErr, string_bytes};
 ghost use Rattle.realm_plan.specs.PlanView.{plan_view};
 ghost use Rattle.schedules.specs.Exploring.{IsNotExplored};
@@ -17,7 +17,7 @@ use schedules::{
 };
 use std::alloc::{AllocError, Global};
 
-// The text of what the first orders come to.
+// The text of the outcomes of the first schedules.
 fn text_of_first(alloc: Global, plan: &Plan, explored: &Explored) -> Result<String, AllocError>
     ensures { IfOk result (λ text. string_bytes text ≡ schedules_text (plan_view plan.now) explored.now.totals explored.now.is_whole) }
 {
@@ -26,7 +26,7 @@ fn text_of_first(alloc: Global, plan: &Plan, explored: &Explored) -> Result<Stri
     Ok(text)
 }
 
-// The text of what orders that are drawn come to.
+// The text of the outcomes of schedules that are drawn.
 fn text_of_drawn(alloc: Global, plan: &Plan, totals: &Totals) -> Result<String, AllocError>
     ensures { IfOk result (λ text. string_bytes text ≡ drawn_text (plan_view plan.now) totals.now) }
 {
@@ -35,7 +35,7 @@ fn text_of_drawn(alloc: Global, plan: &Plan, totals: &Totals) -> Result<String, 
     Ok(text)
 }
 
-// How many orders are run at most: those that are asked for, or all where it is known that these are fewer.
+// The most schedules that are run: those that are asked for, or all if these are known to be fewer.
 fn most_run(expected: Expected, orders: Schedules) -> u32 {
     match orders {
         Schedules::First(most) if expected.is_exact => match expected.orders {
@@ -47,7 +47,7 @@ fn most_run(expected: Expected, orders: Schedules) -> u32 {
     }
 }
 
-// Tells how many orders a plan has, and how many of them are run at most.
+// Reports the number of schedules of a plan, and the most of them that are run.
 fn tell_begin<P: Progress>(
     alloc: Global,
     plan: &Plan,
@@ -60,7 +60,7 @@ fn tell_begin<P: Progress>(
     Ok(())
 }
 
-// Runs the orders of a plan, at most `most` of them, and tells what they come to.
+// Runs the schedules of a plan, at most `most` of them, and returns the text of their outcomes.
 fn run_first_of<P: Progress>(
     alloc: Global,
     plan: &Plan,
@@ -75,7 +75,7 @@ fn run_first_of<P: Progress>(
     Ok(text_of_first(alloc, plan, &explored)?)
 }
 
-// Runs `count` orders that are drawn by the numbers of a seed, and tells what they come to.
+// Runs `count` schedules that are drawn by the numbers of a seed, and returns the text of their outcomes.
 fn run_drawn_of<P: Progress>(
     alloc: Global,
     plan: &Plan,
@@ -91,7 +91,7 @@ fn run_drawn_of<P: Progress>(
     text_of_drawn(alloc, plan, &totals)
 }
 
-// The text of what the orders that are asked for come to.
+// The text of the outcomes of the schedules that are asked for.
 fn orders_text_of<P: Progress>(
     alloc: Global,
     plan: &Plan,
@@ -107,16 +107,16 @@ fn orders_text_of<P: Progress>(
     }
 }
 
-/// What other orders of the turns of a plan's builds come to: how many these are, how each step of each build ended, in how many
-/// orders each build was never refused, and the maps in the end, each with the first order that shows it.
+/// The outcomes of other schedules of a plan's builds: their number, how each step of each build ended, the number of
+/// schedules in which each build was never refused, and the maps in the end. Each has the first schedule that shows it.
 ///
-/// A plan has no such text where a host did not give the same answers to the same calls (Mismatch), or where allocation
+/// A plan has no such text if a host did not give the same answers to the same calls (Mismatch), or if allocation
 /// failed.
 #[derive(Drop)]
 pub struct Exploring<'a, P> {
-    /// Which orders are run.
+    /// The schedules that are run.
     pub orders: Schedules,
-    /// Is told of each order that was run.
+    /// The receiver of the progress: each schedule that was run is reported to it.
     pub progress: &'a P,
 }
 

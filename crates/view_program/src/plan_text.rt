@@ -1,4 +1,4 @@
-//! The texts of plans that are made of a plan and of the bytes that it is read from.
+//! The texts of a plan that need the bytes of its input too.
 ghost use Rattle.std.specs.Prelude.{ℕ, List, IfOk, IfErr};
 ghost use Rattle.realm_plan.specs.Plan.{Plan as PlanModel};
 ghost use Rattle.realm_plan.specs.PlanView.{plan_view};
@@ -15,8 +15,8 @@ pub trait ViewText {
 
     ghost is_without: { Self → PlanModel → FaultModel → Type 0 };
 
-    /// The text of a plan, made whole in memory, or the reason why there is none. `source` has the bytes that the plan is
-    /// read from, with its comments.
+    /// The text of a plan, complete in memory, or the reason why there is none. `source` has the bytes of the plan's
+    /// input, with its comments.
     fn text_of(&self, alloc: Global, plan: &Plan, source: &[u8]) -> Result<Vec<u8>, Fault>
         ensures ok { IfOk result (λ text. is_text self.now (plan_view plan.now) text.items) }
         ensures err { IfErr result (λ fault. is_without self.now (plan_view plan.now) fault) }

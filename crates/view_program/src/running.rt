@@ -1,4 +1,4 @@
-//! What the command line asks for is done.
+//! The subcommands of the command line.
 ghost use Rattle.std.specs.Prelude.{◌≡◌, ◌↔◌, ◌⊎◌, false, true, Err};
 ghost use Rattle.view_program.specs.Printed.{IsRunEnd};
 ghost use Rattle.view_program.specs.declared.fault.ViewError.TheVariants.{Device};
@@ -13,8 +13,8 @@ use schedules::Progress;
 use std::alloc::Global;
 use std::io::{Read, Write};
 
-/// Does what is asked, over any reader and any writer. Findings on a plan name the input by `source`. `progress` is told how far
-/// an exploration of orders has come.
+/// Performs a subcommand, over any reader and any writer. Findings on a plan name the input by `source`. `progress`
+/// receives the progress of an exploration of schedules.
 pub fn run<R: Read, W: Write, P: Progress>(
     alloc: Global,
     asked: ViewSubcommand,
