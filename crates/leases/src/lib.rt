@@ -1,6 +1,6 @@
 //! The leases of builds: the stack of pages of each build, the build that leases each granule, and the VMIDs in use.
 //!
-//! A block that is taken goes to the end of its build's stack, page by page in rising order, so the build's page
+//! A block that is taken goes to the end of its build's stack, page by page in rising order. So the build's page
 //! numbers run from 0 in the order of taking. The reverse of the take removes it again. Memory is taken by `build`
 //! alone, and no later call fails. The caller sees to it that there is capacity for a block that is pushed.
 //!

@@ -33,7 +33,7 @@ abbrev pub has_nearer : List Act → Bool
 has_nearer [] = false
 has_nearer (act ∷ acts) = (is_paired act && is_balanced acts) || has_nearer acts
 
--- An operation before `between` is matched by a reverse operation in the rest: between the two there are as many paired
+-- An operation before `between` is matched by a reverse operation in the rest. Between the two there are as many paired
 -- as reverse operations, and this holds of no later paired one.
 abbrev pub is_matched : List Act → List Act → Bool
 is_matched between [] = false
@@ -45,7 +45,7 @@ abbrev pub unmatched : List Act → List Act
 unmatched [] = []
 unmatched (act ∷ acts) = cond (is_paired act && not (is_matched [] acts)) (act ∷ unmatched acts) (unmatched acts)
 
--- What a build has open: its paired operations that nothing has reversed.
+-- The operations that a build has open: its paired ones that nothing has reversed.
 unfoldable pub open_entries : ℕ → List Event → List Act
 open_entries build history = unmatched (acts_of build history)
 

@@ -34,7 +34,7 @@ StaysValid mark history event =
 abbrev pub erase_after : ℕ → ℕ → List Event → List Event
 erase_after build place history = take place history ++ erase build (drop place history)
 
--- what the build has opened above the mark
+-- the operations that the build has opened above the mark
 abbrev pub above : Mark → List Event → List Act
 above mark history = drop mark.depth (open_entries mark.build history)
 

@@ -37,9 +37,9 @@ abbrev pub on_realm : Option Seen → (Seen → Outcome) → Outcome
 on_realm None f = Err error_input
 on_realm (Some rd) f = f rd
 
--- The outcome of an operation, by the number of VMIDs and of auxiliary granules of a REC, the VMIDs in use, the realm
--- of the operation's build and the granules that it names. Take and UnTake are no commands of the RMM: a block is
--- leased, or it is given back.
+-- The outcome of an operation. It depends on the machine's limits of VMIDs and auxiliary granules, the VMIDs in use,
+-- the realm of the operation's build and the granules that it names. Take and UnTake are no commands of the RMM: a
+-- block is leased, or it is given back.
 unfoldable pub outcome_of : ℕ → ℕ → List ℕ → Act → Option Seen → List Seen → Outcome
 outcome_of vmids aux used (Take order first) realm gs = Ok (map (λ g. Lease g.number) gs)
 outcome_of vmids aux used (UnTake order first) realm gs = Ok (map (λ g. Free g.number) gs)

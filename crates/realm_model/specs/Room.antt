@@ -11,8 +11,8 @@ use Rattle.realm_model.specs.Step.{step}
 use Rattle.realm_model.specs.History.{acts_of, open_entries, IsInTurn}
 use Rattle.realm_model.specs.Running.{running_count}
 
--- The room that a build has used: an entry for each of its events, one for each operation that it has open, as room for
--- its reverse, and one for each REC that runs, as room for its exit.
+-- The room that a build has used. It is an entry for each of its events, one for the reverse of each operation that it
+-- has open, and one for the exit of each REC that runs.
 abbrev pub used_room : ℕ → List Event → World → ℕ
 used_room build history world =
     length (acts_of build history) + length (open_entries build history) + running_count (realm_of build world)

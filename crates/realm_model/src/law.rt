@@ -87,8 +87,8 @@ pub fn others_keep_their_room()
     ensures { (limits : Limits) (history : List Event) (world : World) (build other : ℕ) → IsLegal limits history → replay limits history ≡ Some world → OthersKeepTheirRoom history world build other }
 {}
 
-/// Each event of a history without a build is accepted in turn, from nothing on, by a machine with the same limits and
-/// room, on which each build can have as many operations open.
+/// Each event of a history without a build is accepted in turn, from nothing on. The machine has the same limits and
+/// room, and each build can have as many operations open.
 pub fn what_is_left_is_accepted()
     ensures { (limits : Limits) (capacity most : ℕ) (history : List Event) (world : World) (build : ℕ)
         → IsLegal limits history → replay limits history ≡ Some world → WhatIsLeftIsAccepted limits capacity most history world build }

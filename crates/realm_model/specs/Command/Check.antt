@@ -90,7 +90,7 @@ with_row rows ipa level f = with_end rows ipa level (λ end. check (end.level ==
 unfoldable pub with_granule : Row → (ℕ → Outcome) → Outcome
 with_granule row f = elim row.granule [ Some granule ↦ f granule | None ↦ Err error_input ]
 
--- ---- what changes of a realm
+-- ---- the updates of a realm
 
 abbrev pub put_realm : Seen → RealmRow → Update
 put_realm rd realm = Put rd.number (record rd.cell { descriptor = Some realm })
