@@ -20,8 +20,8 @@ use Rattle.rmi_monitor.specs.Gathered.{gathered, IsOnce}
 use Rattle.rmi_monitor.specs.Places.{is_realm_with}
 use Rattle.granule_addr.specs.Vmids.{is_used}
 
--- The VMIDs in use. For each granule: its state and realm, the bytes of its page, whether it is free, the realm or the
--- REC that it is, and the number of RECs of that realm.
+-- The VMIDs in use. For each granule: its state and realm, the bytes of its page, whether it is free, and the realm or
+-- the REC that it is. And for each realm the number of its RECs.
 pub record Fields : Type 0 where
   pub vmids : ℕ
   pub aux : ℕ
@@ -108,7 +108,7 @@ machine_of fields = map (cell_of fields) (range_with_len 0 (length fields.granul
 abbrev pub seen_as : Fields → MonitorView
 seen_as fields = record { vmids = fields.vmids; aux = fields.aux; machine = machine_of fields; free = fields.free }
 
--- ---- what always holds
+-- ---- the invariant
 
 abbrev pub is_rec_state : GranuleState → Bool
 is_rec_state InRec = true

@@ -30,8 +30,8 @@ is_undelegated_at granules granule = elim (granule_at granules granule).state [ 
 abbrev pub is_fit_to_start : List Granule → ℕ → ℕ → Bool
 is_fit_to_start granules rd table = is_delegated_at granules table && not (table == rd)
 
--- The requirements of a new realm: a DELEGATED granule for the RD, starting tables outside it from a multiple of their
--- count on, and a VMID up to the machine's greatest.
+-- The requirements of a new realm. The granule for the RD is DELEGATED, the starting tables are outside it from a
+-- multiple of their count on, and the VMID is up to the machine's greatest.
 abbrev pub are_fit_for_realm : List Granule → ℕ → Root → ℕ → ℕ → Bool
 are_fit_for_realm granules rd root vmid vmids =
     root.first % start_count root.width == 0 && is_delegated_at granules rd

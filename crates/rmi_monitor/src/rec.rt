@@ -39,8 +39,8 @@ impl<S: PageStore> Monitor<S> {
     /// Makes DELEGATED granules a REC of a NEW realm and its auxiliaries, and returns the number of the REC.
     ///
     /// RMM 1.0, RMI_REC_CREATE. RMI_ERROR_INPUT comes if the first granule is no RD, one of the others is not
-    /// DELEGATED, two of these are the same, or there are not as many auxiliaries as each REC has. RMI_ERROR_REALM
-    /// comes if the realm is not NEW.
+    /// DELEGATED, or two of these are the same. It also comes if there are not as many auxiliaries as each REC has.
+    /// RMI_ERROR_REALM comes if the realm is not NEW.
     pub fn rec_create(
         &mut self,
         rd: Gran,

@@ -4,7 +4,7 @@
 //! levels and bytes 8. So a line can name what no machine has, which is for the RMM to refuse.
 use arrayvec::ArrayVec;
 
-/// A fresh machine, in which every page is taken and zero: of 1 to 4,096 pages, with 1 to 255 VMIDs, and with up to 16
+/// A fresh machine, in which every page is taken and zero. It has 1 to 4,096 pages, 1 to 255 VMIDs, and up to 16
 /// auxiliary granules for each REC.
 #[derive(Drop)]
 pub struct TraceOpening {

@@ -16,7 +16,7 @@ Entries = ℕ → ℕ → Row
 unfoldable pub entries_of : List (List ℕ) → Entries
 entries_of pages granule index = entry_of (word_at pages granule index)
 
--- The table of a level that serves an IPA granule: that of level 1 is a starting table, and any other is the one that
+-- The table of a level that serves an IPA granule. That of level 1 is a starting table, and any other is the one that
 -- the entry above it leads to.
 unfoldable pub table_at : Entries → Root → ℕ → ℕ → Option ℕ
 table_at entries root zero ipa = None

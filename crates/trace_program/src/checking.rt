@@ -17,8 +17,8 @@ use rmi_trace::{Request, TraceAnswer, TraceLine, cut_answer, nearest_word, parse
 use std::alloc::{AllocError, Global};
 use std::io::{Read, Write};
 
-/// The verdict on the lines of a trace. They are right if each has the answer of the rules, or none, and a line with
-/// the answer `no command` is none.
+/// The verdict on the lines of a trace. They are right if each has the answer of the rules, or none. A line that is no
+/// command has to have the answer `no command`.
 #[derive(Clone, Copy)]
 pub enum Verdict {
     /// All lines are right, and there is an answer among them.
@@ -296,8 +296,8 @@ fn judge<R: Read>(alloc: Global, input: &mut Told<R>) -> Result<Judged, TraceErr
 /// only performed. With no answer at all, nothing was compared, and the verdict is `NoAnswers`.
 ///
 /// Memory is taken for a fresh machine, for a line, of which no more than 65,537 bytes are kept, and for the text.
-/// Errors: Memory, if an allocation failed and nothing is written; Device, if a read failed or after 2^64 - 1 reads,
-/// and nothing is written, or if a write failed and a prefix of the text is written.
+/// Errors. `Memory`: an allocation failed and nothing is written. `Device`: a read failed, or 2^64 - 1 reads were made,
+/// and nothing is written; or a write failed and a prefix of the text is written.
 pub fn check<R: Read, W: Write>(
     alloc: Global,
     input: &mut Told<R>,
