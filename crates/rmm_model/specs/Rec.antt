@@ -1,5 +1,5 @@
--- RECs. RMM 1.0, REC attributes. The words of a REC's page are this RMM's own: 0 to 30 are its general-purpose
--- registers, 31 is its pc, 32 to 47 are the addresses of its auxiliary granules.
+-- RECs. RMM 1.0, REC attributes. The words of a REC's page are this RMM's own. Words 0 to 30 are its general-purpose
+-- registers, 31 is its pc, and 32 to 47 are the addresses of its auxiliary granules.
 use Rattle.std.specs.Prelude.{ℕ, ◌+◌, ◌||◌, Bool, true, false, List}
 use Rattle.page_arena.specs.Word.{word_of_page}
 use Rattle.rmm_model.specs.declared.entry.RmmRipas.TheVariants.{Empty}

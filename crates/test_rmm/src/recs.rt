@@ -68,7 +68,7 @@ fn making(rt: HostRuntime) -> Result<(), Fail> {
     let mut rmm = over(rt.alloc(), PlainStore::build(rt.alloc(), 64)?)?;
     new_realm(&rt, &mut rmm);
     let rec = 0x8000_6000;
-    // (an MPIDR that is not the next, twice one granule, the REC itself, one too few, one that is not aligned, one
+    // (an MPIDR that is not the next, twice one granule, the REC itself, one too few, one that is not aligned; one
     // outside the machine, one that is UNDELEGATED, an MPIDR that is none)
     for fields in [
         [1, 1, 2, 0x8000_7000, 0x8000_8000],
