@@ -42,7 +42,7 @@ standing_after_command cmd standing = record standing {
   running = numbers_running_after cmd standing.running;
 }
 
--- what an answer changes; a refusal changes nothing
+-- the state after an answer; a refusal changes nothing
 abbrev pub after_answer : Exchange → StandingView → StandingView
 after_answer (Did cmd (Ok reply)) standing = standing_after_command cmd standing
 after_answer (Did cmd (Err refusal)) standing = standing

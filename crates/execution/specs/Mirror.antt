@@ -34,7 +34,7 @@ pub record IsMirror (limits : Limits) (history : List Event) (world : World) (mo
 abbrev pub FreshIsMirror : Limits → Type 0
 FreshIsMirror limits = IsMirror limits [] (opening limits) (fresh limits.vmids limits.aux limits.pages)
 
--- ---- what is asked
+-- ---- the requirements
 
 -- The requirements on a command of a build before it goes to the RMM. The build is there and leases the granules named.
 -- The operation's own numbers are in range, and its answers agree with the machine.
@@ -62,7 +62,7 @@ UnRecNamesItsRec limits world build (UnRec granule auxiliaries number) =
     IsAsked limits world build (UnRec granule auxiliaries number) → rec_granule (realm_of build world) number ≡ Some granule
 UnRecNamesItsRec limits world build _ = Unit {0}
 
--- ---- what is performed
+-- ---- the effect
 
 -- An operation that is done is a step: the history with its event is legal, and leads to the world that the RMM has
 -- then. The leases are changed as the operation says.

@@ -47,7 +47,7 @@ pub record IsDone (old : MonitorView) (outcome : Outcome) (result : Result (Unit
   pub answer : Answers result outcome
   pub machine : new ≡ after_command outcome old
 
--- ---- when it can be performed
+-- ---- the conditions
 
 -- the granule is taken, if there is one
 abbrev pub IsTakenAt : MonitorView → Option ℕ → Type 0

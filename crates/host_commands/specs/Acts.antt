@@ -37,10 +37,10 @@ root_of width (first ∷ rest) =
 
 -- The operation of a command, with the granules of its operands and with what was allocated for it.
 --
--- There is no operation if a number of the command can be in none: an IPA granule outside the widest address space, a
--- level that no table has, a width that no realm has, or starting tables that are not adjacent. Each of these fails an
--- input check of the command. Input checks come before all others and have one answer, so the command is refused with
--- RMI_ERROR_INPUT, whatever else is wrong. RMM 1.0, RMI command conditions.
+-- There is no operation if a number of the command can be in none. That is an IPA granule outside the widest address
+-- space, a level that no table has, a width that no realm has, or starting tables that are not adjacent. Each of these
+-- fails an input check of the command. Input checks come before all others and have one answer, so the command is
+-- refused with RMI_ERROR_INPUT, whatever else is wrong. RMM 1.0, RMI command conditions.
 --
 -- A Take has no operation either: it is no command of the RMM, and the store chooses its block.
 unfoldable pub act_of : Cmd → List ℕ → Allocated → Option Act

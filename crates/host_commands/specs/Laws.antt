@@ -31,7 +31,7 @@ pub record IsOfCommand (cmd : Cmd) (granules : List ℕ) (act : Act) : Type 0 wh
 abbrev pub ActIsOfCommand : Cmd → List ℕ → Allocated → Act → Type 0
 ActIsOfCommand cmd granules allocated act = length granules ≡ length (operands cmd) → act_of cmd granules allocated ≡ Some act → IsOfCommand cmd granules act
 
--- ---- what is there
+-- ---- the machine
 
 -- The values that were allocated for a command are those of the machine, by the realm of its build and its granules.
 -- The byte of a Peek is that of the page, a Realm is the build's first, and the number of a Rec is the realm's next.
@@ -73,8 +73,8 @@ IsInputError (Unknown page ipa) rd cells = on_one cells (λ g. data_create_unkno
 IsInputError (Poke number ipa offset value) rd cells = guest_write rd number ipa offset value ≡ Err error_input
 IsInputError _ rd cells = Unit {0}
 
--- So if an IPA granule or a level of a command on a realm can be in no operation, the RMM would refuse the command with
--- this error, whatever else is wrong.
+-- So an IPA granule or a level that can be in no operation makes the RMM refuse the command with this error, whatever
+-- else is wrong.
 abbrev pub NoActIsInputError : Cmd → List ℕ → Allocated → Seen → List Seen → Type 0
 NoActIsInputError cmd granules allocated rd cells =
     length granules ≡ length (operands cmd) → act_of cmd granules allocated ≡ None → HasWidth rd → IsInputError cmd rd cells

@@ -3,7 +3,7 @@
 //! A command names pages by the build's own numbers. One table, `Needs`, has a row for each command, and one list of
 //! checks follows from it. `check_needs` returns the granules of the named pages, or the refusal with the lowest
 //! number. `act_of` forms the operation from the granules and from what was allocated; `law` says how that operation
-//! fits its command. The state of a host's builds is after the trait `BuildsView`.
+//! fits its command. The state of a host's builds is read through the trait `BuildsView`.
 #![tactic(auto)]
 
 mod act;

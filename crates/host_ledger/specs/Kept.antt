@@ -72,7 +72,7 @@ build_after build act = points_after (record build {
   running = running_after build.running act;
 })
 
--- ---- what can be followed
+-- ---- the operations that can be followed
 
 -- a REC that is created has room and a number above the others', and a REC that exits runs
 abbrev pub CanFollowRec : Build → Act → Type 0
@@ -99,7 +99,7 @@ CanFollowHolders leases (Take order first) = first + 2 ^ order ≤ length leases
 CanFollowHolders leases (UnTake order first) = first + 2 ^ order ≤ length leases
 CanFollowHolders leases _ = Unit {0}
 
--- ---- what is recorded
+-- ---- the operations that can be recorded
 
 -- An operation of a build can be recorded: it is in turn and a step. The build has the room that the operation takes,
 -- if it takes any. If the operation has a reverse, the build can have one more operation open.
@@ -151,7 +151,7 @@ pub record PointsHold (host : HostView) (build : ℕ) : Type 0 where
   pub in_abort : is_aborting host build ≡ true → 0 < length (open_of host build)
   pub marked : (mark : Mark) → mark_of host build ≡ Some mark → IsMarkOf host build mark
 
--- The history is legal. The record of each build is its part of the history, each granule is held by the build that
+-- The history is legal, and the record of each build is its part of the history. Each granule is held by the build that
 -- leases it, and a VMID is in use exactly when a realm has it. There is memory for all that there is room for. A build
 -- in abort has something open, and marks are valid.
 pub record IsKept (host : HostView) (builds : List Build) (leases : Stacks) (holders : List (Option ℕ)) (vmids : Vmids) (events : Vec Event) : Type 0 where

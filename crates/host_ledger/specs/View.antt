@@ -23,7 +23,7 @@ pub record HostView : Type 0 where
 unfoldable pub world_of : HostView → World
 world_of host = unwrap_or (replay host.limits host.history) (opening host.limits)
 
--- what a build has open
+-- the operations that a build has open
 abbrev pub open_of : HostView → ℕ → List Act
 open_of host build = open_entries build host.history
 

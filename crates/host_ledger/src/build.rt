@@ -9,8 +9,8 @@ use granule_addr::Gran;
 use realm_model::Act;
 use std::alloc::{AllocError, Global};
 
-/// The open operations of a build; the number of its events in the history; the RD of its realm, its RECs, and how many
-/// of them run; whether it is in abort; and its mark.
+/// The record of a build: its open operations, and the number of its events in the history. It also has the RD of its
+/// realm, its RECs and how many of them run, whether it is in abort, and its mark.
 #[derive(Drop)]
 pub(crate) struct Build {
     pub(crate) journal: Journal,

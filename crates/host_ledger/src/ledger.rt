@@ -174,8 +174,8 @@ impl HostLedger {
         (build.number() as usize) < self.builds.len()
     }
 
-    /// Returns the room that a build has used: one for each of its events, one more for each operation that it has
-    /// open, and one more for each of its RECs that runs.
+    /// Returns the room that a build has used. It is one entry for each of its events, one for each operation that it
+    /// has open, and one for each of its RECs that runs.
     pub fn used(&self, build: BuildId) -> u16
         requires { build < self.now.limits.builds }
         ensures value { result ≡ used self.now build }

@@ -54,7 +54,7 @@ way_back host build mark = elim (first_that_holds (checks_of_back host build mar
   | None ↦ Ok (length (above (point_of mark) host.history))
 ]
 
--- What the build opened above the mark was reversed, the newest first. The mark stays.
+-- All that the build opened above the mark was reversed, the newest first. The mark stays.
 pub record IsBackAt (host : HostView) (build : ℕ) (mark : Mark) (count : ℕ) (new : HostView) : Type 0 where
   pub count_is : count ≡ length (above (point_of mark) host.history)
   pub new_is : new ≡ undone_to host build mark.length

@@ -28,15 +28,15 @@ granule_at world granule = if nat_lt granule (length world.machine) then Some (r
 abbrev pub row_of : World → ℕ → Option RealmRow
 row_of world build = option_and_then (λ (rd : Seen). rd.cell.descriptor) (realm_of build world)
 
--- its state and its VMID
+-- the state and the VMID of a build's realm
 abbrev pub realm_at : World → ℕ → Option (RealmState × ℕ)
 realm_at world build = option_map (λ (realm : RealmRow). (realm.state, realm.vmid)) (row_of world build)
 
--- its measurement
+-- the measurement of a build's realm
 abbrev pub measurement_at : World → ℕ → Option (List ℕ)
 measurement_at world build = option_map (λ (realm : RealmRow). realm.measurement) (row_of world build)
 
--- its REC of that number: the granule, and the REC's own attributes
+-- the REC of that number in a build's realm: the granule, and the REC's own attributes
 abbrev pub rec_at : World → ℕ → ℕ → Option (ℕ × RecAttributes)
 rec_at world build number =
     option_map (λ (rec : RecRow). (rec.granule, rec_attributes_of number rec))

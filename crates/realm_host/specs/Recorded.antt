@@ -15,8 +15,8 @@ pub record CanApply (host : HostView) (event : Event) : Type 0 where
   pub legal : IsLegal host.limits (host.history ++ event ∷ [])
   pub room : HasRoomFor host event.build event.act
 
--- The first reason why an event cannot be applied. A reverse for which there is room is refused only if it is not in
--- turn, or its REC runs; any other operation with room only if it is no step.
+-- The first reason why an event cannot be applied. With room for it, a reverse is refused only if it is not in turn, or
+-- its REC runs. Any other operation is refused only if it is no step.
 abbrev pub IsWhyNot : HostView → Event → WhyNot → Type 0
 IsWhyNot host event NoRoom = (event.build < host.limits.builds) × ¬ (HasRoomFor host event.build event.act)
 IsWhyNot host event NotNewest = (event.build < host.limits.builds) × HasRoomFor host event.build event.act × (is_reverse event.act ≡ true)

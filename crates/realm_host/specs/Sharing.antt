@@ -27,8 +27,8 @@ pub record IsApplyAnswer (host : HostView) (build : ℕ) (act : Act) (result : B
   pub applied : OnTrue result (new ≡ with_event host build act)
   pub unchanged : OnFalse result (new ≡ host)
 
--- A question of a build to a host with its answer: a command or an undo, the begin of an abort, an abort as a whole, a
--- mark, the way back to one, a recorded operation.
+-- A question of a build to a host, with its answer. It is a command or an undo, the begin of an abort, a whole abort, a
+-- mark, the way back to one, or a recorded operation.
 pub data AnsweredCall : Type 0 where
   Calls : Call → HostAnswer → AnsweredCall
   Begins : Result ℕ Refusal → AnsweredCall

@@ -59,9 +59,9 @@ impl<S: PageStore> Host<S> {
     /// Applies a recorded event as the last of the history, with the block, the VMID and the number that it has.
     /// Returns whether it was applied.
     ///
-    /// Returns `false`, and changes nothing, if and only if the history with the event would not be legal, its build
-    /// has too little room left for it, or it has a reverse and its build has 512 operations open. Whether the build is
-    /// in abort does not matter.
+    /// Returns `false`, and changes nothing, if and only if one of three things holds. The history with the event would
+    /// not be legal; its build has too little room left for it; or it has a reverse and its build has 512 operations
+    /// open. Whether the build is in abort does not matter.
     pub fn apply_recorded(&mut self, event: &Event) -> bool
         ensures answer { (result ≡ true) ↔ CanApply self.old event.now }
         ensures applied { OnTrue result (self.new ≡ with_event self.old event.now.build event.now.act) }

@@ -169,8 +169,9 @@ impl<S: PageStore> Host<S> {
         }
     }
 
-    /// Returns the realm of a build, or None if it has none: its state, its VMID, its starting tables with the width of
-    /// its IPAs, the number of its next REC, and its measurement. A walk of its tables begins at level 1.
+    /// Returns the realm of a build, or None if it has none. It has the realm's state, its VMID, its starting tables
+    /// with the width of its IPAs, the number of its next REC, and its measurement. A walk of its tables begins at
+    /// level 1.
     pub fn realm(&self, build: BuildId) -> Option<&RealmDesc>
         ensures { option_copied result ≡ option_map attributes_of (row_of (world_of self.now) build) }
     {

@@ -53,8 +53,8 @@ impl<S: PageStore> Host<S> {
     /// undone. The world then owns the same as that of the history without what the build did after the mark; what is
     /// not the build's is exactly the same. The mark stays.
     ///
-    /// Refused with NoBuild, with Aborting, with NothingToUndo if this is not the mark that is kept for the build, or
-    /// with RecRunning if an operation above it created a REC that runs; then nothing changes.
+    /// Refused with NoBuild or Aborting. Refused with NothingToUndo if this is not the mark that is kept for the build,
+    /// and with RecRunning if an operation above it created a REC that runs. Then nothing changes.
     pub fn rollback_to(&mut self, build: BuildId, mark: Mark) -> Result<u16, Refusal>
         ensures { IsBackAnswer self.old build mark result self.new }
     {

@@ -115,9 +115,9 @@ impl<S: PageStore> Host<S> {
         Some((granule, rec))
     }
 
-    /// Returns the row at which the walk of an IPA granule towards a level ends in a build's realm: the first row on
-    /// the way that is not TABLE, or the one of that level. Returns None if the build has no realm, or if the IPA
-    /// granule is not in the realm's address space.
+    /// Returns the row at which the walk of an IPA granule towards a level ends in a build's realm. That is the first
+    /// row on the way that is not TABLE, or the one of that level. Returns None if the build has no realm, or if the
+    /// IPA granule is not in the realm's address space.
     ///
     /// `ipa` is the number of an IPA granule. Walks to level 3, the first from 0 and each next one from `next` of the
     /// row before, list all rows but those that are TABLE. RMM 1.0, RTT walk.

@@ -76,7 +76,7 @@ pub record IsWorkersText (plan : Plan) (passes stops : ℕ → ℕ → Type 0) (
   pub fit : All (WorkerFits host.history) workers
   pub whole : text ≡ flat_map (worker_text plan) workers ++ (map_text host ++ audit_line)
 
--- ---- why there is no text
+-- ---- the reasons why there is no text
 
 -- In some run the worker of this build, and of no lower one, has waited in vain for its next turn, which the gate
 -- stops.

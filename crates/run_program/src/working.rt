@@ -104,8 +104,8 @@ fn run_with<
 /// run, complete in memory: the lines of the reports by build, the host's map, and `audit ok`. Runs in which each build
 /// got the same have the same map, in whatever sequence the builds took the lock.
 ///
-/// Errors: Stuck, with the lowest build whose worker waited in vain for a turn of the gate; Mismatch, if the host is
-/// not closed, or a report does not match its history; Memory, if allocation failed.
+/// Errors. `Stuck`: the worker of this build, and of no lower one, waited in vain for a turn of the gate. `Mismatch`:
+/// the host is not closed, or a report does not match its history. `Memory`: allocation failed.
 pub fn run_text<R: Threads + Wait + Sync, S: PageStore + Drop + Send, G: Gate + Sync>(
     rt: &R,
     alloc: Global,

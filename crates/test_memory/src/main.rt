@@ -1,8 +1,8 @@
-//! A test program: arguments come back if memory is refused, and after boot no call takes any.
+//! A test program: arguments come back if memory is refused, and no call after boot takes memory.
 //!
-//! `tests/allocations` refuses each allocation of this program in turn: a host is then booted or shared, or a worker
-//! built, at the second try, from what came back of the first. It counts the allocations between a line `quiet` and the
-//! line after it, and compares the times of the last three such parts.
+//! `tests/allocations` refuses each allocation of this program in turn. A host is then booted or shared, or a worker
+//! built, at the second try, from what came back of the first. The test counts the allocations between a line `quiet`
+//! and the line after it, and compares the times of the last three such parts.
 #![tactic(auto)]
 
 mod blocks;
