@@ -10,8 +10,8 @@ use std::fmt;
 /// The greatest number of each: pages, VMIDs, auxiliary granules of a REC, events of a build, builds.
 const MAXIMA: [u32; 5] = [4096, 255, 16, 16_384, 8];
 
-/// The size of the machine of a history: its pages, its VMIDs, the auxiliary granules of each REC, the room of each
-/// build in the history, and the number of builds.
+/// The size of the machine of a history: its pages, its VMIDs, the auxiliary granules of each REC, each build's room in
+/// the history, and the number of builds.
 #[derive(Clone, Copy)]
 pub struct Opening {
     pub pages: u16,

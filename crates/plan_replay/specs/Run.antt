@@ -60,7 +60,7 @@ AreTurns plan (build ∷ order) from (turn ∷ turns) to =
     (turn.build ≡ build) × (between : Position) × IsTurn plan from turn between × AreTurns plan order between turns to
 AreTurns plan _ from _ to = ⊥
 
--- ---- what is printed
+-- ---- the text
 
 abbrev pub reported_text : ℕ → Option (PlanStep × TurnAnswer) → List ℕ
 reported_text build None = idle_line build

@@ -28,8 +28,8 @@ pub trait PlanText {
 
 /// Reads a plan, and writes the text of it that is asked for.
 ///
-/// The text is complete before any of it is written. Errors: the fault of a plan; the reason why it has no text;
-/// Device, if a read failed and nothing is written, or if a write failed and a prefix of the text is written.
+/// The text is complete before any of it is written. Errors: the fault of a plan, or the reason why it has no text.
+/// `Device`: a read failed and nothing is written, or a write failed and a prefix of the text is written.
 pub fn print<T: PlanText, R: Read, W: Write>(
     asked: &T,
     alloc: Global,

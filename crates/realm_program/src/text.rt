@@ -131,9 +131,9 @@ impl PlanText for Replayed {
 /// Reads a plan, runs it, and writes the text of the run. If a build is to be left out, writes the map that its history
 /// leads to without the build's events.
 ///
-/// The text is complete before any of it is written. Errors: the fault of a plan; EraseNamesNoBuild, if the build to be
-/// left out is not one of the plan's; Memory, if allocation failed; Device, if a read failed and nothing is written, or
-/// if a write failed and a prefix of the text is written.
+/// The text is complete before any of it is written. Errors: the fault of a plan. `EraseNamesNoBuild`: the build to be
+/// left out is not one of the plan's. `Memory`: allocation failed. `Device`: a read failed and nothing is written, or a
+/// write failed and a prefix of the text is written.
 pub fn replay<R: Read, W: Write>(
     alloc: Global,
     input: &mut Told<R>,

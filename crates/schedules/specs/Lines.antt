@@ -81,8 +81,8 @@ abbrev pub smooth_lines : ℕ → List (Tally ℕ) → ℕ → List ℕ
 smooth_lines orders [] build = codes "never refused " ++ (decimal build ++ codes " in 0\n")
 smooth_lines orders (tally ∷ smooth) build = if tally.thing == build then smooth_line orders tally else smooth_lines orders smooth build
 
--- The number of schedules in which nothing was refused; the number of those in which each step of each build ended in
--- each way, and in which each build was never refused; and the maps in the end.
+-- The number of schedules in which nothing was refused. The number of those in which each step of each build ended in
+-- each way, and in which each build was never refused. And the maps in the end.
 abbrev pub totals_text : Plan → Totals → List ℕ
 totals_text plan totals =
     flat_map (whole_line totals.orders) totals.wholes.items

@@ -33,7 +33,7 @@ AreVisits plan host (Some front) (visit ∷ visits) rest =
 
 -- ---- the schedules that there are
 
--- A schedule, by a rule `left` for the builds that have a step left after given turns: each build that has a turn has a
+-- A schedule, by a rule `left` for the builds that have a step left after given turns. Each build that has a turn has a
 -- step left, and no build has one in the end.
 abbrev pub IsSchedule : (List ℕ → List Bool) → List ℕ → List Choice → Type 0
 IsSchedule left before [] = lowest_of (left before) ≡ None

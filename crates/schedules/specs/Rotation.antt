@@ -29,7 +29,7 @@ AreInRotation from (choice ∷ choices) =
 abbrev pub AreOneByOne : List Choice → Type 0
 AreOneByOne choices = All (λ choice. lowest_of choice.left ≡ Some choice.build) choices
 
--- The builds of the turns of a run: each turn is of a build that has a step left, which is chosen by the rule, and in
+-- The builds of the turns of a run. Each turn is of a build that has a step left, which is chosen by the rule, and in
 -- the end no build has one.
 pub record IsWholeSchedule (rule : List Choice → Type 0) (plan : Plan) (host : HostView) (order : List ℕ) : Type 0 where
   pub choices : List Choice

@@ -111,7 +111,7 @@ pub fn sample<R: Rng, P: Progress>(
 /// Runs the schedules of a plan's turns, from the lowest on, at most `most` of them, each on a host of its own. The
 /// plan's own schedule is not used. Each run is reported to `progress`.
 ///
-/// Errors: Memory, if allocation failed; Mismatch, if a schedule cannot begin as the run before it says, which never
+/// Errors. `Memory`: allocation failed. `Mismatch`: a schedule cannot begin as the run before it says, which never
 /// happens on a host that gives the same answers to the same calls.
 pub fn explore<P: Progress>(
     alloc: Global,

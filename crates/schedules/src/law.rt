@@ -38,8 +38,9 @@ pub fn every_schedule_is_visited()
         → (order : List Choice) → IsSchedule left [] order → Contains (map (λ (visit : Visit). visit.choices) visits) order }
 {}
 
-/// If the first schedule was the lowest, one that was not visited comes later than all that were, of those that agree
-/// with the rule for the builds with a step left. So schedules that are run up to a bound are the lowest ones.
+/// If the first schedule was the lowest, one that was not visited comes later than all that were. This holds for
+/// schedules that agree with the rule for the builds with a step left. So schedules that are run up to a bound are the
+/// lowest ones.
 pub fn schedules_that_are_left_come_later()
     ensures { (plan : Plan) (host : HostView) (visits : List Visit) (rest : Option (List Choice)) (left : List ℕ → List Bool)
         → ((before : List ℕ) → length (left before) ≡ 8)
@@ -57,7 +58,7 @@ pub fn ends_are_reported()
         → AreTold (record plan { order = chosen_schedule choices }) host to ends }
 {}
 
-/// Two ends of steps are counted as one exactly when they are the same: the end of the same step of the same build,
+/// Two ends of steps are counted as one exactly when they are the same. They then end the same step of the same build,
 /// with the same refusal and its numbers, or with none.
 pub fn end_texts_are_injective()
     ensures { (one other : StepEnd) → (same_end one other ≡ true) ↔ (one ≡ other) }

@@ -12,8 +12,8 @@ fn next_build(choice: &Choice) -> Option<usize>
     (0..8).find(|build| *build > choice.build && choice.left[*build])
 }
 
-/// Moves on to the beginning of the next schedule: as many of these turns as possible, and then a turn of the lowest
-/// build above the one that was chosen there. `false`, with nothing chosen, comes exactly when this is the last
+/// Moves on to the beginning of the next schedule. It has as many of these turns as possible, and then a turn of the
+/// lowest build above the one that was chosen there. `false`, with nothing chosen, comes exactly when this is the last
 /// schedule.
 pub fn next_schedule(choices: &mut Vec<Choice>) -> bool
     ensures next { OnTrue result (next_of choices.old.items ≡ Some choices.new.items) }

@@ -75,9 +75,9 @@ fn push_maps(text: &mut String, orders: u64, maps: &[Tally<String>]) -> Result<(
     Ok(())
 }
 
-// Appends the number of schedules in which nothing was refused. Then, for each step of each build, how it ended, in how
-// many schedules and in which one first; for each build, the number of schedules in which it was never refused; and the
-// maps in the end.
+// Appends the number of schedules in which nothing was refused. For each step of each build, appends how it ended, in
+// how many schedules and in which one first. For each build, appends the number of schedules in which it was never
+// refused. Appends the maps in the end.
 fn push_totals(text: &mut String, plan: &Plan, totals: &Totals) -> Result<(), AllocError>
     ensures { OnOk result (string_bytes text.new ≡ string_bytes text.old ++ totals_text (plan_view plan.now) totals.now) }
 {
@@ -90,9 +90,9 @@ fn push_totals(text: &mut String, plan: &Plan, totals: &Totals) -> Result<(), Al
     Ok(())
 }
 
-/// Appends the outcomes of the schedules of a plan: how many there are, and in how many nothing was refused. Then, for
-/// each step of each build, how it ended, in how many schedules and in which one first; for each build, the number of
-/// schedules in which it was never refused; and the maps in the end. At an `Err` allocation failed, and the text may
+/// Appends the outcomes of the schedules of a plan: how many there are, and in how many nothing was refused. For each
+/// step of each build, how it ended, in how many schedules and in which one first. For each build, the number of
+/// schedules in which it was never refused. Then the maps in the end. At an `Err` allocation failed, and the text may
 /// have a part of it.
 pub fn push_schedules(text: &mut String, plan: &Plan, explored: &Explored) -> Result<(), AllocError>
     ensures { OnOk result (string_bytes text.new ≡ string_bytes text.old ++ schedules_text (plan_view plan.now) explored.now.totals explored.now.is_whole) }

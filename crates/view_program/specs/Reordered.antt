@@ -21,7 +21,7 @@ abbrev pub rule_of : SchedulingPolicy → List Choice → Type 0
 rule_of InRotation = AreInRotation 0
 rule_of OneByOne = AreOneByOne
 
--- The builds of the turns of a run of the plan, by the rule: each turn is of a build that has a step left, and in the
+-- The builds of the turns of a run of the plan, by the rule. Each turn is of a build that has a step left, and in the
 -- end no build has one.
 abbrev pub IsOrderOf : SchedulingPolicy → plan.Plan → List ℕ → Type 0
 IsOrderOf turns it order = IsWholeSchedule (rule_of turns) it (opening_host it) order
@@ -34,7 +34,7 @@ pub record IsWholeText (turns : SchedulingPolicy) (text : List ℕ) : Type 0 whe
   pub is_plan : plan.plan_of text ≡ Ok it
   pub whole : IsOrderOf turns it it.order
 
--- ---- why there is none
+-- ---- the reasons why there is none
 
 -- the reason why a text is not taken as a plan with such a schedule
 abbrev pub IsNotWhole : List ℕ → ViewError → Type 0

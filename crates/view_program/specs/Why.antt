@@ -27,8 +27,8 @@ AreTurnTexts [] text = text ≡ []
 AreTurnTexts (turn ∷ turns) text =
     (first : List ℕ) × (rest : List ℕ) × IsTurnText turn first × AreTurnTexts turns rest × (text ≡ first ++ rest)
 
--- The text of some run of the plan: the line of each turn, with words below it if it is refused; the map of the world
--- that the run ends in; and words if an abort is under way then.
+-- The text of some run of the plan: the line of each turn, with words below it if it is refused. Then the map of the
+-- world that the run ends in, and words if an abort is under way.
 pub record IsWhyText (plan : Plan) (text : List ℕ) : Type 0 where
   pub last : HostView
   pub turns : List ExplainedTurn

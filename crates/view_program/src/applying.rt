@@ -78,11 +78,10 @@ fn asked_map(
 /// be left out, writes the map of the history without the build's events.
 ///
 /// The map is complete before any of it is written. The input is read line by line, and of a line no more than 256
-/// bytes are kept. Errors: NoOpening, if the first line opens no machine, or there is none; NoEvent, with the first
-/// line that is no event, or Refused, with the first event that cannot be applied, whichever comes first;
-/// EraseNamesNoBuild, if all is a history and the build to be left out is not one of the machine's; Memory, if
-/// allocation failed; Device, if a read failed and nothing is written, or if a write failed and a prefix of the map is
-/// written.
+/// bytes are kept. Errors. `NoOpening`: the first line opens no machine, or there is none. `NoEvent` with the first
+/// line that is no event, or `Refused` with the first event that cannot be applied, whichever comes first.
+/// `EraseNamesNoBuild`: all is a history and the build to be left out is not one of the machine's. `Memory`: allocation
+/// failed. `Device`: a read failed and nothing is written, or a write failed and a prefix of the map is written.
 pub fn apply<R: Read, W: Write>(
     alloc: Global,
     input: &mut Told<R>,

@@ -119,12 +119,12 @@ fn reordered(
 
 /// Reads a plan, and writes it with a schedule that gives each build all the turns that it needs, aborts and ways back
 /// included. The value of `order` is another one, and the rest of the text is as it was. The text is read back before
-/// it is written: its schedule is that of a run of itself, in which each turn is of a build that has a step left, until
+/// it is written. Its schedule is that of a run of itself, in which each turn is of a build that has a step left, until
 /// none has.
 ///
-/// The text is complete before any of it is written. Errors: NoPlan, with the errors of an input that is no plan;
-/// OrderOutsideLimits, if the plan would have too many turns or bytes; Memory, if allocation failed; Device, if a read
-/// failed and nothing is written, or if a write failed and a prefix of the text is written. Mismatch never comes on a
+/// The text is complete before any of it is written. Errors. `NoPlan`, with the errors of an input that is no plan.
+/// `OrderOutsideLimits`: the plan would have too many turns or bytes. `Memory`: allocation failed. `Device`: a read
+/// failed and nothing is written, or a write failed and a prefix of the text is written. `Mismatch` never comes on a
 /// host that gives the same answers to the same calls.
 pub fn reorder<R: Read, W: Write>(
     alloc: Global,

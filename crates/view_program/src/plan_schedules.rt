@@ -107,8 +107,8 @@ fn orders_text_of<P: Progress>(
     }
 }
 
-/// The outcomes of other schedules of a plan's builds: their number, how each step of each build ended, the number of
-/// schedules in which each build was never refused, and the maps in the end. Each has the first schedule that shows it.
+/// The outcomes of other schedules of a plan's builds. They are their number, how each step of each build ended, how
+/// often each build was never refused, and the maps in the end. Each has the first schedule that shows it.
 ///
 /// A plan has no such text if a host did not give the same answers to the same calls (Mismatch), or if allocation
 /// failed.
