@@ -1,4 +1,4 @@
--- RMI_DATA_CREATE.
+-- The command RMI_DATA_CREATE: its checks, its answer and its effect.
 use Rattle.std.specs.Prelude.{ℕ, ◌%◌, ◌==◌, ◌||◌, Bool, not, nat_le, List, [], ◌∷◌, ◌++◌, if◌then◌else◌}
 use Rattle.rmi_abi.specs.declared.hash.HashAlgorithm.{HashAlgorithm}
 use Rattle.rmi_abi.specs.declared.settings.RmmSettings.{RmmSettings}

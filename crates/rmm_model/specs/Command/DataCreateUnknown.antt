@@ -1,4 +1,4 @@
--- RMI_DATA_CREATE_UNKNOWN.
+-- The command RMI_DATA_CREATE_UNKNOWN: its checks, its answer and its effect.
 use Rattle.std.specs.Prelude.{ℕ, [], ◌++◌}
 use Rattle.granule_addr.specs.Page.{zero_page}
 use Rattle.rmm_model.specs.declared.condition.Condition.TheVariants.{DataAlign, DataBound, DataState}

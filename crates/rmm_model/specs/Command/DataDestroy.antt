@@ -1,4 +1,4 @@
--- RMI_DATA_DESTROY.
+-- The command RMI_DATA_DESTROY: its checks, its answer and its effect.
 use Rattle.std.specs.Prelude.{ℕ, [], ◌++◌, is_some, unwrap_or}
 use Rattle.rmi_abi.specs.declared.word.Word.TheVariants.{Success}
 use Rattle.rmm_model.specs.declared.entry.RmmRttEntry.TheVariants.{Unassigned}

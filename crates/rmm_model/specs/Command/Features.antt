@@ -1,4 +1,4 @@
--- RMI_FEATURES.
+-- The command RMI_FEATURES: its checks and its answer.
 use Rattle.std.specs.Prelude.{ℕ, []}
 use Rattle.rmi_abi.specs.Features.{feature_register}
 use Rattle.rmm_model.specs.Check.{Command, success}

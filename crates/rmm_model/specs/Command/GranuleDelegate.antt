@@ -1,4 +1,4 @@
--- RMI_GRANULE_DELEGATE.
+-- The command RMI_GRANULE_DELEGATE: its checks, its answer and its effect.
 use Rattle.std.specs.Prelude.{ℕ, not, [], ◌∷◌, ◌++◌}
 use Rattle.rmm_model.specs.declared.condition.Condition.TheVariants.{GranAlign, GranBound, GranState, GranGpt}
 use Rattle.rmm_model.specs.declared.granule.RmmGranuleState.TheVariants.{Delegated}

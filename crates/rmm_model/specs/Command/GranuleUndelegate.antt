@@ -1,4 +1,4 @@
--- RMI_GRANULE_UNDELEGATE.
+-- The command RMI_GRANULE_UNDELEGATE: its checks, its answer and its effect.
 use Rattle.std.specs.Prelude.{ℕ}
 use Rattle.rmm_model.specs.declared.condition.Condition.TheVariants.{GranAlign, GranBound, GranState}
 use Rattle.rmm_model.specs.declared.granule.RmmGranuleState.TheVariants.{Undelegated}

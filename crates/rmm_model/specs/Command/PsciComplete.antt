@@ -1,4 +1,4 @@
--- RMI_PSCI_COMPLETE.
+-- The command RMI_PSCI_COMPLETE: its checks, its answer and its effect.
 use Rattle.std.specs.Prelude.{ℕ, ◌-◌, ◌^◌, ◌==◌, ◌&&◌, ◌||◌, Bool, true, false, not, Option, Some, None, List, [], ◌∷◌, ◌++◌, if◌then◌else◌}
 use Rattle.rmm_model.specs.declared.condition.Condition.TheVariants.{Alias, CallingAlign, CallingBound, CallingState, TargetAlign, TargetBound, TargetState}
 use Rattle.rmm_model.specs.declared.condition.Condition.TheVariants.{Pending, Owner, Target, Status}

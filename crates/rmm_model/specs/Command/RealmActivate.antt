@@ -1,4 +1,4 @@
--- RMI_REALM_ACTIVATE.
+-- The command RMI_REALM_ACTIVATE: its checks, its answer and its effect.
 use Rattle.std.specs.Prelude.{ℕ, ◌++◌}
 use Rattle.rmm_model.specs.declared.realm.RmmRealmState.TheVariants.{Active}
 use Rattle.rmm_model.specs.Check.{Command, success}

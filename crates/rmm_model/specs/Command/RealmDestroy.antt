@@ -1,4 +1,4 @@
--- RMI_REALM_DESTROY.
+-- The command RMI_REALM_DESTROY: its checks, its answer and its effect.
 use Rattle.std.specs.Prelude.{ℕ, zero, suc, ◌+◌, ◌||◌, Bool, false, nat_lt, [], ◌∷◌, ◌++◌}
 use Rattle.rmm_model.specs.declared.condition.Condition.TheVariants.{RdState, RealmLive}
 use Rattle.rmm_model.specs.declared.granule.RmmGranuleState.TheVariants.{Delegated}

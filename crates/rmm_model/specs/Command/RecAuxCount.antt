@@ -1,4 +1,4 @@
--- RMI_REC_AUX_COUNT.
+-- The command RMI_REC_AUX_COUNT: its checks and its answer.
 use Rattle.std.specs.Prelude.{ℕ}
 use Rattle.rmm_model.specs.Check.{Command, success}
 use Rattle.rmm_model.specs.Machine.{Machine}

@@ -1,4 +1,4 @@
--- RMI_REC_DESTROY.
+-- The command RMI_REC_DESTROY: its checks, its answer and its effect.
 use Rattle.std.specs.Prelude.{ℕ, ◌-◌, Option, Some, None, [], ◌∷◌, ◌++◌}
 use Rattle.rmm_model.specs.declared.condition.Condition.TheVariants.{RecAlign, RecBound, RecGranState, RecState}
 use Rattle.rmm_model.specs.declared.granule.RmmGranuleState.TheVariants.{Delegated, Rd}

@@ -1,4 +1,4 @@
--- RMI_RTT_CREATE.
+-- The command RMI_RTT_CREATE: its checks, its answer and its effect.
 use Rattle.std.specs.Prelude.{ℕ, ◌+◌, ◌-◌, not, [], ◌++◌}
 use Rattle.rmm_model.specs.declared.condition.Condition.TheVariants.{RttAlign, RttBound, RttState}
 use Rattle.rmm_model.specs.declared.entry.RmmRttEntry.TheVariants.{Table}

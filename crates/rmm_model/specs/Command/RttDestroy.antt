@@ -1,4 +1,4 @@
--- RMI_RTT_DESTROY.
+-- The command RMI_RTT_DESTROY: its checks, its answer and its effect.
 use Rattle.std.specs.Prelude.{ℕ, ◌+◌, ◌-◌, [], ◌∷◌, ◌++◌, List, is_some, unwrap_or, if◌then◌else◌}
 use Rattle.rmi_abi.specs.declared.word.Word.TheVariants.{Success}
 use Rattle.rmm_model.specs.declared.condition.Condition.TheVariants.{RtteState, RttLive}

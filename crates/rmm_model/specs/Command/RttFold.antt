@@ -1,4 +1,4 @@
--- RMI_RTT_FOLD.
+-- The command RMI_RTT_FOLD: its checks, its answer and its effect.
 use Rattle.std.specs.Prelude.{ℕ, ◌+◌, ◌-◌, ◌*◌, ◌/◌, ◌&&◌, ◌||◌, Bool, not, nat_le, List, [], ◌∷◌, ◌++◌, is_some, unwrap_or}
 use Rattle.rmi_abi.specs.declared.settings.RmmSettings.{RmmSettings}
 use Rattle.rmm_model.specs.declared.condition.Condition.TheVariants.{RtteState, RttHomo, RttBlock}

@@ -1,4 +1,4 @@
--- RMI_RTT_MAP_UNPROTECTED.
+-- The command RMI_RTT_MAP_UNPROTECTED: its checks, its answer and its effect.
 use Rattle.std.specs.Prelude.{ℕ, ◌*◌, ◌/◌, ◌%◌, ◌^◌, ◌==◌, ◌&&◌, ◌||◌, Bool, not, nat_lt, [], ◌∷◌, ◌++◌}
 use Rattle.rmi_abi.specs.declared.settings.RmmSettings.{RmmSettings}
 use Rattle.rmm_model.specs.declared.condition.Condition.TheVariants.{LevelBound, DescBound}

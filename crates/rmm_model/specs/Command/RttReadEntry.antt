@@ -1,4 +1,4 @@
--- RMI_RTT_READ_ENTRY.
+-- The command RMI_RTT_READ_ENTRY: its checks and its answer.
 use Rattle.std.specs.Prelude.{ℕ, ◌++◌}
 use Rattle.rmi_abi.specs.declared.word.Word.TheVariants.{Success}
 use Rattle.rmm_model.specs.Check.{Command}

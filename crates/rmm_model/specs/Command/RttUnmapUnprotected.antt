@@ -1,4 +1,4 @@
--- RMI_RTT_UNMAP_UNPROTECTED.
+-- The command RMI_RTT_UNMAP_UNPROTECTED: its checks, its answer and its effect.
 use Rattle.std.specs.Prelude.{ℕ, List, [], ◌++◌}
 use Rattle.rmi_abi.specs.declared.registers.SmcResult.{SmcResult}
 use Rattle.rmi_abi.specs.declared.word.Word.TheVariants.{ErrorRtt}

@@ -1,4 +1,4 @@
--- RMI_VERSION.
+-- The command RMI_VERSION: its checks and its answer.
 use Rattle.std.specs.Prelude.{ℕ, ◌==◌, not, [], ◌∷◌}
 use Rattle.rmi_abi.specs.declared.registers.SmcResult.{SmcResult}
 use Rattle.rmi_abi.specs.declared.word.Word.{Word}
