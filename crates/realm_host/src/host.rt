@@ -68,10 +68,13 @@ impl<S: PageStore> Host<S> {
         }
     }
 
-    /// Returns the accepted commands of all builds, in sequence. They are a legal history, in which no build has used
-    /// more than its room, or had more than 512 operations open at any time. If a build is in abort, it has something
-    /// open. If it has a mark, it can go back to it. Each build can be left out: the rest is a legal history too, and
-    /// leads to the world without that build. The numbers of a host are in their ranges.
+    /// Returns the accepted commands of all builds, in sequence.
+    ///
+    /// They are a legal history, in which no build has used more than its room, or had more than 512 operations open at
+    /// any time. If a build is in abort, it has something open. If it has a mark, it can go back to it.
+    ///
+    /// Each build can be left out: the rest is a legal history too, and leads to the world without that build. The
+    /// numbers of a host are in their ranges.
     pub fn history(&self) -> &[Event]
         ensures events { result.now ≡ self.now.history }
         ensures in_range { IsInRange self.now.limits self.now.capacity }
