@@ -10,7 +10,7 @@ use Rattle.realm_model.specs.Undoing.{by}
 use Rattle.realm_model.specs.declared.act.Act.{Act}
 use Rattle.realm_model.specs.declared.act.Event.{Event}
 use Rattle.realm_model.specs.Kind.{act_kind}
-use Rattle.realm_model.specs.declared.kind.Kind.{Kind}
+use Rattle.realm_model.specs.declared.act.Kind.{Kind}
 use Rattle.host_commands.specs.declared.cmd.Cmd.{Cmd}
 use Rattle.host_commands.specs.declared.cmd.Cmd.TheVariants.{Take, Fill, Peek, Delegate, Realm, Rtt, Ripas, Data, Unknown, Rec, Activate, Enter, Exit, Poke}
 use Rattle.host_commands.specs.declared.refusal.Refusal.{Refusal}
@@ -18,8 +18,8 @@ use Rattle.host_commands.specs.declared.reply.Reply.{Reply}
 use Rattle.host_ledger.specs.View.{HostView, open_of}
 use Rattle.realm_host.specs.Answer.{IsActOf}
 use Rattle.realm_host.specs.Call.{Ask, Undo}
-use Rattle.realm_host.specs.declared.reply.HostAnswer.TheVariants.{Replied, Undone as WasUndone}
-use Rattle.host_commands.specs.declared.undo_reply.Undone.{Undone}
+use Rattle.realm_host.specs.declared.command.HostAnswer.TheVariants.{Replied, Undone as WasUndone}
+use Rattle.host_commands.specs.declared.reply.Undone.{Undone}
 use Rattle.builders.specs.Exchange.{Exchange, Did, Undid, KeptMark, CheckedBack, is_event}
 use Rattle.builders.specs.Answered.{IsAnswered, AreAnswered}
 use Rattle.builders.specs.Seats.{SeatView, new_seat, with_noted}

@@ -2,7 +2,7 @@
 use Rattle.std.specs.Prelude.{◌≡◌, List, [], ◌∷◌, Ok, Err}
 use Rattle.host_ledger.specs.View.{HostView}
 use Rattle.realm_host.specs.Call.{Ask, Undo}
-use Rattle.realm_host.specs.declared.reply.HostAnswer.TheVariants.{Replied, Undone}
+use Rattle.realm_host.specs.declared.command.HostAnswer.TheVariants.{Replied, Undone}
 use Rattle.builders.specs.Exchange.{Exchange, Did, Undid, KeptMark, CheckedBack}
 use Rattle.builders.specs.Seats.{SeatView}
 use Rattle.builders.specs.Told.{IsCallTold, IsCallRefused, IsMarkTold, IsBackTold}

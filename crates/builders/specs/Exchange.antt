@@ -4,7 +4,7 @@ use Rattle.host_ledger.specs.declared.mark.Mark.{Mark}
 use Rattle.host_commands.specs.declared.cmd.Cmd.{Cmd}
 use Rattle.host_commands.specs.declared.refusal.Refusal.{Refusal}
 use Rattle.host_commands.specs.declared.reply.Reply.{Reply}
-use Rattle.host_commands.specs.declared.undo_reply.Undone.{Undone}
+use Rattle.host_commands.specs.declared.reply.Undone.{Undone}
 
 -- A question with the teller's answer: a command, an undo, a mark, or the number of operations above a mark.
 pub data Exchange : Type 0 where

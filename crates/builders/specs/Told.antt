@@ -11,8 +11,8 @@ use Rattle.host_ledger.specs.View.{HostView, open_of}
 use Rattle.realm_host.specs.Answer.{IsAnswer}
 use Rattle.realm_host.specs.Call.{Call}
 use Rattle.realm_host.specs.Marked.{IsMarked, way_back}
-use Rattle.realm_host.specs.declared.reply.HostAnswer.{HostAnswer}
-use Rattle.realm_host.specs.declared.reply.HostAnswer.TheVariants.{Refused}
+use Rattle.realm_host.specs.declared.command.HostAnswer.{HostAnswer}
+use Rattle.realm_host.specs.declared.command.HostAnswer.TheVariants.{Refused}
 use Rattle.builders.specs.Kept.{IsShared}
 use Rattle.realm_model.specs.History.{events_of}
 use Rattle.builders.specs.Seats.{SeatView, with_noted}

@@ -5,9 +5,9 @@ use Rattle.host_commands.specs.Acts.{act_of}
 use Rattle.host_commands.specs.Replies.{reply_of}
 use Rattle.host_commands.specs.declared.cmd.Cmd.{Cmd}
 use Rattle.host_commands.specs.declared.cmd.Cmd.TheVariants.{Take}
-use Rattle.host_commands.specs.declared.allocated.Allocated.{Allocated}
+use Rattle.host_commands.specs.declared.reply.Allocated.{Allocated}
 use Rattle.realm_model.specs.Kind.{act_kind}
-use Rattle.realm_model.specs.declared.kind.Kind.{Kind}
+use Rattle.realm_model.specs.declared.act.Kind.{Kind}
 use Rattle.realm_model.specs.Act.{reverse_of}
 use Rattle.realm_model.specs.declared.act.Act.{Act}
 use Rattle.realm_model.specs.declared.act.Act.TheVariants as acts

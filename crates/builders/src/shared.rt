@@ -2,7 +2,7 @@
 ghost use Rattle.std.specs.Prelude.{◌≡◌, ◌≤◌, [], map, replicate, vec_len, vec_capacity, IfOk, IfErr, MatchResult};
 ghost use Rattle.std.specs.List.{range_with_len};
 ghost use Rattle.realm_host.specs.Call.{Ask, Undo};
-ghost use Rattle.realm_host.specs.declared.reply.HostAnswer.TheVariants.{Replied, Undone as WasUndone};
+ghost use Rattle.realm_host.specs.declared.command.HostAnswer.TheVariants.{Replied, Undone as WasUndone};
 ghost use Rattle.builders.specs.Close.{IsClosed, IsHostGivenBack};
 ghost use Rattle.builders.specs.Fault.{IsFault};
 ghost use Rattle.builders.specs.Passes.{unused};

@@ -12,7 +12,7 @@ use Rattle.realm_model.specs.Undoing.{by}
 use Rattle.realm_model.proofs.Progress.{undoable}
 use Rattle.realm_model.proofs.StepSays.{step_is}
 use Rattle.rmi_monitor.specs.View.{MonitorView}
-use Rattle.realm_model.specs.declared.place.RealmAndRec.{RealmAndRec}
+use Rattle.realm_model.specs.declared.act.RealmAndRec.{RealmAndRec}
 use Rattle.execution.specs.Mirror.{IsAsked, NewestIsAccepted}
 use Rattle.execution.proofs.Forward.{holder_is, same_outcome}
 

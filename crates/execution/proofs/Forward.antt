@@ -19,7 +19,7 @@ use Rattle.realm_model.proofs.Growth.{grows}
 use Rattle.realm_model.proofs.Reaching.{step_says_reached}
 use Rattle.realm_model.proofs.RealmOf.{IsAt, IsAt-realm_of}
 use Rattle.rmi_monitor.specs.View.{MonitorView, Answers, after_command}
-use Rattle.realm_model.specs.declared.place.RealmAndRec.{RealmAndRec}
+use Rattle.realm_model.specs.declared.act.RealmAndRec.{RealmAndRec}
 use Rattle.execution.specs.Performing.{realm_on, outcome_on}
 use Rattle.execution.specs.Mirror.{IsMirror, IsAsked, IsPerformed, PerformedIsStep}
 use Rattle.realm_model.specs.Places.{IsPlaceOf, rd_of}

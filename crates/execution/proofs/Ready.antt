@@ -20,7 +20,7 @@ use Rattle.realm_model.proofs.Reachable.{reachable_worlds}
 use Rattle.realm_model.proofs.RealmNumbers.{numbers_are_few}
 use Rattle.realm_model.proofs.RealmOf.{IsAt, IsAt-realm_of, IsHeld, IsHeld-realm_of}
 use Rattle.rmi_monitor.specs.View.{MonitorView, IsTaken, IsRec}
-use Rattle.realm_model.specs.declared.place.RealmAndRec.{RealmAndRec}
+use Rattle.realm_model.specs.declared.act.RealmAndRec.{RealmAndRec}
 use Rattle.execution.specs.Performing.{realm_on, HasNextNumber, IsNumberReady, IsRecReadyAt, IsTakenAt}
 use Rattle.realm_model.specs.Places.{rec_named, rec_granule, IsRecOf, rd_of}
 use Rattle.execution.specs.Mirror.{IsMirror, HasFewEvents, AskedIsReady}

@@ -16,7 +16,7 @@ use Rattle.realm_model.specs.History.{acts_of, open_entries, replay, IsLegal, Is
 use Rattle.realm_model.specs.Running.{is_running}
 use Rattle.realm_model.specs.Undoing.{by}
 use Rattle.rmi_monitor.specs.View.{MonitorView, Answers, after_command, fresh}
-use Rattle.realm_model.specs.declared.place.RealmAndRec.{RealmAndRec}
+use Rattle.realm_model.specs.declared.act.RealmAndRec.{RealmAndRec}
 use Rattle.execution.specs.Performing.{outcome_on, IsReady}
 use Rattle.realm_model.specs.Places.{IsPlaceOf, rec_granule}
 

@@ -11,7 +11,7 @@ use Rattle.realm_model.specs.Outcome.{outcome_of}
 use Rattle.realm_model.specs.Places.{rec_named, rec_granule}
 use Rattle.realm_model.specs.Step.{used_vmids}
 use Rattle.rmi_monitor.specs.View.{MonitorView, Answers, IsTaken, after_command, seen_in}
-use Rattle.realm_model.specs.declared.place.RealmAndRec.{RealmAndRec}
+use Rattle.realm_model.specs.declared.act.RealmAndRec.{RealmAndRec}
 
 -- ---- operations
 

@@ -5,7 +5,7 @@ ghost use Rattle.realm_model.specs.declared.act.Event.{Event};
 ghost use Rattle.realm_model.specs.Machine.{Limits};
 ghost use Rattle.realm_model.specs.World.{World};
 ghost use Rattle.rmi_monitor.specs.View.{MonitorView};
-ghost use Rattle.realm_model.specs.declared.place.RealmAndRec.{RealmAndRec};
+ghost use Rattle.realm_model.specs.declared.act.RealmAndRec.{RealmAndRec};
 ghost use Rattle.execution.specs.Blocks.{TakenIsStep, GivenBackIsStep};
 ghost use Rattle.execution.specs.Mirror.{FreshIsMirror, AskedIsReady, PerformedIsStep, NewestIsAccepted, UnRecNamesItsRec};
 

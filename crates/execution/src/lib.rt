@@ -9,6 +9,5 @@
 mod command;
 pub mod law;
 mod realm;
-mod rec;
 
 pub use command::perform;

@@ -1,9 +1,9 @@
 //! Operations on the tables, pages and RECs of a realm.
-ghost use Rattle.std.specs.Prelude.{◌≡◌, Some, true};
+ghost use Rattle.std.specs.Prelude.{◌≡◌, Some, true, is_some};
 ghost use Rattle.rmi_monitor.specs.View.{Answers, after_command};
-ghost use Rattle.execution.specs.Performing.{IsReady, is_in_realm, outcome_on};
+ghost use Rattle.execution.specs.Performing.{IsReady, is_in_realm, outcome_on, IsDone};
+ghost use Rattle.realm_model.specs.Places.{rec_named};
 
-use crate::rec::on_rec;
 use granule_addr::Gran;
 use page_arena::PageStore;
 use realm_model::{Act, Rmi, clone_granules};
@@ -51,5 +51,31 @@ pub(crate) fn in_realm<S: PageStore>(
             Some(rec) => on_rec(monitor, rd, rec, act),
             None => Err(Rmi::INPUT),
         },
+    }
+}
+
+// Performs an operation on the realm's REC whose granule is `rec`.
+#[tactic(auto, unfolding(realm_model::specs::Act::named, realm_model::specs::Outcome::outcome_of))]
+pub(crate) fn on_rec<S: PageStore>(
+    monitor: &mut Monitor<S>,
+    rd: Gran,
+    rec: Gran,
+    act: &Act,
+) -> Result<(), Rmi>
+    requires ready { IsReady monitor.old (record { realm = Some rd; rec = Some rec }) act.now }
+    requires kind { is_some (rec_named act.now) ≡ true }
+    ensures { IsDone monitor.old (outcome_on monitor.old (Some rd) act.now) result monitor.new }
+{
+    match act {
+        Act::UnRec { .. } => monitor.rec_destroy(rec),
+        Act::Enter { .. } => monitor.rec_enter(rec),
+        Act::Exit { .. } => monitor.rec_exit(rec),
+        Act::Poke {
+            ipa,
+            offset,
+            value,
+            ..
+        } => monitor.guest_write(rec, ipa.number(), *offset, *value),
+        _ => unreachable!(),
     }
 }

@@ -2,7 +2,7 @@
 use Rattle.std.specs.Prelude.{◌≡◌, ℕ, ◌+◌, ◌-◌, ◌*◌, ◌^◌, List, true}
 use Rattle.std.specs.List.{range_with_len}
 use Rattle.granule_addr.specs.Ipa.{is_width, served_count, space_of, start_index}
-use Rattle.granule_addr.specs.declared.root.Root.{Root}
+use Rattle.granule_addr.specs.declared.width.Root.{Root}
 
 -- the number of starting tables that an address space of that width needs: 1, 2, 4, 8 or 16
 abbrev pub start_count : ℕ → ℕ

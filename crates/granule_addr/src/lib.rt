@@ -11,7 +11,6 @@ mod ipa;
 pub mod law;
 mod level;
 mod page;
-mod root;
 mod vmid_set;
 mod width;
 
@@ -21,6 +20,5 @@ pub use ids::{BuildId, RecNo, Vmid};
 pub use ipa::{IpaGran, index_at, is_protected, start_table};
 pub use level::Level;
 pub use page::PageOff;
-pub use root::Root;
 pub use vmid_set::VmidSet;
-pub use width::IpaWidth;
+pub use width::{IpaWidth, Root};

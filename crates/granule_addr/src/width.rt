@@ -1,8 +1,9 @@
-//! Widths of realms' address spaces.
+//! Widths of realms' address spaces, and the starting tables that they need.
 ghost use Rattle.std.specs.Prelude.{◌≡◌, ◌-◌, ◌^◌, ◌<◌, ◌≤◌, Some, None, if◌then◌else◌};
 ghost use Rattle.granule_addr.specs.Ipa.{is_width};
 ghost use Rattle.granule_addr.specs.Root.{start_count};
 
+use crate::Gran;
 use std::marker::Model;
 
 /// The IPA width of a realm, 39 to 43 bits. RMM 1.0, Realm attributes; the range is this profile's own.
@@ -56,4 +57,12 @@ impl IpaWidth {
     {
         1u16 << (self.0 - 39)
     }
+}
+
+/// The starting tables of a realm: the first of them, and the width of the address space, which gives the number of
+/// adjacent granules. RMM 1.0, Realm attributes: RTT base address and IPA width.
+#[derive(Clone, Copy, Debug, PartialEq, Eq)]
+pub struct Root {
+    pub first: Gran,
+    pub width: IpaWidth,
 }

@@ -3,7 +3,7 @@ use Rattle.std.proofs.Common.{◌≡◌, ℕ, ◌≤◌, [], ◌∷◌, replicat
 use Rattle.std.specs.List.{list_all}
 use Rattle.std.proofs.lemmas.Bool.{le-leb}
 use Rattle.arrayvec.specs.ArrayVec.{ArrayVec, array_vec_len}
-use Rattle.granule_addr.specs.declared.root.Root.{Root}
+use Rattle.granule_addr.specs.declared.width.Root.{Root}
 use Rattle.decimal_text.specs.Numbers.{AreNumbers}
 use Rattle.decimal_text.specs.Ranges.{AreAtMost}
 use Rattle.decimal_text.specs.Written.{u8, u16}

@@ -7,7 +7,7 @@ use Rattle.std.proofs.lemmas.Option.{same_Some}
 use Rattle.std.proofs.lemmas.Slice.Eq.{bytes_eq-Decides}
 use Rattle.granule_addr.specs.Ipa.{is_width}
 use Rattle.granule_addr.specs.Root.{starting_tables}
-use Rattle.granule_addr.specs.declared.root.Root.{Root}
+use Rattle.granule_addr.specs.declared.width.Root.{Root}
 use Rattle.arrayvec.specs.ArrayVec.{ArrayVec}
 use Rattle.realm_model.specs.declared.act.Act.{Act}
 use Rattle.realm_model.specs.declared.act.Act.TheVariants as acts
@@ -15,7 +15,7 @@ use Rattle.realm_model.specs.Act.{named, is_reverse, reverse_of}
 use Rattle.realm_model.specs.Room.{room_taken}
 use Rattle.host_commands.specs.declared.cmd.Cmd.{Cmd}
 use Rattle.host_commands.specs.declared.cmd.Cmd.TheVariants.{Take, Fill, Peek, Delegate, Realm, Rtt, Ripas, Data, Unknown, Rec, Activate, Enter, Exit, Poke}
-use Rattle.host_commands.specs.declared.allocated.Allocated.{Allocated}
+use Rattle.host_commands.specs.declared.reply.Allocated.{Allocated}
 use Rattle.host_commands.specs.Needs.{operands, needs_of}
 use Rattle.host_commands.specs.Acts.{act_of, act_if, is_ipa, is_level, root_of}
 use Rattle.host_commands.specs.Laws.{IsOfCommand}

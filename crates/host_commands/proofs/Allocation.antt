@@ -11,7 +11,7 @@ use Rattle.realm_model.specs.Machine.{Limits, Seen}
 use Rattle.realm_model.specs.Outcome.{outcome_of, fits}
 use Rattle.host_commands.specs.declared.cmd.Cmd.{Cmd}
 use Rattle.host_commands.specs.declared.cmd.Cmd.TheVariants.{Take, Fill, Peek, Delegate, Realm, Rtt, Ripas, Data, Unknown, Rec, Activate, Enter, Exit, Poke}
-use Rattle.host_commands.specs.declared.allocated.Allocated.{Allocated}
+use Rattle.host_commands.specs.declared.reply.Allocated.{Allocated}
 use Rattle.host_commands.specs.Acts.{act_of, is_ipa, is_level, of_granule, root_of}
 use Rattle.host_commands.specs.Laws.{ActFits, OutcomeIsOfAnyAllocation, outcome_of_act}
 use Rattle.host_commands.proofs.ActOf.{act_in_range, some_root}

@@ -14,7 +14,7 @@ use Rattle.realm_model.specs.Command.Check.{check, error_input, is_delegated, is
 use Rattle.realm_model.proofs.Booleans.{true_false, false_from}
 use Rattle.host_commands.specs.declared.cmd.Cmd.{Cmd}
 use Rattle.host_commands.specs.declared.cmd.Cmd.TheVariants.{Take, Fill, Peek, Delegate, Realm, Rtt, Ripas, Data, Unknown, Rec, Activate, Enter, Exit, Poke}
-use Rattle.host_commands.specs.declared.allocated.Allocated.{Allocated}
+use Rattle.host_commands.specs.declared.reply.Allocated.{Allocated}
 use Rattle.host_commands.specs.Needs.{operands}
 use Rattle.host_commands.specs.Acts.{act_of, act_if, is_ipa, is_level}
 use Rattle.host_commands.specs.Laws.{HasWidth, IsInputError}

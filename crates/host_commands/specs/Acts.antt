@@ -3,12 +3,12 @@ use Rattle.std.specs.Prelude.{ℕ, nat_le, nat_lt, List, [], ◌∷◌, drop, sl
 use Rattle.std.specs.Str.{bytes_eq}
 use Rattle.granule_addr.specs.Ipa.{is_width, widest_space}
 use Rattle.granule_addr.specs.Root.{starting_tables}
-use Rattle.granule_addr.specs.declared.root.Root.{Root}
+use Rattle.granule_addr.specs.declared.width.Root.{Root}
 use Rattle.realm_model.specs.declared.act.Act.{Act}
 use Rattle.realm_model.specs.declared.act.Act.TheVariants as acts
 use Rattle.host_commands.specs.declared.cmd.Cmd.{Cmd}
 use Rattle.host_commands.specs.declared.cmd.Cmd.TheVariants.{Take, Fill, Peek, Delegate, Realm, Rtt, Ripas, Data, Unknown, Rec, Activate, Enter, Exit, Poke}
-use Rattle.host_commands.specs.declared.allocated.Allocated.{Allocated}
+use Rattle.host_commands.specs.declared.reply.Allocated.{Allocated}
 
 -- the granule of the operand at that index, counted from 0
 abbrev pub of_granule : List ℕ → ℕ → (ℕ → Option Act) → Option Act

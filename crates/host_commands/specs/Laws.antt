@@ -14,7 +14,7 @@ use Rattle.realm_model.specs.Command.Rec.{guest_write}
 use Rattle.realm_model.specs.Outcome.{outcome_of, on_one, on_two, realm_is, fits}
 use Rattle.host_commands.specs.declared.cmd.Cmd.{Cmd}
 use Rattle.host_commands.specs.declared.cmd.Cmd.TheVariants.{Peek, Realm, Rtt, Ripas, Data, Unknown, Rec, Poke}
-use Rattle.host_commands.specs.declared.allocated.Allocated.{Allocated}
+use Rattle.host_commands.specs.declared.reply.Allocated.{Allocated}
 use Rattle.host_commands.specs.Needs.{operands, needs_of}
 use Rattle.host_commands.specs.Acts.{act_of}
 

@@ -3,7 +3,7 @@ ghost use Rattle.std.specs.Prelude.{◌≡◌, ℕ, List, Option};
 ghost use Rattle.realm_model.specs.declared.act.Act.{Act};
 ghost use Rattle.realm_model.specs.Machine.{Limits, Seen};
 ghost use Rattle.host_commands.specs.declared.cmd.Cmd.{Cmd};
-ghost use Rattle.host_commands.specs.declared.allocated.Allocated.{Allocated};
+ghost use Rattle.host_commands.specs.declared.reply.Allocated.{Allocated};
 ghost use Rattle.host_commands.specs.Laws.{ActIsOfCommand, ActFits, OutcomeIsOfAnyAllocation, NoActIsInputError};
 
 /// The operation of a command is a forward command of the RMM. It names the granules of the operands, is paired if the

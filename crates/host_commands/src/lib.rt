@@ -7,7 +7,6 @@
 #![tactic(auto)]
 
 mod act;
-mod allocated;
 mod builds_view;
 mod checks;
 mod cmd;
@@ -16,14 +15,11 @@ mod needs;
 mod pages;
 mod refusal;
 mod reply;
-mod undo_reply;
 
 pub use act::act_of;
-pub use allocated::Allocated;
 pub use builds_view::BuildsView;
 pub use checks::{check_build, check_needs};
 pub use cmd::{Cmd, Step};
 pub use needs::{Needs, RealmRequirement, tables_named};
 pub use refusal::Refusal;
-pub use reply::{Reply, reply_of};
-pub use undo_reply::Undone;
+pub use reply::{Allocated, Reply, Undone, reply_of};

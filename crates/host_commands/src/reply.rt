@@ -1,9 +1,9 @@
-//! The replies to accepted commands.
+//! The replies to accepted commands and undos, and what the allocators choose for them.
 ghost use Rattle.std.specs.Prelude.{◌≡◌};
 ghost use Rattle.host_commands.specs.Replies.{reply_of};
 
 use granule_addr::{RecNo, Vmid};
-use realm_model::Act;
+use realm_model::{Act, Kind};
 
 /// The reply to an accepted command.
 #[derive(Clone, Copy, Debug, PartialEq, Eq)]
@@ -30,4 +30,23 @@ pub fn reply_of(page_count: u16, act: &Act) -> Reply
         Act::Rec { number, .. } => Reply::Number(*number),
         _ => Reply::Done,
     }
+}
+
+/// The answers that an operation holds. Each is read by the commands that get it, and may be anything for the others.
+#[derive(Clone, Copy)]
+pub struct Allocated {
+    /// For a realm that is created, the lowest VMID that no realm has.
+    pub vmid: Vmid,
+    /// For a REC that is created, the next number of its realm.
+    pub number: RecNo,
+    /// For a byte that is read, the byte.
+    pub byte: u8,
+}
+
+/// The result of an undo: the kind of the operation that was reversed, and the number of those that the build has open
+/// after it.
+#[derive(Clone, Copy, Debug, PartialEq, Eq)]
+pub struct Undone {
+    pub kind: Kind,
+    pub left: u16,
 }

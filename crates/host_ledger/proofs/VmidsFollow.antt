@@ -5,7 +5,7 @@ use Rattle.std.specs.List.{list_all}
 use Rattle.std.proofs.lemmas.Bool.{and_parts, and_from, cases_eq}
 use Rattle.granule_addr.specs.Ipa.{is_width}
 use Rattle.granule_addr.specs.Root.{start_count, starting_tables}
-use Rattle.granule_addr.specs.declared.root.Root.{Root}
+use Rattle.granule_addr.specs.declared.width.Root.{Root}
 use Rattle.granule_addr.specs.Vmids.{is_used}
 use Rattle.leases.specs.Vmids.{Vmids}
 use Rattle.realm_model.specs.declared.act.Act.{Act}

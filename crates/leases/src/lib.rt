@@ -11,7 +11,6 @@
 #![tactic(auto)]
 
 mod holders;
-mod run;
 mod stacks;
 mod vmids;
 

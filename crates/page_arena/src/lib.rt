@@ -9,7 +9,6 @@
 //! functions of `row.rt`.
 #![tactic(auto)]
 
-mod build_error;
 mod pages;
 mod plain;
 mod row;
@@ -17,8 +16,7 @@ mod slots;
 mod store;
 mod words;
 
-pub use build_error::BuildError;
 pub use pages::RawPages;
 pub use plain::PlainStore;
-pub use store::PageStore;
+pub use store::{BuildError, PageStore};
 pub use words::{set_word_in, word_in};

@@ -1,4 +1,4 @@
-//! The trait of stores of pages.
+//! The trait of stores of pages, and the errors of building one.
 ghost use Rattle.std.specs.Prelude.{◌≡◌, ◌≢◌, ℕ, ◌+◌, ◌^◌, ◌<◌, ◌≤◌, ◌↔◌, Bool, true, false, List, length, filter, Option, IsTrue, IfSome, IfNone, slice_set};
 ghost use Rattle.std.specs.Bool.{OnTrue, OnFalse};
 ghost use Rattle.granule_addr.specs.Page.{page_of, zero_page};
@@ -7,6 +7,8 @@ ghost use Rattle.page_arena.specs.Block.{IsFreeBlock, IsTakenBlock, with_run, wi
 ghost use Rattle.page_arena.specs.Word.{word_at, with_word};
 
 use granule_addr::{Gran, Order, PageOff};
+use std::alloc::AllocError;
+use thiserror::Error;
 
 /// The pages of a machine, of 4,096 bytes each, and which of them are free. RMM 1.0, Granule.
 ///
@@ -103,4 +105,13 @@ pub trait PageStore {
 
     /// There are 1 to 4,096 pages, each has 4,096 bytes, and there is a flag for each.
     ghost sized: { (store : Self) → IsSized (page_bytes store) (free_flags store) };
+}
+
+/// The reason why a store is not built: the size is not 1 to 4,096 pages, or there is no memory for it.
+#[derive(Clone, Copy, Debug, PartialEq, Eq, Error)]
+pub enum BuildError {
+    #[error("a machine has 1 to 4096 pages")]
+    BadSize,
+    #[error("out of memory")]
+    Memory(#[from(alloc)] AllocError),
 }

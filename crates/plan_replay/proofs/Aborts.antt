@@ -10,7 +10,7 @@ use Rattle.host_ledger.proofs.Worlds.{world_is}
 use Rattle.host_commands.specs.declared.cmd.Step.{Step}
 use Rattle.host_commands.specs.declared.cmd.Step.TheVariants.{Ask, Undo, Abort, Mark as KeepMark, Back}
 use Rattle.host_commands.specs.declared.refusal.Refusal.{Refusal}
-use Rattle.host_commands.specs.declared.undo_reply.Undone.{Undone}
+use Rattle.host_commands.specs.declared.reply.Undone.{Undone}
 use Rattle.realm_model.specs.History.{IsLegal}
 use Rattle.realm_model.specs.declared.act.Act.{Act}
 use Rattle.realm_model.proofs.Emptied.{emptied}

@@ -15,7 +15,7 @@ use Rattle.realm_host.specs.Answer.{IsAnswer, replied, undone}
 use Rattle.realm_host.specs.Call as call
 use Rattle.realm_host.specs.Marked.{IsMarked}
 use Rattle.realm_host.specs.Recorded.{fresh_like}
-use Rattle.host_commands.specs.declared.undo_reply.Undone.{Undone}
+use Rattle.host_commands.specs.declared.reply.Undone.{Undone}
 use Rattle.realm_plan.specs.Asked.{asked}
 use Rattle.realm_plan.specs.declared.step.PlanStep.{PlanStep}
 use Rattle.realm_plan.specs.Plan.{Plan}

@@ -13,7 +13,7 @@ use Rattle.realm_host.specs.Abort.{IsBegun}
 use Rattle.realm_host.specs.Answer.{IsAnswer, replied, undone}
 use Rattle.realm_host.specs.Call as call
 use Rattle.realm_host.specs.Marked.{IsMarked, way_back}
-use Rattle.host_commands.specs.declared.undo_reply.Undone.{Undone}
+use Rattle.host_commands.specs.declared.reply.Undone.{Undone}
 use Rattle.realm_plan.specs.declared.step.PlanStep.{PlanStep}
 use Rattle.realm_plan.specs.declared.step.PlanStep.TheVariants.{Whole}
 use Rattle.plan_replay.specs.declared.answer.TurnAnswer.{TurnAnswer}

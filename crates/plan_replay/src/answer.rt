@@ -1,7 +1,12 @@
 //! The answer of a turn, and its text.
+ghost use Rattle.std.specs.Prelude.{◌≡◌, ◌++◌, OnOk, string_bytes, [], IfOk};
+ghost use Rattle.plan_replay.specs.Text.{turn_line};
+
+use granule_addr::BuildId;
 use host_commands::{Refusal, Reply};
 use realm_host::Kind;
-use realm_plan::{KindWord, RefusalText, ReplyText};
+use realm_plan::{KindWord, Plan, PlanStep, RefusalText, ReplyText, StepText};
+use std::alloc::{AllocError, Global};
 use std::fmt;
 
 /// The answer of a turn to its step.
@@ -36,4 +41,29 @@ impl fmt::Display for TurnAnswer {
             TurnAnswer::Refused(refusal) => write!(f, "no {}", RefusalText(refusal)),
         }
     }
+}
+
+/// Appends the line of a turn: the build, the step as it is in the plan, and the answer. At an `Err` the text may have
+/// a part of it.
+pub fn push_turn(
+    text: &mut String,
+    build: BuildId,
+    step: &PlanStep,
+    answer: TurnAnswer,
+) -> Result<(), AllocError>
+    ensures { OnOk result (string_bytes text.new ≡ string_bytes text.old ++ turn_line build step.now answer) }
+{
+    writeln!(text, "{} {} = {answer}", build.number(), StepText(step))
+}
+
+/// The number of bytes that are kept ready for the line of a turn or of a page. Most lines have fewer.
+const BYTES_A_LINE: usize = 24;
+
+/// An empty text, with capacity for the output of a run of the plan. A text that grows is copied, and takes the memory
+/// of both meanwhile. The one error is that allocation failed.
+pub fn text_for(alloc: Global, plan: &Plan) -> Result<String, AllocError>
+    ensures { IfOk result (λ text. string_bytes text ≡ []) }
+{
+    let lines = plan.order.len() + plan.pages as usize;
+    String::with_capacity(alloc, lines * BYTES_A_LINE)
 }

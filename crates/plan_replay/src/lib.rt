@@ -7,19 +7,14 @@
 #![tactic(auto)]
 
 mod answer;
-mod build_id;
 pub mod law;
-mod lines;
 mod map;
 mod place;
-mod room;
 mod run;
 mod turn;
 
-pub use answer::TurnAnswer;
-pub use lines::push_turn;
+pub use answer::{TurnAnswer, push_turn, text_for};
 pub use map::{map_text, push_map};
 pub use place::PlanCursor;
-pub use room::text_for;
 pub use run::{run_turns, step_after, take_turn};
 pub use turn::plan_turn;

@@ -2,7 +2,7 @@
 ghost use Rattle.std.specs.Prelude.{◌≡◌, ◌++◌, OnOk, IfOk, string_bytes};
 ghost use Rattle.plan_replay.specs.Run.{pages_text, build_text, map_text};
 
-use crate::build_id::id_of;
+use crate::turn::id_of;
 use granule_addr::BuildId;
 use page_arena::PageStore;
 use realm_host::Host;

@@ -3,11 +3,9 @@ ghost use Rattle.std.specs.Prelude.{◌≡◌, ◌<◌, OnOk, IfSome, string_byt
 ghost use Rattle.realm_plan.specs.PlanView.{plan_view};
 ghost use Rattle.plan_replay.specs.Run.{step_after as nth_step, IsTurn, IsReportedTurn, IsReportedRun};
 
-use crate::answer::TurnAnswer;
-use crate::build_id::id_of;
-use crate::lines::push_turn;
+use crate::answer::{TurnAnswer, push_turn};
 use crate::place::PlanCursor;
-use crate::turn::plan_turn;
+use crate::turn::{id_of, plan_turn};
 use page_arena::PageStore;
 use realm_host::Host;
 use realm_plan::{Plan, PlanStep, push_idle};

@@ -1,5 +1,5 @@
 //! The turn of a step, by the kind of the step.
-ghost use Rattle.std.specs.Prelude.{◌≡◌};
+ghost use Rattle.std.specs.Prelude.{◌≡◌, ◌<◌};
 ghost use Rattle.realm_plan.specs.Asked.{asked};
 ghost use Rattle.plan_replay.specs.Turn.{to_go_back, IsCommandTurn, IsUndoTurn, IsMarkTurn, IsOneOfMany, IsTurnOfMany, IsToAbort, IsAbortTurn, IsStepTurn};
 
@@ -164,4 +164,12 @@ pub fn plan_turn<S: PageStore>(
         PlanStep::Whole(step) => step_turn(host, build, place, step),
         PlanStep::WidthLeftOut { .. } => step_turn(host, build, place, &step.asked()),
     }
+}
+
+/// The build at an index of a plan.
+pub(crate) fn id_of(place: usize) -> BuildId
+    requires { place < 8 }
+    ensures { result ≡ place }
+{
+    BuildId::new(place as u8).unwrap()
 }

@@ -29,7 +29,7 @@ use Rattle.host_ledger.specs.Marks.{mark_while}
 use Rattle.host_ledger.specs.View.{HostView, world_of, open_of, is_aborting, mark_of, with_event}
 use Rattle.host_ledger.proofs.Worlds.{world_is, world_of-replay}
 use Rattle.host_commands.specs.declared.refusal.Refusal.{Refusal}
-use Rattle.host_commands.specs.declared.undo_reply.Undone.{Undone}
+use Rattle.host_commands.specs.declared.reply.Undone.{Undone}
 use Rattle.realm_host.specs.Abort.{GoesOn, LeavesNothing, undone_to, IsDown}
 use Rattle.realm_host.specs.Acting.{IsRecorded}
 use Rattle.realm_host.specs.Answer.{IsUndone}

@@ -8,7 +8,7 @@ use Rattle.realm_model.specs.Room.{room_taken}
 use Rattle.realm_model.specs.Step.{outcome_in}
 use Rattle.realm_model.specs.Undoing.{by}
 use Rattle.rmi_monitor.specs.View.{MonitorView, Answers, after_command}
-use Rattle.realm_model.specs.declared.place.RealmAndRec.{RealmAndRec}
+use Rattle.realm_model.specs.declared.act.RealmAndRec.{RealmAndRec}
 use Rattle.execution.specs.Performing.{IsReady, outcome_on}
 use Rattle.execution.specs.Mirror.{IsPerformed, HasFewEvents}
 use Rattle.realm_model.specs.Places.{IsPlaceOf}

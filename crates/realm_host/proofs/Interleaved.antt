@@ -38,8 +38,8 @@ use Rattle.host_ledger.specs.Marks.{mark_while}
 use Rattle.host_ledger.specs.View.{HostView, world_of, open_of, pages_of_build, used, is_aborting, mark_of, begun, with_event}
 use Rattle.host_ledger.specs.Vmids.{lowest_vmid}
 use Rattle.host_ledger.proofs.Worlds.{world_is, world_of-replay}
-use Rattle.realm_host.specs.declared.reply.HostAnswer.{HostAnswer}
-use Rattle.realm_host.specs.declared.reply.HostAnswer.TheVariants.{Replied, Undone as WasUndone, Refused}
+use Rattle.realm_host.specs.declared.command.HostAnswer.{HostAnswer}
+use Rattle.realm_host.specs.declared.command.HostAnswer.TheVariants.{Replied, Undone as WasUndone, Refused}
 use Rattle.realm_host.specs.Abort.{checks_of_begin, checks_of_abort, undone_to, IsDown}
 use Rattle.realm_host.specs.Answer.{IsActOf, IsAccepted}
 use Rattle.realm_host.specs.Call.{Call, Ask, Undo}

@@ -24,12 +24,12 @@ use Rattle.host_ledger.specs.Summary.{summary_of}
 use Rattle.host_ledger.specs.View.{HostView, world_of, open_of, is_aborting, with_event, with_mark}
 use Rattle.host_ledger.proofs.Worlds.{world_is}
 use Rattle.host_commands.specs.declared.cmd.Cmd.{Cmd}
-use Rattle.host_commands.specs.declared.undo_reply.Undone.{Undone}
+use Rattle.host_commands.specs.declared.reply.Undone.{Undone}
 use Rattle.host_commands.specs.declared.refusal.Refusal.{Refusal}
 use Rattle.host_commands.specs.declared.refusal.Refusal.TheVariants.{NoBuild, Aborting, RecRunning}
 use Rattle.host_commands.specs.Checks.{Check, build_checks, checks_of, first_that_holds}
-use Rattle.realm_host.specs.declared.reply.HostAnswer.{HostAnswer}
-use Rattle.realm_host.specs.declared.reply.HostAnswer.TheVariants.{Replied, Undone as WasUndone, Refused}
+use Rattle.realm_host.specs.declared.command.HostAnswer.{HostAnswer}
+use Rattle.realm_host.specs.declared.command.HostAnswer.TheVariants.{Replied, Undone as WasUndone, Refused}
 use Rattle.realm_host.specs.Abort.{undone_to, IsBegun, IsAbortAnswer}
 use Rattle.realm_host.specs.Answer.{IsAnswer, IsUndone}
 use Rattle.realm_host.specs.Call.{Call, Ask, Undo}

@@ -4,7 +4,7 @@ use Rattle.std.specs.Prelude.{nat_lt, nat_le, option_and_then, IsSome}
 use Rattle.std.specs.List.{last_or}
 use Rattle.std.proofs.lemmas.Bool.{ltb-false, le-leb, lt-leb, le-ltb}
 use Rattle.realm_model.specs.Kind.{act_kind}
-use Rattle.realm_model.specs.declared.kind.Kind.{Kind}
+use Rattle.realm_model.specs.declared.act.Kind.{Kind}
 use Rattle.realm_model.specs.declared.act.Act.{Act}
 use Rattle.realm_model.specs.declared.act.Act.TheVariants.{Take, Delegate, Realm, Rtt, Data, Unknown, Rec}
 use Rattle.realm_model.specs.Act.{is_paired, reverse_of}

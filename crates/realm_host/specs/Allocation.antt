@@ -11,7 +11,7 @@ use Rattle.realm_model.specs.Step.{used_vmids}
 use Rattle.realm_model.specs.Running.{next_number}
 use Rattle.host_commands.specs.declared.cmd.Cmd.{Cmd}
 use Rattle.host_commands.specs.declared.cmd.Cmd.TheVariants.{Peek}
-use Rattle.host_commands.specs.declared.allocated.Allocated.{Allocated}
+use Rattle.host_commands.specs.declared.reply.Allocated.{Allocated}
 use Rattle.host_commands.specs.Needs.{operands}
 use Rattle.host_commands.specs.Acts.{act_of}
 use Rattle.host_commands.specs.Laws.{outcome_of_act}

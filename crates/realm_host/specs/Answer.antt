@@ -13,9 +13,9 @@ use Rattle.host_commands.specs.declared.refusal.Refusal.{Refusal}
 use Rattle.host_commands.specs.declared.reply.Reply.{Reply}
 use Rattle.host_commands.specs.Replies.{reply_of}
 use Rattle.host_ledger.specs.View.{HostView, open_of, pages_of_build, with_event}
-use Rattle.realm_host.specs.declared.reply.HostAnswer.{HostAnswer}
-use Rattle.realm_host.specs.declared.reply.HostAnswer.TheVariants.{Replied, Undone as WasUndone, Refused}
-use Rattle.host_commands.specs.declared.undo_reply.Undone.{Undone}
+use Rattle.realm_host.specs.declared.command.HostAnswer.{HostAnswer}
+use Rattle.realm_host.specs.declared.command.HostAnswer.TheVariants.{Replied, Undone as WasUndone, Refused}
+use Rattle.host_commands.specs.declared.reply.Undone.{Undone}
 use Rattle.realm_host.specs.Call.{Call, Ask, Undo}
 use Rattle.realm_host.specs.Allocation.{act_asked}
 use Rattle.realm_host.specs.Refusals.{refusal_of}

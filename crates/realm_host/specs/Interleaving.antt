@@ -8,7 +8,7 @@ use Rattle.host_commands.specs.declared.refusal.Refusal.{Refusal}
 use Rattle.realm_host.specs.Abort.{IsBegun, IsAbortAnswer}
 use Rattle.realm_host.specs.Answer.{IsAnswer}
 use Rattle.realm_host.specs.Call.{Call}
-use Rattle.realm_host.specs.declared.reply.HostAnswer.{HostAnswer}
+use Rattle.realm_host.specs.declared.command.HostAnswer.{HostAnswer}
 
 -- the number of open operations at the mark of each build
 abbrev pub depths_of : HostView → List (Option ℕ)

@@ -11,7 +11,7 @@ use Rattle.realm_host.specs.Call.{Call, Undo}
 use Rattle.realm_host.specs.Marked.{IsMarked, IsBackAnswer}
 use Rattle.realm_host.specs.Recorded.{CanApply}
 use Rattle.realm_host.specs.Refusals.{refusal_of}
-use Rattle.realm_host.specs.declared.reply.HostAnswer.{HostAnswer}
+use Rattle.realm_host.specs.declared.command.HostAnswer.{HostAnswer}
 use Rattle.realm_model.specs.Aborting.{IsAborting, IsOthersOrReverse}
 use Rattle.realm_model.specs.History.{erase, IsLegal}
 use Rattle.realm_model.specs.Undoing.{by}

@@ -1,4 +1,4 @@
-//! Commands of builds.
+//! Commands of builds, and the answers of hosts to steps.
 ghost use Rattle.std.specs.Prelude.{◌≡◌, ◌<◌, None};
 ghost use Rattle.host_commands.specs.declared.cmd.Cmd.TheVariants as cmd;
 ghost use Rattle.realm_host.specs.Call.{Ask};
@@ -8,7 +8,7 @@ ghost use Rattle.realm_host.specs.Answer.{IsAnswer, replied};
 
 use crate::{Cmd, Host, Refusal, Reply};
 use granule_addr::{BuildId, Order};
-use host_commands::{act_of, check_needs, reply_of};
+use host_commands::{Undone, act_of, check_needs, reply_of};
 use page_arena::PageStore;
 use realm_model::Rmi;
 
@@ -61,4 +61,12 @@ impl<S: PageStore> Host<S> {
             None => Err(Refusal::NoBlock(order)),
         }
     }
+}
+
+/// The answer of a host to a step.
+#[derive(Clone, Copy, Debug, PartialEq, Eq)]
+pub enum HostAnswer {
+    Replied(Reply),
+    Undone(Undone),
+    Refused(Refusal),
 }

@@ -6,7 +6,7 @@ ghost use Rattle.realm_host.specs.Abort.{IsBegun};
 ghost use Rattle.realm_host.specs.Call.{Call};
 ghost use Rattle.realm_host.specs.Interleaving.{DidTheSame, AreIndistinguishable, DifferInInterleaving, CallRevealsNothing, BeginRevealsNothing, AbortRevealsNothing};
 ghost use Rattle.realm_host.specs.Sharing.{AnsweredCall, AreWhileAborting, IsInAbortSince};
-ghost use Rattle.realm_host.specs.declared.reply.HostAnswer.{HostAnswer};
+ghost use Rattle.realm_host.specs.declared.command.HostAnswer.{HostAnswer};
 ghost use Rattle.realm_model.specs.History.{IsLegal};
 
 /// Hosts of the same machine in which each build did the same have the same world, and the same record of each build.

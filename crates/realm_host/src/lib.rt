@@ -15,12 +15,12 @@ mod host;
 pub mod law;
 mod marks;
 mod reading;
-mod reply;
 mod settings;
 mod undo;
 mod why_not;
 mod without;
 
+pub use command::HostAnswer;
 pub use granule_addr::{
     BuildId, Gran, IpaGran, IpaWidth, Level, Order, PageOff, RecNo, Root, Vmid,
 };
@@ -33,7 +33,6 @@ pub use realm_model::{
     Act, EntryState, Event, GranuleState, Kind, RealmState, RecState, Ripas, Rmi, Status,
 };
 pub use realm_objects::{RealmDesc, Rec};
-pub use reply::HostAnswer;
 pub use rtt::Entry;
 pub use settings::Settings;
 pub use why_not::WhyNot;

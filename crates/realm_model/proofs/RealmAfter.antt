@@ -11,7 +11,7 @@ use Rattle.realm_model.specs.declared.act.Act.{Act}
 use Rattle.realm_model.specs.declared.act.Act.TheVariants.{Take, UnTake, Fill, Peek, Delegate, Undelegate, Realm, UnRealm, Activate}
 use Rattle.realm_model.specs.declared.act.Act.TheVariants.{Rtt, UnRtt, Ripas, Data, Unknown, UnData, Rec, UnRec, Enter, Exit, Poke}
 use Rattle.granule_addr.specs.Root.{starting_tables}
-use Rattle.granule_addr.specs.declared.root.Root.{Root}
+use Rattle.granule_addr.specs.declared.width.Root.{Root}
 use Rattle.realm_model.specs.Machine.{Limits, RecRow, RealmRow, Cell, Seen, blank, cell_at, seen}
 use Rattle.realm_model.specs.Update.{Update, Put, PutByte, cell_after}
 use Rattle.realm_model.specs.Command.Check.{is_ready, is_undelegated, is_in}

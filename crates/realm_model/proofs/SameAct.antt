@@ -2,7 +2,7 @@
 use Rattle.std.proofs.Common.{◌&&◌, ℕ, nat_eq}
 use Rattle.std.specs.Str.{bytes_eq}
 use Rattle.arrayvec.specs.declared.array_vec.ArrayVec.{ArrayVec}
-use Rattle.granule_addr.specs.declared.root.Root.{Root}
+use Rattle.granule_addr.specs.declared.width.Root.{Root}
 use Rattle.realm_model.specs.contracts.act.Act as act
 use Rattle.realm_model.specs.contracts.act.ActPartialEq.TheImpl as derived
 use Rattle.realm_model.proofs.Same.{DecidesEquality, number, numbers, nothing, through, last, both, variant}

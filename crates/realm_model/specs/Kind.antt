@@ -2,8 +2,8 @@
 use Rattle.std.specs.Prelude.{Option, Some, None}
 use Rattle.realm_model.specs.declared.act.Act.{Act}
 use Rattle.realm_model.specs.declared.act.Act.TheVariants.{Take, Delegate, Realm, Rtt, Data, Unknown, Rec}
-use Rattle.realm_model.specs.declared.kind.Kind.{Kind}
-use Rattle.realm_model.specs.declared.kind.Kind.TheVariants as kind
+use Rattle.realm_model.specs.declared.act.Kind.{Kind}
+use Rattle.realm_model.specs.declared.act.Kind.TheVariants as kind
 
 abbrev pub act_kind : Act → Option Kind
 act_kind (Take order first) = Some kind.Take

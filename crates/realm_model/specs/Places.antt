@@ -3,7 +3,7 @@ use Rattle.std.specs.Prelude.{◌≡◌, ℕ, Option, Some, None, option_map, op
 use Rattle.std.specs.FinMap.{get}
 use Rattle.realm_model.specs.declared.act.Act.{Act}
 use Rattle.realm_model.specs.declared.act.Act.TheVariants.{UnRec, Enter, Exit, Poke}
-use Rattle.realm_model.specs.declared.place.RealmAndRec.{RealmAndRec}
+use Rattle.realm_model.specs.declared.act.RealmAndRec.{RealmAndRec}
 use Rattle.realm_model.specs.Machine.{RealmRow, RecRow, Seen}
 use Rattle.realm_model.specs.World.{World, realm_of}
 

@@ -1,7 +1,7 @@
-//! Events: the accepted commands of builds.
+//! Operations and their kinds, and events: the accepted ones of builds.
 ghost use Rattle.std.specs.Prelude.{◌≡◌, ◌↔◌, true};
+ghost use Rattle.realm_model.specs.Kind.{act_kind};
 
-use crate::kind::kind_of;
 use arrayvec::ArrayVec;
 use granule_addr::{BuildId, Gran, IpaGran, Level, Order, PageOff, RecNo, Root, Vmid};
 
@@ -278,5 +278,42 @@ impl Act {
                 | Act::UnData { .. }
                 | Act::UnRec { .. }
         )
+    }
+}
+
+/// The RD of a build's realm, and the granule of the REC that an operation names by its number: `None` if there is no
+/// such realm or REC. So the RMM searches for neither. The value of `rec` does not matter to an operation that names no
+/// REC.
+#[derive(Clone, Copy)]
+pub struct RealmAndRec {
+    pub realm: Option<Gran>,
+    pub rec: Option<Gran>,
+}
+
+/// The kind of an operation that can be reversed.
+#[derive(Clone, Copy, Debug, PartialEq, Eq)]
+pub enum Kind {
+    Take,
+    Delegate,
+    Realm,
+    Rtt,
+    Data,
+    Unknown,
+    Rec,
+}
+
+/// The kind of an operation, or None if the operation has no reverse.
+pub fn kind_of(act: &Act) -> Option<Kind>
+    ensures { result ≡ act_kind act.now }
+{
+    match act {
+        Act::Take { .. } => Some(Kind::Take),
+        Act::Delegate { .. } => Some(Kind::Delegate),
+        Act::Realm { .. } => Some(Kind::Realm),
+        Act::Rtt { .. } => Some(Kind::Rtt),
+        Act::Data { .. } => Some(Kind::Data),
+        Act::Unknown { .. } => Some(Kind::Unknown),
+        Act::Rec { .. } => Some(Kind::Rec),
+        _ => None,
     }
 }

@@ -7,15 +7,11 @@
 
 mod act;
 mod bounds;
-mod kind;
 pub mod law;
-mod place;
 mod rmi;
 mod states;
 
-pub use act::{Act, Event, clone_granules};
+pub use act::{Act, Event, Kind, RealmAndRec, clone_granules, kind_of};
 pub use bounds::{JOURNAL_ROOM, LEAST_HISTORY, MOST_HISTORY};
-pub use kind::{Kind, kind_of};
-pub use place::RealmAndRec;
 pub use rmi::{Rmi, Status};
 pub use states::{EntryState, GranuleState, RealmState, RecState, Ripas};

@@ -1,7 +1,7 @@
 -- The attributes of a new realm.
 use Rattle.std.proofs.Common.{◌≡◌, ℕ, ap}
 use Rattle.std.specs.FinMap.{empty}
-use Rattle.granule_addr.specs.declared.root.Root.{Root}
+use Rattle.granule_addr.specs.declared.width.Root.{Root}
 use Rattle.realm_model.specs.Rows.{root_rows}
 use Rattle.realm_model.specs.Machine.{RealmRow}
 use Rattle.realm_model.specs.Command.Realm.{new_realm}

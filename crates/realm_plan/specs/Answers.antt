@@ -7,8 +7,8 @@ use Rattle.host_commands.specs.declared.refusal.Refusal.{Refusal}
 use Rattle.host_commands.specs.declared.refusal.Refusal.TheVariants as refusal
 use Rattle.host_commands.specs.declared.reply.Reply.{Reply}
 use Rattle.host_commands.specs.declared.reply.Reply.TheVariants as reply
-use Rattle.realm_model.specs.declared.kind.Kind.{Kind}
-use Rattle.realm_model.specs.declared.kind.Kind.TheVariants as kind
+use Rattle.realm_model.specs.declared.act.Kind.{Kind}
+use Rattle.realm_model.specs.declared.act.Kind.TheVariants as kind
 
 -- a space, and the number
 abbrev pub then_number : ℕ → List ℕ

@@ -2,7 +2,7 @@
 ghost use Rattle.std.specs.Prelude.{◌≡◌};
 ghost use Rattle.realm_plan.specs.Answers.{kind_word, refusal_name, refusal_numbers};
 
-use crate::numbers::{MOST_NUMBERS, one, two};
+use crate::operands::{MOST_NUMBERS, one, two};
 use arrayvec::ArrayVec;
 use decimal_text::SpelledText;
 use host_commands::{Refusal, Reply};

@@ -2,7 +2,7 @@
 ghost use Rattle.std.specs.Prelude.{◌≡◌, ◌++◌, OnOk, string_bytes};
 ghost use Rattle.realm_plan.specs.Lines.{state_word, sum_numbers, realm_word, idle_line, page_line, realm_line, free_line};
 
-use crate::numbers::{MOST_NUMBERS, one};
+use crate::operands::{MOST_NUMBERS, one};
 use arrayvec::ArrayVec;
 use decimal_text::NumbersText;
 use granule_addr::{BuildId, Vmid};

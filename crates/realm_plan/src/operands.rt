@@ -1,4 +1,7 @@
-//! The operands of a step that are no plain numbers: pages and offsets.
+//! Operands of steps: pages, offsets, and lists of few numbers.
+ghost use Rattle.std.specs.Prelude.{◌≡◌, [], ◌∷◌};
+
+use arrayvec::ArrayVec;
 use decimal_text::Operand;
 use granule_addr::PageOff;
 
@@ -44,4 +47,23 @@ impl Operand for Offset {
         }
         Some(Offset(PageOff::new(number as u16)?))
     }
+}
+
+/// The most numbers of a word: the page of a REC, and 16 auxiliaries.
+pub const MOST_NUMBERS: usize = 17;
+
+pub fn one(first: u32) -> ArrayVec<u32, MOST_NUMBERS>
+    ensures { result.items ≡ first ∷ [] }
+{
+    let mut numbers = ArrayVec::new();
+    numbers.push(first);
+    numbers
+}
+
+pub fn two(first: u32, second: u32) -> ArrayVec<u32, MOST_NUMBERS>
+    ensures { result.items ≡ first ∷ second ∷ [] }
+{
+    let mut numbers = one(first);
+    numbers.push(second);
+    numbers
 }

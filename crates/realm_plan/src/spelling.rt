@@ -1,7 +1,7 @@
 //! The spelling of steps in plans and turn lines.
 ghost use Rattle.std.specs.Prelude.{◌≡◌, ◌∷◌, ◌≤◌, length};
 
-use crate::numbers::{MOST_NUMBERS, one};
+use crate::operands::{MOST_NUMBERS, one};
 use crate::step::PlanStep;
 use arrayvec::ArrayVec;
 use decimal_text::SpelledText;

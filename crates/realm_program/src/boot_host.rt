@@ -1,11 +1,12 @@
-//! The boot of hosts over pages that are all free.
-ghost use Rattle.std.specs.Prelude.{◌≡◌, ◌≤◌, IfOk};
+//! The boot of hosts over pages that are all free, and the stores that can be built for them.
+ghost use Rattle.std.specs.Prelude.{◌≡◌, ◌≤◌, IfOk, ◌⊎◌, ◌<◌, ◌↔◌, true, replicate, IsErrOf};
 ghost use Rattle.realm_host.specs.Host.{booted_by};
 ghost use Rattle.realm_plan.specs.PlanView.{plan_view};
 ghost use Rattle.realm_program.specs.Replay.{opening_host};
+ghost use Rattle.granule_addr.specs.Page.{zero_page};
 
-use crate::buildable_store::BuildableStore;
-use page_arena::BuildError;
+use buddy::BuddyArena;
+use page_arena::{BuildError, PageStore, PlainStore};
 use realm_host::{Host, Settings};
 use realm_plan::Plan;
 use std::alloc::{AllocError, Global};
@@ -42,4 +43,26 @@ pub fn boot<S: BuildableStore>(alloc: Global, plan: &Plan) -> Result<Host<S>, Al
         plan.builds.len() as u8,
     ).unwrap();
     boot_by(alloc, settings, plan.pages)
+}
+
+/// A store that can be built of any number of pages that a machine can have.
+pub trait BuildableStore: PageStore + Drop {
+    /// A store of `pages` pages, all free and zero. `BadSize` comes exactly when `pages` is not 1 to 4,096; the only
+    /// other error is `Memory`.
+    fn built(alloc: Global, pages: u16) -> Result<Self, BuildError>
+        ensures bad_size { IsErrOf result BuildError.BadSize ↔ ((pages < 1) ⊎ (4096 < pages)) }
+        ensures zero { IfOk result (λ store. Self.page_bytes store ≡ replicate pages zero_page) }
+        ensures free { IfOk result (λ store. Self.free_flags store ≡ replicate pages true) };
+}
+
+impl BuildableStore for PlainStore {
+    fn built(alloc: Global, pages: u16) -> Result<PlainStore, BuildError> {
+        PlainStore::build(alloc, pages)
+    }
+}
+
+impl BuildableStore for BuddyArena {
+    fn built(alloc: Global, pages: u16) -> Result<BuddyArena, BuildError> {
+        BuddyArena::build(alloc, pages)
+    }
 }

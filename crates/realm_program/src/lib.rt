@@ -6,15 +6,13 @@
 #![tactic(auto)]
 
 mod boot_host;
-mod buildable_store;
 mod fault;
 mod input;
 mod printing;
 mod source;
 mod text;
 
-pub use boot_host::{boot, boot_by};
-pub use buildable_store::BuildableStore;
+pub use boot_host::{BuildableStore, boot, boot_by};
 pub use command_line::realmhost::Line;
 pub use fault::Fault;
 pub use input::{ReadError, read_whole};

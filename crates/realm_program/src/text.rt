@@ -8,8 +8,7 @@ ghost use Rattle.realm_host.specs.Recorded.{fresh_like};
 ghost use Rattle.realm_program.specs.Replay.{opening_host, RunLeadsTo, IsMapWithout, IsText, IsErasedText, IsAskedText, IsWithoutText};
 ghost use Rattle.realm_program.specs.declared.fault.Fault.TheVariants.{Device, Mismatch};
 
-use crate::boot_host::boot;
-use crate::buildable_store::BuildableStore;
+use crate::boot_host::{BuildableStore, boot};
 use crate::fault::Fault;
 use crate::printing::{PlanText, print};
 use buddy::BuddyArena;

@@ -7,7 +7,7 @@ use Rattle.realm_model.specs.Machine.{Seen}
 use Rattle.realm_model.specs.Update.{Outcome}
 use Rattle.realm_model.specs.Command.Check.{check, error_input}
 use Rattle.std.proofs.lemmas.Option.{same_Some}
-use Rattle.granule_addr.specs.declared.root.Root.{Root}
+use Rattle.granule_addr.specs.declared.width.Root.{Root}
 use Rattle.realm_model.proofs.Booleans.{guarded, and_false}
 use Rattle.realm_model.proofs.Outcomes.{check_true, check_false}
 use Rattle.rmi_monitor.specs.View.{MonitorView, IsOnRec, Answers, after_command, seen_in, make_realm}

@@ -9,7 +9,7 @@ use Rattle.std.proofs.lemmas.List.{get_or_past, length-set, get_or-set_other}
 use Rattle.granule_addr.specs.Ipa.{is_width}
 use Rattle.granule_addr.specs.Page.{zero_page}
 use Rattle.granule_addr.specs.Root.{start_count, starting_tables}
-use Rattle.granule_addr.specs.declared.root.Root.{Root}
+use Rattle.granule_addr.specs.declared.width.Root.{Root}
 use Rattle.granule_table.specs.Granules.{granule_at, undelegated, IsIn}
 use Rattle.granule_table.specs.declared.granule.Granule.{Granule}
 use Rattle.realm_model.specs.declared.states.GranuleState.TheVariants.{Delegated, Rd as InRd, Rtt as InRtt}

@@ -8,7 +8,7 @@ use Rattle.page_arena.specs.Page.{is_free}
 use Rattle.granule_table.specs.declared.granule.Granule.{Granule}
 use Rattle.granule_addr.specs.Page.{zero_page}
 use Rattle.granule_addr.specs.Root.{starting_tables}
-use Rattle.granule_addr.specs.declared.root.Root.{Root}
+use Rattle.granule_addr.specs.declared.width.Root.{Root}
 use Rattle.realm_model.specs.declared.states.GranuleState.TheVariants.{Delegated, Rd as InRd}
 use Rattle.realm_model.specs.Rows.{has_root_table}
 use Rattle.realm_model.specs.Machine.{RealmRow, left}

@@ -4,7 +4,7 @@ use Rattle.std.specs.Prelude.{IfSome, IfNone}
 use Rattle.std.proofs.lemmas.Option.{none-some, same_Some}
 use Rattle.granule_addr.specs.Ipa.{is_protected_at}
 use Rattle.granule_addr.specs.Root.{served_space}
-use Rattle.granule_addr.specs.declared.root.Root.{Root}
+use Rattle.granule_addr.specs.declared.width.Root.{Root}
 use Rattle.realm_model.specs.Rows.{is_table_place}
 use Rattle.realm_model.specs.Machine.{RealmRow, cell_at}
 use Rattle.realm_model.specs.Command.Check.{is_new}

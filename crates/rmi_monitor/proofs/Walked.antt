@@ -4,7 +4,7 @@ use Rattle.std.specs.Prelude.{option_and_then}
 use Rattle.std.proofs.lemmas.Bool.{and_from, and_parts, le-leb, ltb-true}
 use Rattle.granule_addr.specs.Ipa.{is_width, is_in_space}
 use Rattle.granule_addr.specs.Root.{served_space}
-use Rattle.granule_addr.specs.declared.root.Root.{Root}
+use Rattle.granule_addr.specs.declared.width.Root.{Root}
 use Rattle.granule_addr.proofs.Spaces.{served_is}
 use Rattle.realm_model.specs.Machine.{Cell, RealmRow}
 use Rattle.realm_model.specs.Rows.{Walk, walk}

@@ -2,7 +2,7 @@
 use Rattle.std.specs.Prelude.{◌≡◌, ◌≢◌, ℕ, ◌+◌, ◌^◌, ◌<◌, ◌≤◌, Bool, true, false, List, length, map, replicate, Option, Some, option_and_then, Result, Ok, Err}
 use Rattle.std.specs.FinMap.{get}
 use Rattle.granule_addr.specs.Root.{starting_tables}
-use Rattle.granule_addr.specs.declared.root.Root.{Root}
+use Rattle.granule_addr.specs.declared.width.Root.{Root}
 use Rattle.page_arena.specs.Page.{is_free}
 use Rattle.page_arena.specs.Block.{IsTakenBlock, with_run, with_taken, with_given}
 use Rattle.realm_model.specs.declared.rmi.Rmi.{Rmi}

@@ -14,7 +14,6 @@ mod places;
 mod reading;
 mod realm;
 mod rec;
-mod recs;
 mod run;
 mod table;
 

@@ -1,17 +1,19 @@
 //! Commands on RECs.
-ghost use Rattle.std.specs.Prelude.{◌≡◌, ◌<◌, Some, length, map, option_map, IfOk, IfSome};
+ghost use Rattle.std.specs.Prelude.{◌≡◌, ◌<◌, Some, length, map, option_map, IfOk, IfSome, IfNone, None};
 ghost use Rattle.std.specs.List.{All};
 ghost use Rattle.realm_model.specs.Machine.{RealmRow, cell_at};
 ghost use Rattle.realm_model.specs.Command.Rec as command;
 ghost use Rattle.realm_objects.specs.Attributes.{rec_row};
 ghost use Rattle.rmi_monitor.specs.Places.{with_rec_more};
 ghost use Rattle.rmi_monitor.specs.View.{IsTaken, Answers, IsOnRec, seen_in, after_command, rec_in};
+ghost use Rattle.std.specs.FinMap.{get};
+ghost use Rattle.rmi_monitor.specs.Inside.{recs_of, IsNumbered, IsRecAt};
 
 use crate::Monitor;
 use crate::places::{can_be_rec, release, release_all, shift_all};
-use crate::recs::find_rec;
 use arrayvec::ArrayVec;
-use granule_addr::{Gran, RecNo};
+use granule_addr::{Gran, MOST_PAGES, RecNo};
+use granule_table::GranuleTable;
 use page_arena::PageStore;
 use realm_model::{GranuleState, Rmi};
 use realm_objects::{RealmDesc, Rec, rec_event};
@@ -118,4 +120,28 @@ impl<S: PageStore> Monitor<S> {
         let rec = self.recs[granule.number() as usize].as_ref().unwrap();
         Some((granule, rec))
     }
+}
+
+// The granule of the realm's REC of that number.
+pub(crate) fn find_rec(
+    granules: &GranuleTable,
+    recs: &[Option<Rec>],
+    rd: Gran,
+    number: RecNo,
+) -> Option<Gran>
+    requires places { length recs.now ≡ length granules.now }
+    requires numbered { IsNumbered granules.now recs.now rd }
+    ensures some { IfSome result (IsRecAt granules.now recs.now rd number) }
+    ensures none { IfNone result (get (recs_of granules.now recs.now rd) number ≡ None) }
+{
+    'granules: for place in 0..granules.pages() {
+        let granule = Gran::new(place, MOST_PAGES).unwrap();
+        let Some(rec) = &recs[place as usize] else {
+            continue;
+        };
+        if rec.number() == number && granules.realm_of(granule) == Some(rd) {
+            return Some(granule);
+        }
+    }
+    None
 }

@@ -4,7 +4,7 @@ use Rattle.std.specs.FinMap.{get}
 use Rattle.std.proofs.lemmas.Bool.{and_parts, eqb-true}
 use Rattle.granule_addr.specs.Ipa.{covered_count, first_covered, entry_index, served_count}
 use Rattle.granule_addr.specs.Root.{served_space}
-use Rattle.granule_addr.specs.declared.root.Root.{Root}
+use Rattle.granule_addr.specs.declared.width.Root.{Root}
 use Rattle.realm_model.specs.Rows.{is_unassigned, is_table_place, is_table_unused}
 use Rattle.realm_model.proofs.Rows.{is_among}
 use Rattle.realm_model.proofs.Booleans.{false_from}

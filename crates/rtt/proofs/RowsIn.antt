@@ -5,7 +5,7 @@ use Rattle.std.specs.FinMap.{get}
 use Rattle.std.proofs.lemmas.Bool.{cases_eq}
 use Rattle.granule_addr.specs.Ipa.{first_covered, entry_index}
 use Rattle.granule_addr.specs.Root.{served_space}
-use Rattle.granule_addr.specs.declared.root.Root.{Root}
+use Rattle.granule_addr.specs.declared.width.Root.{Root}
 use Rattle.realm_model.specs.Rows.{Row, Rows, row_at, walk, table_of}
 use Rattle.rtt.proofs.FiniteRowsLaws.{IsBounded, get-rows_by, same_rows}
 use Rattle.rtt.specs.Tables.{Entries, table_at, entry_at, is_place, row_in, rows_in}

@@ -7,7 +7,7 @@ use Rattle.std.proofs.lemmas.Bool.{cases_eq}
 use Rattle.std.proofs.lemmas.Nat.{pow_pos}
 use Rattle.granule_addr.specs.Ipa.{start_index, served_count}
 use Rattle.granule_addr.specs.Root.{start_count, served_space, starting_tables}
-use Rattle.granule_addr.specs.declared.root.Root.{Root}
+use Rattle.granule_addr.specs.declared.width.Root.{Root}
 use Rattle.realm_model.specs.StepLaw.{set_each}
 
 -- ---- a list with one element at each place of a run

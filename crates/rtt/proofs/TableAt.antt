@@ -4,7 +4,7 @@ use Rattle.std.specs.Prelude.{option_and_then}
 use Rattle.std.proofs.lemmas.Bool.{cases_eq}
 use Rattle.granule_addr.specs.Ipa.{covered_count, entry_index, served_count}
 use Rattle.granule_addr.specs.Root.{start_table}
-use Rattle.granule_addr.specs.declared.root.Root.{Root}
+use Rattle.granule_addr.specs.declared.width.Root.{Root}
 use Rattle.realm_model.specs.Rows.{Row, table_of, data_of}
 use Rattle.rtt.specs.Tables.{Entries, table_at, entry_at, data_at}
 use Rattle.rtt.proofs.PlaceLaws.{table_of_entry, index_of_entry, served_below}

@@ -2,7 +2,7 @@
 use Rattle.std.specs.Prelude.{◌≡◌, ◌≢◌, ℕ, ◌/◌, ◌<◌, ◌≤◌, Bool, false, List, length, Some}
 use Rattle.granule_addr.specs.Ipa.{covered_count, served_count}
 use Rattle.granule_addr.specs.Root.{served_space}
-use Rattle.granule_addr.specs.declared.root.Root.{Root}
+use Rattle.granule_addr.specs.declared.width.Root.{Root}
 use Rattle.granule_table.specs.Granules.{granule_at, IsIn}
 use Rattle.granule_table.specs.declared.granule.Granule.{Granule}
 use Rattle.page_arena.specs.Page.{page_at, is_free}

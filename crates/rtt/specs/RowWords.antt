@@ -2,7 +2,7 @@
 use Rattle.std.specs.Prelude.{◌≡◌, ℕ, ◌-◌, ◌==◌, List, Option, Some, option_and_then, if◌then◌else◌}
 use Rattle.granule_addr.specs.Ipa.{entry_index}
 use Rattle.granule_addr.specs.Root.{start_table}
-use Rattle.granule_addr.specs.declared.root.Root.{Root}
+use Rattle.granule_addr.specs.declared.width.Root.{Root}
 use Rattle.page_arena.specs.Word.{word_at}
 use Rattle.realm_model.specs.Rows.{Row, Rows, row_at, table_of}
 use Rattle.rtt.specs.Word.{entry_word}

@@ -2,7 +2,7 @@
 use Rattle.std.specs.Prelude.{ℕ, zero, suc, ◌&&◌, ◌==◌, Bool, cond, nat_lt, nat_le, List, Option, Some, None, option_and_then}
 use Rattle.granule_addr.specs.Ipa.{first_covered, entry_index}
 use Rattle.granule_addr.specs.Root.{start_table, served_space}
-use Rattle.granule_addr.specs.declared.root.Root.{Root}
+use Rattle.granule_addr.specs.declared.width.Root.{Root}
 use Rattle.page_arena.specs.Word.{word_at}
 use Rattle.realm_model.specs.Rows.{Row, Rows, table_of, data_of}
 use Rattle.rtt.specs.Word.{entry_of}

@@ -14,9 +14,7 @@ mod refusal;
 mod root;
 mod table;
 mod tables;
-mod walk;
 
 pub use entry::Entry;
 pub use refusal::Rtt;
-pub use tables::Tables;
-pub use walk::Walk;
+pub use tables::{Tables, Walk};

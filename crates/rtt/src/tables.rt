@@ -1,4 +1,4 @@
-//! The tables of a realm, and walks.
+//! The tables of a realm, walks and where they end.
 ghost use Rattle.std.specs.Prelude.{◌≡◌, ℕ, ◌<◌, ◌≤◌, length, Some};
 ghost use Rattle.granule_addr.specs.Ipa.{entry_index};
 ghost use Rattle.granule_addr.specs.Root.{served_space};
@@ -8,12 +8,13 @@ ghost use Rattle.realm_model.specs.Rows.{walk, table_of, data_of};
 ghost use Rattle.rtt.specs.Tables.{entries_of, table_at, rows};
 ghost use Rattle.rtt.specs.Realm.{IsInside, HasTables};
 
+use crate::Entry;
 use crate::pages::read;
 use crate::root::starting_table;
-use crate::{Entry, Walk};
 use granule_addr::{Gran, IpaGran, Level, Root, index_at, start_table};
 use granule_table::GranuleTable;
 use page_arena::PageStore;
+use std::marker::Model;
 
 /// The tables of a realm: its RD, and its starting tables. Nothing is kept beside their pages.
 #[derive(Clone, Copy, Debug, PartialEq, Eq)]
@@ -102,4 +103,21 @@ pub fn find<S: PageStore>(
         level,
         entry,
     }
+}
+
+/// The end of a walk: the level of a table, and the entry there. RMM 1.0, RTT walk.
+#[derive(Clone, Copy, Debug, PartialEq, Eq)]
+pub struct Walk {
+    pub level: Level,
+    pub entry: Entry,
+}
+
+impl Model for Walk {
+    ghost use Rattle.realm_model.specs.Rows as rows;
+
+    ghost Value = { rows.Walk };
+
+    ghost view = { λ w. record { level = w.level; row = w.entry } };
+
+    ghost inverse = { λ w. record { level = w.level; entry = w.row } };
 }

@@ -6,7 +6,7 @@ use Rattle.std.specs.List.{list_all}
 use Rattle.std.proofs.lemmas.Bool.{and_parts, ltb-true, leb-true}
 use Rattle.granule_addr.specs.Ipa.{covered_count, first_covered, is_width, is_protected_at}
 use Rattle.granule_addr.specs.Root.{start_count, served_space, starting_tables}
-use Rattle.granule_addr.specs.declared.root.Root.{Root}
+use Rattle.granule_addr.specs.declared.width.Root.{Root}
 use Rattle.granule_addr.proofs.Spaces.{half_is}
 use Rattle.realm_model.specs.declared.act.Act.{Act}
 use Rattle.realm_model.specs.declared.act.Act.TheVariants.{Realm, Rtt, Ripas as InitRipas}

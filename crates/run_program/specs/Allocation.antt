@@ -1,6 +1,6 @@
 -- The allocations that an operation holds.
 use Rattle.std.specs.Prelude.{ℕ}
-use Rattle.host_commands.specs.declared.allocated.Allocated.{Allocated}
+use Rattle.host_commands.specs.declared.reply.Allocated.{Allocated}
 use Rattle.realm_model.specs.declared.act.Act.{Act}
 use Rattle.realm_model.specs.declared.act.Act.TheVariants.{Peek, Realm, Rec}
 

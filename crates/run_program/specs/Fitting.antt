@@ -8,11 +8,11 @@ use Rattle.host_commands.specs.Replies.{reply_of}
 use Rattle.host_commands.specs.declared.cmd.Cmd.{Cmd}
 use Rattle.host_commands.specs.declared.cmd.Cmd.TheVariants.{Take}
 use Rattle.host_commands.specs.declared.cmd.Step.{Step}
-use Rattle.host_commands.specs.declared.allocated.Allocated.{Allocated}
+use Rattle.host_commands.specs.declared.reply.Allocated.{Allocated}
 use Rattle.host_commands.specs.declared.reply.Reply.{Reply}
 use Rattle.realm_model.specs.Kind.{act_kind}
 use Rattle.realm_model.specs.History.{events_of, open_entries, pages_of}
-use Rattle.host_commands.specs.declared.undo_reply.Undone.{Undone}
+use Rattle.host_commands.specs.declared.reply.Undone.{Undone}
 use Rattle.realm_model.specs.Act.{reverse_of}
 use Rattle.realm_model.specs.declared.act.Act.{Act}
 use Rattle.realm_model.specs.declared.act.Act.TheVariants as acts

@@ -6,7 +6,7 @@ use Rattle.host_commands.specs.declared.cmd.Cmd.{Cmd}
 use Rattle.host_commands.specs.declared.reply.Reply.{Reply}
 use Rattle.realm_host.specs.Answer.{IsReplied, IsUndone}
 use Rattle.realm_host.specs.Marked.{IsMarkedAs}
-use Rattle.host_commands.specs.declared.undo_reply.Undone.{Undone}
+use Rattle.host_commands.specs.declared.reply.Undone.{Undone}
 use Rattle.realm_model.specs.History.{open_entries, pages_of, IsLegal}
 use Rattle.realm_model.specs.Undoing.{by}
 use Rattle.realm_model.specs.declared.act.Act.{Act}

@@ -4,7 +4,7 @@ ghost use Rattle.host_ledger.specs.View.{HostView};
 ghost use Rattle.host_ledger.specs.declared.mark.Mark.{Mark};
 ghost use Rattle.host_commands.specs.declared.cmd.Cmd.{Cmd};
 ghost use Rattle.host_commands.specs.declared.reply.Reply.{Reply};
-ghost use Rattle.host_commands.specs.declared.undo_reply.Undone.{Undone};
+ghost use Rattle.host_commands.specs.declared.reply.Undone.{Undone};
 ghost use Rattle.run_program.specs.Hosts.{HostReplyFits, HostUndoFits, HostMarkFits};
 
 /// A host's answer to an accepted command or undo matches the one event that ends its history then, by what the build

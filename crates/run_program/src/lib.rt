@@ -15,7 +15,6 @@ mod report;
 mod running;
 mod text;
 mod undo;
-mod worker_ends;
 mod working;
 
 pub use audit::{fit_all, fits};

@@ -1,21 +1,21 @@
-//! The run of all builds of a plan at once.
+//! The run of all builds of a plan at once, and how their workers end.
 ghost use Rattle.std.specs.Prelude.{◌≡◌, [], map, vec_len, string_bytes, IfOk, IfErr};
 ghost use Rattle.realm_plan.specs.PlanView.{plan_view};
-ghost use Rattle.run_program.specs.Workers.{AreLeft, IsWithoutWorkersText, IsWorkersText};
+ghost use Rattle.run_program.specs.Workers.{AreLeft, IsWithoutWorkersText, IsWorkersText, worker_seats, IsReportOf};
 ghost use Rattle.builders.specs.Seats.{new_seat};
-ghost use Rattle.std.specs.List.{range_with_len};
+ghost use Rattle.std.specs.List.{range_with_len, AllZip};
 ghost use Rattle.run_program.specs.Order.{ScheduleIsNotRevealed};
 ghost use Rattle.builders.specs.Names.{AreNamed};
 
 use crate::fault::RunFault;
 use crate::new_workers::workers_of;
 use crate::text::audited_text_of;
-use crate::worker_ends::{Ends, ends_of};
-use builders::{Blanks, Gate, Ledgers, Seat, Shared, run_builds};
+use builders::{Blanks, Gate, Ledgers, Report, Seat, Shared, Worker, run_builds};
+use host_commands::Step;
 use page_arena::PageStore;
 use realm_host::Host;
 use realm_plan::Plan;
-use std::alloc::Global;
+use std::alloc::{AllocError, Global};
 use std::marker::{Brand, Send, Sync};
 use std::sync::Wait;
 use std::thread::Threads;
@@ -120,4 +120,29 @@ pub fn run_text<R: Threads + Wait + Sync, S: PageStore + Drop + Send, G: Gate + 
     ensures order { ScheduleIsNotRevealed (plan_view plan.now) (G.passes gate.now) (G.stops gate.now) host }
 {
     run_with::<R, S, G, Brand>(rt, alloc, plan, Blanks::new(), host, gate)
+}
+
+/// The results of workers: the seats, and the reports, each with its steps.
+#[derive(Drop)]
+pub struct Ends<L: Ledgers> {
+    pub seats: Vec<Seat<L>>,
+    pub reports: Vec<(Report, Vec<Step>)>,
+}
+
+/// The seat and the report of each worker, in sequence.
+pub(crate) fn ends_of<L: Ledgers>(
+    alloc: Global,
+    workers: Vec<Worker<L>>,
+) -> Result<Ends<L>, AllocError>
+    ensures seats { IfOk result (λ ends. ends.seats.items ≡ worker_seats workers.items) }
+    ensures reports { IfOk result (λ ends. AllZip IsReportOf workers.items ends.reports.items) }
+{
+    let mut seats = Vec::with_capacity(alloc, workers.len())?;
+    let mut reports = Vec::with_capacity(alloc, workers.len())?;
+    for worker in workers {
+        let (seat, steps, report) = worker.end();
+        seats.push(seat)?;
+        reports.push((report, steps))?;
+    }
+    Ok(Ends { seats, reports })
 }

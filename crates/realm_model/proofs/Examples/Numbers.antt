@@ -7,7 +7,7 @@ use Rattle.std.specs.Str.{bytes_eq}
 use Rattle.std.specs.Prelude.{◌==◌, is_some, nat_eq, option_and_then}
 use Rattle.granule_addr.specs.Page.{page_of}
 use Rattle.granule_addr.specs.Root.{starting_tables}
-use Rattle.granule_addr.specs.declared.root.Root.{Root}
+use Rattle.granule_addr.specs.declared.width.Root.{Root}
 use Rattle.realm_model.specs.declared.act.Act.TheVariants.{Take, Fill, Delegate, Realm, Activate, Rtt, Data, UnData, Rec, UnRec, Enter, Exit, Poke}
 use Rattle.realm_model.specs.declared.act.Event.{Event}
 use Rattle.realm_model.specs.declared.states.GranuleState.TheVariants.{Rd, Rtt as InRtt, Rec as InRec, Data as InData}

@@ -8,7 +8,7 @@ use Rattle.std.proofs.lemmas.Bool.{and_from, eq-eqb}
 use Rattle.std.proofs.lemmas.Option.{same_Some}
 use Rattle.granule_addr.specs.Ipa.{covered_count}
 use Rattle.granule_addr.specs.Root.{starting_tables}
-use Rattle.granule_addr.specs.declared.root.Root.{Root}
+use Rattle.granule_addr.specs.declared.width.Root.{Root}
 use Rattle.granule_addr.specs.Page.{zero_page}
 use Rattle.realm_model.specs.declared.act.Act.TheVariants.{Take, UnTake, Delegate, Undelegate, Realm, UnRealm, Rtt, UnRtt, Unknown, UnData}
 use Rattle.realm_model.specs.declared.act.Event.{Event}

@@ -7,7 +7,7 @@ use Rattle.std.specs.FinMap.{FinMap, get, insert, remove, empty, get-insert}
 use Rattle.std.specs.Ordering.{nat_cmp}
 use Rattle.std.proofs.lemmas.List.{append_assoc, append-nil}
 use Rattle.granule_addr.specs.Page.{zero_page}
-use Rattle.granule_addr.specs.declared.root.Root.{Root}
+use Rattle.granule_addr.specs.declared.width.Root.{Root}
 use Rattle.realm_model.specs.declared.act.Event.{Event}
 use Rattle.realm_model.specs.declared.states.GranuleState.{GranuleState}
 use Rattle.realm_model.specs.declared.states.GranuleState.TheVariants.{Undelegated, Delegated, Rd, Rtt as InRtt}

@@ -4,7 +4,7 @@ use Rattle.std.specs.List.{list_all}
 use Rattle.std.specs.FinMap.{empty, len}
 use Rattle.granule_addr.specs.Ipa.{is_width}
 use Rattle.granule_addr.specs.Root.{start_count, starting_tables}
-use Rattle.granule_addr.specs.declared.root.Root.{Root}
+use Rattle.granule_addr.specs.declared.width.Root.{Root}
 use Rattle.realm_model.specs.declared.states.GranuleState.TheVariants.{Rd, Rtt}
 use Rattle.realm_model.specs.declared.states.RealmState.TheVariants.{New, Active}
 use Rattle.realm_model.specs.Rows.{root_rows, has_root_table}

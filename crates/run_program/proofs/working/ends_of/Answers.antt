@@ -3,7 +3,7 @@ use Rattle.std.specs.List.{AllZip}
 use Rattle.run_program.specs.Workers.{worker_seats, IsReportOf}
 use Rattle.run_program.proofs.Ended.{seats_more, reports_more}
 use Rattle.run_program.proofs.Taken.{taken_more, left_less, taken_all}
-use Rattle.run_program.proofs.worker_ends.ends_of.Goals as goal
+use Rattle.run_program.proofs.working.ends_of.Goals as goal
 
 pub loop-worker-preserved : goal.loop-worker-preserved
 loop-worker-preserved g c =

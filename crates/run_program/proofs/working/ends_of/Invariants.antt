@@ -2,7 +2,7 @@ use Rattle.std.proofs.Common.{◌≡◌, ◌++◌, length}
 use Rattle.std.specs.List.{AllZip}
 use Rattle.std.specs.Vec.Iter.{into_iter_items, into_iter_len}
 use Rattle.run_program.specs.Workers.{worker_seats, IsReportOf}
-use Rattle.run_program.proofs.worker_ends.ends_of.Given as goal
+use Rattle.run_program.proofs.working.ends_of.Given as goal
 
 -- the seat and the report of each worker so far
 abbrev pub invariant-loop-worker : goal.invariant-loop-worker

@@ -1,7 +1,7 @@
 use Rattle.std.proofs.Common.{sym, ◌∙◌}
 use Rattle.decimal_text.proofs.Grammars.{meaning_from_parts, no_meaning_from_rest}
 use Rattle.realm_plan.proofs.StepTexts.{steps, found_is_step, none_is_step}
-use Rattle.realm_plan.proofs.text.step_from_text.Goals as goal
+use Rattle.realm_plan.proofs.step.step_from_text.Goals as goal
 
 pub returns-in_err-numbers-clause-exact : goal.returns-in_err-numbers-clause-exact
 returns-in_err-numbers-clause-exact c =

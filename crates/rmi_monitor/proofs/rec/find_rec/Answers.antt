@@ -7,8 +7,8 @@ use Rattle.rmi_monitor.specs.Inside.{is_of_realm, rec_of, IsRecAt}
 use Rattle.rmi_monitor.proofs.Comparisons.{test_held}
 use Rattle.rmi_monitor.proofs.RecEntries.{is_of_realm-test, rec_of-none, rec_of-other, rec_of-number}
 use Rattle.rmi_monitor.proofs.RealmRecs.{IsRecAt-there, recs_of-without}
-use Rattle.rmi_monitor.proofs.recs.find_rec.Goals as goal
-use Rattle.rmi_monitor.proofs.recs.find_rec.Goals.{else-eq-via-then-eq+else-eq-2, else-eq-via-else-eq}
+use Rattle.rmi_monitor.proofs.rec.find_rec.Goals as goal
+use Rattle.rmi_monitor.proofs.rec.find_rec.Goals.{else-eq-via-then-eq+else-eq-2, else-eq-via-else-eq}
 
 pub granules-preserved-in_default : goal.granules-preserved-in_default
 granules-preserved-in_default c =

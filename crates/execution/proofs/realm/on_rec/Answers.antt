@@ -2,7 +2,7 @@ use Rattle.std.proofs.Common.{ℕ, subst}
 use Rattle.rmi_monitor.specs.View.{IsOnRec}
 use Rattle.realm_model.specs.Command.Rec.{guest_write}
 use Rattle.execution.proofs.OnRecs.{done}
-use Rattle.execution.proofs.rec.on_rec.Goals as goal
+use Rattle.execution.proofs.realm.on_rec.Goals as goal
 
 pub returns-in-UnRec : goal.returns-in-UnRec
 returns-in-UnRec g c = done c.args.monitor.now _ c.rec_destroy.result c.args.rd c.args.rec c.args.act.now _ c.in-UnRec.is c.requires.kind c.requires.ready.rec c.rec_destroy.ensures
