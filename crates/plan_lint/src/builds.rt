@@ -1,170 +1,118 @@
 //! What is wrong with the builds of a plan.
 use crate::finding::{Findings, Severity, Span};
 use crate::keys::{Meant, means_steps, of_kind};
-use crate::message_text::Piece;
-use crate::outline::{Build, KeyValue, Outline};
+use crate::message_text::Piece::{Count, Quoted, Words};
+use crate::outline::{Build, Content, Outline, Value};
 use crate::step_text::{InvalidStep, of_step};
-use crate::value::{Content, Value};
 use realm_plan::{MOST_BUILDS, MOST_STEPS, PlanFault, step_from_text};
-use std::alloc::AllocError;
 
 /// How many builds a plan has, if it says.
 pub fn count_of_builds(outline: &Outline) -> Option<usize> {
-    match outline.entry("build") {
-        Some(entry) if !entry.value.is_array() => None,
+    match outline.value("build") {
+        Some(value) if !value.is_array() => None,
         None if outline.builds.is_empty() => None,
         _ => Some(outline.builds.len()),
     }
 }
 
 /// Finds what is wrong with the builds.
-pub fn builds(
-    text: &str,
-    outline: &Outline,
-    meant: Meant,
-    found: &mut Findings,
-) -> Result<(), AllocError> {
-    match outline.entry("build") {
-        Some(entry) if !entry.value.is_array() => return no_builds(text, entry, found),
-        Some(entry) if outline.builds.is_empty() => return no_build(outline, entry, found),
-        None if outline.builds.is_empty() => return missing_build(outline, meant, found),
+pub fn builds(text: &str, outline: &Outline, meant: Meant, found: &mut Findings) {
+    let has_builds = !outline.builds.is_empty();
+    match outline.value("build") {
+        Some(value) if !value.is_array() => return no_builds(text, value, found),
+        Some(value) if !has_builds => return no_build(outline, value, found),
+        None if !has_builds => return missing_build(outline, meant, found),
         _ => {}
     }
     for (number, build) in outline.builds.iter().enumerate() {
-        of_build(text, outline, number, build, found)?;
+        of_build(text, number, build, found);
     }
-    let count = outline.builds.len();
-    if count <= MOST_BUILDS {
-        return Ok(());
+    if let Some(first) = outline.builds.get(MOST_BUILDS) {
+        let pieces = [Count(MOST_BUILDS), Count(outline.builds.len())];
+        let words = "expected at most {} builds, found {}";
+        found.error(PlanFault::Limit, first.value.span, words, &pieces);
     }
-    let pieces = [Piece::Count(MOST_BUILDS), Piece::Count(count)];
-    let words = "expected at most {} builds, found {}";
-    found.error(
-        PlanFault::Limit,
-        outline.build_span(MOST_BUILDS),
-        words,
-        &pieces,
-    )
 }
 
 // A value of `build` that is no array of tables.
-fn no_builds(text: &str, entry: &KeyValue, found: &mut Findings) -> Result<(), AllocError> {
-    let span = entry.value.span;
+fn no_builds(text: &str, value: &Value, found: &mut Findings) {
+    let span = value.span;
     match text.get(span.start..span.end) {
-        Some(header) if matches!(entry.value.content, Content::Headed) => {
+        Some(header) if matches!(value.content, Content::Headed) => {
             let words = "expected `[[build]]`, found {}";
-            found.error(PlanFault::Key, span, words, &[Piece::Quoted(header)])?;
+            found.error(PlanFault::Key, span, words, &[Quoted(header)]);
         }
-        _ => of_kind(&entry.value, "an array of tables", found)?,
+        _ => of_kind(value, "an array of tables", found),
     }
-    found.help("each build begins with a line `[[build]]`", &[])
+    found.help("each build begins with a line `[[build]]`", &[]);
 }
 
 // An array of builds that is empty. Each turn names no build then.
-fn no_build(outline: &Outline, entry: &KeyValue, found: &mut Findings) -> Result<(), AllocError> {
-    let also = if outline.turns.is_empty() {
-        None
-    } else {
-        Some(PlanFault::Order { place: 0 })
-    };
+fn no_build(outline: &Outline, value: &Value, found: &mut Findings) {
+    let first = outline.turns.first();
+    let also = first.map(|_| PlanFault::Order { place: 0 });
     let words = "`build` is empty; a plan has 1 to 8 builds";
-    let severity = Severity::Error(PlanFault::Limit, also);
-    found.add(severity, entry.value.span, words, &[])
+    found.add(
+        Severity::Error(PlanFault::Limit, also),
+        value.span,
+        words,
+        &[],
+    );
 }
 
-fn missing_build(outline: &Outline, meant: Meant, found: &mut Findings) -> Result<(), AllocError> {
-    if meant.build {
-        return Ok(());
+fn missing_build(outline: &Outline, meant: Meant, found: &mut Findings) {
+    if !meant.build {
+        found.error(PlanFault::Key, outline.start(), "missing key `build`", &[]);
+        found.help("add a line `[[build]]`, and below it `steps = [..]`", &[]);
     }
-    let start = outline.start();
-    let span = Span { start, end: start };
-    found.error(PlanFault::Key, span, "missing key `build`", &[])?;
-    found.help("add a line `[[build]]`, and below it `steps = [..]`", &[])
 }
 
 // A build, which is a table with the one key `steps`.
-fn of_build(
-    text: &str,
-    outline: &Outline,
-    number: usize,
-    build: &Build,
-    found: &mut Findings,
-) -> Result<(), AllocError> {
+fn of_build(text: &str, number: usize, build: &Build, found: &mut Findings) {
     if !matches!(build.value.content, Content::Table | Content::Tables) {
         return of_kind(&build.value, "a table", found);
     }
-    match build.steps {
-        Some(place) => match outline.entries.get(place) {
-            Some(entry) => steps(text, outline, number, &entry.value, found),
-            None => Ok(()),
-        },
-        None => missing_steps(outline, number, found),
-    }
-}
-
-fn missing_steps(outline: &Outline, number: usize, found: &mut Findings) -> Result<(), AllocError> {
-    if means_steps(outline, number, found)? {
-        return Ok(());
-    }
-    let pieces = [Piece::Count(number)];
-    let words = "missing key `steps` in build {}";
-    found.error(PlanFault::Key, outline.build_span(number), words, &pieces)?;
-    found.help("a build that does nothing has `steps = []`", &[])
-}
-
-// The steps of a build, which are an array of strings.
-fn steps(
-    text: &str,
-    outline: &Outline,
-    build: usize,
-    value: &Value,
-    found: &mut Findings,
-) -> Result<(), AllocError> {
-    if !value.is_array() {
-        return no_steps(value, found);
-    }
-    let count = match outline.builds.get(build) {
-        Some(its) => its.count,
-        None => 0,
-    };
-    for step in 0..count {
-        if let Some(value) = outline.step(build, step) {
-            one_step(text, value, PlanFault::Step { build, step }, found)?;
+    match build.steps_value() {
+        Some(value) if value.is_array() => steps(text, number, build, found),
+        Some(value) => no_steps(value, found),
+        None if means_steps(build, found) => {}
+        None => {
+            let words = "missing key `steps` in build {}";
+            found.error(PlanFault::Key, build.value.span, words, &[Count(number)]);
+            found.help("a build that does nothing has `steps = []`", &[]);
         }
     }
-    if count <= MOST_STEPS {
-        return Ok(());
-    }
-    let pieces = [Piece::Count(MOST_STEPS), Piece::Count(count)];
-    let words = "expected at most {} steps, found {}";
-    found.error(
-        PlanFault::Limit,
-        outline.step_span(build, MOST_STEPS),
-        words,
-        &pieces,
-    )
 }
 
-fn no_steps(value: &Value, found: &mut Findings) -> Result<(), AllocError> {
-    of_kind(value, "an array", found)?;
-    match value.as_text() {
-        Some(step) if step_from_text(step).is_some() => found.help(
-            "write `[\"{}\"]`",
-            &[Piece::Words(step)],
-        ),
-        _ => Ok(()),
+// A value of `steps` that is no array.
+fn no_steps(value: &Value, found: &mut Findings) {
+    of_kind(value, "an array", found);
+    if let Some(step) = value.as_text() {
+        if step_from_text(step).is_some() {
+            found.help("write `[\"{}\"]`", &[Words(step)]);
+        }
     }
 }
 
-// A step, which is a string.
-fn one_step(
-    text: &str,
-    value: &Value,
-    fault: PlanFault,
-    found: &mut Findings,
-) -> Result<(), AllocError> {
+// The steps of a build, which are strings.
+fn steps(text: &str, number: usize, build: &Build, found: &mut Findings) {
+    for (step, value) in build.steps.iter().enumerate() {
+        let fault = PlanFault::Step {
+            build: number,
+            step,
+        };
+        one_step(text, value, fault, found);
+    }
+    if let Some(first) = build.steps.get(MOST_STEPS) {
+        let pieces = [Count(MOST_STEPS), Count(build.steps.len())];
+        let words = "expected at most {} steps, found {}";
+        found.error(PlanFault::Limit, first.span, words, &pieces);
+    }
+}
+
+fn one_step(text: &str, value: &Value, fault: PlanFault, found: &mut Findings) {
     match value.as_text() {
-        Some(written) if step_from_text(written).is_some() => Ok(()),
+        Some(written) if step_from_text(written).is_some() => {}
         Some(written) => {
             let step = InvalidStep {
                 written,
@@ -172,7 +120,7 @@ fn one_step(
                 whole: value.span,
                 inside: is_inside(text, value.span, written),
             };
-            of_step(&step, found)
+            of_step(&step, found);
         }
         None => of_kind(value, "a string", found),
     }

@@ -13,49 +13,36 @@ const MOST: usize = 80;
 /// How many are shown where some are left out.
 const LESS: usize = 78;
 
-// Appends the end of the line before a place.
-fn push_front(line: &mut Vec<u8>, front: &[u8]) -> Result<(), AllocError>
-    ensures { OnOk result (line.new.items ≡ line.old.items ++ shown_front front.now) }
+// The end of the line before a place, as far as it is shown.
+fn shown_front(alloc: Global, front: &[u8]) -> Result<Vec<u8>, AllocError>
+    ensures { IfOk result (λ v. v.items ≡ shown_front front.now) }
 {
+    let mut line = Vec::new(alloc);
     if front.len() <= MOST {
-        return line.extend_from_slice(front);
+        line.extend_from_slice(front)?;
+        return Ok(line);
     }
     line.extend_from_slice(b"..")?;
-    line.extend_from_slice(&front[front.len() - LESS..])
-}
-
-// Appends the beginning of the line after a place.
-fn push_back(line: &mut Vec<u8>, back: &[u8]) -> Result<(), AllocError>
-    ensures { OnOk result (line.new.items ≡ line.old.items ++ shown_back back.now) }
-{
-    if back.len() <= MOST {
-        return line.extend_from_slice(back);
-    }
-    let (shown, _) = back.split_at(LESS);
-    line.extend_from_slice(shown)?;
-    line.extend_from_slice(b"..")
-}
-
-// The bytes before a place as they are shown.
-fn front_text(alloc: Global, front: &[u8]) -> Result<String, AllocError>
-    ensures { IfOk result (λ t. string_bytes t ≡ plain_text (shown_front front.now)) }
-{
-    let mut line = Vec::new(alloc);
-    push_front(&mut line, front)?;
-    plain_text(alloc, &line)
-}
-
-// The bytes from a place on as they are shown.
-fn back_bytes(alloc: Global, back: &[u8]) -> Result<Vec<u8>, AllocError>
-    ensures { IfOk result (λ v. v.items ≡ shown_back back.now) }
-{
-    let mut line = Vec::new(alloc);
-    push_back(&mut line, back)?;
+    line.extend_from_slice(&front[front.len() - LESS..])?;
     Ok(line)
 }
 
-// The first bytes, as many as there are.
-fn first_of(bytes: &[u8], len: usize) -> &[u8]
+// The beginning of the line after a place, as far as it is shown.
+fn shown_back(alloc: Global, back: &[u8]) -> Result<Vec<u8>, AllocError>
+    ensures { IfOk result (λ v. v.items ≡ shown_back back.now) }
+{
+    let mut line = Vec::new(alloc);
+    if back.len() <= MOST {
+        line.extend_from_slice(back)?;
+        return Ok(line);
+    }
+    line.extend_from_slice(first_of(back, LESS))?;
+    line.extend_from_slice(b"..")?;
+    Ok(line)
+}
+
+/// The first bytes, as many as there are.
+pub fn first_of(bytes: &[u8], len: usize) -> &[u8]
     ensures { result.now ≡ take len bytes.now }
 {
     &bytes[..len.min(bytes.len())]
@@ -108,8 +95,8 @@ pub fn push_excerpt(
 ) -> Result<(), AllocError>
     ensures { OnOk result (string_bytes text.new ≡ string_bytes text.old ++ excerpt front.now back.now len) }
 {
-    let front = front_text(alloc, front)?;
-    let back = back_bytes(alloc, back)?;
+    let front = plain_text(alloc, &shown_front(alloc, front)?)?;
+    let back = shown_back(alloc, back)?;
     let shown = plain_text(alloc, &back)?;
     let marked = plain_text(alloc, first_of(&back, len))?;
     push_line(text, &front, &shown)?;

@@ -1,5 +1,6 @@
 //! Findings on a plan, and their places.
-use crate::message_text::{Piece, filled, push_filled};
+use crate::message_text::{Piece, filled};
+use crate::nearest::nearest;
 use realm_plan::PlanFault;
 use std::alloc::{AllocError, Global};
 
@@ -8,6 +9,14 @@ use std::alloc::{AllocError, Global};
 pub struct Span {
     pub start: usize,
     pub end: usize,
+}
+
+impl Span {
+    /// The `len` bytes from a place on.
+    pub fn new(start: usize, len: usize) -> Span {
+        let end = start.saturating_add(len);
+        Span { start, end }
+    }
 }
 
 /// The severity of a finding.
@@ -29,11 +38,12 @@ pub struct Finding {
     pub notes: Vec<String>,
 }
 
-/// The findings so far.
+/// The findings so far. It remembers that an allocation failed: code that adds a finding need not ask.
 #[derive(Drop)]
 pub struct Findings {
     pub alloc: Global,
-    pub list: Vec<Finding>,
+    list: Vec<Finding>,
+    has_failed: bool,
 }
 
 impl Findings {
@@ -41,18 +51,33 @@ impl Findings {
         Findings {
             alloc,
             list: Vec::new(alloc),
+            has_failed: false,
+        }
+    }
+
+    /// All findings. The one error is that an allocation failed.
+    pub fn finish(self) -> Result<Vec<Finding>, AllocError> {
+        if self.has_failed {
+            Err(AllocError)
+        } else {
+            Ok(self.list)
         }
     }
 
     /// Adds a finding. The words have a gap `{}` for each piece.
-    pub fn add(
+    pub fn add(&mut self, severity: Severity, span: Span, words: &str, pieces: &[Piece<'_>]) {
+        let added = self.try_add(severity, span, words, pieces);
+        self.has_failed |= added.is_err();
+    }
+
+    fn try_add(
         &mut self,
         severity: Severity,
         span: Span,
         words: &str,
         pieces: &[Piece<'_>],
     ) -> Result<(), AllocError> {
-        let words = filled(self.alloc, words, pieces)?;
+        let words = filled(self.alloc, "", words, pieces)?;
         let notes = Vec::new(self.alloc);
         self.list.push(Finding {
             severity,
@@ -64,42 +89,36 @@ impl Findings {
     }
 
     /// Adds an error with one fault.
-    pub fn error(
-        &mut self,
-        fault: PlanFault,
-        span: Span,
-        words: &str,
-        pieces: &[Piece<'_>],
-    ) -> Result<(), AllocError> {
-        self.add(Severity::Error(fault, None), span, words, pieces)
+    pub fn error(&mut self, fault: PlanFault, span: Span, words: &str, pieces: &[Piece<'_>]) {
+        self.add(Severity::Error(fault, None), span, words, pieces);
     }
 
-    pub fn warning(
-        &mut self,
-        span: Span,
-        words: &str,
-        pieces: &[Piece<'_>],
-    ) -> Result<(), AllocError> {
-        self.add(Severity::Warning, span, words, pieces)
+    pub fn warning(&mut self, span: Span, words: &str, pieces: &[Piece<'_>]) {
+        self.add(Severity::Warning, span, words, pieces);
     }
 
     /// Adds a line of help to the last finding.
-    pub fn help(&mut self, words: &str, pieces: &[Piece<'_>]) -> Result<(), AllocError> {
-        self.note("help: ", words, pieces)
+    pub fn help(&mut self, words: &str, pieces: &[Piece<'_>]) {
+        self.note("help: ", words, pieces);
     }
 
     /// Adds a line with this beginning to the last finding.
-    pub fn note(
-        &mut self,
-        beginning: &str,
-        words: &str,
-        pieces: &[Piece<'_>],
-    ) -> Result<(), AllocError> {
-        let mut line = String::from_str(self.alloc, beginning)?;
-        push_filled(&mut line, words, pieces)?;
+    pub fn note(&mut self, beginning: &str, words: &str, pieces: &[Piece<'_>]) {
+        let Ok(line) = filled(self.alloc, beginning, words, pieces) else {
+            self.has_failed = true;
+            return;
+        };
         if let Some(last) = self.list.last_mut() {
-            last.notes.push(line)?;
+            self.has_failed |= last.notes.push(line).is_err();
         }
-        Ok(())
+    }
+
+    /// The name that was probably meant by a word.
+    pub fn nearest(&mut self, names: &[&'static str], word: &str) -> Option<&'static str> {
+        let Ok(near) = nearest(self.alloc, names, word) else {
+            self.has_failed = true;
+            return None;
+        };
+        near
     }
 }

@@ -15,29 +15,18 @@ pub enum OperandKind {
 }
 
 impl OperandKind {
-    /// Such a number in words.
-    pub fn name(self) -> &'static str {
+    /// Such a number in words, and the greatest one of a step.
+    pub fn limits(self) -> (&'static str, u64) {
         match self {
-            OperandKind::Order => "the order of a block",
-            OperandKind::Page => "a page",
-            OperandKind::Value => "the value of a byte",
-            OperandKind::Offset => "an offset in a page",
-            OperandKind::Ipa => "an IPA granule",
-            OperandKind::Level => "the level of a table",
-            OperandKind::Width => "an IPA width",
-            OperandKind::Count => "a count of pages",
-            OperandKind::Rec => "the number of a REC",
-        }
-    }
-
-    /// The greatest such number of a step.
-    pub fn most(self) -> u64 {
-        match self {
-            OperandKind::Order | OperandKind::Value | OperandKind::Level | OperandKind::Width =>
-                255,
-            OperandKind::Page | OperandKind::Offset => 4095,
-            OperandKind::Ipa => 4_294_967_295,
-            OperandKind::Count | OperandKind::Rec => 65_535,
+            OperandKind::Order => ("the order of a block", 255),
+            OperandKind::Page => ("a page", 4095),
+            OperandKind::Value => ("the value of a byte", 255),
+            OperandKind::Offset => ("an offset in a page", 4095),
+            OperandKind::Ipa => ("an IPA granule", 4_294_967_295),
+            OperandKind::Level => ("the level of a table", 255),
+            OperandKind::Width => ("an IPA width", 255),
+            OperandKind::Count => ("a count of pages", 65_535),
+            OperandKind::Rec => ("the number of a REC", 65_535),
         }
     }
 }
@@ -52,6 +41,8 @@ pub struct Form {
     pub kinds: &'static [OperandKind],
     /// The most arguments that it takes.
     pub most: usize,
+    /// Its names in the RMI, in traces and in histories, with a space between two.
+    other_names: &'static str,
 }
 
 /// The words of steps.
@@ -60,74 +51,56 @@ pub const WORDS: [&str; 18] = [
     "rec", "enter", "exit", "poke", "undo", "abort", "mark", "back",
 ];
 
-/// The steps of commands that have other names in the RMI, in traces and in histories.
-const OTHER_NAMES: [(&str, &str); 22] = [
-    ("granule_delegate", "delegate"),
-    ("granule_undelegate", "undo"),
-    ("undelegate", "undo"),
-    ("untake", "undo"),
-    ("realm_create", "realm"),
-    ("realm_activate", "activate"),
-    ("realm_destroy", "undo"),
-    ("rtt_create", "rtt"),
-    ("rtt_destroy", "undo"),
-    ("rtt_init_ripas", "ripas"),
-    ("init_ripas", "ripas"),
-    ("data_create", "data"),
-    ("data_create_unknown", "unknown"),
-    ("data_destroy", "undo"),
-    ("rec_create", "rec"),
-    ("rec_enter", "enter"),
-    ("rec_exit", "exit"),
-    ("rec_destroy", "undo"),
-    ("destroy", "undo"),
-    ("host_fill", "fill"),
-    ("host_peek", "peek"),
-    ("guest_write", "poke"),
-];
-
-/// The step that does what this name stands for in the RMI, in a trace or in a history.
-pub fn step_of_command(name: &str) -> Option<&'static str> {
-    for (other, step) in OTHER_NAMES.iter() {
-        if name.eq_ignore_ascii_case(other) {
-            return Some(*step);
-        }
-    }
-    None
-}
+/// The same words in a line of help.
+pub const ALL_STEPS: &str =
+    "the steps are `take`, `fill`, `peek`, `delegate`, `realm`, `activate`, \
+    `rtt`, `ripas`, `data`, `unknown`, `rec`, `enter`, `exit`, `poke`, `undo`, `abort`, `mark` and `back`";
 
 macro_rules! form {
-    ($word:literal, $takes:literal, [$($kind:ident)*], $most:literal) => {
-        Form { word: $word, takes: $takes, kinds: &[$(OperandKind::$kind),*], most: $most }
+    ($word:literal, $takes:literal, [$($kind:ident)*], $most:literal; $names:literal) => {
+        Form {
+            word: $word,
+            takes: $takes,
+            kinds: &[$(OperandKind::$kind),*],
+            most: $most,
+            other_names: $names,
+        }
     };
 }
 
 const FORMS: [Form; 18] = [
-    form!("take", "1 argument (ORDER)", [Order], 1),
-    form!("fill", "2 arguments (PAGE VALUE)", [Page Value], 2),
-    form!("peek", "2 arguments (PAGE OFFSET)", [Page Offset], 2),
-    form!("delegate", "1 argument (PAGE)", [Page], 1),
-    form!("realm", "2 or 3 arguments (RD ROOT [WIDTH])", [Page Page Width], 3),
-    form!("activate", "no argument", [], 0),
-    form!("rtt", "3 arguments (PAGE IPA LEVEL)", [Page Ipa Level], 3),
-    form!("ripas", "2 arguments (IPA COUNT)", [Ipa Count], 2),
-    form!("data", "3 arguments (PAGE IPA SOURCE)", [Page Ipa Page], 3),
-    form!("unknown", "2 arguments (PAGE IPA)", [Page Ipa], 2),
-    form!("rec", "1 to 17 arguments (PAGE AUX ..)", [Page], 17),
-    form!("enter", "1 argument (REC)", [Rec], 1),
-    form!("exit", "1 argument (REC)", [Rec], 1),
-    form!("poke", "4 arguments (REC IPA OFFSET VALUE)", [Rec Ipa Offset Value], 4),
-    form!("undo", "no argument", [], 0),
-    form!("abort", "no argument", [], 0),
-    form!("mark", "no argument", [], 0),
-    form!("back", "no argument", [], 0),
+    form!("take", "1 argument (ORDER)", [Order], 1; ""),
+    form!("fill", "2 arguments (PAGE VALUE)", [Page Value], 2; "host_fill"),
+    form!("peek", "2 arguments (PAGE OFFSET)", [Page Offset], 2; "host_peek"),
+    form!("delegate", "1 argument (PAGE)", [Page], 1; "granule_delegate"),
+    form!("realm", "2 or 3 arguments (RD ROOT [WIDTH])", [Page Page Width], 3; "realm_create"),
+    form!("activate", "no argument", [], 0; "realm_activate"),
+    form!("rtt", "3 arguments (PAGE IPA LEVEL)", [Page Ipa Level], 3; "rtt_create"),
+    form!("ripas", "2 arguments (IPA COUNT)", [Ipa Count], 2; "rtt_init_ripas init_ripas"),
+    form!("data", "3 arguments (PAGE IPA SOURCE)", [Page Ipa Page], 3; "data_create"),
+    form!("unknown", "2 arguments (PAGE IPA)", [Page Ipa], 2; "data_create_unknown"),
+    form!("rec", "1 to 17 arguments (PAGE AUX ..)", [Page], 17; "rec_create"),
+    form!("enter", "1 argument (REC)", [Rec], 1; "rec_enter"),
+    form!("exit", "1 argument (REC)", [Rec], 1; "rec_exit"),
+    form!("poke", "4 arguments (REC IPA OFFSET VALUE)", [Rec Ipa Offset Value], 4; "guest_write"),
+    form!("undo", "no argument", [], 0;
+        "granule_undelegate undelegate untake realm_destroy rtt_destroy data_destroy rec_destroy destroy"),
+    form!("abort", "no argument", [], 0; ""),
+    form!("mark", "no argument", [], 0; ""),
+    form!("back", "no argument", [], 0; ""),
 ];
 
 /// The form of the step with this word, if there is one.
 pub fn form_of(word: &str) -> Option<Form> {
+    FORMS.iter().find(|form| form.word == word).copied()
+}
+
+/// The step that does what this name stands for in the RMI, in a trace or in a history.
+pub fn step_of_command(name: &str) -> Option<&'static str> {
     for form in &FORMS {
-        if form.word == word {
-            return Some(*form);
+        let mut names = form.other_names.split_whitespace();
+        if names.any(|other| name.eq_ignore_ascii_case(other)) {
+            return Some(form.word);
         }
     }
     None

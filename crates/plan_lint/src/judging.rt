@@ -5,7 +5,7 @@ ghost use Rattle.realm_plan.specs.PlanView.{plan_view};
 ghost use Rattle.plan_lint.specs.Findings.{IsError, IsErrorOf, AreErrors, AreWarnings, IsStretchIn, AreInside, IsJudged, size_of};
 
 use crate::document::errors_in;
-use crate::finding::{Finding, Findings, Severity, Span};
+use crate::finding::{Finding, Severity, Span};
 use crate::lints::slips_in;
 use realm_plan::{Plan, PlanError, PlanFault, PlanStep};
 use std::alloc::{AllocError, Global};
@@ -137,9 +137,8 @@ fn errors_of(alloc: Global, bytes: &[u8], fault: PlanFault) -> Result<Vec<Findin
     ensures errors { IfOk result (λ v. AreErrors fault v.items) }
     ensures inside { IfOk result (λ v. AreInside (length bytes.now) v.items) }
 {
-    let mut found = Findings::new(alloc);
-    errors_in(bytes, fault, &mut found)?;
-    let mut errors = all_errors(alloc, found.list, bytes.len())?;
+    let found = errors_in(alloc, bytes, fault)?;
+    let mut errors = all_errors(alloc, found, bytes.len())?;
     if tells(&errors, fault) {
         return Ok(errors);
     }
@@ -175,9 +174,8 @@ fn warnings_of(alloc: Global, bytes: &[u8], plan: &Plan) -> Result<Vec<Finding>,
     ensures warnings { IfOk result (λ v. AreWarnings v.items) }
     ensures inside { IfOk result (λ v. AreInside (length bytes.now) v.items) }
 {
-    let mut found = Findings::new(alloc);
-    slips_in(bytes, plan, &mut found)?;
-    all_warnings(alloc, found.list, bytes.len())
+    let found = slips_in(alloc, bytes, plan)?;
+    all_warnings(alloc, found, bytes.len())
 }
 
 fn in_order(mut found: Vec<Finding>) -> Result<Vec<Finding>, AllocError>

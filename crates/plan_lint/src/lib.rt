@@ -24,7 +24,6 @@ mod plain;
 mod report;
 mod step_text;
 mod syntax;
-mod value;
 mod walk;
 
 pub use law::places_lie_inside;

@@ -17,34 +17,23 @@ pub enum Piece<'a> {
     Plural(usize),
 }
 
-/// The words with a piece in the place of each `{}`, in their order.
-pub fn filled(alloc: Global, words: &str, pieces: &[Piece<'_>]) -> Result<String, AllocError> {
-    let mut text = String::new(alloc);
-    push_filled(&mut text, words, pieces)?;
-    Ok(text)
-}
-
-/// Appends the words with a piece in the place of each `{}`, in their order.
-pub fn push_filled(text: &mut String, words: &str, pieces: &[Piece<'_>]) -> Result<(), AllocError> {
+/// A beginning, and the words with a piece in the place of each `{}`, in their order.
+pub fn filled(
+    alloc: Global,
+    beginning: &str,
+    words: &str,
+    pieces: &[Piece<'_>],
+) -> Result<String, AllocError> {
+    let mut text = String::from_str(alloc, beginning)?;
     let mut rest = words;
     for piece in pieces {
-        rest = push_next(text, rest, *piece)?;
+        let (front, back) = rest.split_once("{}").unwrap_or((rest, ""));
+        text.push_str(front)?;
+        push_piece(&mut text, *piece)?;
+        rest = back;
     }
-    text.push_str(rest)
-}
-
-// Appends the words up to the first gap, and a piece in it. Returns the words after the gap.
-fn push_next<'a>(
-    text: &mut String,
-    words: &'a str,
-    piece: Piece<'_>,
-) -> Result<&'a str, AllocError> {
-    let Some((front, rest)) = words.split_once("{}") else {
-        return Ok(words);
-    };
-    text.push_str(front)?;
-    push_piece(text, piece)?;
-    Ok(rest)
+    text.push_str(rest)?;
+    Ok(text)
 }
 
 fn push_piece(text: &mut String, piece: Piece<'_>) -> Result<(), AllocError> {

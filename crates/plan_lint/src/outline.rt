@@ -1,16 +1,70 @@
 //! The parts of a plan's text, each with its place.
 use crate::finding::Span;
-use crate::value::{Content, Value};
-use std::alloc::{AllocError, Global};
+use toml_parser::Scalar;
 
 /// The keys of a plan.
 pub const PLAN_KEYS: [&str; 6] = ["pages", "vmids", "aux", "history", "order", "build"];
 
+/// The kind of a value, with its content where a plan has use for it.
+#[derive(Drop)]
+pub enum Content {
+    Text(String),
+    Scalar(Scalar),
+    Array,
+    /// A table that is written inline or by dotted keys.
+    Table,
+    /// A table that a header opens.
+    Headed,
+    /// An array of tables that headers open.
+    Tables,
+}
+
+impl Content {
+    /// The kind in words.
+    pub fn kind(&self) -> &'static str {
+        match self {
+            Content::Text(_) => "a string",
+            Content::Scalar(Scalar::Integer(_)) => "an integer",
+            Content::Scalar(Scalar::Float(_)) => "a float",
+            Content::Scalar(Scalar::Boolean(_)) => "a boolean",
+            Content::Scalar(Scalar::Datetime(_)) => "a date-time",
+            Content::Array => "an array",
+            Content::Table | Content::Headed => "a table",
+            Content::Tables => "an array of tables",
+        }
+    }
+}
+
+/// A value and its place.
+#[derive(Drop)]
+pub struct Value {
+    pub span: Span,
+    pub content: Content,
+}
+
+impl Value {
+    pub fn as_whole(&self) -> Option<i64> {
+        match &self.content {
+            Content::Scalar(Scalar::Integer(whole)) => Some(*whole),
+            _ => None,
+        }
+    }
+
+    pub fn as_text(&self) -> Option<&str> {
+        match &self.content {
+            Content::Text(text) => Some(text.as_str()),
+            _ => None,
+        }
+    }
+
+    pub fn is_array(&self) -> bool {
+        matches!(self.content, Content::Array)
+    }
+}
+
 /// A key and its value.
 #[derive(Drop)]
 pub struct KeyValue {
-    /// The build whose key it is, or none for a key of the plan.
-    pub build: Option<usize>,
     /// The first part of the key.
     pub name: String,
     pub key: Span,
@@ -22,87 +76,69 @@ pub struct KeyValue {
 pub struct Build {
     /// Its header, or its item in an array.
     pub value: Value,
-    /// The place of its `steps` among the entries.
-    pub steps: Option<usize>,
-    /// The place among the entries from which on its keys stand.
-    pub first_key: usize,
-    /// The place of its first step among the steps of all builds, and how many it has.
-    pub first: usize,
-    pub count: usize,
+    pub keys: Vec<KeyValue>,
+    /// The items of its key `steps`.
+    pub steps: Vec<Value>,
+}
+
+impl Build {
+    /// The value of its key `steps`.
+    pub fn steps_value(&self) -> Option<&Value> {
+        value_of(&self.keys, "steps")
+    }
+
+    /// The place of a step, or else of the build.
+    pub fn step_span(&self, step: usize) -> Span {
+        self.steps.get(step).unwrap_or(&self.value).span
+    }
 }
 
 /// The parts of a plan's text, as far as they were found.
 #[derive(Drop)]
 pub struct Outline {
-    pub entries: Vec<KeyValue>,
-    /// The places of the plan's keys among the entries, in the order of `PLAN_KEYS`.
-    pub known: [Option<usize>; 6],
+    pub keys: Vec<KeyValue>,
     pub builds: Vec<Build>,
-    /// The steps of all builds, one build after the other.
-    pub steps: Vec<Value>,
-    /// The entries of `order`.
+    /// The items of the key `order`.
     pub turns: Vec<Value>,
+    /// The keys of a plan that the text has not.
+    pub missing: Vec<&'static str>,
     /// Whether a table that a plan has not has the key `pages`.
     pub has_deeper_pages: bool,
 }
 
-// The place of a name among the keys of a plan.
-fn place_of(name: &str) -> Option<usize> {
-    PLAN_KEYS.iter().position(|it| *it == name)
-}
-
 impl Outline {
-    pub fn new(alloc: Global) -> Outline {
-        Outline {
-            entries: Vec::new(alloc),
-            known: [None; 6],
-            builds: Vec::new(alloc),
-            steps: Vec::new(alloc),
-            turns: Vec::new(alloc),
-            has_deeper_pages: false,
-        }
+    /// The value of a key of the plan.
+    pub fn value(&self, name: &str) -> Option<&Value> {
+        value_of(&self.keys, name)
     }
 
-    /// The entry of a key of the plan.
-    pub fn entry(&self, name: &str) -> Option<&KeyValue> {
-        let known = self.known.get(place_of(name)?)?;
-        match known {
-            Some(place) => self.entries.get(*place),
-            None => None,
-        }
-    }
-
-    /// Whether the plan has a key.
-    pub fn has(&self, name: &str) -> bool {
-        self.entry(name).is_some() || (name == "build" && !self.builds.is_empty())
+    /// Whether the plan lacks a key.
+    pub fn lacks(&self, name: &str) -> bool {
+        self.missing.iter().any(|it| *it == name)
     }
 
     /// Whether the text has no key and no build.
     pub fn is_empty(&self) -> bool {
-        self.entries.is_empty() && self.builds.is_empty()
+        self.keys.is_empty() && self.builds.is_empty()
     }
 
-    /// The first key or header of the text.
-    pub fn start(&self) -> usize {
-        let key = match self.entries.first() {
-            Some(entry) => entry.key.start,
-            None => usize::MAX,
+    /// The place before the first key or header of the text.
+    pub fn start(&self) -> Span {
+        let key = self.keys.first().map(|it| it.key.start);
+        let build = self.builds.first().map(|it| it.value.span.start);
+        let start = match (key, build) {
+            (Some(key), Some(build)) => key.min(build),
+            (Some(first), None) | (None, Some(first)) => first,
+            (None, None) => 0,
         };
-        match self.builds.first() {
-            Some(build) => build.value.span.start.min(key),
-            None if key == usize::MAX => 0,
-            None => key,
-        }
+        Span::new(start, 0)
     }
 
     /// The value of `order`, or the beginning of the text.
     pub fn order_span(&self) -> Span {
-        match self.entry("order") {
-            Some(entry) => entry.value.span,
-            None => {
-                let start = self.start();
-                Span { start, end: start }
-            }
+        match self.value("order") {
+            Some(value) => value.span,
+            None => self.start(),
         }
     }
 
@@ -114,108 +150,21 @@ impl Outline {
         }
     }
 
-    /// A step of a build.
-    pub fn step(&self, build: usize, step: usize) -> Option<&Value> {
-        let build = self.builds.get(build)?;
-        if step >= build.count {
-            return None;
-        }
-        self.steps.get(build.first.saturating_add(step))
-    }
-
-    /// The place of a step of a build, or else of the build.
+    /// The place of a step of a build, or else of the build, or else the beginning of the text.
     pub fn step_span(&self, build: usize, step: usize) -> Span {
-        match self.step(build, step) {
-            Some(value) => value.span,
-            None => self.build_span(build),
-        }
-    }
-
-    /// The place of a build, or else the beginning of the text.
-    pub fn build_span(&self, build: usize) -> Span {
         match self.builds.get(build) {
-            Some(build) => build.value.span,
-            None => Span { start: 0, end: 0 },
-        }
-    }
-
-    /// Adds a key of the plan or of the last build.
-    pub fn add(
-        &mut self,
-        is_of_build: bool,
-        name: &str,
-        key: Span,
-        value: Value,
-    ) -> Result<(), AllocError> {
-        let place = self.entries.len();
-        let build = if is_of_build {
-            self.note_steps(name, place);
-            Some(self.builds.len().saturating_sub(1))
-        } else {
-            self.note_key(name, place);
-            None
-        };
-        let name = String::from_str(*self.entries.allocator(), name)?;
-        self.entries.push(KeyValue {
-            build,
-            name,
-            key,
-            value,
-        })?;
-        Ok(())
-    }
-
-    // Keeps the place of a key of the plan.
-    fn note_key(&mut self, name: &str, place: usize) {
-        let Some(number) = place_of(name) else {
-            return;
-        };
-        if let Some(slot) = self.known.get_mut(number) {
-            if slot.is_none() {
-                *slot = Some(place);
-            }
-        }
-    }
-
-    // Keeps the place of the last build's `steps`.
-    fn note_steps(&mut self, name: &str, place: usize) {
-        if name != "steps" {
-            return;
-        }
-        if let Some(last) = self.builds.last_mut() {
-            last.steps = Some(place);
-        }
-    }
-
-    /// Adds a build whose steps are not known yet.
-    pub fn add_build(&mut self, value: Value) -> Result<(), AllocError> {
-        let (first_key, first) = (self.entries.len(), self.steps.len());
-        self.builds.push(Build {
-            value,
-            steps: None,
-            first_key,
-            first,
-            count: 0,
-        })?;
-        Ok(())
-    }
-
-    /// Gives the last build the steps that were found from one on.
-    pub fn keep_steps(&mut self, first: usize) {
-        let count = self.steps.len().saturating_sub(first);
-        if let Some(last) = self.builds.last_mut() {
-            last.first = first;
-            last.count = count;
+            Some(build) => build.step_span(step),
+            None => Span::new(0, 0),
         }
     }
 }
 
-/// The value of a table that a header opens.
-pub fn headed(span: Span, is_array: bool) -> Value {
-    let content = if is_array {
-        Content::Tables
-    } else {
-        Content::Headed
-    };
-    Value { span, content }
+// The value of the first key with this name.
+fn value_of<'a>(keys: &'a [KeyValue], name: &str) -> Option<&'a Value> {
+    for key in keys {
+        if key.name.as_str() == name {
+            return Some(&key.value);
+        }
+    }
+    None
 }

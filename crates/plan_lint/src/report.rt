@@ -7,7 +7,7 @@ ghost use Rattle.plan_lint.specs.Findings.{AreInside};
 ghost use Rattle.plan_lint.specs.Texts.{severity_word, head_text, note_text, finding_text, plural, size_text};
 
 use crate::cursor::{Cursor, first_place, place_at};
-use crate::excerpt::push_excerpt;
+use crate::excerpt::{first_of, push_excerpt};
 use crate::finding::{Finding, Severity};
 use crate::judging::{Size, judge};
 use crate::plain::plain_text;
@@ -41,25 +41,12 @@ fn line_len(bytes: &[u8]) -> usize
     bytes.iter().take_while(|b| **b != b'\n').count()
 }
 
-// The text after a place, as far as it is looked at.
-fn ahead_of(bytes: &[u8], at: usize) -> &[u8]
-    requires { at ≤ length bytes.now }
-    ensures { result.now ≡ take 81 (drop at bytes.now) }
-{
-    let rest = &bytes[at..];
-    if rest.len() <= AHEAD {
-        return rest;
-    }
-    let (ahead, _) = rest.split_at(AHEAD);
-    ahead
-}
-
 // The rest of the line after a place, as far as it is looked at.
 fn back_of(bytes: &[u8], at: usize) -> &[u8]
     requires { at ≤ length bytes.now }
     ensures { result.now ≡ back_of bytes.now at }
 {
-    let ahead = ahead_of(bytes, at);
+    let ahead = first_of(&bytes[at..], AHEAD);
     &ahead[..line_len(ahead)]
 }
 

@@ -1,11 +1,9 @@
 //! What is wrong with a text that is no step.
 use crate::finding::{Findings, Span};
-use crate::forms::{Form, OperandKind, WORDS, form_of, step_of_command};
-use crate::message_text::Piece;
-use crate::nearest::nearest;
+use crate::forms::{ALL_STEPS, Form, OperandKind, WORDS, form_of, step_of_command};
+use crate::message_text::Piece::{self, Count, Number, Quoted, Words};
 use decimal_text::cut_at_space;
 use realm_plan::PlanFault;
-use std::alloc::AllocError;
 
 /// The bytes of a page.
 const PAGE: u64 = 4096;
@@ -25,39 +23,41 @@ pub struct InvalidStep<'a> {
 }
 
 impl InvalidStep<'_> {
-    // The place of a part of the text, or of the string.
-    fn span(&self, from: usize, to: usize) -> Span {
-        if !self.inside {
-            return self.whole;
-        }
-        let start = self.whole.start.saturating_add(1);
-        Span {
-            start: start.saturating_add(from),
-            end: start.saturating_add(to),
-        }
-    }
-
-    // Adds an error on a part of the text.
+    // Adds an error on `len` bytes of the text, or on the string.
     fn error(
         &self,
-        from: usize,
-        to: usize,
+        at: usize,
+        len: usize,
         words: &str,
         pieces: &[Piece<'_>],
         found: &mut Findings,
-    ) -> Result<(), AllocError> {
-        found.error(self.fault, self.span(from, to), words, pieces)
+    ) {
+        let start = self.whole.start.saturating_add(1).saturating_add(at);
+        let span = if self.inside {
+            Span::new(start, len)
+        } else {
+            self.whole
+        };
+        found.error(self.fault, span, words, pieces);
     }
 }
 
+/// An argument of a step, after `at` bytes of the step's text.
+#[derive(Clone, Copy)]
+struct Argument<'a> {
+    kind: OperandKind,
+    at: usize,
+    text: &'a str,
+}
+
 /// Finds the first thing that is wrong with the text.
-pub fn of_step(step: &InvalidStep<'_>, found: &mut Findings) -> Result<(), AllocError> {
+pub fn of_step(step: &InvalidStep<'_>, found: &mut Findings) {
     if step.written.is_empty() {
         let words = "expected a step, found an empty string";
         return found.error(step.fault, step.whole, words, &[]);
     }
     if let Some((at, words)) = stray_blank(step.written.as_bytes()) {
-        return step.error(at, at.saturating_add(1), words, &[], found);
+        return step.error(at, 1, words, &[], found);
     }
     let (word, rest) = cut_at_space(step.written);
     match form_of(word) {
@@ -86,158 +86,106 @@ fn stray_blank(bytes: &[u8]) -> Option<(usize, &'static str)> {
 }
 
 // A first word that is not the word of a step.
-fn of_word(step: &InvalidStep<'_>, word: &str, found: &mut Findings) -> Result<(), AllocError> {
+fn of_word(step: &InvalidStep<'_>, word: &str, found: &mut Findings) {
     let bare = word.strip_prefix("RMI_").or(word.strip_prefix("rmi_"));
     let meant = match step_of_command(bare.unwrap_or(word)) {
         Some(name) => Some(name),
-        None => nearest(found.alloc, &WORDS, word)?,
+        None => found.nearest(&WORDS, word),
     };
     match meant {
         Some(name) => {
-            let pieces = [Piece::Quoted(word), Piece::Quoted(name)];
+            let pieces = [Quoted(word), Quoted(name)];
             let words = "unknown step {}; did you mean {}?";
-            step.error(0, word.len(), words, &pieces, found)
+            step.error(0, word.len(), words, &pieces, found);
         }
         None => {
-            let pieces = [Piece::Quoted(word)];
-            step.error(0, word.len(), "unknown step {}", &pieces, found)?;
-            let names = names(found)?;
-            found.help("the steps are {}", &[Piece::Words(names.as_str())])
+            step.error(0, word.len(), "unknown step {}", &[Quoted(word)], found);
+            found.help(ALL_STEPS, &[]);
         }
     }
-}
-
-// The words of all steps.
-fn names(found: &Findings) -> Result<String, AllocError> {
-    let mut text = String::new(found.alloc);
-    for (place, name) in WORDS.iter().enumerate() {
-        if place > 0 {
-            text.push_str(if place + 1 == WORDS.len() {
-                " and "
-            } else {
-                ", "
-            })?;
-        }
-        write!(text, "`{name}`")?;
-    }
-    Ok(text)
 }
 
 // The arguments after the word, each after a space.
-fn of_arguments(
-    step: &InvalidStep<'_>,
-    form: &Form,
-    rest: &str,
-    found: &mut Findings,
-) -> Result<(), AllocError> {
+fn of_arguments(step: &InvalidStep<'_>, form: &Form, rest: &str, found: &mut Findings) {
     let mut at = form.word.len();
-    let mut count: usize = 0;
-    for field in rest.split(' ').skip(1) {
+    for (place, text) in rest.split(' ').skip(1).enumerate() {
         at = at.saturating_add(1);
-        if count >= form.most {
+        if place >= form.most {
             return of_count(step, form, at, rest, found);
         }
-        let kind = kind_at(form, count);
-        if !is_right(kind, field) {
-            return of_number(step, kind, at, field, found);
+        let kind = form.kinds.get(place).copied().unwrap_or(OperandKind::Page);
+        if !is_right(kind, text) {
+            return of_argument(step, &Argument { kind, at, text }, found);
         }
-        at = at.saturating_add(field.len());
-        count = count.saturating_add(1);
+        at = at.saturating_add(text.len());
     }
     of_count(step, form, 0, rest, found)
 }
 
-// The kind of the argument at a place.
-fn kind_at(form: &Form, place: usize) -> OperandKind {
-    form.kinds.get(place).copied().unwrap_or(OperandKind::Page)
-}
-
 // Too few arguments, or too many of them from `from` on.
-fn of_count(
-    step: &InvalidStep<'_>,
-    form: &Form,
-    from: usize,
-    rest: &str,
-    found: &mut Findings,
-) -> Result<(), AllocError> {
-    let count = rest.split(' ').skip(1).count();
-    let word = Piece::Quoted(form.word);
-    let end = step.written.len();
+fn of_count(step: &InvalidStep<'_>, form: &Form, from: usize, rest: &str, found: &mut Findings) {
+    let len = step.written.len().saturating_sub(from);
     if form.most == 0 {
-        let pieces = [word, Piece::Quoted(rest.trim_start())];
-        return step.error(from, end, "{} takes no argument, found {}", &pieces, found);
+        let pieces = [Quoted(form.word), Quoted(rest.trim_start())];
+        return step.error(from, len, "{} takes no argument, found {}", &pieces, found);
     }
-    let pieces = [word, Piece::Words(form.takes), Piece::Count(count)];
-    step.error(from, end, "{} takes {}, found {}", &pieces, found)
+    let count = rest.split(' ').skip(1).count();
+    let pieces = [Quoted(form.word), Words(form.takes), Count(count)];
+    step.error(from, len, "{} takes {}, found {}", &pieces, found);
 }
 
-fn is_right(kind: OperandKind, field: &str) -> bool {
-    match field.parse::<u64>() {
-        Ok(number) => is_of_digits(field) && !has_leading_zero(field) && number <= kind.most(),
-        Err(_) => false,
-    }
+fn is_right(kind: OperandKind, text: &str) -> bool {
+    let (_, most) = kind.limits();
+    is_of_digits(text) && !has_leading_zero(text) && text.parse::<u64>().is_ok_and(|it| it <= most)
 }
 
-fn is_of_digits(field: &str) -> bool {
-    !field.is_empty() && field.bytes().all(|it| it.is_ascii_digit())
+fn is_of_digits(text: &str) -> bool {
+    !text.is_empty() && text.bytes().all(|it| it.is_ascii_digit())
 }
 
-fn has_leading_zero(field: &str) -> bool {
-    field.len() > 1 && field.starts_with('0')
+fn has_leading_zero(text: &str) -> bool {
+    text.len() > 1 && text.starts_with('0')
 }
 
-// An argument at `at` that is no such number.
-fn of_number(
-    step: &InvalidStep<'_>,
-    kind: OperandKind,
-    at: usize,
-    field: &str,
-    found: &mut Findings,
-) -> Result<(), AllocError> {
-    let end = at.saturating_add(field.len());
-    if let Some(number) = hexadecimal(field) {
-        let pieces = [Piece::Quoted(field)];
-        step.error(
-            at,
-            end,
-            "expected a decimal number, found {}",
-            &pieces,
-            found,
-        )?;
-        return help_of_hexadecimal(kind, number, found);
+// An argument that is no such number.
+fn of_argument(step: &InvalidStep<'_>, argument: &Argument<'_>, found: &mut Findings) {
+    let text = argument.text;
+    let mut tell = |words: &str, found: &mut Findings| {
+        step.error(argument.at, text.len(), words, &[Quoted(text)], found)
+    };
+    if let Some(number) = hexadecimal(text) {
+        tell("expected a decimal number, found {}", found);
+        help_of_hexadecimal(argument.kind, number, found);
+    } else if !is_of_digits(text) {
+        tell("expected a number, found {}", found);
+        let bare = text.trim_matches(',').trim_start_matches('+');
+        if bare.len() < text.len() && is_of_digits(bare) {
+            found.help("write {}", &[Words(bare)]);
+        }
+    } else if has_leading_zero(text) {
+        tell("expected a number without leading zeros, found {}", found);
+        if let Ok(number) = text.parse::<u64>() {
+            found.help("write {}", &[Number(number)]);
+        }
+    } else {
+        of_range(step, argument, found);
     }
-    if !is_of_digits(field) {
-        return of_no_number(step, at, field, found);
-    }
-    if has_leading_zero(field) {
-        return of_leading_zero(step, at, field, found);
-    }
-    of_range(step, kind, at, field, found)
 }
 
 // The number of a hexadecimal.
-fn hexadecimal(field: &str) -> Option<u64> {
-    let digits = match field.strip_prefix("0x") {
-        Some(digits) => digits,
-        None => field.strip_prefix("0X")?,
-    };
+fn hexadecimal(text: &str) -> Option<u64> {
+    let digits = text.strip_prefix("0x").or(text.strip_prefix("0X"))?;
     u64::from_str_radix(digits, 16).ok()
 }
 
-fn help_of_hexadecimal(
-    kind: OperandKind,
-    number: u64,
-    found: &mut Findings,
-) -> Result<(), AllocError> {
+fn help_of_hexadecimal(kind: OperandKind, number: u64, found: &mut Findings) {
     match granule_of(kind, number) {
         Some(granule) => {
-            let pieces = [Piece::Number(number), Piece::Number(granule)];
-            found.help(
-                "write {}; if it is an address, its IPA granule is {}",
-                &pieces,
-            )
+            let pieces = [Number(number), Number(granule)];
+            let words = "write {}; if it is an address, its IPA granule is {}";
+            found.help(words, &pieces);
         }
-        None => found.help("write {}", &[Piece::Number(number)]),
+        None => found.help("write {}", &[Number(number)]),
     }
 }
 
@@ -250,65 +198,21 @@ fn granule_of(kind: OperandKind, number: u64) -> Option<u64> {
     }
 }
 
-fn of_no_number(
-    step: &InvalidStep<'_>,
-    at: usize,
-    field: &str,
-    found: &mut Findings,
-) -> Result<(), AllocError> {
-    let end = at.saturating_add(field.len());
-    let words = "expected a number, found {}";
-    step.error(at, end, words, &[Piece::Quoted(field)], found)?;
-    let bare = field.trim_matches(',').trim_start_matches('+');
-    if bare.len() < field.len() && is_of_digits(bare) {
-        return found.help("write {}", &[Piece::Words(bare)]);
-    }
-    Ok(())
-}
-
-fn of_leading_zero(
-    step: &InvalidStep<'_>,
-    at: usize,
-    field: &str,
-    found: &mut Findings,
-) -> Result<(), AllocError> {
-    let end = at.saturating_add(field.len());
-    let words = "expected a number without leading zeros, found {}";
-    step.error(at, end, words, &[Piece::Quoted(field)], found)?;
-    match field.parse::<u64>() {
-        Ok(number) => found.help("write {}", &[Piece::Number(number)]),
-        Err(_) => Ok(()),
-    }
-}
-
 // A number that is too large.
-fn of_range(
-    step: &InvalidStep<'_>,
-    kind: OperandKind,
-    at: usize,
-    field: &str,
-    found: &mut Findings,
-) -> Result<(), AllocError> {
-    let shown = if field.len() <= LONGEST {
-        Piece::Words(field)
+fn of_range(step: &InvalidStep<'_>, argument: &Argument<'_>, found: &mut Findings) {
+    let Argument { kind, at, text } = *argument;
+    let shown = if text.len() <= LONGEST {
+        Words(text)
     } else {
-        Piece::Quoted(field)
+        Quoted(text)
     };
-    let pieces = [Piece::Words(kind.name()), Piece::Number(kind.most()), shown];
+    let (name, most) = kind.limits();
+    let pieces = [Words(name), Number(most), shown];
     let words = "{} must be from 0 to {}, found {}";
-    step.error(at, at.saturating_add(field.len()), words, &pieces, found)?;
-    match field.parse::<u64>() {
-        Ok(number) => help_of_address(kind, number, found),
-        Err(_) => Ok(()),
-    }
-}
-
-fn help_of_address(kind: OperandKind, number: u64, found: &mut Findings) -> Result<(), AllocError> {
-    match granule_of(kind, number) {
-        Some(granule) => {
-            let words = "an IPA granule is an IPA divided by 4096: write {}";
-            found.help(words, &[Piece::Number(granule)])
-        }
-        None => Ok(()),
+    step.error(at, text.len(), words, &pieces, found);
+    let number = text.parse::<u64>().ok();
+    if let Some(granule) = number.and_then(|it| granule_of(kind, it)) {
+        let words = "an IPA granule is an IPA divided by 4096: write {}";
+        found.help(words, &[Number(granule)]);
     }
 }

@@ -1,60 +1,45 @@
 //! Findings on a text that is no TOML.
 use crate::finding::{Findings, Span};
 use crate::forms::WORDS;
-use crate::message_text::Piece;
-use crate::nearest::nearest;
+use crate::message_text::Piece::{self, Quoted, Words};
 use realm_plan::PlanFault;
-use std::alloc::AllocError;
+use std::ops::Range;
 use std::str::from_utf8;
-use toml::de::Error;
 
-/// Finds what the reader of TOML stopped at.
-pub fn syntax(bytes: &[u8], error: &Error, found: &mut Findings) -> Result<(), AllocError> {
-    let Some(range) = error.span() else {
-        return Err(AllocError);
-    };
+/// Finds what the reader of TOML stopped at. The words are the reader's, unless the mistake is one that plans have.
+pub fn syntax(bytes: &[u8], range: Range<usize>, message: &str, found: &mut Findings) {
     let span = Span {
         start: range.start,
         end: range.end,
     };
-    match from_utf8(bytes) {
-        Ok(text) => in_text(text, span, error.message(), found),
-        Err(_) => tell(span, error.message(), &[], found),
+    let (front, back) = around(bytes, span.start);
+    let (before, after) = (last_line(front), first_line(back));
+    if is_other_header(before, after) {
+        other_header(span.start, before.trim_start(), after, found);
+    } else if message == "invalid string" && after.is_empty() {
+        unclosed_string(span.start, before, found);
+    } else if message == "duplicate key" {
+        let key = after
+            .split_once('=')
+            .map_or(after, |(key, _)| key.trim_end());
+        let span = Span::new(span.start, key.len());
+        tell(span, "duplicate key {}", &[Quoted(key)], found);
+    } else if is_in_array(front) && !after.starts_with('"') {
+        in_array(span, message, after, found);
+    } else if before.is_empty() && message.starts_with("missing comma between array elements") {
+        tell(span, "unclosed array, expected `,` or `]`", &[], found);
+    } else {
+        tell(span, message, &[], found);
     }
 }
 
-fn tell(
-    span: Span,
-    words: &str,
-    pieces: &[Piece<'_>],
-    found: &mut Findings,
-) -> Result<(), AllocError> {
-    found.error(PlanFault::Syntax, span, words, pieces)
+fn tell(span: Span, words: &str, pieces: &[Piece<'_>], found: &mut Findings) {
+    found.error(PlanFault::Syntax, span, words, pieces);
 }
 
-// The words of the reader, unless the mistake is one of those that plans have.
-fn in_text(text: &str, span: Span, message: &str, found: &mut Findings) -> Result<(), AllocError> {
-    let (before, after) = parts(text, span.start);
-    let (front, back) = (last_line(before), first_line(after));
-    if is_other_header(front, back) {
-        return other_header(span, front, back, found);
-    }
-    if message == "invalid string" && back.is_empty() {
-        return unclosed_string(span, front, found);
-    }
-    if message == "duplicate key" {
-        return duplicate_key(span, back, found);
-    }
-    if is_in_array(before) && !back.starts_with('"') {
-        return in_array(span, message, back, found);
-    }
-    if front.is_empty() && message.starts_with("missing comma between array elements") {
-        return tell(span, "unclosed array, expected `,` or `]`", &[], found);
-    }
-    tell(span, message, &[], found)
-}
-
-fn parts(text: &str, at: usize) -> (&str, &str) {
+// The text before and after a place.
+fn around(bytes: &[u8], at: usize) -> (&str, &str) {
+    let text = from_utf8(bytes).unwrap_or("");
     match (text.get(..at), text.get(at..)) {
         (Some(before), Some(after)) => (before, after),
         _ => (text, ""),
@@ -76,66 +61,43 @@ fn first_line(text: &str) -> &str {
 }
 
 // Whether the line is a header of a build with other brackets than `[[build]]`.
-fn is_other_header(front: &str, back: &str) -> bool {
-    let (front, back) = (front.trim_start(), back);
-    let is_header = if front.is_empty() {
-        back.starts_with("[build]") || back.starts_with("[[build]")
-    } else {
-        front.starts_with("[build]") || front.starts_with("[[build]")
-    };
-    is_header && !back.starts_with("[[build]]") && !front.starts_with("[[build]]")
+fn is_other_header(before: &str, after: &str) -> bool {
+    let before = before.trim_start();
+    let line = if before.is_empty() { after } else { before };
+    let is_header = line.starts_with("[build]") || line.starts_with("[[build]");
+    is_header && !after.starts_with("[[build]]") && !before.starts_with("[[build]]")
 }
 
 // A header of a build with other brackets.
-fn other_header(
-    span: Span,
-    front: &str,
-    back: &str,
-    found: &mut Findings,
-) -> Result<(), AllocError> {
-    let front = front.trim_start();
-    let start = span.start.saturating_sub(front.len());
-    let end = span.start.saturating_add(back.len());
-    let pieces = [Piece::Quoted(front), Piece::Quoted(back)];
-    let span = Span { start, end };
-    if front.is_empty() {
-        tell(span, "expected `[[build]]`, found {}", &pieces[1..], found)?;
-    } else if back.is_empty() {
-        tell(span, "expected `[[build]]`, found {}", &pieces[..1], found)?;
+fn other_header(at: usize, before: &str, after: &str, found: &mut Findings) {
+    let span = Span::new(
+        at.saturating_sub(before.len()),
+        before.len().saturating_add(after.len()),
+    );
+    if before.is_empty() || after.is_empty() {
+        let header = if before.is_empty() { after } else { before };
+        tell(
+            span,
+            "expected `[[build]]`, found {}",
+            &[Quoted(header)],
+            found,
+        );
     } else {
-        tell(span, "expected `[[build]]`", &[], found)?;
+        tell(span, "expected `[[build]]`", &[], found);
     }
-    found.help("each build begins with a line `[[build]]`", &[])
+    found.help("each build begins with a line `[[build]]`", &[]);
 }
 
 // A string that its line does not close.
-fn unclosed_string(span: Span, front: &str, found: &mut Findings) -> Result<(), AllocError> {
+fn unclosed_string(at: usize, before: &str, found: &mut Findings) {
     let is_quote = |it: char| it == '"' || it == '\'';
-    let open = match front.rsplit_once(is_quote) {
-        Some((before, _)) => before.len(),
-        None => front.len(),
+    let len = match before.rsplit_once(is_quote) {
+        Some((front, _)) => before.len().saturating_sub(front.len()),
+        None => 0,
     };
-    let start = span.start.saturating_sub(front.len().saturating_sub(open));
-    let span = Span {
-        start,
-        end: span.start,
-    };
-    tell(span, "unclosed string", &[], found)?;
-    found.help("close it by the quote that it began with", &[])
-}
-
-// A key that the text has already.
-fn duplicate_key(span: Span, back: &str, found: &mut Findings) -> Result<(), AllocError> {
-    let key = match back.split_once('=') {
-        Some((key, _)) => key.trim_end(),
-        None => back,
-    };
-    let end = span.start.saturating_add(key.len());
-    let span = Span {
-        start: span.start,
-        end,
-    };
-    tell(span, "duplicate key {}", &[Piece::Quoted(key)], found)
+    let span = Span::new(at.saturating_sub(len), len);
+    tell(span, "unclosed string", &[], found);
+    found.help("close it by the quote that it began with", &[]);
 }
 
 // Whether the next thing after a text is an item of an array.
@@ -145,37 +107,23 @@ fn is_in_array(before: &str) -> bool {
 }
 
 // What is no item of an array: a step without quotes, the end of the text, or something else.
-fn in_array(span: Span, message: &str, back: &str, found: &mut Findings) -> Result<(), AllocError> {
-    if back.is_empty() {
-        return tell(span, "unclosed array, expected a value or `]`", &[], found);
-    }
-    let item = match back.split_once(|it: char| matches!(it, ',' | ']' | '#' | '"')) {
+fn in_array(span: Span, message: &str, after: &str, found: &mut Findings) {
+    let is_end = |it: char| matches!(it, ',' | ']' | '#' | '"');
+    let item = match after.split_once(is_end) {
         Some((item, _)) => item.trim_end(),
-        None => back,
+        None => after,
     };
-    if !is_step_like(item, found)? {
-        return tell(span, message, &[], found);
-    }
-    let end = span.start.saturating_add(item.len());
-    let span = Span {
-        start: span.start,
-        end,
-    };
-    tell(
-        span,
-        "expected a string, found {}",
-        &[Piece::Quoted(item)],
-        found,
-    )?;
-    found.help("write \"{}\"", &[Piece::Words(item)])
-}
-
-// Whether the first word of a text is nearly that of a step.
-fn is_step_like(item: &str, found: &Findings) -> Result<bool, AllocError> {
     let word = match item.split_once(' ') {
         Some((word, _)) => word,
         None => item,
     };
-    let near = nearest(found.alloc, &WORDS, word)?;
-    Ok(near.is_some())
+    if after.is_empty() {
+        tell(span, "unclosed array, expected a value or `]`", &[], found);
+    } else if found.nearest(&WORDS, word).is_some() {
+        let span = Span::new(span.start, item.len());
+        tell(span, "expected a string, found {}", &[Quoted(item)], found);
+        found.help("write \"{}\"", &[Words(item)]);
+    } else {
+        tell(span, message, &[], found);
+    }
 }

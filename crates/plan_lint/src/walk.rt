@@ -1,412 +1,304 @@
 //! A walk over the text of a plan, which finds its parts.
 //!
-//! The text is one that the reader of TOML has taken, so the walk asks only what comes next. At anything that it does not
-//! expect it ends, and the parts after that place are not found.
-ghost use Rattle.std.specs.Prelude.{◌<◌};
-
+//! The text is one that the reader of TOML has taken, so the walk asks only what comes next. At anything that it does
+//! not expect it ends, and the parts after that place are not found.
 use crate::finding::Span;
-use crate::outline::{Outline, headed};
-use crate::value::{Content, Value};
-use std::alloc::{AllocError, AllocFailed, Global};
+use crate::outline::{Build, Content, KeyValue, Outline, PLAN_KEYS, Value};
+use std::alloc::{AllocError, Global};
 use toml_parser::text::{first, skip, skip_blank, skip_ws};
-use toml_parser::{Key, ParseError, dotted_key, quoted, starts_string, unquoted};
+use toml_parser::{ErrorKind, Key, ParseError, dotted_key, quoted, starts_string, unquoted};
 
-/// Why a walk ends before the text does.
-#[derive(Drop)]
-enum Lost {
-    /// Allocation failed.
-    Memory,
-    /// What comes next is not what was expected.
-    Unread,
+/// A part of a plan that keys or items belong to.
+#[derive(Clone, Copy)]
+enum Part {
+    Plan,
+    /// The items of `order`.
+    Turns,
+    /// The items of `build`.
+    Builds,
+    /// The last build.
+    Build,
+    /// The items of `steps` in the last build.
+    Steps,
+    /// A table or an array that a plan has not.
+    Other,
 }
 
-impl From<AllocError> for Lost {
-    fn from(_error: AllocError) -> Lost {
-        Lost::Memory
-    }
-}
-
-impl<T: Drop> From<AllocFailed<T>> for Lost {
-    fn from(_error: AllocFailed<T>) -> Lost {
-        Lost::Memory
-    }
-}
-
-impl From<ParseError> for Lost {
-    fn from(error: ParseError) -> Lost {
-        match error {
-            ParseError::OutOfMemory => Lost::Memory,
-            ParseError::At(..) => Lost::Unread,
+impl Part {
+    // The part that is in the value of a key, or in an item.
+    fn below(self, name: &str, content: &Content) -> Part {
+        match (self, name, content) {
+            (Part::Plan, "order", Content::Array) => Part::Turns,
+            (Part::Plan, "build", Content::Array) => Part::Builds,
+            (Part::Builds, _, Content::Table) => Part::Build,
+            (Part::Build, "steps", Content::Array) => Part::Steps,
+            _ => Part::Other,
         }
     }
 }
 
-/// The owner of the keys below a header.
+/// An array or an inline table that is still open.
 #[derive(Clone, Copy)]
-enum Section {
-    Plan,
-    Build,
-    Neither,
+struct Open {
+    /// The part that it belongs to, and the part that it is.
+    owner: Part,
+    part: Part,
+    is_table: bool,
+}
+
+/// The walk at a place of the text.
+#[derive(Drop)]
+struct Walk<'a> {
+    alloc: Global,
+    whole: usize,
+    /// The text that is still to be read.
+    rest: &'a str,
+    /// The owner of the keys below the last header.
+    section: Part,
+    open: Vec<Open>,
+    outline: Outline,
 }
 
 /// The parts of a plan's text.
 pub fn outline_of(alloc: Global, text: &str) -> Result<Outline, AllocError> {
-    let mut outline = Outline::new(alloc);
-    let whole = text.len();
-    match walk(Source { alloc, whole }, text, &mut outline) {
-        Ok(()) | Err(Lost::Unread) => Ok(outline),
-        Err(Lost::Memory) => Err(AllocError),
-    }
-}
-
-/// The text that is walked over: its length, and where memory comes from for what is read of it.
-#[derive(Clone, Copy)]
-struct Source {
-    alloc: Global,
-    whole: usize,
-}
-
-impl Source {
-    // The bytes of the text before the rest of it.
-    fn before(self, rest: &str) -> usize {
-        self.whole.saturating_sub(rest.len())
-    }
-
-    // The text from one rest of it to another.
-    fn span(self, from: &str, to: &str) -> Span {
-        Span {
-            start: self.before(from),
-            end: self.before(to),
-        }
-    }
-}
-
-fn without_mark(text: &str) -> &str {
-    text.strip_prefix('\u{feff}').unwrap_or(text)
-}
-
-fn walk(source: Source, text: &str, outline: &mut Outline) -> Result<(), Lost> {
-    let mut section = Section::Plan;
-    let mut rest = skip_blank(without_mark(text), true);
-    for _ in 0..source.whole {
-        if rest.is_empty() {
-            return Ok(());
-        }
-        let (below, after) = line(source, rest, section, outline)?;
-        section = below;
-        rest = skip_blank(after, true);
-    }
-    Ok(())
-}
-
-// Reads a header, or a key with its value. Returns the owner of the keys below, and the text after it.
-fn line<'a>(
-    source: Source,
-    s: &'a str,
-    section: Section,
-    outline: &mut Outline,
-) -> Result<(Section, &'a str), Lost> {
-    if first(s) == b'[' {
-        return header(source, s, outline);
-    }
-    Ok((section, statement(source, s, section, outline)?))
-}
-
-// Reads a line `[KEY]` or `[[KEY]]`. Returns the owner of the keys below it, and the text after it.
-fn header<'a>(
-    source: Source,
-    s: &'a str,
-    outline: &mut Outline,
-) -> Result<(Section, &'a str), Lost> {
-    let is_array = s.starts_with("[[");
-    let (key, end) = dotted_key(source.alloc, skip_ws(after_brackets(s, is_array)?))?;
-    let after = after_brackets(end, is_array)?;
-    let span = source.span(s, after);
-    Ok((add_header(&key, headed(span, is_array), outline)?, after))
-}
-
-// The text after the one or the two brackets that begin or end a header.
-fn after_brackets(s: &str, is_array: bool) -> Result<&str, Lost> {
-    let after = after_byte(s)?;
-    if is_array {
-        after_byte(after)
-    } else {
-        Ok(after)
-    }
-}
-
-// Adds the part of a plan that a header is. Returns the owner of the keys below it.
-fn add_header(key: &Key, value: Value, outline: &mut Outline) -> Result<Section, AllocError> {
-    let span = value.span;
-    match (first_part(key), second_part(key)) {
-        ("build", None) if matches!(value.content, Content::Tables) => {
-            outline.add_build(value)?;
-            Ok(Section::Build)
-        }
-        ("build", Some(name)) if !outline.builds.is_empty() => {
-            outline.add(true, name, span, value)?;
-            Ok(Section::Neither)
-        }
-        (name, None) => {
-            outline.add(false, name, span, value)?;
-            Ok(Section::Neither)
-        }
-        (name, Some(_)) => {
-            outline.add(false, name, span, headed(span, false))?;
-            Ok(Section::Neither)
-        }
-    }
-}
-
-fn first_part(key: &Key) -> &str {
-    match key.path.first() {
-        Some(part) => part.as_str(),
-        None => key.last.as_str(),
-    }
-}
-
-fn second_part(key: &Key) -> Option<&str> {
-    match (key.path.get(1), key.path.is_empty()) {
-        (_, true) => None,
-        (Some(part), _) => Some(part.as_str()),
-        (None, _) => Some(key.last.as_str()),
-    }
-}
-
-/// A line `KEY = VALUE`.
-#[derive(Drop)]
-struct Pair<'a> {
-    key: Key,
-    span: Span,
-    /// The text from the value on, and the text after it.
-    at_value: &'a str,
-    after: &'a str,
-    value: Value,
-}
-
-impl Pair<'_> {
-    // The name of a key. A key with dots has none: it is deeper than any part of a plan.
-    fn name(&self) -> &str {
-        if self.key.path.is_empty() {
-            self.key.last.as_str()
-        } else {
-            ""
-        }
-    }
-
-    // Adds the key and its value to the outline.
-    fn add_to(self, is_of_build: bool, outline: &mut Outline) -> Result<(), AllocError> {
-        let Pair {
-            key,
-            span,
-            value,
-            ..
-        } = self;
-        if key.path.is_empty() {
-            return outline.add(is_of_build, key.last.as_str(), span, value);
-        }
-        outline.has_deeper_pages |= key.last.as_str() == "pages";
-        let content = Content::Table;
-        outline.add(is_of_build, first_part(&key), span, Value { span, content })
-    }
-}
-
-fn read_pair(source: Source, s: &str) -> Result<Pair<'_>, Lost> {
-    let (key, equals) = dotted_key(source.alloc, s)?;
-    let span = key_span(source, s, equals);
-    let at_value = skip_ws(after_byte(equals)?);
-    let (value, after) = read_value(source, at_value)?;
-    Ok(Pair {
-        key,
-        span,
-        at_value,
-        after,
-        value,
-    })
-}
-
-// Reads a line `KEY = VALUE`. Returns the text after it.
-fn statement<'a>(
-    source: Source,
-    s: &'a str,
-    section: Section,
-    outline: &mut Outline,
-) -> Result<&'a str, Lost> {
-    match section {
-        Section::Plan => pair_of_plan(source, s, outline),
-        Section::Build => pair_of_build(source, s, outline),
-        Section::Neither => {
-            let pair = read_pair(source, s)?;
-            outline.has_deeper_pages |= pair.name() == "pages";
-            Ok(pair.after)
-        }
-    }
-}
-
-// Adds a key of the plan, with the turns or the builds that it has. Returns the text after it.
-fn pair_of_plan<'a>(source: Source, s: &'a str, outline: &mut Outline) -> Result<&'a str, Lost> {
-    let pair = read_pair(source, s)?;
-    let (at_value, after) = (pair.at_value, pair.after);
-    match pair.name() {
-        "order" => items(source, at_value, &mut outline.turns)?,
-        "build" => builds(source, at_value, outline)?,
-        _ => {}
-    }
-    pair.add_to(false, outline)?;
-    Ok(after)
-}
-
-// Adds a key of the last build, with the steps that it has. Returns the text after it.
-fn pair_of_build<'a>(source: Source, s: &'a str, outline: &mut Outline) -> Result<&'a str, Lost> {
-    let pair = read_pair(source, s)?;
-    let (at_value, after) = (pair.at_value, pair.after);
-    if pair.name() == "steps" {
-        let first = outline.steps.len();
-        items(source, at_value, &mut outline.steps)?;
-        outline.keep_steps(first);
-    }
-    pair.add_to(true, outline)?;
-    Ok(after)
-}
-
-// The place of a key, without the blanks after it.
-fn key_span(source: Source, from: &str, to: &str) -> Span {
-    let span = source.span(from, to);
-    let written = from.as_bytes();
-    let mut end = span.end;
-    for _ in 0..from.len() {
-        let last = end.saturating_sub(span.start).saturating_sub(1);
-        match written.get(last) {
-            Some(b' ' | b'\t') => end = end.saturating_sub(1),
-            _ => break,
-        }
-    }
-    Span {
-        start: span.start,
-        end,
-    }
-}
-
-// The builds of an array.
-fn builds(source: Source, s: &str, outline: &mut Outline) -> Result<(), Lost> {
-    let Some(mut rest) = after_mark(s, b'[') else {
-        return Ok(());
+    let mut walk = Walk {
+        alloc,
+        whole: text.len(),
+        rest: text.strip_prefix('\u{feff}').unwrap_or(text),
+        section: Part::Plan,
+        open: Vec::new(alloc),
+        outline: Outline {
+            keys: Vec::new(alloc),
+            builds: Vec::new(alloc),
+            turns: Vec::new(alloc),
+            missing: Vec::new(alloc),
+            has_deeper_pages: false,
+        },
     };
-    for _ in 0..s.len() {
-        if first(rest) == b']' {
-            return Ok(());
-        }
-        let (value, after) = read_value(source, rest)?;
-        outline.add_build(value)?;
-        keys(source, rest, outline)?;
-        rest = after_comma(skip_blank(after, true));
+    if let Err(ParseError::OutOfMemory) = walk.to_end() {
+        return Err(AllocError);
     }
-    Err(Lost::Unread)
+    with_missing(walk.outline)
 }
 
-// The keys of the last build, if it is an inline table.
-fn keys(source: Source, s: &str, outline: &mut Outline) -> Result<(), Lost> {
-    let Some(mut rest) = after_mark(s, b'{') else {
-        return Ok(());
-    };
-    for _ in 0..s.len() {
-        if first(rest) == b'}' {
-            return Ok(());
-        }
-        let after = pair_of_build(source, rest, outline)?;
-        rest = after_comma(skip_blank(after, true));
-    }
-    Err(Lost::Unread)
-}
-
-// Adds the items of an array. A value that is no array has none.
-fn items(source: Source, s: &str, found: &mut Vec<Value>) -> Result<(), Lost> {
-    let Some(mut rest) = after_mark(s, b'[') else {
-        return Ok(());
-    };
-    for _ in 0..s.len() {
-        if first(rest) == b']' {
-            return Ok(());
-        }
-        let (value, after) = read_value(source, rest)?;
-        found.push(value)?;
-        rest = after_comma(skip_blank(after, true));
-    }
-    Err(Lost::Unread)
-}
-
-fn after_comma(s: &str) -> &str {
-    after_mark(s, b',').unwrap_or(s)
-}
-
-// The text after the byte `mark` and the blanks that follow it, if the text begins with that byte.
-fn after_mark(s: &str, mark: u8) -> Option<&str>
-    requires there { 0 < mark }
-    requires ascii { mark < 128 }
-{
-    if first(s) == mark {
-        Some(skip_blank(skip(s, 1), true))
-    } else {
-        None
-    }
-}
-
-// A value, and the text after it.
-fn read_value(source: Source, s: &str) -> Result<(Value, &str), Lost> {
-    let (content, after) = read_content(source, s)?;
-    let span = source.span(s, after);
-    Ok((Value { span, content }, after))
-}
-
-fn read_content(source: Source, s: &str) -> Result<(Content, &str), Lost> {
-    if starts_string(s) {
-        let (text, after) = quoted(source.alloc, s)?;
-        return Ok((Content::Text(text), after));
-    }
-    match first(s) {
-        b'[' => Ok((Content::Array, after_nested(source.alloc, s)?)),
-        b'{' => Ok((Content::Table, after_nested(source.alloc, s)?)),
-        _ => {
-            let (scalar, after) = unquoted(source.alloc, s)?;
-            Ok((Content::of(scalar), after))
+// The outline with the keys that it lacks.
+fn with_missing(mut outline: Outline) -> Result<Outline, AllocError> {
+    for name in &PLAN_KEYS {
+        let has_builds = *name == "build" && !outline.builds.is_empty();
+        if !has_builds && outline.value(name).is_none() {
+            outline.missing.push(*name)?;
         }
     }
+    Ok(outline)
 }
 
-// The text after an array or an inline table.
-fn after_nested(alloc: Global, s: &str) -> Result<&str, Lost> {
-    let mut rest = s;
-    let mut depth: usize = 0;
-    for _ in 0..s.len() {
-        let byte = first(rest);
-        rest = if starts_string(rest) {
-            quoted(alloc, rest)?.1
-        } else {
-            after_byte(rest)?
+impl<'a> Walk<'a> {
+    fn to_end(&mut self) -> Result<(), ParseError> {
+        for _ in 0..self.whole {
+            self.rest = skip_blank(self.rest, true);
+            if self.rest.is_empty() {
+                return Ok(());
+            }
+            self.next_part()?;
+        }
+        Ok(())
+    }
+
+    // Reads a header, a key with its value, an item, a comma, or the end of an array or of an inline table.
+    fn next_part(&mut self) -> Result<(), ParseError> {
+        let is_in_table = match self.open.last() {
+            Some(open) => open.is_table,
+            None => true,
         };
-        depth = depth_after(depth, byte);
-        if depth == 0 {
-            return Ok(rest);
+        match first(self.rest) {
+            b'[' if self.open.is_empty() => self.header(),
+            b',' => self.skip_byte(),
+            b']' | b'}' => self.close(),
+            _ if is_in_table => self.pair(),
+            _ => self.item(),
         }
-        rest = skip_blank(rest, true);
     }
-    Err(Lost::Unread)
+
+    // The bytes before the rest of the text.
+    fn at(&self) -> usize {
+        self.whole.saturating_sub(self.rest.len())
+    }
+
+    // The text from a place to the rest.
+    fn span_from(&self, start: usize) -> Span {
+        let end = self.at();
+        Span { start, end }
+    }
+
+    // The owner of the next key or item.
+    fn owner(&self) -> Part {
+        match self.open.last() {
+            Some(open) => open.part,
+            None => self.section,
+        }
+    }
+
+    // Goes over a byte that is a character.
+    fn skip_byte(&mut self) -> Result<(), ParseError> {
+        let byte = first(self.rest);
+        if byte == 0 || byte >= 128 {
+            return Err(ParseError::at(ErrorKind::Content, self.rest));
+        }
+        self.rest = skip(self.rest, 1);
+        Ok(())
+    }
+
+    // Goes over the one or the two brackets that begin or end a header.
+    fn skip_brackets(&mut self, is_array: bool) -> Result<(), ParseError> {
+        if is_array {
+            self.skip_byte()?;
+        }
+        self.skip_byte()
+    }
+
+    // Reads a line `[KEY]` or `[[KEY]]`.
+    fn header(&mut self) -> Result<(), ParseError> {
+        let start = self.at();
+        let is_array = self.rest.starts_with("[[");
+        self.skip_brackets(is_array)?;
+        let (key, rest) = dotted_key(self.alloc, skip_ws(self.rest))?;
+        self.rest = rest;
+        self.skip_brackets(is_array)?;
+        let span = self.span_from(start);
+        self.add_header(key, span, is_array)
+    }
+
+    // Adds the part that a header is, which owns the keys below it.
+    fn add_header(&mut self, key: Key, span: Span, is_array: bool) -> Result<(), ParseError> {
+        let Key { path, last } = key;
+        let content = if is_array {
+            Content::Tables
+        } else {
+            Content::Headed
+        };
+        self.section = Part::Other;
+        let mut parts = path.into_iter();
+        let Some(name) = parts.next() else {
+            if is_array && last.as_str() == "build" {
+                self.section = Part::Build;
+                return self.add(Part::Builds, last, span, Value { span, content });
+            }
+            return self.add(Part::Plan, last, span, Value { span, content });
+        };
+        if name.as_str() == "build" && !self.outline.builds.is_empty() {
+            let name = parts.next().unwrap_or(last);
+            return self.add(Part::Build, name, span, Value { span, content });
+        }
+        let content = Content::Headed;
+        self.add(Part::Plan, name, span, Value { span, content })
+    }
+
+    // Reads a key, and its value up to its first item. A value below a key with dots is no part of a plan.
+    fn pair(&mut self) -> Result<(), ParseError> {
+        let (owner, start, from) = (self.owner(), self.at(), self.rest);
+        let (key, rest) = dotted_key(self.alloc, from)?;
+        self.rest = rest;
+        let written = from.get(..from.len().saturating_sub(rest.len()));
+        let span = Span::new(start, written.unwrap_or("").trim_end().len());
+        self.skip_byte()?;
+        self.rest = skip_ws(self.rest);
+        let Key { path, last } = key;
+        let has_dots = !path.is_empty();
+        let is_deeper = match owner {
+            Part::Other => self.open.is_empty() && !has_dots,
+            _ => has_dots,
+        };
+        self.outline.has_deeper_pages |= is_deeper && last.as_str() == "pages";
+        let Some(name) = path.into_iter().next() else {
+            return self.value(owner, last, span);
+        };
+        let content = Content::Table;
+        self.add(owner, name, span, Value { span, content })?;
+        self.value(Part::Other, last, span)
+    }
+
+    // Reads an item of an array, up to its own first item.
+    fn item(&mut self) -> Result<(), ParseError> {
+        let (owner, start) = (self.owner(), self.at());
+        self.value(owner, String::new(self.alloc), Span::new(start, 0))
+    }
+
+    // Reads a value, or the bracket that it begins with.
+    fn value(&mut self, owner: Part, name: String, key: Span) -> Result<(), ParseError> {
+        let start = self.at();
+        let content = self.content()?;
+        let part = owner.below(name.as_str(), &content);
+        let is_table = matches!(content, Content::Table);
+        if is_table || matches!(content, Content::Array) {
+            self.open.push(Open {
+                owner,
+                part,
+                is_table,
+            })?;
+        }
+        let span = self.span_from(start);
+        self.add(owner, name, key, Value { span, content })
+    }
+
+    fn content(&mut self) -> Result<Content, ParseError> {
+        if starts_string(self.rest) {
+            let (text, rest) = quoted(self.alloc, self.rest)?;
+            self.rest = rest;
+            return Ok(Content::Text(text));
+        }
+        match first(self.rest) {
+            b'[' => self.skip_byte().map(|()| Content::Array),
+            b'{' => self.skip_byte().map(|()| Content::Table),
+            _ => {
+                let (scalar, rest) = unquoted(self.alloc, self.rest)?;
+                self.rest = rest;
+                Ok(Content::Scalar(scalar))
+            }
+        }
+    }
+
+    // Adds a value to its owner.
+    fn add(
+        &mut self,
+        owner: Part,
+        name: String,
+        key: Span,
+        value: Value,
+    ) -> Result<(), ParseError> {
+        let (keys, steps) = (Vec::new(self.alloc), Vec::new(self.alloc));
+        let outline = &mut self.outline;
+        match (owner, outline.builds.last_mut()) {
+            (Part::Plan, _) => outline.keys.push(KeyValue { name, key, value })?,
+            (Part::Turns, _) => outline.turns.push(value)?,
+            (Part::Builds, _) => outline.builds.push(Build { value, keys, steps })?,
+            (Part::Build, Some(build)) => build.keys.push(KeyValue { name, key, value })?,
+            (Part::Steps, Some(build)) => build.steps.push(value)?,
+            _ => {}
+        }
+        Ok(())
+    }
+
+    // Ends the array or the inline table that was opened last.
+    fn close(&mut self) -> Result<(), ParseError> {
+        self.skip_byte()?;
+        let end = self.at();
+        if let Some(open) = self.open.pop() {
+            if let Some(value) = last_of(&mut self.outline, open.owner) {
+                value.span.end = end;
+            }
+        }
+        Ok(())
+    }
 }
 
-// How many arrays and tables are open after a byte.
-fn depth_after(depth: usize, byte: u8) -> usize {
-    match byte {
-        b'[' | b'{' => depth.saturating_add(1),
-        b']' | b'}' => depth.saturating_sub(1),
-        _ => depth,
+// The value that was added last to a part.
+fn last_of(outline: &mut Outline, owner: Part) -> Option<&mut Value> {
+    match owner {
+        Part::Plan => Some(&mut outline.keys.last_mut()?.value),
+        Part::Turns => outline.turns.last_mut(),
+        Part::Builds => Some(&mut outline.builds.last_mut()?.value),
+        Part::Build => Some(&mut outline.builds.last_mut()?.keys.last_mut()?.value),
+        Part::Steps => outline.builds.last_mut()?.steps.last_mut(),
+        Part::Other => None,
     }
-}
-
-// The text after its first byte, where that is a character.
-fn after_byte(s: &str) -> Result<&str, Lost> {
-    let byte = first(s);
-    if byte == 0 || byte >= 128 {
-        return Err(Lost::Unread);
-    }
-    Ok(skip(s, 1))
 }
