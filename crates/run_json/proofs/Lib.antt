@@ -1,9 +1,3 @@
 pub mod Turns
-mod Builds
-mod Texts
-mod RowTexts
+pub mod Lists
 mod RowRuns
-mod OneText
-mod SameRows
-mod RowWalks
-mod ReportedRows

@@ -1,14 +1,13 @@
 -- Runs of rows, one behind another.
-use Rattle.std.proofs.Common.{◌≡◌, ℕ, ◌+◌, ◌*◌, ◌<◌, Bool, true, false, List, [], ◌∷◌, ◌++◌, Option, Some, None, refl, sym, ap, ap₂, ◌∙◌, subst, arith, if◌then◌else◌, below_more}
+use Rattle.std.proofs.Common.{◌≡◌, ℕ, ◌+◌, ◌*◌, ◌<◌, Bool, true, false, List, [], ◌∷◌, ◌++◌, Option, Some, None, refl, sym, ap, ap₂, ◌∙◌, subst, arith, append_assoc, if◌then◌else◌, below_more}
 use Rattle.std.specs.List.{flat_map}
 use Rattle.std.proofs.lemmas.List.{flat_map_more}
 use Rattle.granule_addr.specs.Ipa.{covered_count}
 use Rattle.realm_model.specs.World.{World}
 use Rattle.realm_host.specs.Readings.{row_at}
 use Rattle.realm_host.specs.declared.reading.RowView.{RowView}
-use Rattle.run_json.specs.Rows.{RowRun, first_after, RunGoesOn, IsRowRun, AreRowRuns, rows_above, run_items, items_text, IsRowsText}
-use Rattle.run_json.specs.RowTexts.{AddsItems}
-use Rattle.run_json.proofs.RowTexts.{AddsItems-then}
+use Rattle.run_json.specs.Rows.{first_after, RunGoesOn, IsRowRun, AreRowRuns, rows_above, run_items, AreRowsOf}
+use Rattle.run_json.specs.declared.items.RowItem.{RowItem}
 
 -- ---- what code has read
 
@@ -42,12 +41,12 @@ module _ (world : World) (build : ℕ) where
   -- ---- the runs so far
 
   -- the runs from one IPA granule to another
-  pub RunsTo : ℕ → List RowRun → ℕ → Type 0
+  pub RunsTo : ℕ → List RowItem → ℕ → Type 0
   RunsTo from [] to = to ≡ from
   RunsTo from (run ∷ runs) to = (row_at world build from 3 ≡ Some run.row) × IsRowRun world build run.row run.count × RunsTo (first_after run.row run.count) runs to
 
   RunsTo-then :
-      (runs : List RowRun) (from ipa : ℕ) (run : RowRun)
+      (runs : List RowItem) (from ipa : ℕ) (run : RowItem)
       → RunsTo from runs ipa
       → row_at world build ipa 3 ≡ Some run.row
       → IsRowRun world build run.row run.count
@@ -56,36 +55,37 @@ module _ (world : World) (build : ℕ) where
   RunsTo-then [] from ipa run lead there is = (ap (λ n. row_at world build n 3) (sym lead) ∙ there, is, refl)
   RunsTo-then (first ∷ runs) from ipa run lead there is = (lead.0, lead.1, RunsTo-then runs (first_after first.row first.count) ipa run lead.2 there is)
 
-  RunsTo-all : (runs : List RowRun) (from ipa : ℕ) → RunsTo from runs ipa → row_at world build ipa 3 ≡ None → AreRowRuns world build from runs
+  RunsTo-all : (runs : List RowItem) (from ipa : ℕ) → RunsTo from runs ipa → row_at world build ipa 3 ≡ None → AreRowRuns world build from runs
   unfolding RunsTo
   RunsTo-all [] from ipa lead ends = ap (λ n. row_at world build n 3) (sym lead) ∙ ends
   RunsTo-all (first ∷ runs) from ipa lead ends = (lead.0, lead.1, RunsTo-all runs (first_after first.row first.count) ipa lead.2 ends)
 
-  -- the text of all rows before an IPA granule
-  pub record IsSoFar (ipa : ℕ) (text : List ℕ) : Type 0 where
-    pub runs : List RowRun
+  -- the items of all rows before an IPA granule
+  pub record IsSoFar (ipa : ℕ) (items : List RowItem) : Type 0 where
+    pub runs : List RowItem
     pub lead : RunsTo 0 runs ipa
-    pub whole : text ≡ items_text (flat_map (run_items world build) runs)
+    pub whole : items ≡ flat_map (run_items world build) runs
 
-  pub so_far_none : (text : List ℕ) → text ≡ [] → IsSoFar 0 text
+  pub so_far_none : (items : List RowItem) → items ≡ [] → IsSoFar 0 items
   unfolding RunsTo
-  so_far_none text none = record { runs = []; lead = refl; whole = none }
+  so_far_none items none = record { runs = []; lead = refl; whole = none }
 
   pub so_far_more :
-      (ipa : ℕ) (old mid new : List ℕ) (run : RowRun)
+      (ipa : ℕ) (old mid new : List RowItem) (run : RowItem)
       → IsSoFar ipa old
       → row_at world build ipa 3 ≡ Some run.row
       → IsRowRun world build run.row run.count
-      → AddsItems old mid (rows_above world build run.row)
-      → AddsItems mid new (run ∷ [])
+      → mid ≡ old ++ rows_above world build run.row
+      → new ≡ mid ++ run ∷ []
       → IsSoFar (first_after run.row run.count) new
   so_far_more ipa old mid new run so_far there is above itself = record {
     runs = so_far.runs ++ run ∷ [];
     lead = RunsTo-then so_far.runs 0 ipa run so_far.lead there is;
     whole =
-        (AddsItems-then old mid new (rows_above world build run.row) (run ∷ []) above itself).added (flat_map (run_items world build) so_far.runs) so_far.whole
-        ∙ ap items_text (flat_map_more (run_items world build) [] so_far.runs run);
+        itself ∙ ap (λ items. items ++ run ∷ []) (above ∙ ap (λ items. items ++ rows_above world build run.row) so_far.whole)
+        ∙ append_assoc (flat_map (run_items world build) so_far.runs) (rows_above world build run.row) (run ∷ [])
+        ∙ flat_map_more (run_items world build) [] so_far.runs run;
   }
 
-  pub so_far_all : (ipa : ℕ) (text : List ℕ) → IsSoFar ipa text → row_at world build ipa 3 ≡ None → IsRowsText world build text
-  so_far_all ipa text so_far ends = record { runs = so_far.runs; are_runs = RunsTo-all so_far.runs 0 ipa so_far.lead ends; whole = so_far.whole }
+  pub so_far_all : (ipa : ℕ) (items : List RowItem) → IsSoFar ipa items → row_at world build ipa 3 ≡ None → AreRowsOf world build items
+  so_far_all ipa items so_far ends = record { runs = so_far.runs; are_runs = RunsTo-all so_far.runs 0 ipa so_far.lead ends; whole = so_far.whole }

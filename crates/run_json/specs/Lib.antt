@@ -1,11 +1,8 @@
-pub mod Words
+pub mod Answers
 pub mod Items
 pub mod Changes
-pub mod Turns
 pub mod Rows
-pub mod RowTexts
-pub mod SameRows
-pub mod ReportedRows
+pub mod Turns
 pub mod Worlds
 pub mod Document
 pub mod Page

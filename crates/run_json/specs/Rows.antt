@@ -1,19 +1,14 @@
--- The rows of a realm, as a world tells them: where walks to level 3 end, from the first IPA granule on. RMM 1.0, RTT walk, RTT entry.
-use Rattle.std.specs.Prelude.{◌≡◌, ℕ, ◌+◌, ◌-◌, ◌*◌, ◌<◌, ◌==◌, false, List, [], ◌∷◌, ◌++◌, codes, if◌then◌else◌, Option, Some, None}
+-- The rows of a realm, as a document has them: where walks to level 3 end, from the first IPA granule on. RMM 1.0, RTT walk, RTT entry.
+use Rattle.std.specs.Prelude.{◌≡◌, ℕ, ◌+◌, ◌-◌, ◌*◌, ◌<◌, ◌==◌, false, List, [], ◌∷◌, ◌++◌, if◌then◌else◌, Option, Some, None}
 use Rattle.std.specs.List.{flat_map, range_with_len}
 use Rattle.granule_addr.specs.Ipa.{covered_count}
 use Rattle.realm_model.specs.Rows.{is_table_place}
 use Rattle.realm_model.specs.World.{World}
 use Rattle.realm_host.specs.Readings.{row_at}
 use Rattle.realm_host.specs.declared.reading.RowView.{RowView}
-use Rattle.run_json.specs.Items.{row_item}
+use Rattle.run_json.specs.declared.items.RowItem.{RowItem}
 
 -- ---- runs: rows of one table that say the same, one after another
-
--- the first row, and how many there are
-pub record RowRun : Type 0 where
-  pub row : RowView
-  pub count : ℕ
 
 -- the first IPA granule behind so many rows, from this one on
 abbrev pub first_after : RowView → ℕ → ℕ
@@ -32,7 +27,7 @@ pub record IsRowRun (world : World) (build : ℕ) (row : RowView) (count : ℕ) 
   pub longest : ¬ RunGoesOn world build row (first_after row count)
 
 -- all runs from an IPA granule on, one behind another
-abbrev pub AreRowRuns : World → ℕ → ℕ → List RowRun → Type 0
+abbrev pub AreRowRuns : World → ℕ → ℕ → List RowItem → Type 0
 AreRowRuns world build ipa [] = row_at world build ipa 3 ≡ None
 AreRowRuns world build ipa (run ∷ runs) =
     (row_at world build ipa 3 ≡ Some run.row) × IsRowRun world build run.row run.count × AreRowRuns world build (first_after run.row run.count) runs
@@ -40,31 +35,22 @@ AreRowRuns world build ipa (run ∷ runs) =
 -- ---- items
 
 -- a row alone, where it begins at that IPA granule
-abbrev pub beginning_at : ℕ → Option RowView → List RowRun
+abbrev pub beginning_at : ℕ → Option RowView → List RowItem
 beginning_at ipa None = []
 beginning_at ipa (Some row) = if row.first == ipa then record { row = row; count = 1 } ∷ [] else []
 
 -- The rows above this one that begin where it does, in rising level: the TABLE rows by which the walk to the first row of a table
 -- comes to it.
-abbrev pub rows_above : World → ℕ → RowView → List RowRun
+abbrev pub rows_above : World → ℕ → RowView → List RowItem
 rows_above world build row = flat_map (λ level. beginning_at row.first (row_at world build row.first level)) (range_with_len 1 (row.level - 1))
 
 -- a run, behind the rows above it
-abbrev pub run_items : World → ℕ → RowRun → List RowRun
+abbrev pub run_items : World → ℕ → RowItem → List RowItem
 run_items world build run = rows_above world build run.row ++ run ∷ []
 
--- each on a line of its own
-abbrev pub item_line : RowRun → List ℕ
-item_line item = codes "\n" ++ row_item (Some item.row) item.count
-
--- each but the first behind a comma
-abbrev pub items_text : List RowRun → List ℕ
-items_text [] = []
-items_text (item ∷ more) = item_line item ++ flat_map (λ next. codes "," ++ item_line next) more
-
--- The text of all rows of a build's realm. There is one: each run begins at the row that the walk finds, and goes on as long as
--- it can.
-pub record IsRowsText (world : World) (build : ℕ) (text : List ℕ) : Type 0 where
-  pub runs : List RowRun
+-- The items of all rows of a build's realm. There is one such list: each run begins at the row that the walk finds, and goes on as
+-- long as it can.
+pub record AreRowsOf (world : World) (build : ℕ) (items : List RowItem) : Type 0 where
+  pub runs : List RowItem
   pub are_runs : AreRowRuns world build 0 runs
-  pub whole : text ≡ items_text (flat_map (run_items world build) runs)
+  pub whole : items ≡ flat_map (run_items world build) runs

@@ -1,7 +1,7 @@
 //! Answers in numbers.
 ghost use Rattle.std.specs.Prelude.{◌≡◌, [], ◌∷◌};
 ghost use Rattle.realm_plan.specs.Answers.{reply_numbers, refusal_numbers};
-ghost use Rattle.run_json.specs.Items.{refusal_number, answer_numbers, is_accepted_answer};
+ghost use Rattle.run_json.specs.Answers.{refusal_number, answer_numbers, is_accepted_answer};
 
 use arrayvec::ArrayVec;
 use host_commands::{Refusal, Reply};

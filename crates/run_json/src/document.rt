@@ -1,104 +1,92 @@
 //! The document of a run.
-ghost use Rattle.std.specs.Prelude.{◌≡◌, ◌++◌, ◌<◌, OnOk, IfOk, string_bytes, vec_len};
+ghost use Rattle.std.specs.Prelude.{◌≡◌, ◌<◌, OnOk, IfOk, vec_len};
 ghost use Rattle.realm_plan.specs.PlanView.{plan_view};
-ghost use Rattle.run_json.specs.Document.{machine_text, room_text, settings_text, separator, whose_member, IsTurnItem, HasTurnItems, IsDocument};
+ghost use Rattle.run_json.specs.Document.{settings_of, AddsTurnItem, HasTurnItems, IsDocument};
 
 use crate::build_id::id_of;
-use crate::pushed::Pushed;
-use crate::turn::{push_answered, push_behind, push_idle};
-use crate::world::push_world;
+use crate::turn::{TurnItem, step_of, turn_item};
+use crate::world::{WorldItem, world_item};
 use page_arena::PageStore;
 use plan_replay::{PlanCursor, take_turn};
 use realm_host::Host;
 use realm_plan::Plan;
+use serde::Serialize;
 use std::alloc::{AllocError, Global};
 
-fn push_machine(text: &mut String, plan: &Plan) -> Pushed
-    ensures { OnOk result (string_bytes text.new ≡ string_bytes text.old ++ machine_text (plan_view plan.now)) }
-{
-    let (pages, vmids, aux) = (plan.pages, plan.vmids, plan.aux);
-    write!(
-        text,
-        "\"settings\":{{\"pages\":{pages},\"vmids\":{vmids},\"aux\":{aux},"
-    )
+/// The machine of a plan, and the number of its builds.
+#[derive(Clone, Copy, Serialize)]
+pub struct MachineSettings {
+    pub pages: u16,
+    pub vmids: u8,
+    pub aux: u8,
+    pub history: u16,
+    pub builds: usize,
 }
 
-fn push_room(text: &mut String, plan: &Plan) -> Pushed
-    ensures { OnOk result (string_bytes text.new ≡ string_bytes text.old ++ room_text (plan_view plan.now)) }
-{
-    let (history, builds) = (plan.history, plan.builds.len());
-    write!(text, "\"history\":{history},\"builds\":{builds}}},\n")
+/// A run: its machine, its turns, and the world at its end. `realmview` is the version of the format.
+#[derive(Drop, Serialize)]
+pub struct Document {
+    pub realmview: u8,
+    pub settings: MachineSettings,
+    pub turns: Vec<TurnItem>,
+    pub world: WorldItem,
 }
 
-// Appends the member of the machine's size.
-fn push_settings(text: &mut String, plan: &Plan) -> Pushed
-    ensures { OnOk result (string_bytes text.new ≡ string_bytes text.old ++ settings_text (plan_view plan.now)) }
+// The settings of a plan.
+fn settings_of(plan: &Plan) -> MachineSettings
+    ensures { result ≡ settings_of (plan_view plan.now) }
 {
-    push_machine(text, plan)?;
-    push_room(text, plan)
-}
-
-// Appends a comma and a line feed, unless the text is empty.
-fn push_separator(text: &mut String) -> Pushed
-    ensures { OnOk result (string_bytes text.new ≡ string_bytes text.old ++ separator (string_bytes text.old)) }
-{
-    if text.is_empty() {
-        Ok(())
-    } else {
-        text.push_str(",\n")
+    MachineSettings {
+        pages: plan.pages,
+        vmids: plan.vmids,
+        aux: plan.aux,
+        history: plan.history,
+        builds: plan.builds.len(),
     }
 }
 
-fn push_whose(text: &mut String, build: usize) -> Pushed
-    ensures { OnOk result (string_bytes text.new ≡ string_bytes text.old ++ whose_member build) }
-{
-    write!(text, "{{\"build\":{build},")
-}
-
-// One turn of a build, and its object.
+// One turn of a build, and its item.
 fn push_turn<S: PageStore>(
     alloc: Global,
-    text: &mut String,
+    items: &mut Vec<TurnItem>,
     host: &mut Host<S>,
     plan: &Plan,
     places: &mut [PlanCursor; 8],
     build: usize,
-) -> Pushed
+) -> Result<(), AllocError>
     requires { build < vec_len plan.now.builds }
-    ensures { OnOk result (IsTurnItem (plan_view plan.now) (record { host = host.old; places = places.old }) build
-        (record { host = host.new; places = places.new }) (string_bytes text.old) (string_bytes text.new)) }
+    ensures { OnOk result (AddsTurnItem (plan_view plan.now) (record { host = host.old; places = places.old }) build
+        (record { host = host.new; places = places.new }) items.old.items items.new.items) }
 {
     let (place, before) = (places[build].done, host.history().len());
-    push_separator(text)?;
-    push_whose(text, build)?;
-    match take_turn(host, plan, places, build) {
-        Some((step, answer)) => push_answered(text, place, step, &answer)?,
-        None => push_idle(text, place)?,
-    }
-    push_behind(alloc, text, host, id_of(build as u8), before)
+    let told = take_turn(host, plan, places, build);
+    let step = step_of(alloc, place, &told)?;
+    let item = turn_item(alloc, host, id_of(build as u8), step, before)?;
+    items.push(item)?;
+    Ok(())
 }
 
-// Does the turns of a plan, and appends their objects.
-fn push_turns<S: PageStore>(
+// Does the turns of a plan, and returns their items.
+fn turns_of<S: PageStore>(
     alloc: Global,
-    text: &mut String,
     host: &mut Host<S>,
     plan: &Plan,
-) -> Pushed
-    ensures { OnOk result (HasTurnItems (plan_view plan.now) host.old host.new (string_bytes text.old) (string_bytes text.new)) }
+) -> Result<Vec<TurnItem>, AllocError>
+    ensures { IfOk result (λ items. HasTurnItems (plan_view plan.now) host.old host.new items.items) }
 {
+    let mut items = Vec::new(alloc);
     let mut places = [PlanCursor::first(); 8];
     for build in &plan.order {
         push_turn(
             alloc,
-            text,
+            &mut items,
             host,
             plan,
             &mut places,
             build.number() as usize,
         )?;
     }
-    Ok(())
+    Ok(items)
 }
 
 /// Does the turns of a plan on a host, and makes the document of the run. An `Err` comes only where allocation failed.
@@ -106,16 +94,14 @@ pub fn run_document<S: PageStore>(
     alloc: Global,
     host: &mut Host<S>,
     plan: &Plan,
-) -> Result<String, AllocError>
-    ensures { IfOk result (λ text. IsDocument (plan_view plan.now) host.old host.new (string_bytes text)) }
+) -> Result<Document, AllocError>
+    ensures { IfOk result (IsDocument (plan_view plan.now) host.old host.new) }
 {
-    let mut turns = String::new(alloc);
-    push_turns(alloc, &mut turns, host, plan)?;
-    let mut text = String::new(alloc);
-    text.push_str("{\"realmview\":1,\n")?;
-    push_settings(&mut text, plan)?;
-    write!(text, "\"turns\":[\n{turns}],\n\"world\":")?;
-    push_world(alloc, &mut text, host)?;
-    text.push_str("}\n")?;
-    Ok(text)
+    let turns = turns_of(alloc, host, plan)?;
+    Ok(Document {
+        realmview: 1,
+        settings: settings_of(plan),
+        turns,
+        world: world_item(alloc, host)?,
+    })
 }

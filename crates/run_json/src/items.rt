@@ -1,115 +1,165 @@
-//! A granule, a row of a translation and a REC, each as an object.
-use crate::numbers::{NumberArray, build_number, granule_number, granule_numbers};
-use crate::words::{entry_state_word, rec_state_word, ripas_word};
-use granule_addr::{Gran, IpaGran, Level, RecNo};
-use realm_host::{Entry, GranuleView, RowView};
-use realm_objects::Rec;
+//! Granules, rows, RECs and pages, as the host has them.
+ghost use Rattle.std.specs.Prelude.{◌≡◌, IfOk};
+ghost use Rattle.run_json.specs.Items.{granule_item, row_item, IsRecItem, page_item};
+
+use crate::json::member;
+use crate::words::{
+    GranuleNumbers, build_number, entry_state_word, granule_number, rec_state_word, ripas_word,
+};
+use granule_addr::{BuildId, Gran, Level, RecNo};
+use page_arena::PageStore;
+use realm_host::{GranuleView, Host, RowView};
+use realm_model::RecState;
 use realm_plan::state_word;
-use std::fmt;
+use serde::{Described, Serialize, Serializer};
+use std::alloc::{AllocError, Global};
 
 /// A granule, and what the host says of it.
 #[derive(Clone, Copy)]
-pub struct GranuleItem(pub Gran, pub Option<GranuleView>);
+pub struct GranuleItem {
+    pub granule: Gran,
+    pub view: GranuleView,
+}
 
-impl fmt::Display for GranuleItem {
-    ghost use Rattle.std.specs.Prelude.{Some};
-    ghost use Rattle.run_json.specs.Items.{granule_item};
+impl Described for GranuleItem {}
 
-    ghost output = { λ it. Some (granule_item it.0 it.1) };
-
-    fn fmt<W: fmt::Write>(&self, f: &mut fmt::Formatter<W>) -> fmt::Result {
-        let Some(view) = self.1 else {
-            return f.write_str("null");
-        };
-        let (granule, state) = (self.0.number(), state_word(view.state));
-        let (build, realm) = (build_number(view.build), granule_number(view.realm));
-        write!(
-            f,
-            "{{\"granule\":{granule},\"state\":\"{state}\",\"build\":{build},\"realm\":{realm}}}"
-        )
+impl Serialize for GranuleItem {
+    fn serialize<W: Serializer>(&self, out: &mut W) -> Result<(), W::Error> {
+        out.begin_map(Some(4))?;
+        member(out, "granule", &self.granule.number())?;
+        member(out, "state", &state_word(self.view.state))?;
+        member(out, "build", &build_number(self.view.build))?;
+        member(out, "realm", &granule_number(self.view.realm))?;
+        out.end_map()
     }
 }
 
-/// Which rows these are: their level, the first one, and how many there are.
+/// A granule as the host has it, if the machine has such a granule.
+pub fn granule_item<S: PageStore>(host: &Host<S>, granule: Gran) -> Option<GranuleItem>
+    ensures { result ≡ granule_item host.now granule }
+{
+    let view = host.granule_view(granule)?;
+    Some(GranuleItem { granule, view })
+}
+
+/// Rows of one level that are equal: the first one, and how many there are.
 #[derive(Clone, Copy)]
-struct RowPlace(Level, IpaGran, u32);
+pub struct RowItem {
+    pub row: RowView,
+    pub count: u32,
+}
 
-impl fmt::Display for RowPlace {
-    ghost use Rattle.std.specs.Prelude.{Some};
-    ghost use Rattle.run_json.specs.Items.{row_place};
+impl Described for RowItem {}
 
-    ghost output = { λ it. Some (row_place it.0 it.1 it.2) };
-
-    fn fmt<W: fmt::Write>(&self, f: &mut fmt::Formatter<W>) -> fmt::Result {
-        let (level, first) = (self.0.number(), self.1.number());
-        write!(
-            f,
-            "\"level\":{level},\"first\":{first},\"count\":{}",
-            self.2
-        )
+impl Serialize for RowItem {
+    fn serialize<W: Serializer>(&self, out: &mut W) -> Result<(), W::Error> {
+        let entry = self.row.entry;
+        out.begin_map(Some(6))?;
+        member(out, "level", &self.row.level.number())?;
+        member(out, "first", &self.row.first.number())?;
+        member(out, "count", &self.count)?;
+        member(out, "state", &entry_state_word(entry.state))?;
+        member(out, "ripas", &ripas_word(entry.ripas))?;
+        member(out, "granule", &granule_number(entry.granule))?;
+        out.end_map()
     }
 }
 
-/// What a row says.
-#[derive(Clone, Copy)]
-struct RowSays(Entry);
+/// The row at which the walk of an IPA granule towards a level ends, as the first of `count` rows.
+pub fn row_item<S: PageStore>(
+    host: &Host<S>,
+    build: BuildId,
+    ipa: u32,
+    level: Level,
+    count: u32,
+) -> Option<RowItem>
+    ensures { result ≡ row_item host.now build ipa level count }
+{
+    let row = host.row(build, ipa, level)?;
+    Some(RowItem { row, count })
+}
 
-impl fmt::Display for RowSays {
-    ghost use Rattle.std.specs.Prelude.{Some};
-    ghost use Rattle.run_json.specs.Items.{row_says};
+/// What the host says of a REC.
+#[derive(Drop)]
+pub struct RecView {
+    pub granule: Gran,
+    pub state: RecState,
+    pub auxiliaries: Vec<Gran>,
+}
 
-    ghost output = { λ it. Some (row_says it.0) };
+/// A REC by its number, and what the host says of it, if there is such a REC.
+#[derive(Drop)]
+pub struct RecItem {
+    pub number: RecNo,
+    pub rec: Option<RecView>,
+}
 
-    fn fmt<W: fmt::Write>(&self, f: &mut fmt::Formatter<W>) -> fmt::Result {
-        let (state, ripas) = (entry_state_word(self.0.state), ripas_word(self.0.ripas));
-        let granule = granule_number(self.0.granule);
-        write!(
-            f,
-            "\"state\":\"{state}\",\"ripas\":\"{ripas}\",\"granule\":{granule}"
-        )
+impl Described for RecItem {}
+
+impl Serialize for RecItem {
+    fn serialize<W: Serializer>(&self, out: &mut W) -> Result<(), W::Error> {
+        out.begin_map(None)?;
+        member(out, "number", &self.number.number())?;
+        match &self.rec {
+            Some(rec) => {
+                member(out, "state", &rec_state_word(rec.state))?;
+                member(out, "granule", &rec.granule.number())?;
+                member(out, "auxiliaries", &GranuleNumbers(&rec.auxiliaries))?;
+            }
+            None => member(out, "state", &())?,
+        }
+        out.end_map()
     }
 }
 
-/// Rows of one level that say the same: the first one, and how many there are.
+/// The REC of that number in a build's realm, as the host has it.
+pub fn rec_item<S: PageStore>(
+    alloc: Global,
+    host: &Host<S>,
+    build: BuildId,
+    number: RecNo,
+) -> Result<RecItem, AllocError>
+    ensures { IfOk result (IsRecItem host.now build number) }
+{
+    let Some((granule, rec)) = host.rec(build, number) else {
+        return Ok(RecItem { number, rec: None });
+    };
+    let mut auxiliaries = Vec::new(alloc);
+    auxiliaries.extend_from_slice(rec.auxiliaries())?;
+    Ok(RecItem {
+        number,
+        rec: Some(RecView {
+            granule,
+            state: rec.state(),
+            auxiliaries,
+        }),
+    })
+}
+
+/// A build's page: its granule, and the sum of its bytes.
 #[derive(Clone, Copy)]
-pub struct RowItem(pub Option<RowView>, pub u32);
+pub struct PageItem {
+    pub granule: Gran,
+    pub sum: u32,
+}
 
-impl fmt::Display for RowItem {
-    ghost use Rattle.std.specs.Prelude.{Some};
-    ghost use Rattle.run_json.specs.Items.{row_item};
+impl Described for PageItem {}
 
-    ghost output = { λ it. Some (row_item it.0 it.1) };
-
-    fn fmt<W: fmt::Write>(&self, f: &mut fmt::Formatter<W>) -> fmt::Result {
-        let Some(row) = self.0 else {
-            return f.write_str("null");
-        };
-        let (place, says) = (RowPlace(row.level, row.first, self.1), RowSays(row.entry));
-        write!(f, "{{{place},{says}}}")
+impl Serialize for PageItem {
+    fn serialize<W: Serializer>(&self, out: &mut W) -> Result<(), W::Error> {
+        out.begin_map(Some(2))?;
+        member(out, "granule", &self.granule.number())?;
+        member(out, "sum", &self.sum)?;
+        out.end_map()
     }
 }
 
-/// A REC of that number, or that there is none.
-#[derive(Clone, Copy)]
-pub struct RecItem<'a>(pub RecNo, pub Option<(Gran, &'a Rec)>);
-
-impl fmt::Display for RecItem<'_> {
-    ghost use Rattle.std.specs.Prelude.{Some, option_map};
-    ghost use Rattle.run_json.specs.Items.{rec_item};
-
-    ghost output = { λ it. Some (rec_item it.0 (option_map (λ rec. (rec.0, rec.1.now)) it.1)) };
-
-    fn fmt<W: fmt::Write>(&self, f: &mut fmt::Formatter<W>) -> fmt::Result {
-        let number = self.0.number();
-        let Some((granule, rec)) = self.1 else {
-            return write!(f, "{{\"number\":{number},\"state\":null}}");
-        };
-        let (granule, state) = (granule.number(), rec_state_word(rec.state()));
-        let numbers = granule_numbers(rec.auxiliaries());
-        let auxiliaries = NumberArray(numbers.as_slice());
-        write!(
-            f,
-            "{{\"number\":{number},\"state\":\"{state}\",\"granule\":{granule},\"auxiliaries\":{auxiliaries}}}"
-        )
+/// A page of a build as the host has it, if the build has such a page.
+pub fn page_item<S: PageStore>(host: &Host<S>, build: BuildId, page: u16) -> Option<PageItem>
+    ensures { result ≡ page_item host.now build page }
+{
+    match (host.page_granule(build, page), host.page_sum(build, page)) {
+        (Some(granule), Some(sum)) => Some(PageItem { granule, sum }),
+        _ => None,
     }
 }

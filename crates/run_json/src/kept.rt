@@ -1,19 +1,38 @@
-//! What is kept of a build.
+//! What the host keeps of a build.
 ghost use Rattle.std.specs.Prelude.{◌≡◌};
-ghost use Rattle.host_ledger.specs.View.{mark_of};
-ghost use Rattle.run_json.specs.Turns.{mark_length};
+ghost use Rattle.run_json.specs.Items.{build_kept};
 
-use crate::numbers::NumberOrNull;
+use crate::json::member;
 use granule_addr::BuildId;
 use page_arena::PageStore;
 use realm_host::Host;
+use serde::Serializer;
 
-/// How long the history was at a build's mark, or null where it has none.
-pub fn mark_of<S: PageStore>(host: &Host<S>, build: BuildId) -> NumberOrNull
-    ensures { result.0 ≡ mark_length (mark_of host.now build) }
+/// How many operations a build had open at its mark, and whether it is in abort.
+#[derive(Clone, Copy)]
+pub struct BuildKept {
+    pub mark: Option<u16>,
+    pub aborting: bool,
+}
+
+impl BuildKept {
+    // Writes the two members.
+    pub(crate) fn write<W: Serializer>(&self, out: &mut W) -> Result<(), W::Error> {
+        member(out, "mark", &self.mark)?;
+        member(out, "aborting", &self.aborting)
+    }
+}
+
+/// The mark of a build, and whether it is in abort.
+pub fn build_kept<S: PageStore>(host: &Host<S>, build: BuildId) -> BuildKept
+    ensures { result ≡ build_kept host.now build }
 {
-    match host.kept_mark(build) {
-        Some(mark) => NumberOrNull(Some(mark.length())),
-        None => NumberOrNull(None),
+    let mark = match host.kept_mark(build) {
+        Some(mark) => Some(mark.length()),
+        None => None,
+    };
+    BuildKept {
+        mark,
+        aborting: host.is_aborting(build),
     }
 }

@@ -1,80 +1,65 @@
-//! What is told of a build's realm.
-ghost use Rattle.std.specs.Prelude.{◌≡◌, ◌++◌, OnOk, IfOk, string_bytes};
-ghost use Rattle.hex.specs.Hex.{encode_lower};
-ghost use Rattle.run_json.specs.Items.{realm_front, realm_tables, realm_back, realm_fields};
-ghost use Rattle.run_json.specs.Turns.{realm_value};
+//! A build's realm, without its rows and RECs.
+ghost use Rattle.std.specs.Prelude.{◌≡◌};
+ghost use Rattle.run_json.specs.Items.{realm_item};
 
-use crate::pushed::Pushed;
-use granule_addr::{BuildId, Gran};
+use crate::json::{Shown, member};
+use crate::words::HexDigits;
+use granule_addr::{BuildId, Gran, RecNo, Root, Vmid};
 use page_arena::PageStore;
 use realm_host::Host;
-use realm_objects::RealmDesc;
+use realm_model::RealmState;
 use realm_plan::realm_word;
-use std::alloc::{AllocError, Global};
+use serde::{Described, Serialize, Serializer};
 
-fn push_front(text: &mut String, rd: Gran, realm: &RealmDesc) -> Pushed
-    ensures { OnOk result (string_bytes text.new ≡ string_bytes text.old ++ realm_front rd realm.now) }
-{
-    let (rd, state, vmid) = (
-        rd.number(),
-        realm_word(realm.state()),
-        realm.vmid().number(),
-    );
-    write!(text, "\"rd\":{rd},\"state\":\"{state}\",\"vmid\":{vmid},")
+/// A realm's own attributes, and its RD. RMM 1.0, Realm attributes.
+#[derive(Clone, Copy)]
+pub struct RealmItem {
+    pub rd: Gran,
+    pub state: RealmState,
+    pub vmid: Vmid,
+    pub root: Root,
+    pub next_rec: RecNo,
+    pub measurement: [u8; 32],
 }
 
-fn push_tables(text: &mut String, realm: &RealmDesc) -> Pushed
-    ensures { OnOk result (string_bytes text.new ≡ string_bytes text.old ++ realm_tables realm.now) }
-{
-    let (first, width) = (realm.root().first.number(), realm.root().width);
-    let (width, count) = (width.number(), width.start_count());
-    write!(
-        text,
-        "\"width\":{width},\"table\":{first},\"tables\":{count},"
-    )
+impl RealmItem {
+    // Writes the members of the realm.
+    pub(crate) fn write<W: Serializer>(&self, out: &mut W) -> Result<(), W::Error> {
+        member(out, "rd", &self.rd.number())?;
+        member(out, "state", &realm_word(self.state))?;
+        member(out, "vmid", &self.vmid.number())?;
+        member(out, "width", &self.root.width.number())?;
+        member(out, "table", &self.root.first.number())?;
+        member(out, "tables", &self.root.width.start_count())?;
+        member(out, "next_rec", &self.next_rec.number())?;
+        let digits = HexDigits(self.measurement.as_slice());
+        member(out, "measurement", &Shown(digits))
+    }
 }
 
-// Two digits for each byte.
-fn digits_of(alloc: Global, bytes: &[u8; 32]) -> Result<String, AllocError>
-    ensures { IfOk result (λ digits. string_bytes digits ≡ encode_lower bytes.now) }
-{
-    hex::encode(alloc, bytes.as_slice())
+impl Described for RealmItem {}
+
+impl Serialize for RealmItem {
+    fn serialize<W: Serializer>(&self, out: &mut W) -> Result<(), W::Error> {
+        out.begin_map(Some(8))?;
+        self.write(out)?;
+        out.end_map()
+    }
 }
 
-fn push_back(alloc: Global, text: &mut String, realm: &RealmDesc) -> Pushed
-    ensures { OnOk result (string_bytes text.new ≡ string_bytes text.old ++ realm_back realm.now) }
-{
-    let next = realm.next_number().number();
-    let measurement = digits_of(alloc, realm.measurement())?;
-    write!(
-        text,
-        "\"next_rec\":{next},\"measurement\":\"{measurement}\""
-    )
-}
-
-/// Appends the members of a realm's own attributes: its RD, state, VMID, address space, starting tables, the number of its
-/// next REC, and its measurement.
-pub fn push_realm_fields(alloc: Global, text: &mut String, rd: Gran, realm: &RealmDesc) -> Pushed
-    ensures { OnOk result (string_bytes text.new ≡ string_bytes text.old ++ realm_fields rd realm.now) }
-{
-    push_front(text, rd, realm)?;
-    push_tables(text, realm)?;
-    push_back(alloc, text, realm)
-}
-
-/// Appends what a build's realm is, without its rows and RECs; null where the build has none.
-pub fn push_realm_value<S: PageStore>(
-    alloc: Global,
-    text: &mut String,
-    host: &Host<S>,
-    build: BuildId,
-) -> Pushed
-    ensures { OnOk result (string_bytes text.new ≡ string_bytes text.old ++ realm_value host.now build) }
+/// A build's realm as the host has it, if the build has one.
+pub fn realm_item<S: PageStore>(host: &Host<S>, build: BuildId) -> Option<RealmItem>
+    ensures { result ≡ realm_item host.now build }
 {
     let (Some(rd), Some(realm)) = (host.rd(build), host.realm(build)) else {
-        return text.push_str("null");
+        return None;
     };
-    text.push_str("{")?;
-    push_realm_fields(alloc, text, rd, realm)?;
-    text.push_str("}")
+    Some(RealmItem {
+        rd,
+        state: realm.state(),
+        vmid: realm.vmid(),
+        root: realm.root(),
+        next_rec: realm.next_number(),
+        measurement: *realm.measurement(),
+    })
 }

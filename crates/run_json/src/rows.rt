@@ -1,16 +1,14 @@
 //! The rows of a realm's translation, in rising address.
 //!
 //! A walk to level 3 ends at a row that is not TABLE. The first walk is that of IPA granule 0, and each next one is that of the
-//! first behind the row before. `specs/Rows.antt` says which text is made of these rows.
-ghost use Rattle.std.specs.Prelude.{◌≡◌, ◌+◌, ◌↔◌, false, IsTrue, IfOk, OnOk, IfSome, IfNone, Some, [], ◌∷◌, ◌++◌, string_bytes};
+//! first after the row before. `specs/Rows.antt` says which rows these are.
+ghost use Rattle.std.specs.Prelude.{◌≡◌, ◌+◌, ◌↔◌, false, IsTrue, IfOk, OnOk, IfSome, IfNone, ◌++◌};
 ghost use Rattle.granule_addr.specs.Ipa.{covered_count, first_covered};
 ghost use Rattle.realm_model.specs.Rows.{is_table_place};
 ghost use Rattle.host_ledger.specs.View.{world_of};
-ghost use Rattle.run_json.specs.Rows.{first_after, RunGoesOn, IsRowRun, beginning_at, rows_above, IsRowsText};
-ghost use Rattle.run_json.specs.RowTexts.{comma_after, AddsItems};
+ghost use Rattle.run_json.specs.Rows.{first_after, RunGoesOn, IsRowRun, beginning_at, rows_above, AreRowsOf};
 
 use crate::items::RowItem;
-use crate::pushed::Pushed;
 use granule_addr::{BuildId, IpaGran, Level};
 use page_arena::PageStore;
 use realm_host::{Host, RowView};
@@ -35,53 +33,39 @@ fn says_the_same(row: &RowView, before: &RowView) -> bool
     row.level == before.level && row.entry == before.entry && !begins_table(row)
 }
 
-// Appends a comma, unless the text is empty.
-fn push_comma(text: &mut String) -> Pushed
-    ensures { OnOk result (string_bytes text.new ≡ string_bytes text.old ++ comma_after (string_bytes text.old)) }
-{
-    if text.is_empty() {
-        Ok(())
-    } else {
-        text.push_str(",")
-    }
-}
-
-// Appends an item of `count` rows, behind a comma unless it is the first.
-fn push_item(text: &mut String, row: RowView, count: u32) -> Pushed
-    ensures { OnOk result (AddsItems (string_bytes text.old) (string_bytes text.new) (record { row = row; count = count } ∷ [])) }
-{
-    push_comma(text)?;
-    write!(text, "\n{}", RowItem(Some(row), count))
-}
-
 // Appends a row as an item, if there is one and it begins at that IPA granule.
-fn push_beginning(text: &mut String, row: Option<RowView>, ipa: IpaGran) -> Pushed
-    ensures { OnOk result (AddsItems (string_bytes text.old) (string_bytes text.new) (beginning_at ipa row)) }
+fn push_beginning(
+    items: &mut Vec<RowItem>,
+    row: Option<RowView>,
+    ipa: IpaGran,
+) -> Result<(), AllocError>
+    ensures { OnOk result (items.new.items ≡ items.old.items ++ beginning_at ipa row) }
 {
     match row {
-        Some(row) if row.first == ipa => push_item(text, row, 1),
-        _ => Ok(()),
-    }
-}
-
-// Appends the TABLE rows above a row that is the first of their tables.
-fn push_rows_above<S: PageStore>(
-    text: &mut String,
-    host: &Host<S>,
-    build: BuildId,
-    row: &RowView,
-) -> Pushed
-    ensures { OnOk result (AddsItems (string_bytes text.old) (string_bytes text.new) (rows_above (world_of host.now) build row.now)) }
-{
-    for number in 1..row.level.number() {
-        let level = Level::new(number).unwrap();
-        let above = host.row(build, row.first.number(), level);
-        push_beginning(text, above, row.first)?;
+        Some(row) if row.first == ipa => items.push(RowItem { row, count: 1 })?,
+        _ => {}
     }
     Ok(())
 }
 
-// Where the run of a row goes on at an IPA granule, at which rows of its level begin: the first IPA granule behind the row there.
+// Appends the TABLE rows above a row that is the first of their tables.
+fn push_rows_above<S: PageStore>(
+    items: &mut Vec<RowItem>,
+    host: &Host<S>,
+    build: BuildId,
+    row: &RowView,
+) -> Result<(), AllocError>
+    ensures { OnOk result (items.new.items ≡ items.old.items ++ rows_above (world_of host.now) build row.now) }
+{
+    for number in 1..row.level.number() {
+        let level = Level::new(number).unwrap();
+        let above = host.row(build, row.first.number(), level);
+        push_beginning(items, above, row.first)?;
+    }
+    Ok(())
+}
+
+// Where the run of a row goes on at an IPA granule, at which rows of its level begin: the first IPA granule after the row there.
 fn goes_on<S: PageStore>(host: &Host<S>, build: BuildId, row: &RowView, ipa: u32) -> Option<u32>
     requires { first_covered row.now.level ipa ≡ ipa }
     ensures goes_on { IfSome result (λ next. RunGoesOn (world_of host.now) build row.now ipa) }
@@ -117,16 +101,16 @@ pub fn rows_of<S: PageStore>(
     alloc: Global,
     host: &Host<S>,
     build: BuildId,
-) -> Result<String, AllocError>
-    ensures { IfOk result (λ text. IsRowsText (world_of host.now) build (string_bytes text)) }
+) -> Result<Vec<RowItem>, AllocError>
+    ensures { IfOk result (λ items. AreRowsOf (world_of host.now) build items.items) }
 {
-    let mut text = String::new(alloc);
+    let mut items = Vec::new(alloc);
     let mut next = 0;
     while let Some(row) = host.row(build, next, Level::last()) {
-        push_rows_above(&mut text, host, build, &row)?;
+        push_rows_above(&mut items, host, build, &row)?;
         let (count, after) = count_same(host, build, &row);
-        push_item(&mut text, row, count)?;
+        items.push(RowItem { row, count })?;
         next = after;
     }
-    Ok(text)
+    Ok(items)
 }

@@ -1,17 +1,14 @@
-//! The object of a turn.
-ghost use Rattle.std.specs.Prelude.{◌≡◌, ◌+◌, ◌≤◌, ◌++◌, OnOk, Some, None, option_map, string_bytes};
-ghost use Rattle.host_ledger.specs.View.{world_of};
-ghost use Rattle.realm_host.specs.Readings.{row_at};
-ghost use Rattle.run_json.specs.Turns.{another_granule, more_granules_after, each_granule_after, granules_after, rows_after, changed_recs};
-ghost use Rattle.run_json.specs.Turns.{realm_after, event_members, step_members, answer_members, reported_members, build_members, members_after};
+//! A turn: its step and answer, its event, and what that changed.
+ghost use Rattle.std.specs.Prelude.{◌≡◌, ◌+◌, ◌≤◌, ◌++◌, OnOk, IfOk, slice_get, option_map};
+ghost use Rattle.run_json.specs.Turns.{step_view, placed, numbered_granule, more_granules, each_granule, changed_items, changed_view};
+ghost use Rattle.run_json.specs.Turns.{granules_after, rows_after, IsRecAfter, realm_after, IsEventItem, IsEventAt, IsAfterTurn};
 
 use crate::answer::{is_accepted_answer, numbers_of};
-use crate::changed::{changes_realm, granules_of, level_above, rec_named_by};
-use crate::items::{GranuleItem, RecItem, RowItem};
-use crate::kept::mark_of;
-use crate::numbers::NumberArray;
-use crate::pushed::Pushed;
-use crate::realm::push_realm_value;
+use crate::changed::{Changed, changes_realm, granules_of, level_above, rec_named_by};
+use crate::items::{GranuleItem, RecItem, RowItem, granule_item, rec_item, row_item};
+use crate::json::{Shown, member};
+use crate::kept::{BuildKept, build_kept};
+use crate::realm::{RealmItem, realm_item};
 use granule_addr::{BuildId, Gran, Level};
 use history_text::EventText;
 use page_arena::PageStore;
@@ -19,245 +16,320 @@ use plan_replay::TurnAnswer;
 use realm_host::Host;
 use realm_model::{Act, Event};
 use realm_plan::{PlanStep, StepText};
-use std::alloc::Global;
+use serde::{Described, Serialize, Serializer};
+use std::alloc::{AllocError, Global};
 
-// Appends the granule of that number behind a comma, where there can be one.
-fn push_another_granule<S: PageStore>(text: &mut String, host: &Host<S>, number: u16) -> Pushed
-    ensures { OnOk result (string_bytes text.new ≡ string_bytes text.old ++ another_granule host.now number) }
-{
-    match Gran::new(number, 4096) {
-        Some(granule) => write!(
-            text,
-            ",{}",
-            GranuleItem(granule, host.granule_view(granule))
-        ),
-        None => Ok(()),
+/// A step of a build's plan, as the plan spells it, its place in the build's list, and the host's answer.
+#[derive(Drop)]
+pub struct StepItem {
+    pub place: usize,
+    pub step: String,
+    pub answer: TurnAnswer,
+}
+
+/// An event, and what it names, as the host has it after the turn. A list is empty where the event changes no such thing.
+#[derive(Drop)]
+pub struct EventItem {
+    pub event: Event,
+    pub granules: Vec<Option<GranuleItem>>,
+    pub rows: Vec<Option<RowItem>>,
+    pub rec: Option<RecItem>,
+    pub realm: Option<Option<RealmItem>>,
+}
+
+/// A turn of a build: its step, if one is left, the event that it added, if it added one, and what the host keeps of the
+/// build after it.
+#[derive(Drop)]
+pub struct TurnItem {
+    pub build: BuildId,
+    pub step: Option<StepItem>,
+    pub event: Option<EventItem>,
+    pub open: usize,
+    pub kept: BuildKept,
+}
+
+// ---- in JSON
+
+// Writes the members of a step and its answer.
+fn write_step<W: Serializer>(out: &mut W, step: &StepItem) -> Result<(), W::Error> {
+    let numbers = numbers_of(&step.answer);
+    member(out, "place", &step.place)?;
+    member(out, "step", &step.step)?;
+    member(out, "answer", &Shown(step.answer))?;
+    member(out, "accepted", &is_accepted_answer(&step.answer))?;
+    member(out, "numbers", &numbers.as_slice())
+}
+
+// Writes the members of a turn with no step.
+fn write_idle<W: Serializer>(out: &mut W) -> Result<(), W::Error> {
+    member(out, "place", &())?;
+    member(out, "step", &())?;
+    member(out, "answer", &())?;
+    member(out, "accepted", &())?;
+    member(out, "numbers", &[0u8; 0])
+}
+
+// Writes the members of an event. RMM objects that it does not change have none.
+fn write_event<W: Serializer>(out: &mut W, item: &EventItem) -> Result<(), W::Error> {
+    member(out, "event", &Shown(EventText(&item.event)))?;
+    if !item.granules.is_empty() {
+        member(out, "granules", &item.granules)?;
+    }
+    if !item.rows.is_empty() {
+        member(out, "rows", &item.rows)?;
+    }
+    if let Some(rec) = &item.rec {
+        member(out, "recs", &[rec])?;
+    }
+    if let Some(realm) = &item.realm {
+        member(out, "realm", realm)?;
+    }
+    Ok(())
+}
+
+impl Described for TurnItem {}
+
+impl Serialize for TurnItem {
+    fn serialize<W: Serializer>(&self, out: &mut W) -> Result<(), W::Error> {
+        out.begin_map(None)?;
+        member(out, "build", &self.build.number())?;
+        match &self.step {
+            Some(step) => write_step(out, step)?,
+            None => write_idle(out)?,
+        }
+        match &self.event {
+            Some(event) => write_event(out, event)?,
+            None => member(out, "event", &())?,
+        }
+        member(out, "open", &self.open)?;
+        self.kept.write(out)?;
+        out.end_map()
     }
 }
 
-// Appends `count` granules from the number `from` on, each behind a comma.
-fn push_more_granules<S: PageStore>(
-    text: &mut String,
+// ---- steps
+
+// A step at a place of a build's list, and the host's answer.
+fn step_item(
+    alloc: Global,
+    place: usize,
+    step: &PlanStep,
+    answer: TurnAnswer,
+) -> Result<StepItem, AllocError>
+    ensures { IfOk result (λ item. step_view item ≡ placed place (step.now, answer)) }
+{
+    let mut text = String::new(alloc);
+    write!(text, "{}", StepText(step))?;
+    Ok(StepItem {
+        place,
+        step: text,
+        answer,
+    })
+}
+
+/// The step of a turn, which is the one at that place, and its answer; none where the build has no step left.
+pub fn step_of(
+    alloc: Global,
+    place: usize,
+    told: &Option<(&PlanStep, TurnAnswer)>,
+) -> Result<Option<StepItem>, AllocError>
+    ensures { IfOk result (λ item. option_map step_view item ≡ option_map (placed place) (option_map (λ it. (it.0.now, it.1)) told.now)) }
+{
+    match told {
+        Some((step, answer)) => Ok(Some(step_item(alloc, place, step, *answer)?)),
+        None => Ok(None),
+    }
+}
+
+// ---- what an event changed
+
+// Appends the granule of that number, where there can be one.
+fn push_numbered<S: PageStore>(
+    items: &mut Vec<Option<GranuleItem>>,
+    host: &Host<S>,
+    number: u16,
+) -> Result<(), AllocError>
+    ensures { OnOk result (items.new.items ≡ items.old.items ++ numbered_granule host.now number) }
+{
+    if let Some(granule) = Gran::new(number, 4096) {
+        items.push(granule_item(host, granule))?;
+    }
+    Ok(())
+}
+
+/// Appends `count` granules from the number `from` on.
+pub fn push_more_granules<S: PageStore>(
+    items: &mut Vec<Option<GranuleItem>>,
     host: &Host<S>,
     from: u16,
     count: u16,
-) -> Pushed
+) -> Result<(), AllocError>
     requires { from + count ≤ 65535 }
-    ensures { OnOk result (string_bytes text.new ≡ string_bytes text.old ++ more_granules_after host.now from count) }
+    ensures { OnOk result (items.new.items ≡ items.old.items ++ more_granules host.now from count) }
 {
     for place in 0..count {
-        push_another_granule(text, host, from + place)?;
+        push_numbered(items, host, from + place)?;
     }
     Ok(())
 }
 
-// Appends granules, each behind a comma.
-fn push_each_granule<S: PageStore>(text: &mut String, host: &Host<S>, granules: &[Gran]) -> Pushed
-    ensures { OnOk result (string_bytes text.new ≡ string_bytes text.old ++ each_granule_after host.now granules.now) }
+// Appends granules.
+fn push_each_granule<S: PageStore>(
+    items: &mut Vec<Option<GranuleItem>>,
+    host: &Host<S>,
+    granules: &[Gran],
+) -> Result<(), AllocError>
+    ensures { OnOk result (items.new.items ≡ items.old.items ++ each_granule host.now granules.now) }
 {
     for granule in granules {
-        write!(
-            text,
-            ",{}",
-            GranuleItem(*granule, host.granule_view(*granule))
-        )?;
+        items.push(granule_item(host, *granule))?;
     }
     Ok(())
 }
 
-// Appends the member of the granules that an act changed, where there are any.
-fn push_granules<S: PageStore>(text: &mut String, host: &Host<S>, act: &Act) -> Pushed
-    ensures { OnOk result (string_bytes text.new ≡ string_bytes text.old ++ granules_after host.now act.now) }
+// Appends the granules that an act changed.
+fn push_changed<S: PageStore>(
+    items: &mut Vec<Option<GranuleItem>>,
+    host: &Host<S>,
+    changed: &Changed<'_>,
+) -> Result<(), AllocError>
+    requires { changed.now.from + changed.now.count ≤ 65535 }
+    ensures { OnOk result (items.new.items ≡ items.old.items ++ changed_items host.now (changed_view changed.now)) }
 {
-    let Some(changed) = granules_of(act) else {
-        return Ok(());
-    };
-    let first = GranuleItem(changed.granule, host.granule_view(changed.granule));
-    write!(text, ",\"granules\":[{first}")?;
-    push_more_granules(text, host, changed.from, changed.count)?;
-    push_each_granule(text, host, changed.also)?;
-    text.push_str("]")
+    items.push(granule_item(host, changed.granule))?;
+    push_more_granules(items, host, changed.from, changed.count)?;
+    push_each_granule(items, host, changed.also)
 }
 
-// The row at which the walk of an IPA granule towards a level ends.
-fn row_item<S: PageStore>(
+// The granules that an act changed.
+fn granules_after<S: PageStore>(
+    alloc: Global,
+    host: &Host<S>,
+    act: &Act,
+) -> Result<Vec<Option<GranuleItem>>, AllocError>
+    ensures { IfOk result (λ items. items.items ≡ granules_after host.now act.now) }
+{
+    let mut items = Vec::new(alloc);
+    if let Some(changed) = granules_of(act) {
+        push_changed(&mut items, host, &changed)?;
+    }
+    Ok(items)
+}
+
+// The rows that an act changed. Of those of a table the first, which all others equal.
+fn rows_after<S: PageStore>(
+    alloc: Global,
     host: &Host<S>,
     build: BuildId,
-    ipa: u32,
-    level: Level,
-    count: u32,
-) -> RowItem
-    ensures { result ≡ record { 0 = row_at (world_of host.now) build ipa level; 1 = count } }
-{
-    RowItem(host.row(build, ipa, level), count)
-}
-
-// Appends the member of the rows that an act changed, where there are any.
-fn push_rows<S: PageStore>(text: &mut String, host: &Host<S>, build: BuildId, act: &Act) -> Pushed
-    ensures { OnOk result (string_bytes text.new ≡ string_bytes text.old ++ rows_after host.now build act.now) }
+    act: &Act,
+) -> Result<Vec<Option<RowItem>>, AllocError>
+    ensures { IfOk result (λ items. items.items ≡ rows_after host.now build act.now) }
 {
     match act {
         Act::Realm { root, .. } => {
             let count = 512 * root.width.start_count() as u32;
             let rows = row_item(host, build, 0, Level::start(), count);
-            write!(text, ",\"rows\":[{rows}]")
+            Ok(Vec::from_array(alloc, [rows])?)
         }
         Act::Rtt { ipa, level, .. } => {
             let above = row_item(host, build, ipa.number(), level_above(*level), 1);
             let rows = row_item(host, build, ipa.number(), *level, 512);
-            write!(text, ",\"rows\":[{above},{rows}]")
+            Ok(Vec::from_array(alloc, [above, rows])?)
         }
         Act::UnRtt { ipa, level, .. } => {
             let above = row_item(host, build, ipa.number(), level_above(*level), 1);
-            write!(text, ",\"rows\":[{above}]")
+            Ok(Vec::from_array(alloc, [above])?)
         }
         Act::Ripas { ipa, count } => {
             let rows = row_item(host, build, ipa.number(), Level::last(), *count as u32);
-            write!(text, ",\"rows\":[{rows}]")
+            Ok(Vec::from_array(alloc, [rows])?)
         }
         Act::Data { ipa, .. } | Act::Unknown { ipa, .. } | Act::UnData { ipa, .. } => {
             let row = row_item(host, build, ipa.number(), Level::last(), 1);
-            write!(text, ",\"rows\":[{row}]")
+            Ok(Vec::from_array(alloc, [row])?)
         }
-        _ => Ok(()),
+        _ => Ok(Vec::new(alloc)),
     }
 }
 
-// Appends the member of the REC that an act changed, where there is one.
-fn push_recs<S: PageStore>(text: &mut String, host: &Host<S>, build: BuildId, act: &Act) -> Pushed
-    ensures { OnOk result (string_bytes text.new ≡ string_bytes text.old ++ changed_recs host.now build act.now) }
-{
-    match rec_named_by(act) {
-        Some(number) => write!(
-            text,
-            ",\"recs\":[{}]",
-            RecItem(number, host.rec(build, number))
-        ),
-        None => Ok(()),
-    }
-}
-
-// Appends the member of the build's realm, where an act changed what is kept of it.
-fn push_realm<S: PageStore>(
+// The REC that an act changed, where there is one.
+fn rec_after<S: PageStore>(
     alloc: Global,
-    text: &mut String,
     host: &Host<S>,
     build: BuildId,
     act: &Act,
-) -> Pushed
-    ensures { OnOk result (string_bytes text.new ≡ string_bytes text.old ++ realm_after host.now build act.now) }
+) -> Result<Option<RecItem>, AllocError>
+    ensures { IfOk result (IsRecAfter host.now build act.now) }
 {
-    if !changes_realm(act) {
-        return Ok(());
+    match rec_named_by(act) {
+        Some(number) => Ok(Some(rec_item(alloc, host, build, number)?)),
+        None => Ok(None),
     }
-    text.push_str(",\"realm\":")?;
-    push_realm_value(alloc, text, host, build)
 }
 
-// Appends the members of an event, and of what that changed.
-fn push_event<S: PageStore>(
+// The build's realm, where an act changed what is kept of it.
+fn realm_after<S: PageStore>(host: &Host<S>, build: BuildId, act: &Act) -> Option<Option<RealmItem>>
+    ensures { result ≡ realm_after host.now build act.now }
+{
+    if changes_realm(act) {
+        Some(realm_item(host, build))
+    } else {
+        None
+    }
+}
+
+// An event of a build, and what it changed.
+fn event_item<S: PageStore>(
     alloc: Global,
-    text: &mut String,
     host: &Host<S>,
     build: BuildId,
     event: &Event,
-) -> Pushed
-    ensures { OnOk result (string_bytes text.new ≡ string_bytes text.old ++ event_members host.now build (Some event.now)) }
+) -> Result<EventItem, AllocError>
+    ensures { IfOk result (IsEventItem host.now build event.now) }
 {
-    write!(text, "\"event\":\"{}\"", EventText(event))?;
-    push_granules(text, host, &event.act)?;
-    push_rows(text, host, build, &event.act)?;
-    push_recs(text, host, build, &event.act)?;
-    push_realm(alloc, text, host, build, &event.act)
+    Ok(EventItem {
+        granules: granules_after(alloc, host, &event.act)?,
+        rows: rows_after(alloc, host, build, &event.act)?,
+        rec: rec_after(alloc, host, build, &event.act)?,
+        realm: realm_after(host, build, &event.act),
+        event: Event {
+            build: event.build,
+            act: event.act.clone(),
+        },
+    })
 }
 
-// Appends that there is no event.
-fn push_no_event<S: PageStore>(text: &mut String, host: &Host<S>, build: BuildId) -> Pushed
-    ensures { OnOk result (string_bytes text.new ≡ string_bytes text.old ++ event_members host.now build None) }
-{
-    text.push_str("\"event\":null")
-}
-
-// Appends the members of a step and of its answer in words.
-fn push_step(text: &mut String, place: usize, step: &PlanStep, answer: &TurnAnswer) -> Pushed
-    ensures { OnOk result (string_bytes text.new ≡ string_bytes text.old ++ step_members place step.now answer.now) }
-{
-    let step = StepText(step);
-    write!(
-        text,
-        "\"place\":{place},\"step\":\"{step}\",\"answer\":\"{answer}\","
-    )
-}
-
-// Appends the members of an answer in numbers.
-fn push_answer(text: &mut String, answer: &TurnAnswer) -> Pushed
-    ensures { OnOk result (string_bytes text.new ≡ string_bytes text.old ++ answer_members answer.now) }
-{
-    let accepted = is_accepted_answer(answer);
-    let values = numbers_of(answer);
-    let numbers = NumberArray(values.as_slice());
-    write!(text, "\"accepted\":{accepted},\"numbers\":{numbers},")
-}
-
-/// Appends the members of a step, which is the one at that place, and its answer.
-pub fn push_answered(
-    text: &mut String,
-    place: usize,
-    step: &PlanStep,
-    answer: &TurnAnswer,
-) -> Pushed
-    ensures { OnOk result (string_bytes text.new ≡ string_bytes text.old ++ reported_members place (Some (step.now, answer.now))) }
-{
-    push_step(text, place, step, answer)?;
-    push_answer(text, answer)
-}
-
-/// Appends that the build has no step left.
-pub fn push_idle(text: &mut String, place: usize) -> Pushed
-    ensures { OnOk result (string_bytes text.new ≡ string_bytes text.old ++ reported_members place None) }
-{
-    text.push_str("\"place\":null,\"step\":null,\"answer\":null,\"accepted\":null,\"numbers\":[],")
-}
-
-// Appends the members of the event that a turn added, if it added one, and of what that changed.
-fn push_added<S: PageStore>(
+// The event at a place of the history, if there is one, and what it changed.
+fn event_at<S: PageStore>(
     alloc: Global,
-    text: &mut String,
     host: &Host<S>,
     build: BuildId,
-    event: Option<&Event>,
-) -> Pushed
-    ensures { OnOk result (string_bytes text.new ≡ string_bytes text.old ++ event_members host.now build (option_map (λ it. it.now) event.entry)) }
+    place: usize,
+) -> Result<Option<EventItem>, AllocError>
+    ensures { IfOk result (IsEventAt host.now build (slice_get host.now.history place)) }
 {
-    match event {
-        Some(event) => push_event(alloc, text, host, build, event),
-        None => push_no_event(text, host, build),
+    match host.history().get(place) {
+        Some(event) => Ok(Some(event_item(alloc, host, build, event)?)),
+        None => Ok(None),
     }
 }
 
-// Appends the members of what the host keeps of a build: how much it has open, its mark, and whether it is in abort.
-fn push_build_members<S: PageStore>(text: &mut String, host: &Host<S>, build: BuildId) -> Pushed
-    ensures { OnOk result (string_bytes text.new ≡ string_bytes text.old ++ build_members host.now build) }
-{
-    let open = host.open_acts(build).len();
-    let (mark, aborting) = (mark_of(host, build), host.is_aborting(build));
-    write!(
-        text,
-        ",\"open\":{open},\"mark\":{mark},\"aborting\":{aborting}}}"
-    )
-}
-
-/// Appends what a turn of a build did, where the history had `before` events before it: the event that it added, what
-/// that changed, and what the host keeps of the build.
-pub fn push_behind<S: PageStore>(
+/// The item of a turn that a build has taken with this step and answer, where the history had `before` events before it.
+pub fn turn_item<S: PageStore>(
     alloc: Global,
-    text: &mut String,
     host: &Host<S>,
     build: BuildId,
+    step: Option<StepItem>,
     before: usize,
-) -> Pushed
-    ensures { OnOk result (string_bytes text.new ≡ string_bytes text.old ++ members_after host.now build before) }
+) -> Result<TurnItem, AllocError>
+    ensures turn { IfOk result (λ item. (item.build ≡ build) × (item.step ≡ step)) }
+    ensures after { IfOk result (IsAfterTurn host.now build before) }
 {
-    push_added(alloc, text, host, build, host.history().get(before))?;
-    push_build_members(text, host, build)
+    Ok(TurnItem {
+        build,
+        step,
+        event: event_at(alloc, host, build, before)?,
+        open: host.open_acts(build).len(),
+        kept: build_kept(host, build),
+    })
 }

@@ -1,23 +1,19 @@
-//! The words of states, as the standard has them.
-ghost use Rattle.std.specs.Prelude.{◌≡◌};
-ghost use Rattle.run_json.specs.Words.{rec_state_word, entry_state_word, ripas_word};
-
+//! The words and numbers by which JSON names what the host says. RMM 1.0, REC state, RTT entry state, RIPAS.
+use granule_addr::{BuildId, Gran};
 use realm_model::{EntryState, RecState, Ripas};
+use serde::{Described, Serialize, Serializer};
+use std::fmt;
 
-/// The state of a REC. RMM 1.0, REC state.
-pub fn rec_state_word(state: RecState) -> &'static str
-    ensures { result.now ≡ rec_state_word state }
-{
+/// The state of a REC.
+pub fn rec_state_word(state: RecState) -> &'static str {
     match state {
         RecState::Ready => "READY",
         RecState::Running => "RUNNING",
     }
 }
 
-/// The state of a row of a table. RMM 1.0, RTT entry state.
-pub fn entry_state_word(state: EntryState) -> &'static str
-    ensures { result.now ≡ entry_state_word state }
-{
+/// The state of a row of a table.
+pub fn entry_state_word(state: EntryState) -> &'static str {
     match state {
         EntryState::Unassigned => "UNASSIGNED",
         EntryState::Assigned => "ASSIGNED",
@@ -25,13 +21,56 @@ pub fn entry_state_word(state: EntryState) -> &'static str
     }
 }
 
-/// What a realm sees at an IPA granule. RMM 1.0, RIPAS.
-pub fn ripas_word(ripas: Ripas) -> &'static str
-    ensures { result.now ≡ ripas_word ripas }
-{
+/// The RIPAS of a row.
+pub fn ripas_word(ripas: Ripas) -> &'static str {
     match ripas {
         Ripas::Empty => "EMPTY",
         Ripas::Ram => "RAM",
         Ripas::Destroyed => "DESTROYED",
+    }
+}
+
+/// The number of a build, if there is one.
+pub fn build_number(build: Option<BuildId>) -> Option<u8> {
+    match build {
+        Some(build) => Some(build.number()),
+        None => None,
+    }
+}
+
+/// The number of a granule, if there is one.
+pub fn granule_number(granule: Option<Gran>) -> Option<u16> {
+    match granule {
+        Some(granule) => Some(granule.number()),
+        None => None,
+    }
+}
+
+/// The numbers of granules.
+#[derive(Clone, Copy)]
+pub struct GranuleNumbers<'a>(pub &'a [Gran]);
+
+impl Described for GranuleNumbers<'_> {}
+
+impl Serialize for GranuleNumbers<'_> {
+    fn serialize<W: Serializer>(&self, out: &mut W) -> Result<(), W::Error> {
+        out.begin_seq(Some(self.0.len()))?;
+        for granule in self.0 {
+            granule.number().serialize(out)?;
+        }
+        out.end_seq()
+    }
+}
+
+/// Bytes as hexadecimal digits, two for each byte.
+#[derive(Clone, Copy)]
+pub struct HexDigits<'a>(pub &'a [u8]);
+
+impl fmt::Display for HexDigits<'_> {
+    fn fmt<W: fmt::Write>(&self, f: &mut fmt::Formatter<W>) -> fmt::Result {
+        for byte in self.0 {
+            write!(f, "{:02x}", *byte)?;
+        }
+        Ok(())
     }
 }

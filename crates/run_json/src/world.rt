@@ -1,194 +1,197 @@
-//! The object of a world: all granules, and what each build has.
-ghost use Rattle.std.specs.Prelude.{◌≡◌, ◌++◌, OnOk, Some, string_bytes};
-ghost use Rattle.run_json.specs.Items.{comma};
-ghost use Rattle.run_json.specs.Worlds.{world_granule, granules_text, page_object, page_item, page_items, open_item, more_open, open_acts_text};
-ghost use Rattle.run_json.specs.Worlds.{numbered_rec, recs_text, IsRealmText, build_front, IsBuildText, AreBuildTexts, IsWorldText};
+//! The world of a host: all granules, and what each build has.
+ghost use Rattle.std.specs.Prelude.{◌≡◌, IfOk, length};
+ghost use Rattle.host_ledger.specs.View.{pages_of_build};
+ghost use Rattle.run_json.specs.Worlds.{all_granules, page_items, open_lines, AreRecItems, IsRealmWorld, IsBuildItem, AreBuildItems, IsWorldItem};
 
 use crate::build_id::id_of;
-use crate::items::{GranuleItem, RecItem};
-use crate::kept::mark_of;
-use crate::numbers::Comma;
-use crate::pushed::Pushed;
-use crate::realm::push_realm_fields;
+use crate::items::{GranuleItem, PageItem, RecItem, RowItem, page_item, rec_item};
+use crate::json::member;
+use crate::kept::{BuildKept, build_kept};
+use crate::realm::{RealmItem, realm_item};
 use crate::rows::rows_of;
-use granule_addr::{BuildId, Gran, RecNo};
+use crate::turn::push_more_granules;
+use granule_addr::{BuildId, RecNo};
 use history_text::EventText;
 use page_arena::PageStore;
 use realm_host::Host;
 use realm_model::{Act, Event};
+use serde::{Described, Serialize, Serializer};
 use std::alloc::{AllocError, Global};
 
-// Appends the granule of that number, where the machine has one.
-fn push_granule<S: PageStore>(text: &mut String, host: &Host<S>, number: u16) -> Pushed
-    ensures { OnOk result (string_bytes text.new ≡ string_bytes text.old ++ world_granule host.now number) }
-{
-    let Some(granule) = Gran::new(number, host.pages()) else {
-        return Ok(());
-    };
-    let item = GranuleItem(granule, host.granule_view(granule));
-    write!(text, "{}{item}", Comma(number as usize))
-}
+/// An event, as its text.
+#[derive(Drop)]
+pub struct EventLine(pub Event);
 
-// Appends all granules.
-fn push_granules<S: PageStore>(text: &mut String, host: &Host<S>) -> Pushed
-    ensures { OnOk result (string_bytes text.new ≡ string_bytes text.old ++ granules_text host.now) }
-{
-    for number in 0..host.pages() {
-        push_granule(text, host, number)?;
-    }
-    Ok(())
-}
+impl Described for EventLine {}
 
-// Appends a granule and the sum of its bytes, which are those of the page at a place.
-fn push_page_object(text: &mut String, place: u16, granule: Gran, sum: u32) -> Pushed
-    ensures { OnOk result (string_bytes text.new ≡ string_bytes text.old ++ (comma place ++ page_object (Some granule) (Some sum))) }
-{
-    let (comma, granule) = (Comma(place as usize), granule.number());
-    write!(text, "{comma}{{\"granule\":{granule},\"sum\":{sum}}}")
-}
-
-// Appends a page of a build: its granule, and the sum of its bytes.
-fn push_page<S: PageStore>(text: &mut String, host: &Host<S>, build: BuildId, page: u16) -> Pushed
-    ensures { OnOk result (string_bytes text.new ≡ string_bytes text.old ++ page_item host.now build page) }
-{
-    match (host.page_granule(build, page), host.page_sum(build, page)) {
-        (Some(granule), Some(sum)) => push_page_object(text, page, granule, sum),
-        _ => write!(text, "{}null", Comma(page as usize)),
+impl Serialize for EventLine {
+    fn serialize<W: Serializer>(&self, out: &mut W) -> Result<(), W::Error> {
+        out.collect_str(&EventText(&self.0))
     }
 }
 
-// Appends the pages of a build.
-fn push_pages<S: PageStore>(text: &mut String, host: &Host<S>, build: BuildId) -> Pushed
-    ensures { OnOk result (string_bytes text.new ≡ string_bytes text.old ++ page_items host.now build) }
+/// A realm with its rows, and with its RECs, each at the place of its number.
+#[derive(Drop)]
+pub struct RealmWorld {
+    pub realm: RealmItem,
+    pub rows: Vec<RowItem>,
+    pub recs: Vec<RecItem>,
+}
+
+impl Described for RealmWorld {}
+
+impl Serialize for RealmWorld {
+    fn serialize<W: Serializer>(&self, out: &mut W) -> Result<(), W::Error> {
+        out.begin_map(Some(10))?;
+        self.realm.write(out)?;
+        member(out, "rows", &self.rows)?;
+        member(out, "recs", &self.recs)?;
+        out.end_map()
+    }
+}
+
+/// A build: what the host keeps of it, its open operations as events, the oldest first, its pages, and its realm.
+#[derive(Drop)]
+pub struct BuildItem {
+    pub build: BuildId,
+    pub kept: BuildKept,
+    pub open: Vec<EventLine>,
+    pub pages: Vec<Option<PageItem>>,
+    pub realm: Option<RealmWorld>,
+}
+
+impl Described for BuildItem {}
+
+impl Serialize for BuildItem {
+    fn serialize<W: Serializer>(&self, out: &mut W) -> Result<(), W::Error> {
+        out.begin_map(Some(6))?;
+        member(out, "build", &self.build.number())?;
+        self.kept.write(out)?;
+        member(out, "open", &self.open)?;
+        member(out, "pages", &self.pages)?;
+        member(out, "realm", &self.realm)?;
+        out.end_map()
+    }
+}
+
+/// A world: how many granules nobody leases, all granules, and all builds.
+#[derive(Drop, Serialize)]
+pub struct WorldItem {
+    pub free: u16,
+    pub granules: Vec<Option<GranuleItem>>,
+    pub builds: Vec<BuildItem>,
+}
+
+// The granules of the machine.
+fn granules_of<S: PageStore>(
+    alloc: Global,
+    host: &Host<S>,
+) -> Result<Vec<Option<GranuleItem>>, AllocError>
+    ensures { IfOk result (λ items. items.items ≡ all_granules host.now) }
 {
+    let mut items = Vec::new(alloc);
+    push_more_granules(&mut items, host, 0, host.pages())?;
+    Ok(items)
+}
+
+// The pages of a build.
+fn pages_of<S: PageStore>(
+    alloc: Global,
+    host: &Host<S>,
+    build: BuildId,
+) -> Result<Vec<Option<PageItem>>, AllocError>
+    ensures { IfOk result (λ items. items.items ≡ page_items host.now build (length (pages_of_build host.now build))) }
+{
+    let mut items = Vec::new(alloc);
     for page in 0..host.page_count(build) {
-        push_page(text, host, build, page)?;
+        items.push(page_item(host, build, page))?;
     }
-    Ok(())
+    Ok(items)
 }
 
-// Appends an act as the event that it was, behind what separates it from the one before.
-fn push_act(text: &mut String, separator: &str, build: BuildId, act: &Act) -> Pushed
-    ensures { OnOk result (string_bytes text.new ≡ string_bytes text.old ++ (separator.now ++ open_item build act.now)) }
+// The open operations of a build, as events.
+fn lines_of(alloc: Global, build: BuildId, acts: &[Act]) -> Result<Vec<EventLine>, AllocError>
+    ensures { IfOk result (λ items. items.items ≡ open_lines build acts.now) }
 {
-    let event = Event {
-        build,
-        act: act.clone(),
-    };
-    write!(text, "{separator}\"{}\"", EventText(&event))
-}
-
-// Appends acts, each behind a comma.
-fn push_more_open(text: &mut String, build: BuildId, acts: &[Act]) -> Pushed
-    ensures { OnOk result (string_bytes text.new ≡ string_bytes text.old ++ more_open build acts.now) }
-{
+    let mut items = Vec::new(alloc);
     for act in acts {
-        push_act(text, ",", build, act)?;
+        let act = act.clone();
+        items.push(EventLine(Event { build, act }))?;
     }
-    Ok(())
+    Ok(items)
 }
 
-// Appends acts that are open.
-fn push_open(text: &mut String, build: BuildId, acts: &[Act]) -> Pushed
-    ensures { OnOk result (string_bytes text.new ≡ string_bytes text.old ++ open_acts_text build acts.now) }
-{
-    let Some((first, more)) = acts.split_first() else {
-        return Ok(());
-    };
-    push_act(text, "", build, first)?;
-    push_more_open(text, build, more)
-}
-
-// Appends the REC of that number, or that there is none.
-fn push_rec<S: PageStore>(text: &mut String, host: &Host<S>, build: BuildId, number: u16) -> Pushed
-    ensures { OnOk result (string_bytes text.new ≡ string_bytes text.old ++ numbered_rec host.now build number) }
-{
-    let rec = RecNo::new(number);
-    let item = RecItem(rec, host.rec(build, rec));
-    write!(text, "{}{item}", Comma(number as usize))
-}
-
-// Appends the RECs of a build's realm whose numbers are below that of its next REC.
-fn push_recs<S: PageStore>(text: &mut String, host: &Host<S>, build: BuildId, next: u16) -> Pushed
-    ensures { OnOk result (string_bytes text.new ≡ string_bytes text.old ++ recs_text host.now build next) }
-{
-    for number in 0..next {
-        push_rec(text, host, build, number)?;
-    }
-    Ok(())
-}
-
-// Appends a build's realm with its rows and RECs; null where the build has none.
-fn push_realm<S: PageStore>(
+// The RECs of a build's realm whose numbers are below that of its next REC.
+fn recs_of<S: PageStore>(
     alloc: Global,
-    text: &mut String,
     host: &Host<S>,
     build: BuildId,
-) -> Pushed
-    ensures { OnOk result (IsRealmText host.now build (string_bytes text.old) (string_bytes text.new)) }
+    next: RecNo,
+) -> Result<Vec<RecItem>, AllocError>
+    ensures { IfOk result (λ items. AreRecItems host.now build next items.items) }
 {
-    let (Some(rd), Some(realm)) = (host.rd(build), host.realm(build)) else {
-        return text.push_str("null");
-    };
-    let rows = rows_of(alloc, host, build)?;
-    text.push_str("{")?;
-    push_realm_fields(alloc, text, rd, realm)?;
-    write!(text, ",\"rows\":[{rows}],\"recs\":[")?;
-    push_recs(text, host, build, realm.next_number().number())?;
-    write!(text, "]}}")
+    let mut items = Vec::new(alloc);
+    for number in 0..next.number() {
+        let item = rec_item(alloc, host, build, RecNo::new(number))?;
+        items.push(item)?;
+    }
+    Ok(items)
 }
 
-// Appends what is kept of a build: its mark, and whether it is in abort.
-fn push_kept<S: PageStore>(text: &mut String, host: &Host<S>, build: BuildId) -> Pushed
-    ensures { OnOk result (string_bytes text.new ≡ string_bytes text.old ++ build_front host.now build) }
-{
-    let (number, aborting) = (build.number(), host.is_aborting(build));
-    let (comma, mark) = (Comma(number as usize), mark_of(host, build));
-    write!(
-        text,
-        "{comma}{{\"build\":{number},\"mark\":{mark},\"aborting\":{aborting},\"open\":["
-    )
-}
-
-// Appends a build: its mark, whether it is in abort, what it has open, its pages and its realm.
-fn push_build<S: PageStore>(
+// The realm of a build, if it has one.
+fn realm_world<S: PageStore>(
     alloc: Global,
-    text: &mut String,
     host: &Host<S>,
     build: BuildId,
-) -> Pushed
-    ensures { OnOk result (IsBuildText host.now build (string_bytes text.old) (string_bytes text.new)) }
+) -> Result<Option<RealmWorld>, AllocError>
+    ensures { IfOk result (IsRealmWorld host.now build) }
 {
-    push_kept(text, host, build)?;
-    push_open(text, build, host.open_acts(build))?;
-    text.push_str("],\"pages\":[")?;
-    push_pages(text, host, build)?;
-    text.push_str("],\"realm\":")?;
-    push_realm(alloc, text, host, build)?;
-    write!(text, "}}")
+    let Some(realm) = realm_item(host, build) else {
+        return Ok(None);
+    };
+    Ok(Some(RealmWorld {
+        rows: rows_of(alloc, host, build)?,
+        recs: recs_of(alloc, host, build, realm.next_rec)?,
+        realm,
+    }))
 }
 
-fn push_builds<S: PageStore>(alloc: Global, text: &mut String, host: &Host<S>) -> Pushed
-    ensures { OnOk result (AreBuildTexts host.now (string_bytes text.old) (string_bytes text.new)) }
+// A build, and what it has.
+fn build_item<S: PageStore>(
+    alloc: Global,
+    host: &Host<S>,
+    build: BuildId,
+) -> Result<BuildItem, AllocError>
+    ensures { IfOk result (IsBuildItem host.now build) }
 {
+    Ok(BuildItem {
+        build,
+        kept: build_kept(host, build),
+        open: lines_of(alloc, build, host.open_acts(build))?,
+        pages: pages_of(alloc, host, build)?,
+        realm: realm_world(alloc, host, build)?,
+    })
+}
+
+// All builds.
+fn builds_of<S: PageStore>(alloc: Global, host: &Host<S>) -> Result<Vec<BuildItem>, AllocError>
+    ensures { IfOk result (λ items. AreBuildItems host.now host.now.limits.builds items.items) }
+{
+    let mut items = Vec::new(alloc);
     for number in 0..host.build_count() {
-        push_build(alloc, text, host, id_of(number))?;
+        let item = build_item(alloc, host, id_of(number))?;
+        items.push(item)?;
     }
-    Ok(())
+    Ok(items)
 }
 
-/// Appends the world of a host: how many pages nobody leases, all granules, and what each build has. At an `Err` allocation
-/// failed, and the text may have got a part of it.
-pub fn push_world<S: PageStore>(
-    alloc: Global,
-    text: &mut String,
-    host: &Host<S>,
-) -> Result<(), AllocError>
-    ensures { OnOk result (IsWorldText host.now (string_bytes text.old) (string_bytes text.new)) }
+/// The world of a host. An `Err` comes only where allocation failed.
+pub fn world_item<S: PageStore>(alloc: Global, host: &Host<S>) -> Result<WorldItem, AllocError>
+    ensures { IfOk result (IsWorldItem host.now) }
 {
-    write!(text, "{{\"free\":{},\n\"granules\":[", host.free_count())?;
-    push_granules(text, host)?;
-    text.push_str("],\n\"builds\":[")?;
-    push_builds(alloc, text, host)?;
-    write!(text, "]}}")
+    Ok(WorldItem {
+        free: host.free_count(),
+        granules: granules_of(alloc, host)?,
+        builds: builds_of(alloc, host)?,
+    })
 }

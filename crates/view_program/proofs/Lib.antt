@@ -6,5 +6,4 @@ mod Once
 mod CheckEnds
 mod ReorderEnds
 mod PlanEnds
-mod WithoutBuilds
 mod TurnTexts

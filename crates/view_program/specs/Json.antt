@@ -4,8 +4,10 @@ use Rattle.host_ledger.specs.View.{HostView}
 use Rattle.realm_plan.specs.Plan.{Plan}
 use Rattle.realm_program.specs.Replay.{opening_host}
 use Rattle.run_json.specs.Document.{IsDocument}
+use Rattle.run_json.specs.declared.document.Document.{Document}
 
--- the text is the document of some run of the plan
+-- There is the document of some run of the plan. That the text is what JSON writes for it is tested, and in no clause.
 pub record IsJsonText (plan : Plan) (text : List ℕ) : Type 0 where
   pub last : HostView
-  pub document : IsDocument plan (opening_host plan) last text
+  pub document : Document
+  pub is_document : IsDocument plan (opening_host plan) last document

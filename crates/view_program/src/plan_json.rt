@@ -1,5 +1,5 @@
 //! The JSON documents of runs.
-ghost use Rattle.std.specs.Prelude.{None, IfOk, string_bytes};
+ghost use Rattle.std.specs.Prelude.{None, IfOk};
 ghost use Rattle.realm_plan.specs.PlanView.{plan_view};
 ghost use Rattle.realm_program.specs.Replay.{IsWithoutText, opening_host};
 ghost use Rattle.run_json.specs.Document.{IsDocument};
@@ -10,19 +10,19 @@ use buddy::BuddyArena;
 use realm_host::HostLedger;
 use realm_plan::Plan;
 use realm_program::{Fault, boot};
-use run_json::run_document;
+use run_json::{Document, json_text, run_document};
 use std::alloc::{AllocError, Global};
 
 /// The document of a run of the plan, and the ledger in the end.
-pub(crate) fn run_of(alloc: Global, plan: &Plan) -> Result<(String, HostLedger), AllocError>
-    ensures { IfOk result (λ ran. IsDocument (plan_view plan.now) (opening_host (plan_view plan.now)) ran.1 (string_bytes ran.0)) }
+pub(crate) fn run_of(alloc: Global, plan: &Plan) -> Result<(Document, HostLedger), AllocError>
+    ensures { IfOk result (λ ran. IsDocument (plan_view plan.now) (opening_host (plan_view plan.now)) ran.1 ran.0) }
 {
     let mut host = boot::<BuddyArena>(alloc, plan)?;
     let document = run_document(alloc, &mut host, plan)?;
     Ok((document, host.into_ledger()))
 }
 
-/// The documents of runs of plans. A plan has none only if allocation failed.
+/// The documents of runs of plans. A plan has none only where allocation failed.
 #[derive(Drop)]
 pub struct Documents;
 
@@ -33,6 +33,8 @@ impl ViewText for Documents {
 
     fn text_of(&self, alloc: Global, plan: &Plan, _source: &[u8]) -> Result<Vec<u8>, Fault> {
         let (document, _ledger) = run_of(alloc, plan)?;
-        Ok(document.into_bytes())
+        let mut text = json_text(alloc, &document)?;
+        text.push_str("\n")?;
+        Ok(text.into_bytes())
     }
 }

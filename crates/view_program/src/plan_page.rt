@@ -1,22 +1,33 @@
 //! The pages that show runs.
-ghost use Rattle.std.specs.Prelude.{◌≡◌, ◌<◌, ◌++◌, None, codes, OnOk, IfOk, string_bytes};
+ghost use Rattle.std.specs.Prelude.{◌≡◌, ◌<◌, None, IfOk, vec_len};
 ghost use Rattle.realm_plan.specs.PlanView.{plan_view};
 ghost use Rattle.realm_host.specs.Recorded.{fresh_like, IsWithout};
 ghost use Rattle.realm_program.specs.Replay.{opening_host, IsWithoutText};
-ghost use Rattle.run_json.specs.Items.{comma};
-ghost use Rattle.run_json.specs.Worlds.{IsWorldText};
-ghost use Rattle.view_program.specs.PageData.{IsWithoutWorld, AreWithoutWorlds, IsPageData, IsPageText};
+ghost use Rattle.view_program.specs.PageData.{IsWithoutWorld, AreWorldsWithout, IsPageData, IsPageText};
 
-use crate::page_words::further_members;
+use crate::page_words::{RefusedTurn, refused_turns};
 use crate::plan_json::run_of;
 use crate::plan_text::ViewText;
+use crate::plan_title::plan_title;
 use buddy::BuddyArena;
 use granule_addr::BuildId;
 use realm_host::{Host, HostLedger, apply_without};
 use realm_plan::Plan;
 use realm_program::{Fault, boot};
-use run_json::{Comma, page_of, push_world};
+use run_json::{Document, WorldItem, json_text, page_of, world_item};
+use serde::Serialize;
 use std::alloc::{AllocError, Global};
+
+/// The data of a page: the document of a run, the worlds of its history without each build, the refused turns, and the
+/// title of the plan, which is empty if it has none.
+#[derive(Drop, Serialize)]
+struct PageData {
+    run: Document,
+    without: Vec<WorldItem>,
+    refused: Vec<RefusedTurn>,
+    #[serde(skip_serializing_if = "String::is_empty")]
+    title: String,
+}
 
 // The build at an index of the plan.
 fn id_of(place: usize) -> BuildId
@@ -41,69 +52,48 @@ fn fresh_without(
     Ok(fresh)
 }
 
-// Appends the world of a host after those of the builds below.
-fn push_next(
+// The world of a history without a build.
+fn world_without(
     alloc: Global,
-    text: &mut String,
-    host: &Host<BuddyArena>,
-    build: BuildId,
-) -> Result<(), AllocError>
-    ensures { OnOk result (IsWorldText host.now (string_bytes text.old ++ comma build) (string_bytes text.new)) }
-{
-    write!(text, "{}", Comma(build.number() as usize))?;
-    push_world(alloc, text, host)
-}
-
-// Appends the world of a history without a build.
-fn push_without(
-    alloc: Global,
-    text: &mut String,
     plan: &Plan,
     ledger: &HostLedger,
     build: BuildId,
-) -> Result<(), AllocError>
+) -> Result<WorldItem, AllocError>
     requires { opening_host (plan_view plan.now) ≡ fresh_like ledger.now }
-    ensures { OnOk result (IsWithoutWorld ledger.now build (string_bytes text.old) (string_bytes text.new)) }
+    ensures { IfOk result (IsWithoutWorld ledger.now build) }
 {
     let fresh = fresh_without(alloc, plan, ledger, build)?;
-    push_next(alloc, text, &fresh, build)
+    world_item(alloc, &fresh)
 }
 
-// Appends the worlds of a history without each of the plan's builds.
-fn push_all_without(
+// The worlds of a history without each of the plan's builds.
+fn worlds_without(
     alloc: Global,
-    text: &mut String,
     plan: &Plan,
     ledger: &HostLedger,
-) -> Result<(), AllocError>
+) -> Result<Vec<WorldItem>, AllocError>
     requires { opening_host (plan_view plan.now) ≡ fresh_like ledger.now }
-    ensures { OnOk result (AreWithoutWorlds (plan_view plan.now) ledger.now (string_bytes text.old) (string_bytes text.new)) }
+    ensures { IfOk result (λ worlds. AreWorldsWithout ledger.now (vec_len plan.now.builds) worlds.items) }
 {
+    let mut worlds = Vec::new(alloc);
     for place in 0..plan.builds.len() {
-        push_without(alloc, text, plan, ledger, id_of(place))?;
+        let world = world_without(alloc, plan, ledger, id_of(place))?;
+        worlds.push(world)?;
     }
-    Ok(())
+    Ok(worlds)
 }
 
-// Appends the end of the list of worlds, further members, and the end of the data.
-fn push_end(text: &mut String, members: &str) -> Result<(), AllocError>
-    ensures { OnOk result (string_bytes text.new ≡ string_bytes text.old ++ (codes "]" ++ (members.now ++ codes "}"))) }
+// The data of a page.
+fn page_data(alloc: Global, plan: &Plan, source: &[u8]) -> Result<PageData, AllocError>
+    ensures { IfOk result (IsPageData (plan_view plan.now)) }
 {
-    write!(text, "]{members}}}")
-}
-
-// The data of a page: the document of a run of the plan, the worlds without each build, the words for refusals, and the
-// title.
-fn page_data(alloc: Global, plan: &Plan, source: &[u8]) -> Result<String, AllocError>
-    ensures { IfOk result (λ text. IsPageData (plan_view plan.now) (string_bytes text)) }
-{
-    let (document, ledger) = run_of(alloc, plan)?;
-    let mut text = String::new(alloc);
-    write!(text, "{{\"run\":{document},\"without\":[")?;
-    push_all_without(alloc, &mut text, plan, &ledger)?;
-    let members = further_members(alloc, plan, source)?;
-    push_end(&mut text, members.as_str())?;
-    Ok(text)
+    let (run, ledger) = run_of(alloc, plan)?;
+    Ok(PageData {
+        run,
+        without: worlds_without(alloc, plan, &ledger)?,
+        refused: refused_turns(alloc, plan)?,
+        title: plan_title(alloc, source)?,
+    })
 }
 
 /// Pages for browsers that show runs of plans. A page has the document of the run, and the worlds of the run's history
@@ -117,7 +107,8 @@ impl ViewText for Pages {
     ghost is_without = { λ asked. IsWithoutText None };
 
     fn text_of(&self, alloc: Global, plan: &Plan, source: &[u8]) -> Result<Vec<u8>, Fault> {
-        let json = page_data(alloc, plan, source)?;
+        let data = page_data(alloc, plan, source)?;
+        let json = json_text(alloc, &data)?;
         Ok(page_of(alloc, json.as_bytes())?)
     }
 }

@@ -1,12 +1,10 @@
-use Rattle.std.proofs.Common.{string_bytes, ◌-◌}
+use Rattle.std.proofs.Common.{◌≡◌, ◌++◌, ◌-◌}
 use Rattle.std.specs.List.{flat_map, range_with_len}
 use Rattle.host_ledger.specs.View.{world_of}
 use Rattle.realm_host.specs.Readings.{row_at}
 use Rattle.run_json.specs.Rows.{beginning_at}
-use Rattle.run_json.specs.RowTexts.{AddsItems}
 use Rattle.run_json.proofs.rows.push_rows_above.Given as goal
 
 abbrev pub invariant-loop-number : goal.invariant-loop-number
 invariant-loop-number g l =
-    AddsItems (string_bytes l.fn.text) (string_bytes l.text)
-    (flat_map (λ level. beginning_at l.row.first (row_at (world_of l.host) l.build l.row.first level)) (range_with_len 1 (l.number - 1)))
+    l.items.items ≡ l.fn.items.items ++ flat_map (λ level. beginning_at l.row.first (row_at (world_of l.host) l.build l.row.first level)) (range_with_len 1 (l.number - 1))

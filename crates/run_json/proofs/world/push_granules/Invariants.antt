@@ -1,7 +1,0 @@
-use Rattle.std.proofs.Common.{◌≡◌, ◌++◌, string_bytes}
-use Rattle.std.specs.List.{flat_map, range_with_len}
-use Rattle.run_json.specs.Worlds.{world_granule}
-use Rattle.run_json.proofs.world.push_granules.Given as goal
-
-abbrev pub invariant-loop-number : goal.invariant-loop-number
-invariant-loop-number g l = string_bytes l.text ≡ string_bytes l.fn.text ++ flat_map (world_granule l.host) (range_with_len 0 l.number)

@@ -1,0 +1,10 @@
+use Rattle.std.proofs.Common.{subst}
+use Rattle.run_json.specs.Items.{IsRecItem}
+use Rattle.run_json.proofs.Lists.{each_more}
+use Rattle.run_json.proofs.world.recs_of.Goals as goal
+
+pub loop-number-preserved : goal.loop-number-preserved
+loop-number-preserved g c =
+    each_more (IsRecItem c.args.host.now c.args.build) c.loop-number.number c.loop-number.items.items c.push.new.self.items c.in_ok-item.item
+    c.loop-number.invariant c.in_ok-push.ensures.items
+    (subst (λ number. IsRecItem c.args.host.now c.args.build number c.in_ok-item.item) c.new.ensures c.in_ok-item.ensures)

@@ -1,0 +1,34 @@
+//! Values in JSON.
+use serde::{Described, Serialize, Serializer};
+use std::alloc::{AllocError, Global};
+use std::fmt::Display;
+
+/// A value that is written as its text.
+#[derive(Clone, Copy)]
+pub struct Shown<T>(pub T);
+
+impl<T: Display> Described for Shown<T> {}
+
+impl<T: Display> Serialize for Shown<T> {
+    fn serialize<W: Serializer>(&self, out: &mut W) -> Result<(), W::Error> {
+        out.collect_str(&self.0)
+    }
+}
+
+/// Writes a member of the object that is open.
+pub fn member<W: Serializer, T: Serialize>(
+    out: &mut W,
+    name: &str,
+    value: &T,
+) -> Result<(), W::Error> {
+    out.key(name)?;
+    value.serialize(out)
+}
+
+/// The JSON text of a value. An `Err` comes only where allocation failed.
+pub fn json_text<T: Serialize>(alloc: Global, value: &T) -> Result<String, AllocError> {
+    match serde_json::to_string(alloc, value) {
+        Ok(text) => Ok(text),
+        Err(_) => Err(AllocError),
+    }
+}
