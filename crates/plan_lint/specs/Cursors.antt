@@ -1,4 +1,4 @@
--- What is kept of a place while a text is gone through.
+-- A cursor: a place of a text, with its line and its column.
 use Rattle.std.specs.Prelude.{◌≡◌, ℕ, ◌≤◌, List, take, drop, length}
 use Rattle.plan_lint.specs.Places.{front_of, line_of, column_of}
 use Rattle.plan_lint.specs.declared.cursor.Cursor.{Cursor}

@@ -1,4 +1,4 @@
--- Places of a text, each given by how many bytes stand before it.
+-- Places of a text, each by the number of bytes before it.
 use Rattle.std.specs.Prelude.{ℕ, ◌+◌, ◌==◌, Bool, ◌||◌, List, take, drop, count_by, nat_lt, nat_le}
 use Rattle.std.specs.List.{after_last, before_first}
 
@@ -9,11 +9,11 @@ is_feed b = b == 10
 abbrev pub begins_char : ℕ → Bool
 begins_char b = nat_lt b 128 || nat_le 192 b
 
--- what stands before the place on its line
+-- the bytes before the place on its line
 unfoldable pub front_of : List ℕ → ℕ → List ℕ
 front_of text at = after_last is_feed (take at text)
 
--- what stands behind the place on its line, as far as 81 bytes
+-- the bytes after the place on its line, up to 81
 abbrev pub back_of : List ℕ → ℕ → List ℕ
 back_of text at = before_first is_feed (take 81 (drop at text))
 

@@ -14,11 +14,11 @@ use Rattle.plan_lint.specs.declared.finding.Severity.TheVariants.{Error, Warning
 use Rattle.plan_lint.specs.declared.judging.Size.{Size}
 use Rattle.plan_lint.specs.declared.report.LintReport.{LintReport}
 
--- the end of what stands before a place, where it has more than 80 bytes
+-- the end of the bytes before a place, if there are more than 80
 abbrev pub shown_front : List ℕ → List ℕ
 shown_front front = if nat_le (length front) 80 then front else codes ".." ++ drop (length front - 78) front
 
--- the beginning of what stands behind it, where it has more than 80 bytes
+-- the beginning of the bytes after it, if there are more than 80
 abbrev pub shown_back : List ℕ → List ℕ
 shown_back back = if nat_le (length back) 80 then back else take 78 back ++ codes ".."
 

@@ -1,4 +1,4 @@
-//! What is wrong with the builds of a plan.
+//! Mistakes in the builds of a plan.
 use crate::finding::{Findings, Severity, Span};
 use crate::keys::{Meant, means_steps, of_kind};
 use crate::message_text::Piece::{Count, Quoted, Words};

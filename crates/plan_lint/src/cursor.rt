@@ -23,7 +23,7 @@ pub struct Cursor {
     pub at: usize,
     pub line: usize,
     pub column: usize,
-    /// Where its line begins.
+    /// The beginning of its line.
     pub start: usize,
 }
 

@@ -1,4 +1,4 @@
-//! All that is found wrong with bytes that are no plan.
+//! All mistakes in bytes that are no plan.
 use crate::builds::{builds, count_of_builds};
 use crate::finding::{Finding, Findings, Span};
 use crate::keys::{numbers, unknown_keys};

@@ -95,7 +95,7 @@ pub fn form_of(word: &str) -> Option<Form> {
     FORMS.iter().find(|form| form.word == word).copied()
 }
 
-/// The step that does what this name stands for in the RMI, in a trace or in a history.
+/// The step of the command that has this name in the RMI, in a trace or in a history.
 pub fn step_of_command(name: &str) -> Option<&'static str> {
     for form in &FORMS {
         let mut names = form.other_names.split_whitespace();

@@ -4,7 +4,7 @@ use crate::message_text::Piece::{Quoted, Whole, Words};
 use crate::outline::{Build, KeyValue, Outline, PLAN_KEYS, Value};
 use realm_plan::PlanFault;
 
-/// Whether an unknown key stands for one that is missing.
+/// Whether an unknown key means one that is missing.
 #[derive(Clone, Copy)]
 pub struct Meant {
     pub pages: bool,
@@ -58,7 +58,7 @@ fn is_of_plan(name: &str) -> bool {
     PLAN_KEYS.iter().any(|it| *it == name)
 }
 
-// A key that the plan has not. Returns the missing one that it stands for.
+// A key that no plan has. Returns the missing one that it means.
 fn unknown_key<'a>(outline: &Outline, key: &'a KeyValue, found: &mut Findings) -> Option<&'a str> {
     let name = key.name.as_str();
     if name == "steps" {
@@ -110,7 +110,7 @@ fn is_near_steps(key: &KeyValue, found: &mut Findings) -> bool {
     found.nearest(&["steps"], key.name.as_str()).is_some()
 }
 
-/// Whether an unknown key of a build without steps stands for `steps`.
+/// Whether an unknown key of a build without steps means `steps`.
 pub fn means_steps(build: &Build, found: &mut Findings) -> bool {
     for key in &build.keys {
         if is_near_steps(key, found) {

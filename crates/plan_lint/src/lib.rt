@@ -1,8 +1,8 @@
 //! Findings on a plan: its errors, or its likely slips, each in words and with its place.
 //!
-//! Values to values: nothing here reads a device or knows a host. Whether bytes are a plan is for `realm_plan` to say, and its
-//! fault is always among the errors. Everything else here finds words and places. A walk over the text finds keys, steps and
-//! turns with their places; each module has one kind of mistake.
+//! Values to values: nothing here reads a device or knows a host. Whether bytes are a plan is for `realm_plan` to say,
+//! and its fault is always among the errors. Everything else here finds words and places. A walk over the text finds
+//! keys, steps and turns with their places; each module has one kind of mistake.
 #![tactic(auto)]
 
 mod builds;

@@ -5,8 +5,8 @@ use strsim::osa_distance;
 /// The most bytes of a word that is looked up.
 const LONGEST: usize = 32;
 
-/// The name that is the nearest to the word, if one is near: the same but for capital letters, or with up to a third of the
-/// longer of the two changed. Of several, the first.
+/// The name that is the nearest to the word, if one is near. A near name is the same but for capital letters, or
+/// differs in up to a third of the longer of the two. Of several, the first.
 pub fn nearest(
     alloc: Global,
     names: &[&'static str],

@@ -1,7 +1,7 @@
 //! The turns that steps surely need, whatever other builds do.
 //!
-//! A `take` is surely accepted where all takes of the plan together ask for no more than the machine has; a `delegate` of a page
-//! that such a take gave is, and so is a `realm` in two such pages. No more is known without a run.
+//! A `take` is surely accepted if all takes of the plan together ask for no more than the machine has. A `delegate` of
+//! a page of such a take is, and so is a `realm` in two such pages. No more is known without a run.
 use granule_addr::IpaWidth;
 use host_commands::{Cmd, Step};
 use realm_plan::{Plan, PlanStep};

@@ -1,4 +1,4 @@
-//! What is wrong with the turns of a plan.
+//! Mistakes in the turns of a plan.
 use crate::finding::Findings;
 use crate::keys::{no_integer, of_kind};
 use crate::message_text::Piece::{Count, Plural, Whole, Words};

@@ -1,4 +1,4 @@
-//! What is wrong with a text that is no step.
+//! Mistakes in a text that is no step.
 use crate::finding::{Findings, Span};
 use crate::forms::{ALL_STEPS, Form, OperandKind, WORDS, form_of, step_of_command};
 use crate::message_text::Piece::{self, Count, Number, Quoted, Words};

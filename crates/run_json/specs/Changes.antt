@@ -1,4 +1,4 @@
--- What an act changes of granules, RECs and realms. For the rows, and for what is told of each, see Turns.
+-- The granules, RECs and realms that an operation changes. Turns has the rows, and the fields of each.
 use Rattle.std.specs.Prelude.{ℕ, ◌+◌, ◌-◌, ◌^◌, ◌==◌, if◌then◌else◌, List, [], Bool, true, false, Option, Some, None}
 use Rattle.granule_addr.specs.Root.{start_count}
 use Rattle.realm_model.specs.declared.act.Act.{Act}
@@ -14,7 +14,7 @@ pub record ChangedGranules : Type 0 where
 abbrev pub one_granule : ℕ → Option ChangedGranules
 one_granule g = Some (record { granule = g; from = 0; count = 0; also = [] })
 
--- the granules whose state, lease or realm an act changes
+-- the granules whose state, lease or realm an operation changes
 abbrev pub granules_of : Act → Option ChangedGranules
 granules_of (Take order first) = Some (record { granule = first; from = first + 1; count = 2 ^ order - 1; also = [] })
 granules_of (UnTake order first) = Some (record { granule = first; from = first + 1; count = 2 ^ order - 1; also = [] })
@@ -31,7 +31,7 @@ granules_of (Rec g auxiliaries number) = Some (record { granule = g; from = 0; c
 granules_of (UnRec g auxiliaries number) = Some (record { granule = g; from = 0; count = 0; also = auxiliaries.items })
 granules_of _ = None
 
--- the REC that an act makes, changes or destroys
+-- the REC that an operation makes, changes or destroys
 abbrev pub rec_named_by : Act → Option ℕ
 rec_named_by (Rec g auxiliaries number) = Some number
 rec_named_by (UnRec g auxiliaries number) = Some number
@@ -39,7 +39,7 @@ rec_named_by (Enter number) = Some number
 rec_named_by (Exit number) = Some number
 rec_named_by _ = None
 
--- whether an act changes what is kept of the realm itself
+-- whether an operation changes what the host keeps of the realm itself
 abbrev pub changes_realm : Act → Bool
 changes_realm (Realm rd root vmid) = true
 changes_realm (UnRealm rd root vmid) = true
@@ -49,6 +49,6 @@ changes_realm (Data g ipa source) = true
 changes_realm (Rec g auxiliaries number) = true
 changes_realm _ = false
 
--- the level of the table that a table of that level stands in
+-- the level of the table above a table of that level
 abbrev pub level_above : ℕ → ℕ
 level_above level = if level == 3 then 2 else 1

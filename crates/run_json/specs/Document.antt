@@ -12,8 +12,8 @@ use Rattle.run_json.specs.declared.turn.TurnItem.{TurnItem}
 abbrev pub settings_of : Plan → MachineSettings
 settings_of plan = record { pages = plan.pages; vmids = plan.vmids; aux = plan.aux; history = plan.history; builds = length plan.builds }
 
--- The item of a turn: the build; its step with its place, and what the host answered; the event that the turn added to the
--- history, and what that changed; and what the host keeps of the build after the turn.
+-- The item of a turn: the build, its step with its place, and the answer of the host. Then the event that the turn
+-- added to the history, and what that changed. Last, what the host keeps of the build after the turn.
 pub record IsTurnItem (plan : Plan) (from : Position) (build : ℕ) (to : Position) (item : TurnItem) : Type 0 where
   pub turn : Turn
   pub of_build : turn.build ≡ build

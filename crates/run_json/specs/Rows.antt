@@ -1,4 +1,5 @@
--- The rows of a realm, as a document has them: where walks to level 3 end, from the first IPA granule on. RMM 1.0, RTT walk, RTT entry.
+-- The rows of a realm, as a document has them: where walks to level 3 end, from the first IPA granule on. RMM 1.0, RTT
+-- walk, RTT entry.
 use Rattle.std.specs.Prelude.{◌≡◌, ℕ, ◌+◌, ◌-◌, ◌*◌, ◌<◌, ◌==◌, false, List, [], ◌∷◌, ◌++◌, if◌then◌else◌, Option, Some, None}
 use Rattle.std.specs.List.{flat_map, range_with_len}
 use Rattle.granule_addr.specs.Ipa.{covered_count}
@@ -10,12 +11,12 @@ use Rattle.run_json.specs.declared.items.RowItem.{RowItem}
 
 -- ---- runs: rows of one table that say the same, one after another
 
--- the first IPA granule behind so many rows, from this one on
+-- the first IPA granule after so many rows, from this one on
 abbrev pub first_after : RowView → ℕ → ℕ
 first_after row count = row.first + count * covered_count row.level
 
--- The run of a row goes on at an IPA granule: a row of its level begins there and says what it says, and no table begins there.
--- The starting tables count as one.
+-- The run of a row goes on at an IPA granule: a row of its level begins there and says what it says, and no table
+-- begins there. The starting tables count as one.
 pub record RunGoesOn (world : World) (build : ℕ) (row : RowView) (ipa : ℕ) : Type 0 where
   pub same : row_at world build ipa 3 ≡ Some (record row { first = ipa })
   pub inside : is_table_place ipa row.level ≡ false
@@ -26,7 +27,7 @@ pub record IsRowRun (world : World) (build : ℕ) (row : RowView) (count : ℕ) 
   pub same : (k : ℕ) → 0 < k → k < count → RunGoesOn world build row (first_after row k)
   pub longest : ¬ RunGoesOn world build row (first_after row count)
 
--- all runs from an IPA granule on, one behind another
+-- all runs from an IPA granule on, one after another
 abbrev pub AreRowRuns : World → ℕ → ℕ → List RowItem → Type 0
 AreRowRuns world build ipa [] = row_at world build ipa 3 ≡ None
 AreRowRuns world build ipa (run ∷ runs) =
@@ -39,17 +40,17 @@ abbrev pub beginning_at : ℕ → Option RowView → List RowItem
 beginning_at ipa None = []
 beginning_at ipa (Some row) = if row.first == ipa then record { row = row; count = 1 } ∷ [] else []
 
--- The rows above this one that begin where it does, in rising level: the TABLE rows by which the walk to the first row of a table
--- comes to it.
+-- The rows above this one that begin where it does, in rising level: the TABLE rows by which the walk to the first row
+-- of a table comes to it.
 abbrev pub rows_above : World → ℕ → RowView → List RowItem
 rows_above world build row = flat_map (λ level. beginning_at row.first (row_at world build row.first level)) (range_with_len 1 (row.level - 1))
 
--- a run, behind the rows above it
+-- a run, after the rows above it
 abbrev pub run_items : World → ℕ → RowItem → List RowItem
 run_items world build run = rows_above world build run.row ++ run ∷ []
 
--- The items of all rows of a build's realm. There is one such list: each run begins at the row that the walk finds, and goes on as
--- long as it can.
+-- The items of all rows of a build's realm. There is one such list: each run begins at the row that the walk finds, and
+-- goes on as long as it can.
 pub record AreRowsOf (world : World) (build : ℕ) (items : List RowItem) : Type 0 where
   pub runs : List RowItem
   pub are_runs : AreRowRuns world build 0 runs

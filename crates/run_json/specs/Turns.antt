@@ -1,4 +1,4 @@
--- What a document has of a turn: its event, and what that changed, as the host has it after the turn.
+-- The items of a turn in a document: its event, and what that changed, as the host has it after the turn.
 use Rattle.std.specs.Prelude.{◌≡◌, ℕ, ◌+◌, ◌*◌, List, [], ◌∷◌, ◌++◌, length, nat_lt, if◌then◌else◌, Option, Some, None, slice_get, string_bytes}
 use Rattle.std.specs.List.{flat_map, range_with_len}
 use Rattle.granule_addr.specs.Root.{start_count}
@@ -56,8 +56,9 @@ granules_after host act = changed_granules host (granules_of act)
 
 -- ---- rows
 
--- The rows that an act changed: all of the starting tables; the entry of a table and its 512 rows, which all say the same;
--- the entry alone where the table is gone; those of a run of pages, which all say the same; the row of a page.
+-- The rows that an operation changed. Of a realm all rows of its starting tables. Of a table its entry, and its 512
+-- rows, which are all alike, or the entry alone if the table is gone. Of a run of pages their rows, which are all
+-- alike. Of a page its row.
 abbrev pub rows_after : HostView → ℕ → Act → List (Option RowItem)
 rows_after host build (Realm rd root vmid) = row_item host build 0 1 (512 * start_count root.width) ∷ []
 rows_after host build (Rtt g ipa level) = row_item host build ipa (level_above level) 1 ∷ row_item host build ipa level 512 ∷ []
@@ -98,7 +99,7 @@ IsEventAt host build None item = item ≡ None
 IsEventAt host build (Some event) (Some item) = IsEventItem host build event item
 IsEventAt host build (Some event) None = ⊥
 
--- the event that stands at that place of the history, what it changed, and what the host keeps of the build
+-- the event at that place of the history, what it changed, and what the host keeps of the build
 pub record IsAfterTurn (host : HostView) (build place : ℕ) (item : TurnItem) : Type 0 where
   pub event_is : IsEventAt host build (slice_get host.history place) item.event
   pub open_is : item.open ≡ length (open_of host build)

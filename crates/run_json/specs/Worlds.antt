@@ -1,4 +1,4 @@
--- What a document has of a world: all granules, and what each build has.
+-- The items of a world in a document: all granules, and what each build has.
 use Rattle.std.specs.Prelude.{◌≡◌, ℕ, List, [], ◌∷◌, length, Option, Some, None}
 use Rattle.std.specs.List.{flat_map, range_with_len, AllZip}
 use Rattle.realm_model.specs.World.{free_set}
@@ -24,7 +24,7 @@ all_granules host = more_granules host 0 host.limits.pages
 abbrev pub page_items : HostView → ℕ → ℕ → List (Option PageItem)
 page_items host build count = flat_map (λ page. page_item host build page ∷ []) (range_with_len 0 count)
 
--- acts of a build, each as the event that it was
+-- operations of a build, each as the event that it was
 abbrev pub open_lines : ℕ → List Act → List EventLine
 open_lines build acts = flat_map (λ act. record { 0 = record { build = build; act = act } } ∷ []) acts
 

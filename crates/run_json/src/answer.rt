@@ -7,7 +7,7 @@ use arrayvec::ArrayVec;
 use host_commands::{Refusal, Reply};
 use plan_replay::TurnAnswer;
 
-/// As many numbers as an answer can have: those of a refusal by the monitor.
+/// The most numbers of an answer: those of a refusal by the RMM.
 const MOST_NUMBERS: usize = 3;
 
 fn reply_numbers(reply: Reply) -> ArrayVec<u32, MOST_NUMBERS>

@@ -1,4 +1,4 @@
-//! What an act changes.
+//! The granules, RECs and realms that an operation changes.
 ghost use Rattle.std.specs.Prelude.{◌≡◌, ◌+◌, ◌≤◌, IfSome, option_map};
 ghost use Rattle.run_json.specs.Changes.{one_granule, granules_of, changes_realm, rec_named_by, level_above};
 
@@ -27,7 +27,7 @@ fn one<'a>(granule: Gran) -> Option<Changed<'a>>
     })
 }
 
-/// The granules whose state, lease or realm an act changes.
+/// The granules whose state, lease or realm an operation changes.
 pub fn granules_of(act: &Act) -> Option<Changed<'_>>
     ensures value { option_map (λ c. record { granule = c.granule; from = c.from; count = c.count; also = c.also.now }) result ≡ granules_of act.now }
     ensures few { IfSome result (λ c. c.from + c.count ≤ 65535) }
@@ -71,7 +71,7 @@ pub fn granules_of(act: &Act) -> Option<Changed<'_>>
     }
 }
 
-/// The REC that an act makes, changes or destroys.
+/// The REC that an operation makes, changes or destroys.
 pub fn rec_named_by(act: &Act) -> Option<RecNo>
     ensures { result ≡ rec_named_by act.now }
 {
@@ -84,8 +84,8 @@ pub fn rec_named_by(act: &Act) -> Option<RecNo>
     }
 }
 
-/// Whether an act changes what is kept of the realm itself: whether it is there, its state, its measurement, or the number
-/// of its next REC.
+/// Whether an operation changes what is kept of the realm itself: that it is there, its state, its measurement, or the
+/// number of its next REC.
 pub fn changes_realm(act: &Act) -> bool
     ensures { result ≡ changes_realm act.now }
 {
@@ -100,7 +100,7 @@ pub fn changes_realm(act: &Act) -> bool
     )
 }
 
-/// The level of the table that a table of that level stands in; 1 at level 1, which has none above.
+/// The level of the table above a table of that level; 1 at level 1, which has none above.
 pub fn level_above(level: Level) -> Level
     ensures { result ≡ level_above level }
 {

@@ -1,4 +1,4 @@
-//! What the host keeps of a build.
+//! The state that the host keeps of a build.
 ghost use Rattle.std.specs.Prelude.{◌≡◌};
 ghost use Rattle.run_json.specs.Items.{build_kept};
 

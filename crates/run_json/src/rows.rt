@@ -1,7 +1,7 @@
 //! The rows of a realm's translation, in rising address.
 //!
-//! A walk to level 3 ends at a row that is not TABLE. The first walk is that of IPA granule 0, and each next one is that of the
-//! first after the row before. `specs/Rows.antt` says which rows these are.
+//! A walk to level 3 ends at a row that is not TABLE. The first walk is that of IPA granule 0, and each next one is
+//! that of the first after the row before. `specs/Rows.antt` says which rows these are.
 ghost use Rattle.std.specs.Prelude.{◌≡◌, ◌+◌, ◌↔◌, false, IsTrue, IfOk, OnOk, IfSome, IfNone, ◌++◌};
 ghost use Rattle.granule_addr.specs.Ipa.{covered_count, first_covered};
 ghost use Rattle.realm_model.specs.Rows.{is_table_place};
@@ -65,7 +65,8 @@ fn push_rows_above<S: PageStore>(
     Ok(())
 }
 
-// Where the run of a row goes on at an IPA granule, at which rows of its level begin: the first IPA granule after the row there.
+// The first IPA granule after the row at an IPA granule, if the run of a row goes on there. Rows of its level begin
+// there.
 fn goes_on<S: PageStore>(host: &Host<S>, build: BuildId, row: &RowView, ipa: u32) -> Option<u32>
     requires { first_covered row.now.level ipa ≡ ipa }
     ensures goes_on { IfSome result (λ next. RunGoesOn (world_of host.now) build row.now ipa) }
@@ -95,8 +96,8 @@ fn count_same<S: PageStore>(host: &Host<S>, build: BuildId, row: &RowView) -> (u
     (count, next)
 }
 
-/// The rows of a build's realm in rising address, TABLE rows before those of their tables. Rows of one table that say the
-/// same, one after another, are one item.
+/// The rows of a build's realm in rising address, TABLE rows before those of their tables. Rows of one table that say
+/// the same, one after another, are one item.
 pub fn rows_of<S: PageStore>(
     alloc: Global,
     host: &Host<S>,

@@ -616,7 +616,7 @@ class Realms {
     this.slots[b].box = box;
   }
 }
-// The turn that is shown: its line, its reason, the machine behind it, and the history up to it.
+// The turn that is shown: its line, its reason, the machine after it, and the history up to it.
 const refusedAt = new Map((data.refused || []).map((it) => [it.turn, it]));
 const bare = (text, label) => (text.startsWith(label + \": \") ? text.slice(label.length + 2) : text);
 const isRefused = (turn) => turn.accepted === false;

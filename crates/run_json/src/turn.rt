@@ -27,7 +27,8 @@ pub struct StepItem {
     pub answer: TurnAnswer,
 }
 
-/// An event, and what it names, as the host has it after the turn. A list is empty where the event changes no such thing.
+/// An event, and what it names, as the host has it after the turn. A list is empty where the event changes no such
+/// thing.
 #[derive(Drop)]
 pub struct EventItem {
     pub event: Event,
@@ -37,8 +38,8 @@ pub struct EventItem {
     pub realm: Option<Option<RealmItem>>,
 }
 
-/// A turn of a build: its step, if one is left, the event that it added, if it added one, and what the host keeps of the
-/// build after it.
+/// A turn of a build: its step, if one is left, the event that it added, if it added one, and what the host keeps of
+/// the build after it.
 #[derive(Drop)]
 pub struct TurnItem {
     pub build: BuildId,
@@ -187,7 +188,7 @@ fn push_each_granule<S: PageStore>(
     Ok(())
 }
 
-// Appends the granules that an act changed.
+// Appends the granules that an operation changed.
 fn push_changed<S: PageStore>(
     items: &mut Vec<Option<GranuleItem>>,
     host: &Host<S>,
@@ -201,7 +202,7 @@ fn push_changed<S: PageStore>(
     push_each_granule(items, host, changed.also)
 }
 
-// The granules that an act changed.
+// The granules that an operation changed.
 fn granules_after<S: PageStore>(
     alloc: Global,
     host: &Host<S>,
@@ -216,7 +217,7 @@ fn granules_after<S: PageStore>(
     Ok(items)
 }
 
-// The rows that an act changed. Of those of a table the first, which all others equal.
+// The rows that an operation changed. Of those of a table the first, which all others equal.
 fn rows_after<S: PageStore>(
     alloc: Global,
     host: &Host<S>,
@@ -252,7 +253,7 @@ fn rows_after<S: PageStore>(
     }
 }
 
-// The REC that an act changed, where there is one.
+// The REC that an operation changed, if there is one.
 fn rec_after<S: PageStore>(
     alloc: Global,
     host: &Host<S>,
@@ -267,7 +268,7 @@ fn rec_after<S: PageStore>(
     }
 }
 
-// The build's realm, where an act changed what is kept of it.
+// The build's realm, if an operation changed what is kept of it.
 fn realm_after<S: PageStore>(host: &Host<S>, build: BuildId, act: &Act) -> Option<Option<RealmItem>>
     ensures { result ≡ realm_after host.now build act.now }
 {
@@ -314,7 +315,8 @@ fn event_at<S: PageStore>(
     }
 }
 
-/// The item of a turn that a build has taken with this step and answer, where the history had `before` events before it.
+/// The item of a turn that a build has taken with this step and answer, where the history had `before` events before
+/// it.
 pub fn turn_item<S: PageStore>(
     alloc: Global,
     host: &Host<S>,

@@ -18,8 +18,8 @@ use run_json::{Document, WorldItem, json_text, page_of, world_item};
 use serde::Serialize;
 use std::alloc::{AllocError, Global};
 
-/// The data of a page: the document of a run, the worlds of its history without each build, the refused turns, and the
-/// title of the plan, which is empty if it has none.
+/// The data of a page: the document of a run, the worlds of its history without each build, and the refused turns. The
+/// title of the plan is empty if it has none.
 #[derive(Drop, Serialize)]
 struct PageData {
     run: Document,

@@ -1,4 +1,4 @@
-// The turn that is shown: its line, its reason, the machine behind it, and the history up to it.
+// The turn that is shown: its line, its reason, the machine after it, and the history up to it.
 const refusedAt = new Map((data.refused || []).map((it) => [it.turn, it]));
 const bare = (text, label) => (text.startsWith(label + ": ") ? text.slice(label.length + 2) : text);
 const isRefused = (turn) => turn.accepted === false;
