@@ -98,9 +98,10 @@ pub fn form_of(word: &str) -> Option<Form> {
 /// The step of the command that has this name in the RMI, in a trace or in a history.
 pub fn step_of_command(name: &str) -> Option<&'static str> {
     for form in &FORMS {
-        let mut names = form.other_names.split_whitespace();
-        if names.any(|other| name.eq_ignore_ascii_case(other)) {
-            return Some(form.word);
+        for other in form.other_names.split_whitespace() {
+            if name.eq_ignore_ascii_case(other) {
+                return Some(form.word);
+            }
         }
     }
     None

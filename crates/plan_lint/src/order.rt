@@ -85,7 +85,10 @@ fn strays(turns: &[Value], builds: usize, found: &mut Findings) -> Result<(), Al
 
 // Whether the number is that of one of `count` builds.
 fn is_build(number: i64, count: usize) -> bool {
-    usize::try_from(number).is_ok_and(|build| build < count)
+    match usize::try_from(number) {
+        Ok(build) => build < count,
+        Err(_) => false,
+    }
 }
 
 // Whether each turn is a number from 1 to that of the builds.

@@ -40,6 +40,12 @@ impl InvalidStep<'_> {
         };
         found.error(self.fault, span, words, pieces);
     }
+
+    // Adds an error on an argument, whose text is the one piece.
+    fn error_on(&self, argument: &Argument<'_>, words: &str, found: &mut Findings) {
+        let text = argument.text;
+        self.error(argument.at, text.len(), words, &[Quoted(text)], found);
+    }
 }
 
 /// An argument of a step, after `at` bytes of the step's text.
@@ -150,20 +156,18 @@ fn has_leading_zero(text: &str) -> bool {
 // An argument that is no such number.
 fn of_argument(step: &InvalidStep<'_>, argument: &Argument<'_>, found: &mut Findings) {
     let text = argument.text;
-    let mut tell = |words: &str, found: &mut Findings| {
-        step.error(argument.at, text.len(), words, &[Quoted(text)], found)
-    };
     if let Some(number) = hexadecimal(text) {
-        tell("expected a decimal number, found {}", found);
+        step.error_on(argument, "expected a decimal number, found {}", found);
         help_of_hexadecimal(argument.kind, number, found);
     } else if !is_of_digits(text) {
-        tell("expected a number, found {}", found);
+        step.error_on(argument, "expected a number, found {}", found);
         let bare = text.trim_matches(',').trim_start_matches('+');
         if bare.len() < text.len() && is_of_digits(bare) {
             found.help("write {}", &[Words(bare)]);
         }
     } else if has_leading_zero(text) {
-        tell("expected a number without leading zeros, found {}", found);
+        let words = "expected a number without leading zeros, found {}";
+        step.error_on(argument, words, found);
         if let Ok(number) = text.parse::<u64>() {
             found.help("write {}", &[Number(number)]);
         }

@@ -246,15 +246,17 @@ impl<'a> Walk<'a> {
             self.rest = rest;
             return Ok(Content::Text(text));
         }
-        match first(self.rest) {
-            b'[' => self.skip_byte().map(|()| Content::Array),
-            b'{' => self.skip_byte().map(|()| Content::Table),
+        let content = match first(self.rest) {
+            b'[' => Content::Array,
+            b'{' => Content::Table,
             _ => {
                 let (scalar, rest) = unquoted(self.alloc, self.rest)?;
                 self.rest = rest;
-                Ok(Content::Scalar(scalar))
+                return Ok(Content::Scalar(scalar));
             }
-        }
+        };
+        self.skip_byte()?;
+        Ok(content)
     }
 
     // Adds a value to its owner.
