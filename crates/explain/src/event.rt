@@ -1,9 +1,11 @@
 //! Recorded events that cannot be applied, in the words of the check that refuses them.
-use crate::error::push_error;
+use crate::check::Check;
+use crate::error::{error_of, newest_error, push_error};
 use crate::of_build::build_there;
 use crate::of_step::step_checks;
-use crate::readings::{newest_rec, page_of};
-use crate::roles::Naming;
+use crate::phrase::Value::Number;
+use crate::phrase::{Phrase, one, plain, three, two};
+use crate::readings::{newest_rec, next_rec, page_of};
 use arrayvec::ArrayVec;
 use granule_addr::{BuildId, Gran, Order};
 use host_commands::{Cmd, Step};
@@ -20,49 +22,45 @@ pub fn event_words<S: PageStore>(
     event: &Event,
 ) -> Result<String, AllocError> {
     let mut text = String::new(alloc);
-    let build = event.build;
+    let (build, act) = (event.build, &event.act);
     let there = build_there(host, build);
     if there.fails {
-        push_error(
-            alloc,
-            &mut text,
-            host,
-            build,
-            Naming::Granules,
-            &Step::Undo,
-            &there,
-        )?;
-    } else if event.act.is_reverse() {
-        push_reverse(&mut text, host, build)?;
+        push_check(&mut text, host, build, &Step::Undo, &there)?;
+    } else if act.is_reverse() {
+        reverse_error(host, build).push(&mut text)?;
+    } else if let Some(granule) = foreign_granule(host, build, act) {
+        foreign_error(host, build, granule).push(&mut text)?;
     } else {
-        push_act(alloc, &mut text, host, build, &event.act)?;
+        push_act(alloc, &mut text, host, build, act)?;
     }
     Ok(text)
 }
 
-// A reverse that is not in turn.
-fn push_reverse<S: PageStore>(
+// A check that fails, with granules in place of pages.
+fn push_check<S: PageStore>(
     text: &mut String,
     host: &Host<S>,
     build: BuildId,
+    step: &Step,
+    check: &Check,
 ) -> Result<(), AllocError> {
+    let words = error_of(host, build, step, check.fact).in_granules(host, build);
+    push_error(text, words, step, check)
+}
+
+// A reverse that is not in turn.
+fn reverse_error<S: PageStore>(host: &Host<S>, build: BuildId) -> Phrase {
     match newest_rec(host, build) {
-        Some(number) if host.is_newest_running(build) => {
-            write!(
-                text,
-                "REC {number}, the newest operation's, must be READY; it is RUNNING"
-            )
-        }
+        Some(number) if host.is_newest_running(build) => newest_error(number),
         _ if host.open_acts(build).is_empty() => {
-            text.push_str("its build must have an operation to reverse; it has none")
+            plain("its build must have an operation to reverse; it has none")
         }
-        _ => text.push_str(
-            "it must reverse the newest open operation of its build; it reverses another",
-        ),
+        _ => plain("it must reverse the newest open operation of its build; it reverses another"),
     }
 }
 
-// An act that a command does: a granule that the build does not lease, the check that fails, or what the event records.
+// An act that a command does: the check that fails, unless it is of the block that the host would pick, since a history
+// names another; or else what the event records.
 fn push_act<S: PageStore>(
     alloc: Global,
     text: &mut String,
@@ -70,16 +68,19 @@ fn push_act<S: PageStore>(
     build: BuildId,
     act: &Act,
 ) -> Result<(), AllocError> {
-    if let Some(granule) = foreign_granule(host, build, act) {
-        return push_foreign(text, host, build, granule);
-    }
     if let Some(cmd) = command_of(alloc, host, build, act)? {
-        push_check(alloc, text, host, build, &Step::Ask(cmd))?;
+        let step = Step::Ask(cmd);
+        let checks = step_checks(alloc, host, build, &PlanCursor::first(), &step)?;
+        if let Some(check) = checks.iter().find(|check| check.fails) {
+            if !matches!(check.refusal, Refusal::NoBlock(_)) {
+                return push_check(text, host, build, &step, check);
+            }
+        }
     }
-    if text.is_empty() {
-        push_recorded(text, host, build, act)?;
+    match recorded_error(host, build, act) {
+        Some(words) => words.push(text),
+        None => Ok(()),
     }
-    Ok(())
 }
 
 // The first of the granules of an act that the build does not lease. A block that is taken is nobody's yet.
@@ -117,17 +118,23 @@ fn foreign_granule<S: PageStore>(host: &Host<S>, build: BuildId, act: &Act) -> O
 }
 
 // A granule that the build does not lease, and who does.
-fn push_foreign<S: PageStore>(
-    text: &mut String,
-    host: &Host<S>,
-    build: BuildId,
-    granule: Gran,
-) -> Result<(), AllocError> {
-    let (build, number) = (build.number(), granule.number());
-    write!(text, "granule {number} must be leased by build {build}; ")?;
+fn foreign_error<S: PageStore>(host: &Host<S>, build: BuildId, granule: Gran) -> Phrase {
+    let (number, build) = (
+        Number(granule.number() as u64),
+        Number(build.number() as u64),
+    );
     match host.ledger().holder(granule) {
-        Some(holder) => write!(text, "build {} leases it", holder.number()),
-        None => text.push_str("nobody leases it"),
+        Some(holder) => three(
+            "granule {} must be leased by build {}; build {} leases it",
+            number,
+            build,
+            Number(holder.number() as u64),
+        ),
+        None => two(
+            "granule {} must be leased by build {}; nobody leases it",
+            number,
+            build,
+        ),
     }
 }
 
@@ -262,87 +269,55 @@ fn command_of<S: PageStore>(
     }))
 }
 
-// The first check of a step that fails, unless it is of the block that the host would pick: a history names another.
-fn push_check<S: PageStore>(
-    alloc: Global,
-    text: &mut String,
-    host: &Host<S>,
-    build: BuildId,
-    step: &Step,
-) -> Result<(), AllocError> {
-    let checks = step_checks(alloc, host, build, &PlanCursor::first(), step)?;
-    match checks.iter().find(|check| check.fails) {
-        Some(check) if !matches!(check.refusal, Refusal::NoBlock(_)) => {
-            push_error(alloc, text, host, build, Naming::Granules, step, check)
-        }
-        _ => Ok(()),
-    }
-}
-
 // A block that cannot be leased.
-fn push_block<S: PageStore>(
-    text: &mut String,
-    host: &Host<S>,
-    order: Order,
-    first: Gran,
-) -> Result<(), AllocError> {
+fn block_error<S: PageStore>(host: &Host<S>, order: Order, first: Gran) -> Option<Phrase> {
     let (size, first) = (order.size(), first.number());
     if first % size != 0 {
-        return write!(
-            text,
-            "a block of {size} granules must begin at a multiple of {size}; granule {first} is none"
-        );
+        return Some(three(
+            "a block of {} granules must begin at a multiple of {}; granule {} is none",
+            Number(size as u64),
+            Number(size as u64),
+            Number(first as u64),
+        ));
     }
     let pages = host.pages();
     for number in first..first.saturating_add(size) {
         let Some(granule) = Gran::new(number, pages) else {
-            return write!(
-                text,
-                "a block must lie within the machine's {pages} granules; granule {number} does not"
-            );
+            return Some(two(
+                "a block must lie within the machine's {} granules; granule {} does not",
+                Number(pages as u64),
+                Number(number as u64),
+            ));
         };
         if let Some(holder) = host.ledger().holder(granule) {
-            return write!(
-                text,
-                "granule {number} must be free; build {} leases it",
-                holder.number()
-            );
+            return Some(two(
+                "granule {} must be free; build {} leases it",
+                Number(number as u64),
+                Number(holder.number() as u64),
+            ));
         }
     }
-    Ok(())
+    None
 }
 
 // What an event records that no check of a command is about: the block, the VMID, the number of a REC, a byte.
-fn push_recorded<S: PageStore>(
-    text: &mut String,
-    host: &Host<S>,
-    build: BuildId,
-    act: &Act,
-) -> Result<(), AllocError> {
+fn recorded_error<S: PageStore>(host: &Host<S>, build: BuildId, act: &Act) -> Option<Phrase> {
     match act {
-        Act::Take { order, first } => push_block(text, host, *order, *first),
-        Act::Peek { offset, byte, .. } => write!(
-            text,
-            "byte {} of the granule must be {byte}; it is another",
-            offset.number()
-        ),
-        Act::Realm { vmid, .. } => {
-            write!(
-                text,
-                "VMID {} must be one of the machine's and free; it is not",
-                vmid.number()
-            )
-        }
-        Act::Rec { number, .. } => {
-            let next = host
-                .realm(build)
-                .map_or(0, |realm| realm.next_number().number());
-            write!(
-                text,
-                "the number of the REC must be {next}; it is {}",
-                number.number()
-            )
-        }
-        _ => Ok(()),
+        Act::Take { order, first } => block_error(host, *order, *first),
+        Act::Peek { offset, byte, .. } => Some(two(
+            "byte {} of the granule must be {}; it is another",
+            Number(offset.number() as u64),
+            Number(*byte as u64),
+        )),
+        Act::Realm { vmid, .. } => Some(one(
+            "VMID {} must be one of the machine's and free; it is not",
+            Number(vmid.number() as u64),
+        )),
+        Act::Rec { number, .. } => Some(two(
+            "the number of the REC must be {}; it is {}",
+            Number(next_rec(host, build) as u64),
+            Number(number.number() as u64),
+        )),
+        _ => None,
     }
 }

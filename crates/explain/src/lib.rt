@@ -3,7 +3,8 @@
 //! A `Check` of a step's turn has the fact that it requires, whether it fails on the host as it is, and the refusal that
 //! it gives then. `step_checks` makes the checks of a step in their order. `law` says for which refusals the first that
 //! fails is the one that the host gives. `explain_turns` runs a plan as `plan_replay` does, and keeps the checks of each
-//! turn that is refused, up to the first that fails. These are proved; the words (`error`, `help`, `passed`) are tested.
+//! turn that is refused, up to the first that fails. These are proved. The words are tested: `error`, `help`, `passed` and
+//! `event` choose phrases, and `phrase` writes them.
 #![tactic(auto)]
 
 mod check;
@@ -12,7 +13,8 @@ mod event;
 mod explained;
 mod explaining;
 mod help;
-mod help_pages;
+mod help_host;
+mod help_input;
 mod help_realm;
 mod host_facts;
 pub mod law;
@@ -27,6 +29,7 @@ mod of_step;
 mod of_walk;
 mod operands;
 mod passed;
+mod phrase;
 mod readings;
 mod rmi_facts;
 mod roles;

@@ -1,46 +1,58 @@
 //! Refusals and states by their names. RMM 1.0 names the states and the RMI results.
-use realm_host::{EntryState, RecState, Refusal, Rmi};
+use crate::phrase::Value::Number;
+use crate::phrase::{Phrase, one, plain};
+use realm_host::{EntryState, GranuleState, RealmState, RecState, Refusal, Rmi};
 use realm_model::Status;
-use std::fmt;
-
-/// A refusal by its name: that of the host, or the result of the RMI command.
-#[derive(Clone, Copy)]
-pub(crate) struct RefusalName(pub Refusal);
+use realm_plan::{realm_word, state_word};
 
 // The result of an RMI command, and with RMI_ERROR_RTT its index.
-fn rmi_name<W: fmt::Write>(rmi: Rmi, f: &mut fmt::Formatter<W>) -> fmt::Result {
+fn rmi_name(rmi: Rmi) -> Phrase {
     match rmi.status {
-        Status::Input => f.write_str("RMI_ERROR_INPUT"),
-        Status::Realm => f.write_str("RMI_ERROR_REALM"),
-        Status::Rec => f.write_str("RMI_ERROR_REC"),
-        Status::Rtt => write!(f, "RMI_ERROR_RTT, index {}", rmi.index),
+        Status::Input => plain("RMI_ERROR_INPUT"),
+        Status::Realm => plain("RMI_ERROR_REALM"),
+        Status::Rec => plain("RMI_ERROR_REC"),
+        Status::Rtt => one("RMI_ERROR_RTT, index {}", Number(rmi.index as u64)),
     }
 }
 
-impl fmt::Display for RefusalName {
-    fn fmt<W: fmt::Write>(&self, f: &mut fmt::Formatter<W>) -> fmt::Result {
-        match self.0 {
-            Refusal::NoBuild => f.write_str("NoBuild"),
-            Refusal::Aborting => f.write_str("Aborting"),
-            Refusal::BadOrder => f.write_str("BadOrder"),
-            Refusal::NotLeased(_) => f.write_str("NotLeased"),
-            Refusal::RealmThere => f.write_str("RealmThere"),
-            Refusal::NoRealm => f.write_str("NoRealm"),
-            Refusal::NothingToUndo => f.write_str("NothingToUndo"),
-            Refusal::RecRunning => f.write_str("RecRunning"),
-            Refusal::JournalFull => f.write_str("JournalFull"),
-            Refusal::HistoryFull => f.write_str("HistoryFull"),
-            Refusal::NoBlock(_) => f.write_str("NoBlock"),
-            Refusal::NoVmid => f.write_str("NoVmid"),
-            Refusal::Rmi(rmi) => rmi_name(rmi, f),
-        }
+/// A refusal by its name: that of the host, or the result of the RMI command.
+pub(crate) fn refusal_name(refusal: Refusal) -> Phrase {
+    match refusal {
+        Refusal::NoBuild => plain("NoBuild"),
+        Refusal::Aborting => plain("Aborting"),
+        Refusal::BadOrder => plain("BadOrder"),
+        Refusal::NotLeased(_) => plain("NotLeased"),
+        Refusal::RealmThere => plain("RealmThere"),
+        Refusal::NoRealm => plain("NoRealm"),
+        Refusal::NothingToUndo => plain("NothingToUndo"),
+        Refusal::RecRunning => plain("RecRunning"),
+        Refusal::JournalFull => plain("JournalFull"),
+        Refusal::HistoryFull => plain("HistoryFull"),
+        Refusal::NoBlock(_) => plain("NoBlock"),
+        Refusal::NoVmid => plain("NoVmid"),
+        Refusal::Rmi(rmi) => rmi_name(rmi),
     }
 }
 
-pub(crate) fn rec_state(state: RecState) -> &'static str {
+pub(crate) fn granule_state(state: Option<GranuleState>) -> &'static str {
     match state {
-        RecState::Ready => "READY",
-        RecState::Running => "RUNNING",
+        Some(state) => state_word(state),
+        None => "missing",
+    }
+}
+
+pub(crate) fn realm_state(state: Option<RealmState>) -> &'static str {
+    match state {
+        Some(state) => realm_word(state),
+        None => "missing",
+    }
+}
+
+pub(crate) fn rec_state(state: Option<RecState>) -> &'static str {
+    match state {
+        Some(RecState::Ready) => "READY",
+        Some(RecState::Running) => "RUNNING",
+        None => "missing",
     }
 }
 

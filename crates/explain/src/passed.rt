@@ -1,170 +1,159 @@
 //! Checks that passed, in words: what is.
-use crate::check::{Check, Fact};
+use crate::check::Fact;
 use crate::host_facts::{BuildFact, RoomFact, UndoFact};
 use crate::names::{entry_state, rec_state};
+use crate::phrase::Value::{Many, Number, Page, Word};
+use crate::phrase::{Phrase, one, pages, plain, two};
 use crate::rmi_facts::{InputFact, RealmFact, RecFact, WalkFact};
-use crate::roles::{Many, plan_page, role_of, undelegated_role_of};
+use crate::roles::{role_by_state, role_of};
 use host_commands::Step;
-use realm_host::GranuleState;
 use realm_plan::{realm_word, state_word};
-use std::alloc::AllocError;
 
-/// Appends the line of a check that passed.
-pub(crate) fn push_passed(text: &mut String, step: &Step, check: &Check) -> Result<(), AllocError> {
-    text.push_str("        ok: ")?;
-    match check.fact {
-        Fact::Build(fact) => push_build(text, step, fact)?,
-        Fact::Room(fact) => push_room(text, fact)?,
-        Fact::Undo(fact) => push_undo(text, fact)?,
-        Fact::Input(fact) => push_input(text, step, fact)?,
-        Fact::Realm(fact) => push_realm(text, fact)?,
-        Fact::Rec(fact) => push_rec(text, fact)?,
-        Fact::Walk(fact) => push_walk(text, fact)?,
+/// The words for a check of a step that passed.
+pub(crate) fn passed(step: &Step, fact: Fact) -> Phrase {
+    match fact {
+        Fact::Build(fact) => of_build(step, fact),
+        Fact::Room(fact) => of_room(fact),
+        Fact::Undo(fact) => of_undo(fact),
+        Fact::Input(fact) => of_input(step, fact),
+        Fact::Realm(fact) => of_realm(fact),
+        Fact::Rec(fact) => of_rec(fact),
+        Fact::Walk(fact) => of_walk(fact),
     }
-    text.push_str("\n")
 }
 
-fn push_build(text: &mut String, step: &Step, fact: BuildFact) -> Result<(), AllocError> {
+fn of_build(step: &Step, fact: BuildFact) -> Phrase {
     match fact {
-        BuildFact::There(1) => text.push_str("the build is the only one"),
-        BuildFact::There(builds) => write!(text, "the build is one of {builds}"),
-        BuildFact::NotAborting => text.push_str("the build is not in abort"),
-        BuildFact::Order(order) => write!(text, "the order is {order}, at most 9"),
-        BuildFact::Page(page, Some(granule), _) => {
-            let page = plan_page(role_of(step, page), page);
-            write!(text, "{page} is granule {}", granule.number())
-        }
-        BuildFact::Page(page, None, _) => write!(text, "page {page} is there"),
-        BuildFact::Realm(Some(rd)) => write!(
-            text,
+        BuildFact::There(1) => plain("the build is the only one"),
+        BuildFact::There(builds) => one("the build is one of {}", Number(builds as u64)),
+        BuildFact::NotAborting => plain("the build is not in abort"),
+        BuildFact::Order(order) => one("the order is {}, at most 9", Number(order as u64)),
+        BuildFact::Page(page, Some(granule), _) => two(
+            "{} is granule {}",
+            Page(role_of(step, page), page),
+            Number(granule.number() as u64),
+        ),
+        BuildFact::Page(page, None, _) => one("page {} is there", Number(page as u64)),
+        BuildFact::Realm(Some(rd)) => one(
             "the build has a realm, with its RD in granule {}",
-            rd.number()
+            Number(rd.number() as u64),
         ),
-        BuildFact::Realm(None) => text.push_str("the build has a realm"),
-        BuildFact::NoRealm(_) => text.push_str("the build has no realm"),
+        BuildFact::Realm(None) => plain("the build has a realm"),
+        BuildFact::NoRealm(_) => plain("the build has no realm"),
     }
 }
 
-fn push_room(text: &mut String, fact: RoomFact) -> Result<(), AllocError> {
+fn of_room(fact: RoomFact) -> Phrase {
     match fact {
-        RoomFact::Journal(open) => {
-            write!(
-                text,
-                "{} open, fewer than 512",
-                Many(open, "operation is", "operations are")
-            )
-        }
-        RoomFact::History(left, needed) => {
-            let more = Many(left as usize, "more event", "more events");
-            write!(text, "the history has room for {more}; {needed} needed")
-        }
-        RoomFact::Vmid(Some(lowest)) => write!(text, "VMID {} is free", lowest.number()),
-        RoomFact::Vmid(None) => text.push_str("a VMID is free"),
-        RoomFact::Block(order, _) => write!(text, "an aligned block of order {order} is free"),
-    }
-}
-
-fn push_undo(text: &mut String, fact: UndoFact) -> Result<(), AllocError> {
-    match fact {
-        UndoFact::Open(open) => write!(
-            text,
-            "{} open",
-            Many(open, "operation is", "operations are")
+        RoomFact::Journal(open) => one(
+            "{} open, fewer than 512",
+            Many(open, "operation is", "operations are"),
         ),
-        UndoFact::NewestRests => text.push_str(
-            "the newest operation's REC is READY, or it created none",
+        RoomFact::History(left, needed) => two(
+            "the history has room for {}; {} needed",
+            Many(left as usize, "more event", "more events"),
+            Number(needed as u64),
         ),
-        UndoFact::AllRest(_) => text.push_str("each REC of the build is READY"),
-        UndoFact::Mark => text.push_str("the build has a mark"),
-        UndoFact::AboveRests => text.push_str("each REC created since the mark is READY"),
-    }
-}
-
-fn push_input(text: &mut String, step: &Step, fact: InputFact) -> Result<(), AllocError> {
-    match fact {
-        InputFact::Page(page, wanted, _) => {
-            let role = match wanted {
-                GranuleState::Undelegated => undelegated_role_of(step),
-                _ => role_of(step, page),
-            };
-            write!(text, "{} is {}", plan_page(role, page), state_word(wanted))
-        }
-        InputFact::Protected(ipa, width) => {
-            write!(
-                text,
-                "IPA granule {ipa} is in the protected half at IPA width {width}"
-            )
-        }
-        InputFact::Level(level) => write!(text, "the level of the table is {level}"),
-        InputFact::Start(ipa, level) => write!(
-            text,
-            "a table of level {level} can start at IPA granule {ipa}"
+        RoomFact::Vmid(Some(lowest)) => one("VMID {} is free", Number(lowest.number() as u64)),
+        RoomFact::Vmid(None) => plain("a VMID is free"),
+        RoomFact::Block(order, _) => one(
+            "an aligned block of order {} is free",
+            Number(order as u64),
         ),
-        InputFact::Count(count) => write!(text, "the count of pages is {count}, 1 to 512"),
-        InputFact::OneTable(ipa, count) => {
-            let pages = Many(count as usize, "page", "pages");
-            write!(
-                text,
-                "{pages} from IPA granule {ipa} on: one table of level 3"
-            )
-        }
     }
 }
 
-fn push_realm(text: &mut String, fact: RealmFact) -> Result<(), AllocError> {
+fn of_undo(fact: UndoFact) -> Phrase {
     match fact {
-        RealmFact::Width(width) => write!(text, "the IPA width is {width}, 39 to 43"),
-        RealmFact::Adjacent => text.push_str("the starting tables are adjacent granules"),
-        RealmFact::Multiple(count) => {
-            let granules = Many(count, "granule", "granules");
-            write!(
-                text,
-                "the first starting table is at a multiple of {granules}"
-            )
-        }
-        RealmFact::Apart => text.push_str("the RD page is not a starting table"),
-        RealmFact::State(wanted, _) => write!(text, "the realm is {}", realm_word(wanted)),
+        UndoFact::Open(open) => one("{} open", Many(open, "operation is", "operations are")),
+        UndoFact::NewestRests => plain("the newest operation's REC is READY, or it created none"),
+        UndoFact::AllRest(_) => plain("each REC of the build is READY"),
+        UndoFact::Mark => plain("the build has a mark"),
+        UndoFact::AboveRests => plain("each REC created since the mark is READY"),
     }
 }
 
-fn push_rec(text: &mut String, fact: RecFact) -> Result<(), AllocError> {
+fn of_input(step: &Step, fact: InputFact) -> Phrase {
     match fact {
-        RecFact::Distinct => text.push_str("no page is named twice"),
-        RecFact::Auxiliaries(given, _) => {
-            let pages = Many(given, "auxiliary page is", "auxiliary pages are");
-            write!(text, "{pages} named, as many as a REC has")
-        }
-        RecFact::There(number) => write!(text, "the realm has REC {}", number.number()),
-        RecFact::State(number, wanted, _) => write!(
-            text,
+        InputFact::Page(page, wanted, _) => two(
+            "{} is {}",
+            Page(role_by_state(step, page, wanted), page),
+            Word(state_word(wanted)),
+        ),
+        InputFact::Protected(ipa, width) => two(
+            "IPA granule {} is in the protected half at IPA width {}",
+            Number(ipa as u64),
+            Number(width as u64),
+        ),
+        InputFact::Level(level) => one("the level of the table is {}", Number(level as u64)),
+        InputFact::Start(ipa, level) => two(
+            "a table of level {} can start at IPA granule {}",
+            Number(level as u64),
+            Number(ipa as u64),
+        ),
+        InputFact::Count(count) => one("the count of pages is {}, 1 to 512", Number(count as u64)),
+        InputFact::OneTable(ipa, count) => two(
+            "{} from IPA granule {} on: one table of level 3",
+            pages(count),
+            Number(ipa as u64),
+        ),
+    }
+}
+
+fn of_realm(fact: RealmFact) -> Phrase {
+    match fact {
+        RealmFact::Width(width) => one("the IPA width is {}, 39 to 43", Number(width as u64)),
+        RealmFact::Adjacent => plain("the starting tables are adjacent granules"),
+        RealmFact::Multiple(count) => one(
+            "the first starting table is at a multiple of {}",
+            Many(count, "granule", "granules"),
+        ),
+        RealmFact::Apart => plain("the RD page is not a starting table"),
+        RealmFact::State(wanted, _) => one("the realm is {}", Word(realm_word(wanted))),
+    }
+}
+
+fn of_rec(fact: RecFact) -> Phrase {
+    match fact {
+        RecFact::Distinct => plain("no page is named twice"),
+        RecFact::Auxiliaries(given, _) => one(
+            "{} named, as many as a REC has",
+            Many(given, "auxiliary page is", "auxiliary pages are"),
+        ),
+        RecFact::There(number) => one("the realm has REC {}", Number(number.number() as u64)),
+        RecFact::State(number, wanted, _) => two(
             "REC {} is {}",
-            number.number(),
-            rec_state(wanted)
+            Number(number.number() as u64),
+            Word(rec_state(Some(wanted))),
         ),
     }
 }
 
-fn push_walk(text: &mut String, fact: WalkFact) -> Result<(), AllocError> {
+fn of_walk(fact: WalkFact) -> Phrase {
     match fact {
-        WalkFact::Walk(ipa, to, _) => write!(
-            text,
-            "the walk of IPA granule {ipa} ends at level {to}"
+        WalkFact::Walk(ipa, to, _) => two(
+            "the walk of IPA granule {} ends at level {}",
+            Number(ipa as u64),
+            Number(to as u64),
         ),
-        WalkFact::Entry(level, wanted, _) => write!(
-            text,
-            "the entry at level {level} is {}",
-            entry_state(Some(wanted))
+        WalkFact::Entry(level, wanted, _) => two(
+            "the entry at level {} is {}",
+            Number(level as u64),
+            Word(entry_state(Some(wanted))),
         ),
-        WalkFact::NoTable(level, _) => write!(text, "the entry at level {level} is not TABLE"),
-        WalkFact::Leads(Some(granule)) => write!(
-            text,
+        WalkFact::NoTable(level, _) => one(
+            "the entry at level {} is not TABLE",
+            Number(level as u64),
+        ),
+        WalkFact::Leads(Some(granule)) => one(
             "the entry leads to granule {}",
-            granule.number()
+            Number(granule.number() as u64),
         ),
-        WalkFact::Leads(None) => text.push_str("the entry leads to a page"),
-        WalkFact::Free(ipa, count) => {
-            let entries = Many(count as usize, "entry", "entries");
-            write!(text, "{entries} from IPA granule {ipa} on: UNASSIGNED")
-        }
+        WalkFact::Leads(None) => plain("the entry leads to a page"),
+        WalkFact::Free(ipa, count) => two(
+            "{} from IPA granule {} on: UNASSIGNED",
+            Many(count as usize, "entry", "entries"),
+            Number(ipa as u64),
+        ),
     }
 }

@@ -1,11 +1,11 @@
 //! Readings of a host that the words need beside the numbers of a check.
 use crate::of_block::has_block;
 use crate::operands::pages_named;
+use arrayvec::ArrayVec;
 use granule_addr::{BuildId, Gran, Level, Order, RecNo};
 use host_commands::{Cmd, Step};
 use page_arena::PageStore;
 use realm_host::{Act, EntryState, GranuleState, Host, RecState};
-use std::alloc::{AllocError, Global};
 
 /// The IPA granule that a step names, or 0.
 pub(crate) fn ipa_of(step: &Step) -> u32 {
@@ -19,32 +19,32 @@ pub(crate) fn ipa_of(step: &Step) -> u32 {
     }
 }
 
-// Whether a step names a page.
-fn names_page(step: &Step, page: u16) -> bool {
+/// The pages that a step names.
+pub(crate) fn named_pages(step: &Step) -> ArrayVec<u16, 17> {
     match step {
-        Step::Ask(cmd) => pages_named(cmd).as_slice().contains(&page),
-        _ => false,
+        Step::Ask(cmd) => pages_named(cmd),
+        _ => ArrayVec::new(),
     }
 }
 
-/// The pages of a build in a state that a step does not name, in rising number; at most 17.
+/// The first 17 pages of a build that are in a state and that a step does not name.
 pub(crate) fn other_pages<S: PageStore>(
-    alloc: Global,
     host: &Host<S>,
     build: BuildId,
     step: &Step,
     state: GranuleState,
-) -> Result<Vec<u16>, AllocError> {
-    let mut pages = Vec::new(alloc);
+) -> ArrayVec<u16, 17> {
+    let named = named_pages(step);
+    let mut pages = ArrayVec::new();
     for page in 0..host.page_count(build) {
-        if pages.len() < 17
+        if !pages.is_full()
             && host.page_state(build, page) == Some(state)
-            && !names_page(step, page)
+            && !named.as_slice().contains(&page)
         {
-            pages.push(page)?;
+            pages.push(page);
         }
     }
-    Ok(pages)
+    pages
 }
 
 // Whether `count` pages of a build from `first` on are DELEGATED, in adjacent granules from a multiple of `count` on, and
@@ -157,25 +157,41 @@ pub(crate) fn newest_rec<S: PageStore>(host: &Host<S>, build: BuildId) -> Option
     }
 }
 
-/// The numbers of the RECs of a build's realm, in rising number: all, or those that are RUNNING.
-pub(crate) fn rec_numbers<S: PageStore>(
-    alloc: Global,
+/// The number of the next REC of a build's realm; 0 if it has no realm.
+pub(crate) fn next_rec<S: PageStore>(host: &Host<S>, build: BuildId) -> u16 {
+    match host.realm(build) {
+        Some(realm) => realm.next_number().number(),
+        None => 0,
+    }
+}
+
+/// Whether the realm of a build has a REC of that number, and, if asked, one that is RUNNING.
+pub(crate) fn has_rec<S: PageStore>(
+    host: &Host<S>,
+    build: BuildId,
+    number: u16,
+    only_running: bool,
+) -> bool {
+    match host.rec(build, RecNo::new(number)) {
+        Some((_granule, rec)) => !only_running || matches!(rec.state(), RecState::Running),
+        None => false,
+    }
+}
+
+/// The number of the RECs of a build's realm, all or those that are RUNNING, and the last of these.
+pub(crate) fn count_of_recs<S: PageStore>(
     host: &Host<S>,
     build: BuildId,
     only_running: bool,
-) -> Result<Vec<u16>, AllocError> {
-    let mut numbers = Vec::new(alloc);
-    let next = host
-        .realm(build)
-        .map_or(0, |realm| realm.next_number().number());
-    for number in 0..next {
-        if let Some((_granule, rec)) = host.rec(build, RecNo::new(number)) {
-            if !only_running || matches!(rec.state(), RecState::Running) {
-                numbers.push(number)?;
-            }
+) -> (u16, u16) {
+    let (mut count, mut last) = (0u16, 0);
+    for number in 0..next_rec(host, build) {
+        if has_rec(host, build, number, only_running) {
+            count = count.saturating_add(1);
+            last = number;
         }
     }
-    Ok(numbers)
+    (count, last)
 }
 
 /// Whether the entry of level 3 of an IPA granule is UNASSIGNED.
@@ -200,4 +216,15 @@ pub(crate) fn first_entry<S: PageStore>(
         }
     }
     None
+}
+
+/// The number of IPA granules that a table of level 2 or 3 serves.
+pub(crate) fn served(level: u8) -> u32 {
+    if level == 2 { 262_144 } else { 512 }
+}
+
+/// The first IPA granule of the table of level 2 or 3 that serves an IPA granule.
+pub(crate) fn first_served(ipa: u32, level: u8) -> u32 {
+    let served = if level == 2 { 262_144 } else { 512 };
+    ipa - ipa % served
 }

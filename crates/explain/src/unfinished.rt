@@ -4,8 +4,8 @@ ghost use Rattle.std.specs.List.{cons_option, filter_map, range_with_len};
 ghost use Rattle.explain.specs.Unfinished.{unfinished_abort};
 
 use crate::explaining::id_of;
-use crate::roles::Many;
-use crate::words::push_line;
+use crate::phrase::Value::{Many, Number};
+use crate::phrase::two;
 use granule_addr::BuildId;
 use page_arena::PageStore;
 use realm_host::Host;
@@ -62,14 +62,12 @@ pub fn unfinished_aborts<S: PageStore>(
 pub fn unfinished_lines(alloc: Global, aborts: &[UnfinishedAbort]) -> Result<String, AllocError> {
     let mut text = String::new(alloc);
     for abort in aborts {
-        let build = abort.build.number();
+        let build = Number(abort.build.number() as u64);
         let more = Many(abort.turns, "more turn", "more turns");
-        let error = format!(in alloc; "the abort of build {build} needs {more} in `order`")?;
-        push_line(&mut text, "error", &error)?;
-        let help = format!(in alloc;
-            "add {more} of build {build} to `order`; `realmview order` does it"
-        )?;
-        push_line(&mut text, "help", &help)?;
+        let error = "    error: the abort of build {} needs {} in `order`\n";
+        two(error, build, more).push(&mut text)?;
+        let help = "    help: add {} of build {} to `order`; `realmview order` does it\n";
+        two(help, more, build).push(&mut text)?;
     }
     Ok(text)
 }

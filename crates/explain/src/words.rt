@@ -1,10 +1,11 @@
 //! The words for refusals. They are tested, not proved; `error` and `help` have the sentences.
 use crate::check::Check;
-use crate::error::push_error;
+use crate::error::{error_of, push_error};
 use crate::explained::Explanation;
 use crate::help::push_help;
-use crate::passed::push_passed;
-use crate::roles::{Many, Naming};
+use crate::passed::passed;
+use crate::phrase::Value::Many;
+use crate::phrase::one;
 use granule_addr::BuildId;
 use host_commands::Step;
 use page_arena::PageStore;
@@ -23,18 +24,26 @@ pub(crate) fn words_of<S: PageStore>(
     let mut error = String::new(alloc);
     let mut help = String::new(alloc);
     if let Some(check) = checks.last() {
-        push_error(alloc, &mut error, host, build, Naming::Pages, step, check)?;
-        push_help(alloc, &mut help, host, build, step, check)?;
+        let words = error_of(host, build, step, check.fact);
+        push_error(&mut error, words, step, check)?;
+        push_help(&mut help, host, build, step, check.fact)?;
     }
     Ok((error, help))
 }
 
-/// Appends a line of a kind, `error` or `help`, four spaces further in than the line of a turn; none if it has no words.
-pub(crate) fn push_line(text: &mut String, kind: &str, words: &str) -> Result<(), AllocError> {
+// Appends a line of a kind, `error` or `help`, four spaces further in than the line of a turn; none if it has no words.
+fn push_line(text: &mut String, kind: &str, words: &str) -> Result<(), AllocError> {
     if words.is_empty() {
         return Ok(());
     }
     writeln!(text, "    {kind}: {words}")
+}
+
+// Appends the line of a check that passed.
+fn push_passed(text: &mut String, step: &Step, check: &Check) -> Result<(), AllocError> {
+    text.push_str("        ok: ")?;
+    passed(step, check.fact).push(text)?;
+    text.push_str("\n")
 }
 
 /// The lines below that of a refused turn: the check that fails, what helps, and how many checks passed before; if `all`,
@@ -43,13 +52,13 @@ pub fn reason_lines(alloc: Global, reason: &Explanation, all: bool) -> Result<St
     let mut text = String::new(alloc);
     push_line(&mut text, "error", &reason.error)?;
     push_line(&mut text, "help", &reason.help)?;
-    let passed = reason.checks.len().saturating_sub(1);
-    if passed > 0 {
-        let count = Many(passed, "earlier check passed", "earlier checks passed");
-        writeln!(text, "    {count}")?;
+    let count = reason.checks.len().saturating_sub(1);
+    if count > 0 {
+        let checks = Many(count, "earlier check passed", "earlier checks passed");
+        one("    {}\n", checks).push(&mut text)?;
     }
     if all {
-        for check in reason.checks.iter().take(passed) {
+        for check in reason.checks.iter().take(count) {
             push_passed(&mut text, &reason.step, check)?;
         }
     }

@@ -1,0 +1,146 @@
+//! Phrases: words with a `{}` for each number, word or page that they name.
+//!
+//! A function that chooses words returns a phrase, and `Phrase::push` writes it. So the choice is an expression over the
+//! numbers of a check, and cannot fail.
+use granule_addr::BuildId;
+use page_arena::PageStore;
+use realm_host::Host;
+use std::alloc::AllocError;
+
+/// A value in a phrase.
+#[derive(Clone, Copy)]
+pub(crate) enum Value {
+    Number(u64),
+    Word(&'static str),
+    /// A number of things: the number, the noun for one and the noun for more.
+    Many(usize, &'static str, &'static str),
+    /// A page of a build, as `data page 5`: its role, with a space after it, and its number.
+    Page(&'static str, u16),
+    /// A granule in a role, likewise.
+    Granule(&'static str, u16),
+}
+
+/// Words, with a value for each `{}` among them.
+#[derive(Clone, Copy)]
+pub(crate) struct Phrase {
+    words: &'static str,
+    first: Value,
+    second: Value,
+    third: Value,
+    fourth: Value,
+}
+
+pub(crate) fn four(words: &'static str, a: Value, b: Value, c: Value, d: Value) -> Phrase {
+    Phrase {
+        words,
+        first: a,
+        second: b,
+        third: c,
+        fourth: d,
+    }
+}
+
+pub(crate) fn three(words: &'static str, a: Value, b: Value, c: Value) -> Phrase {
+    four(words, a, b, c, Value::Word(""))
+}
+
+pub(crate) fn two(words: &'static str, a: Value, b: Value) -> Phrase {
+    three(words, a, b, Value::Word(""))
+}
+
+pub(crate) fn one(words: &'static str, a: Value) -> Phrase {
+    two(words, a, Value::Word(""))
+}
+
+pub(crate) fn plain(words: &'static str) -> Phrase {
+    one(words, Value::Word(""))
+}
+
+/// A number of pages.
+pub(crate) fn pages(count: u16) -> Value {
+    Value::Many(count as usize, "page", "pages")
+}
+
+/// The number of a page, or the letter that stands for one.
+pub(crate) fn page_or(page: Option<u16>, letter: &'static str) -> Value {
+    match page {
+        Some(page) => Value::Number(page as u64),
+        None => Value::Word(letter),
+    }
+}
+
+fn push_number(text: &mut String, number: u64) -> Result<(), AllocError> {
+    write!(text, "{number}")
+}
+
+// Appends a number, and the noun of what is counted.
+fn push_many(text: &mut String, count: usize, noun: &str) -> Result<(), AllocError> {
+    push_number(text, count as u64)?;
+    text.push_str(" ")?;
+    text.push_str(noun)
+}
+
+// Appends a role, the noun of what has it, and its number.
+fn push_named(text: &mut String, role: &str, noun: &str, number: u16) -> Result<(), AllocError> {
+    text.push_str(role)?;
+    text.push_str(noun)?;
+    push_number(text, number as u64)
+}
+
+impl Value {
+    /// The granule of a page that the build has, and any other value as it is.
+    pub(crate) fn in_granules<S: PageStore>(self, host: &Host<S>, build: BuildId) -> Value {
+        let Value::Page(role, page) = self else {
+            return self;
+        };
+        match host.page_granule(build, page) {
+            Some(granule) => Value::Granule(role, granule.number()),
+            None => self,
+        }
+    }
+
+    fn push(self, text: &mut String) -> Result<(), AllocError> {
+        match self {
+            Value::Number(number) => push_number(text, number),
+            Value::Word(word) => text.push_str(word),
+            Value::Many(1, one, _) => push_many(text, 1, one),
+            Value::Many(count, _, more) => push_many(text, count, more),
+            Value::Page(role, page) => push_named(text, role, "page ", page),
+            Value::Granule(role, granule) => push_named(text, role, "granule ", granule),
+        }
+    }
+}
+
+// Appends words, with the next of the values for each `{}`.
+fn fill(text: &mut String, words: &str, values: &[Value]) -> Result<(), AllocError> {
+    let mut rest = values;
+    for (place, part) in words.split("{}").enumerate() {
+        if place > 0 {
+            if let Some((value, others)) = rest.split_first() {
+                value.push(text)?;
+                rest = others;
+            }
+        }
+        text.push_str(part)?;
+    }
+    Ok(())
+}
+
+impl Phrase {
+    /// The phrase with the granules of a build's pages in their places.
+    pub(crate) fn in_granules<S: PageStore>(self, host: &Host<S>, build: BuildId) -> Phrase {
+        four(
+            self.words,
+            self.first.in_granules(host, build),
+            self.second.in_granules(host, build),
+            self.third.in_granules(host, build),
+            self.fourth.in_granules(host, build),
+        )
+    }
+
+    /// Appends the phrase.
+    pub(crate) fn push(self, text: &mut String) -> Result<(), AllocError> {
+        let values = [self.first, self.second, self.third, self.fourth];
+        fill(text, self.words, &values)
+    }
+}
