@@ -70,7 +70,7 @@ tables_checks host build (Unknown page ipa) = unknown_checks host build page ipa
 tables_checks host build Activate = realm_new host build ∷ []
 tables_checks host build cmd = recs_checks host build cmd
 
--- the checks of the store for a Take, and of the monitor for any other command, on these pages and granules
+-- the checks of the store for a Take, and of the RMM for any other command, on these pages and granules
 abbrev pub monitor_checks : HostView → ℕ → Cmd → List ℕ → List ℕ → List Check
 monitor_checks host build (Take order) pages granules = take_checks host order
 monitor_checks host build (Fill page value) pages granules = page_undelegated host build page ∷ []
@@ -80,7 +80,7 @@ monitor_checks host build (Realm rd root width) pages granules = realm_create_ch
 monitor_checks host build (Rec page auxiliaries) pages granules = rec_create_checks host build pages granules
 monitor_checks host build cmd pages granules = tables_checks host build cmd
 
--- all checks of a command: those by its needs, and those of the store or the monitor
+-- all checks of a command: those by its needs, and those of the store or the RMM
 unfoldable pub command_checks : HostView → ℕ → Cmd → List Check
 command_checks host build cmd =
     needs_checks host build cmd (pages_named cmd)

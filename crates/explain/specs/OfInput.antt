@@ -30,7 +30,7 @@ abbrev pub is_undelegated_state : Option GranuleState → Bool
 is_undelegated_state (Some Undelegated) = true
 is_undelegated_state _ = false
 
--- a check of the state that was found, against the one that is wanted
+-- a check of the state that was found, against the one that is required
 abbrev pub page_check : ℕ → Option GranuleState → GranuleState → Bool → Check
 page_check page found wanted fails = input_check (fact.Input (input.Page page wanted found)) fails
 

@@ -27,7 +27,7 @@ abbrev pub is_active_state : Option RealmState → Bool
 is_active_state (Some Active) = true
 is_active_state _ = false
 
--- a check of the state that was found, against the one that is wanted
+-- a check of the state that was found, against the one that is required
 abbrev pub state_check : Option RealmState → RealmState → Bool → Check
 state_check found wanted fails = rmi_check (fact.Realm (realm_fact.State wanted found)) fails error_realm
 
@@ -47,7 +47,7 @@ realm_active host build = record {
 
 -- ---- a realm that is to be made
 
--- the granules are `next` and those behind it, in their order
+-- the granules are `next` and those after it, in rising sequence
 abbrev pub follow : ℕ → List ℕ → Bool
 follow next [] = true
 follow next (granule ∷ rest) = granule == next && follow (next + 1) rest

@@ -1,4 +1,5 @@
--- Checks of a REC that is to be made, and of one that is there, with what they read. RMM 1.0, RMI_REC_CREATE, REC attributes.
+-- Checks of a REC that is to be made, and of one that is there, with what they read. RMM 1.0, RMI_REC_CREATE, REC
+-- attributes.
 use Rattle.std.specs.Prelude.{ℕ, ◌-◌, ◌==◌, List, [], ◌∷◌, ◌++◌, length, map, Bool, true, false, not, Option, Some, is_none, option_map}
 use Rattle.realm_model.specs.Command.Check.{error_rec, are_distinct}
 use Rattle.realm_model.specs.declared.states.RecState.{RecState}
@@ -37,7 +38,7 @@ is_running_state _ = false
 abbrev pub rec_there : HostView → ℕ → ℕ → Check
 rec_there host build number = input_check (fact.Rec (rec_fact.There number)) (is_none (state_of_rec host build number))
 
--- a check of the state that was found, against the one that is wanted
+-- a check of the state that was found, against the one that is required
 abbrev pub rec_check : ℕ → Option RecState → RecState → Bool → Check
 rec_check number found wanted fails = rmi_check (fact.Rec (rec_fact.State number wanted found)) fails error_rec
 

@@ -1,11 +1,11 @@
--- The pages that the checks of a command tell of.
+-- The pages that the checks of a command name.
 use Rattle.std.specs.Prelude.{ℕ, ◌+◌, nat_le, List, ◌∷◌, if◌then◌else◌}
 use Rattle.std.specs.List.{range_with_len}
 use Rattle.host_commands.specs.Needs.{operands, tables_named}
 use Rattle.host_commands.specs.declared.cmd.Cmd.{Cmd}
 use Rattle.host_commands.specs.declared.cmd.Cmd.TheVariants.{Realm}
 
--- how many starting tables are told of: only the first, where no pages have the numbers of the last ones
+-- the number of starting tables that are named: only the first, if no pages have the numbers of the last ones
 abbrev pub tables_within : ℕ → ℕ → ℕ
 tables_within root width = if nat_le (root + tables_named width) 65536 then tables_named width else 1
 

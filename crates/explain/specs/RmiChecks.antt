@@ -1,4 +1,4 @@
--- Checks of the monitor.
+-- Checks of the RMM.
 use Rattle.std.specs.Prelude.{Bool}
 use Rattle.host_commands.specs.declared.refusal.Refusal.TheVariants.{Rmi}
 use Rattle.realm_model.specs.declared.rmi.Rmi as answer

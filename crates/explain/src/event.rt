@@ -14,8 +14,8 @@ use plan_replay::PlanCursor;
 use realm_host::{Act, Event, Host, Refusal};
 use std::alloc::{AllocError, Global};
 
-/// The words for an event that a host does not apply: the check that refuses it, with granules in place of pages. They are
-/// empty if no check of a command does.
+/// The words for an event that a host does not apply: the check that refuses it, with granules in place of pages. They
+/// are empty if no check of a command does.
 pub fn event_words<S: PageStore>(
     alloc: Global,
     host: &Host<S>,
@@ -59,8 +59,8 @@ fn reverse_error<S: PageStore>(host: &Host<S>, build: BuildId) -> Phrase {
     }
 }
 
-// An act that a command does: the check that fails, unless it is of the block that the host would pick, since a history
-// names another; or else what the event records.
+// The words for an operation of a command: the check that fails, or else what the event records. The block that the
+// host would allocate is not checked, since a history names its own.
 fn push_act<S: PageStore>(
     alloc: Global,
     text: &mut String,
@@ -83,7 +83,7 @@ fn push_act<S: PageStore>(
     }
 }
 
-// The first of the granules of an act that the build does not lease. A block that is taken is nobody's yet.
+// The first granule of an operation that the build does not lease. A block that is taken is nobody's yet.
 fn foreign_granule<S: PageStore>(host: &Host<S>, build: BuildId, act: &Act) -> Option<Gran> {
     let is_foreign = |granule: &Gran| page_of(host, build, *granule).is_none();
     match act {
@@ -143,7 +143,7 @@ fn number_of<S: PageStore>(host: &Host<S>, build: BuildId, granule: Gran) -> u16
     page_of(host, build, granule).unwrap_or(0)
 }
 
-// The command of an act on a page alone.
+// The command of an operation on a page alone.
 fn page_command<S: PageStore>(host: &Host<S>, build: BuildId, act: &Act) -> Option<Cmd> {
     let cmd = match act {
         Act::Take { order, .. } => Cmd::Take {
@@ -169,7 +169,7 @@ fn page_command<S: PageStore>(host: &Host<S>, build: BuildId, act: &Act) -> Opti
     Some(cmd)
 }
 
-// The command of an act that makes a realm or its tables, or activates it.
+// The command of an operation that makes a realm or its tables, or activates it.
 fn realm_command<S: PageStore>(host: &Host<S>, build: BuildId, act: &Act) -> Option<Cmd> {
     let cmd = match act {
         Act::Realm { rd, root, .. } => Cmd::Realm {
@@ -192,7 +192,7 @@ fn realm_command<S: PageStore>(host: &Host<S>, build: BuildId, act: &Act) -> Opt
     Some(cmd)
 }
 
-// The command of an act on a realm's memory.
+// The command of an operation on a realm's memory.
 fn memory_command<S: PageStore>(host: &Host<S>, build: BuildId, act: &Act) -> Option<Cmd> {
     let cmd = match act {
         Act::Ripas { ipa, count } => Cmd::Ripas {
@@ -217,7 +217,7 @@ fn memory_command<S: PageStore>(host: &Host<S>, build: BuildId, act: &Act) -> Op
     Some(cmd)
 }
 
-// The command of an act on a REC that is there.
+// The command of an operation on a REC that exists.
 fn rec_command(act: &Act) -> Option<Cmd> {
     let cmd = match act {
         Act::Enter { number } => Cmd::Enter { number: *number },
@@ -238,7 +238,7 @@ fn rec_command(act: &Act) -> Option<Cmd> {
     Some(cmd)
 }
 
-// The command of an act, on pages of the build. A reverse act has none.
+// The command of an operation, on pages of the build. A reverse has none.
 fn command_of<S: PageStore>(
     alloc: Global,
     host: &Host<S>,

@@ -1,10 +1,10 @@
 //! The evaluated checks of a step that is refused, and words for the one that fails.
 //!
-//! A `Check` of a step's turn has the fact that it requires, whether it fails on the host as it is, and the refusal that
-//! it gives then. `step_checks` makes the checks of a step in their order. `law` says for which refusals the first that
-//! fails is the one that the host gives. `explain_turns` runs a plan as `plan_replay` does, and keeps the checks of each
-//! turn that is refused, up to the first that fails. These are proved. The words are tested: `error`, `help`, `passed` and
-//! `event` choose phrases, and `phrase` writes them.
+//! A `Check` of a step's turn has the fact that it requires, whether it fails on the host as it is, and the refusal
+//! that it gives then. `step_checks` makes the checks of a step in their order. `law` says for which refusals the first
+//! that fails is the one that the host gives. `explain_turns` runs a plan as `plan_replay` does, and keeps the checks
+//! of each turn that is refused, up to the first that fails. These are proved. The words are tested: `error`, `help`,
+//! `passed` and `event` choose phrases, and `phrase` writes them.
 #![tactic(auto)]
 
 mod check;

@@ -1,4 +1,4 @@
-//! Whether a block is free: refusal 11.
+//! The check that a block is free: refusal 11.
 ghost use Rattle.std.specs.Prelude.{◌≡◌, ◌+◌, ◌<◌, ◌≤◌};
 ghost use Rattle.explain.specs.OfBlock.{is_unleased, are_unleased, is_free_at, has_block, block_check};
 

@@ -107,7 +107,7 @@ fn realm_check<S: PageStore>(
     }
 }
 
-// Refusal 9: one more act may be open.
+// Refusal 9: one more operation may be open.
 fn journal_check<S: PageStore>(host: &Host<S>, build: BuildId, paired: bool) -> Option<Check>
     ensures { cons_option result [] ≡ checks_of_journal host.now build paired }
 {

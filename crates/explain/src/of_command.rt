@@ -169,7 +169,7 @@ fn add_there<S: PageStore>(
     }
 }
 
-// The checks of the store or of the monitor.
+// The checks of the store or of the RMM.
 fn add_monitor<S: PageStore>(
     host: &Host<S>,
     build: BuildId,

@@ -22,7 +22,7 @@ pub(crate) fn input_check(fact: Fact, fails: bool) -> Check
     }
 }
 
-// A check of the state of a page's granule that was found, against the one that is wanted.
+// A check of the state of a page's granule that was found, against the one that is required.
 fn page_check(page: u16, found: Option<GranuleState>, wanted: GranuleState, fails: bool) -> Check
     ensures { result ≡ page_check page found wanted fails }
 {

@@ -1,4 +1,5 @@
-//! Checks of a realm that is to be made, and of the state of one that is there. RMM 1.0, RMI_REALM_CREATE, Realm attributes.
+//! Checks of a realm that is to be made, and of the state of one that is there. RMM 1.0, RMI_REALM_CREATE, Realm
+//! attributes.
 ghost use Rattle.std.specs.Prelude.{◌≡◌, ◌++◌, ◌∷◌, ◌≤◌, OnOk, length};
 ghost use Rattle.explain.specs.OfRealm.{state_of_realm, state_check, realm_new, realm_active, follow, are_adjacent, begins_right, width_check, apart_check, start_checks, realm_create_checks};
 
@@ -21,7 +22,7 @@ fn state_of_realm<S: PageStore>(host: &Host<S>, build: BuildId) -> Option<RealmS
     }
 }
 
-// A check of the state that was found, against the one that is wanted.
+// A check of the state that was found, against the one that is required.
 fn state_check(found: Option<RealmState>, wanted: RealmState, fails: bool) -> Check
     ensures { result ≡ state_check found wanted fails }
 {
@@ -45,7 +46,7 @@ pub(crate) fn realm_active<S: PageStore>(host: &Host<S>, build: BuildId) -> Chec
     state_check(found, Active, !matches!(found, Some(Active)))
 }
 
-// Whether the granules are the one with number `first` and those behind it, in their order.
+// Whether the granules are the one with number `first` and those after it, in rising sequence.
 fn follow(first: u16, granules: &[Gran]) -> bool
     requires { first ≤ 4096 }
     ensures { result ≡ follow first granules.now }

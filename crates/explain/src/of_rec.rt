@@ -69,7 +69,7 @@ pub(crate) fn rec_there<S: PageStore>(host: &Host<S>, build: BuildId, number: Re
     input_check(Fact::Rec(RecFact::There(number)), found.is_none())
 }
 
-// A check of the state of a REC that was found, against the one that is wanted.
+// A check of the state of a REC that was found, against the one that is required.
 fn rec_check(number: RecNo, found: Option<RecState>, wanted: RecState, fails: bool) -> Check
     ensures { result ≡ rec_check number found wanted fails }
 {

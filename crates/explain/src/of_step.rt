@@ -123,8 +123,8 @@ fn add_step<S: PageStore>(
     }
 }
 
-/// The checks of the next turn of a build's step, in their order. The place says whether undos are left of the step, and
-/// which mark the build has.
+/// The checks of the next turn of a build's step, in their order. The place says whether undos are left of the step,
+/// and which mark the build has.
 pub fn step_checks<S: PageStore>(
     alloc: Global,
     host: &Host<S>,

@@ -10,7 +10,7 @@ use host_commands::tables_named;
 use page_arena::PageStore;
 use realm_host::{Cmd, Host};
 
-// How many of them are told of: only the first, where no pages have the numbers of the last ones.
+// The number of them that are named: only the first, if no pages have the numbers of the last ones.
 fn tables_within(root: u16, width: u8) -> u16
     ensures value { result ≡ tables_within root width }
     ensures few { result ≤ 16 }

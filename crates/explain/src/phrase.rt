@@ -1,7 +1,7 @@
 //! Phrases: words with a `{}` for each number, word or page that they name.
 //!
-//! A function that chooses words returns a phrase, and `Phrase::push` writes it. So the choice is an expression over the
-//! numbers of a check, and cannot fail.
+//! A function that chooses words returns a phrase, and `Phrase::push` writes it. So the choice is an expression over
+//! the numbers of a check, and cannot fail.
 use granule_addr::BuildId;
 use page_arena::PageStore;
 use realm_host::Host;
@@ -61,7 +61,7 @@ pub(crate) fn pages(count: u16) -> Value {
     Value::Many(count as usize, "page", "pages")
 }
 
-/// The number of a page, or the letter that stands for one.
+/// The number of a page, or the letter in its place.
 pub(crate) fn page_or(page: Option<u16>, letter: &'static str) -> Value {
     match page {
         Some(page) => Value::Number(page as u64),

@@ -47,8 +47,8 @@ pub(crate) fn other_pages<S: PageStore>(
     pages
 }
 
-// Whether `count` pages of a build from `first` on are DELEGATED, in adjacent granules from a multiple of `count` on, and
-// not the page `rd`.
+// Whether `count` pages of a build from `first` on are DELEGATED, in adjacent granules from a multiple of `count` on,
+// and not the page `rd`.
 fn are_tables<S: PageStore>(
     host: &Host<S>,
     build: BuildId,

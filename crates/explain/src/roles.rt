@@ -2,8 +2,8 @@
 use host_commands::{Cmd, Step};
 use realm_host::GranuleState;
 
-/// The role of a page in a step, in words before the noun; empty for a step's only page. A page that is named twice has its
-/// first role.
+/// The role of a page in a step, in words before the noun; empty for a step's only page. A page that is named twice has
+/// its first role.
 pub(crate) fn role_of(step: &Step, page: u16) -> &'static str {
     let Step::Ask(cmd) = step else {
         return "";

@@ -12,8 +12,8 @@ use page_arena::PageStore;
 use realm_host::Host;
 use std::alloc::{AllocError, Global};
 
-/// The words for a refused step: the check that fails, which is the last, and what helps; the second is empty if nothing
-/// does.
+/// The words for a refused step: the check that fails, which is the last, and what helps; the second is empty if
+/// nothing does.
 pub(crate) fn words_of<S: PageStore>(
     alloc: Global,
     host: &Host<S>,
@@ -46,8 +46,8 @@ fn push_passed(text: &mut String, step: &Step, check: &Check) -> Result<(), Allo
     text.push_str("\n")
 }
 
-/// The lines below that of a refused turn: the check that fails, what helps, and how many checks passed before; if `all`,
-/// each of these too.
+/// The lines below that of a refused turn: the check that fails, what helps, and how many checks passed before; if
+/// `all`, each of these too.
 pub fn reason_lines(alloc: Global, reason: &Explanation, all: bool) -> Result<String, AllocError> {
     let mut text = String::new(alloc);
     push_line(&mut text, "error", &reason.error)?;
