@@ -1,14 +1,45 @@
 //! Reports beside histories, the lines as a run of plans prints them.
 use crate::expected::holds;
-use crate::lines::{build, replied, step, undone};
-use builders::{Answer, Asked, Report, ReportLine};
-use granule_addr::{Gran, Order, PageOff};
-use host_commands::{Cmd, Refusal, Reply, Step};
+use crate::lines::{Line, No};
+use crate::steps::{FILLS, IS_REFUSED, READS, Words, steps_of};
+use builders::Report;
+use granule_addr::{BuildId, Gran, Order, PageOff};
 use realm_host::Kind;
-use realm_model::{Act, Event, Rmi};
+use realm_model::{Act, Event};
 use run_program::fits;
 use std::alloc::Global;
 use std::process::Abort;
+
+// An act of a build, with the order of a block, and granules by their numbers.
+enum Recorded {
+    Take(u8, u16),
+    GiveBack(u8, u16),
+    Fill(u16, u8),
+    // The last byte of a page is read.
+    Peek(u16, u8),
+    Delegate(u16),
+    Undelegate(u16),
+}
+
+// Three builds at once: one keeps its pages, one is refused and undoes what it did, and one reads what it wrote.
+const THREE_BUILDS: &[(u8, Recorded)] = &[
+    (0, Recorded::Take(1, 0)),
+    (1, Recorded::Take(1, 2)),
+    (2, Recorded::Take(0, 4)),
+    (0, Recorded::Fill(0, 1)),
+    (1, Recorded::Delegate(2)),
+    (2, Recorded::Fill(4, 2)),
+    (1, Recorded::Undelegate(2)),
+    (2, Recorded::Peek(4, 2)),
+    (1, Recorded::GiveBack(1, 2)),
+];
+
+// A build takes two blocks, and goes back to where it had one.
+const GOES_BACK: &[(u8, Recorded)] = &[
+    (0, Recorded::Take(0, 0)),
+    (0, Recorded::Take(1, 2)),
+    (0, Recorded::GiveBack(1, 2)),
+];
 
 // The granule of that number, modulo 16.
 fn granule(number: u16) -> Gran {
@@ -20,171 +51,174 @@ fn order(number: u8) -> Order {
     Order::new(number % 10).unwrap()
 }
 
-fn event(number: u8, act: Act) -> Event {
-    Event {
-        build: build(number),
-        act,
+fn act(recorded: &Recorded) -> Act {
+    match *recorded {
+        Recorded::Take(size, at) => Act::Take {
+            order: order(size),
+            first: granule(at),
+        },
+        Recorded::GiveBack(size, at) => Act::UnTake {
+            order: order(size),
+            first: granule(at),
+        },
+        Recorded::Fill(at, value) => Act::Fill {
+            granule: granule(at),
+            value,
+        },
+        Recorded::Peek(at, byte) => Act::Peek {
+            granule: granule(at),
+            offset: PageOff::new(4095).unwrap(),
+            byte,
+        },
+        Recorded::Delegate(at) => Act::Delegate {
+            granule: granule(at),
+        },
+        Recorded::Undelegate(at) => Act::Undelegate {
+            granule: granule(at),
+        },
     }
 }
 
-fn take(number: u8, size: u8, first: u16) -> Event {
-    let (order, first) = (order(size), granule(first));
-    event(number, Act::Take { order, first })
+fn history(rt: &impl Abort, alloc: Global, recorded: &[(u8, Recorded)]) -> Vec<Event> {
+    let mut events = Vec::new(alloc);
+    for (number, recorded) in recorded {
+        let build = BuildId::new(*number).expect(rt, "a build");
+        let act = act(recorded);
+        events.push(Event { build, act }).expect(rt, "memory");
+    }
+    events
 }
 
-fn give_back(number: u8, size: u8, first: u16) -> Event {
-    let (order, first) = (order(size), granule(first));
-    event(number, Act::UnTake { order, first })
-}
-
-fn fill(number: u8, at: u16, value: u8) -> Event {
-    let granule = granule(at);
-    event(number, Act::Fill { granule, value })
-}
-
-// A build reads the last byte of a page.
-fn peek(number: u8, at: u16, byte: u8) -> Event {
-    let (granule, offset) = (granule(at), PageOff::new(4095).unwrap());
-    event(
-        number,
-        Act::Peek {
-            granule,
-            offset,
-            byte,
-        },
-    )
-}
-
-fn delegate(number: u8, at: u16) -> Event {
-    let granule = granule(at);
-    event(number, Act::Delegate { granule })
-}
-
-fn undelegate(number: u8, at: u16) -> Event {
-    let granule = granule(at);
-    event(number, Act::Undelegate { granule })
-}
-
-// Three builds at once: one keeps its pages, one is refused and undoes what it did, and one reads what it wrote.
-fn three_builds() -> [Event; 9] {
-    [
-        take(0, 1, 0),
-        take(1, 1, 2),
-        take(2, 0, 4),
-        fill(0, 0, 1),
-        delegate(1, 2),
-        fill(2, 4, 2),
-        undelegate(1, 2),
-        peek(2, 4, 2),
-        give_back(1, 1, 2),
-    ]
-}
-
-// Whether these lines of a build fit is what is wanted.
+// Whether the lines of a build fit its steps and a history.
 fn fit(
     rt: &impl Abort,
     alloc: Global,
-    history: &[Event],
+    recorded: &[(u8, Recorded)],
     number: u8,
-    steps: &[Step],
-    lines: &[ReportLine],
-    want: bool,
-) {
-    let lines = lines.to_vec(alloc).expect(rt, "memory");
-    let build = build(number);
-    let answer = fits(alloc, history, &Report { build, lines }, steps).expect(rt, "memory");
-    holds(rt, "they fit as is wanted", answer == want);
+    steps: Words,
+    lines: &[Line],
+) -> bool {
+    let history = history(rt, alloc, recorded);
+    let steps = steps_of(rt, alloc, steps);
+    let mut report = Report {
+        build: BuildId::new(number).expect(rt, "a build"),
+        lines: Vec::new(alloc),
+    };
+    for line in lines {
+        report.lines.push(line.of_report()).expect(rt, "memory");
+    }
+    fits(alloc, history.as_slice(), &report, steps.as_slice()).expect(rt, "memory")
 }
 
-#[test]
-fn pages_are_kept(rt: HostRuntime) {
-    let history = three_builds();
-    let steps = [
-        Step::Ask(Cmd::Take { order: 1 }),
-        Step::Ask(Cmd::Fill { page: 0, value: 1 }),
-    ];
-    let lines = [replied(0, Reply::FirstPage(0)), replied(1, Reply::Done)];
-    fit(&rt, rt.alloc(), &history, 0, &steps, &lines, true);
-    let other_page = [
-        Step::Ask(Cmd::Take { order: 1 }),
-        Step::Ask(Cmd::Fill { page: 1, value: 1 }),
-    ];
-    fit(&rt, rt.alloc(), &history, 0, &other_page, &lines, false);
-    fit(&rt, rt.alloc(), &history, 1, &steps, &lines, false);
-}
+const MARKS: Words = &["take 0", "mark", "take 1", "back", "back"];
+
+const FILLED: &[Line] = &[Line::Page(0, 0), Line::Done(1)];
+
+// Reports of the three builds, and whether they fit.
+const REPORTS: &[(&str, u8, Words, &[Line], bool)] = &[
+    ("pages are kept", 0, FILLS, FILLED, true),
+    (
+        "another page is filled",
+        0,
+        &["take 1", "fill 1 1"],
+        FILLED,
+        false,
+    ),
+    ("another build", 1, FILLS, FILLED, false),
+    (
+        "a refused build undoes what it did",
+        1,
+        IS_REFUSED,
+        &[
+            Line::Page(0, 0),
+            Line::Done(1),
+            Line::No(2, No::Input),
+            Line::Undone(Kind::Delegate, 1),
+            Line::Undone(Kind::Take, 0),
+        ],
+        true,
+    ),
+    (
+        "the last undo is missing",
+        1,
+        IS_REFUSED,
+        &[
+            Line::Page(0, 0),
+            Line::Done(1),
+            Line::No(2, No::Input),
+            Line::Undone(Kind::Delegate, 1),
+        ],
+        false,
+    ),
+    (
+        "the last undo is miscounted",
+        1,
+        IS_REFUSED,
+        &[
+            Line::Page(0, 0),
+            Line::Done(1),
+            Line::No(2, No::Input),
+            Line::Undone(Kind::Delegate, 1),
+            Line::Undone(Kind::Take, 1),
+        ],
+        false,
+    ),
+    (
+        "the byte that was read is returned",
+        2,
+        READS,
+        &[Line::Page(0, 0), Line::Done(1), Line::Byte(2, 2)],
+        true,
+    ),
+    (
+        "another byte is returned",
+        2,
+        READS,
+        &[Line::Page(0, 0), Line::Done(1), Line::Byte(2, 3)],
+        false,
+    ),
+];
 
 #[test]
-fn refused_build_undoes_what_it_did(rt: HostRuntime) {
-    let history = three_builds();
-    let steps = [
-        Step::Ask(Cmd::Take { order: 1 }),
-        Step::Ask(Cmd::Delegate { page: 0 }),
-        Step::Ask(Cmd::Delegate { page: 0 }),
-        Step::Ask(Cmd::Fill { page: 1, value: 5 }),
-    ];
-    let lines = [
-        replied(0, Reply::FirstPage(0)),
-        replied(1, Reply::Done),
-        step(2, Answer::Refused(Refusal::Rmi(Rmi::INPUT))),
-        undone(Asked::Undo, Kind::Delegate, 1),
-        undone(Asked::Undo, Kind::Take, 0),
-    ];
-    fit(&rt, rt.alloc(), &history, 1, &steps, &lines, true);
-    fit(&rt, rt.alloc(), &history, 1, &steps, &lines[..4], false);
-    let miscounted = [
-        lines[0],
-        lines[1],
-        lines[2],
-        lines[3],
-        undone(Asked::Undo, Kind::Take, 1),
-    ];
-    fit(&rt, rt.alloc(), &history, 1, &steps, &miscounted, false);
+fn reports_of_three_builds(rt: HostRuntime) {
+    for (name, number, steps, lines, want) in REPORTS {
+        let is_fit = fit(&rt, rt.alloc(), THREE_BUILDS, *number, steps, lines);
+        holds(&rt, name, is_fit == *want);
+    }
 }
 
-#[test]
-fn byte_that_was_read_is_returned(rt: HostRuntime) {
-    let history = three_builds();
-    let offset = PageOff::new(4095).unwrap();
-    let steps = [
-        Step::Ask(Cmd::Take { order: 0 }),
-        Step::Ask(Cmd::Fill { page: 0, value: 2 }),
-        Step::Ask(Cmd::Peek { page: 0, offset }),
-    ];
-    let lines = [
-        replied(0, Reply::FirstPage(0)),
-        replied(1, Reply::Done),
-        replied(2, Reply::Byte(2)),
-    ];
-    fit(&rt, rt.alloc(), &history, 2, &steps, &lines, true);
-    let misread = [lines[0], lines[1], replied(2, Reply::Byte(3))];
-    fit(&rt, rt.alloc(), &history, 2, &steps, &misread, false);
-}
+const UNOPENED: &[Line] = &[
+    Line::Page(0, 0),
+    Line::Marked(1, 0),
+    Line::Page(2, 1),
+    Line::StepUndone(3, Kind::Take, 1),
+    Line::Nothing(4),
+];
+
+const OPENED: &[Line] = &[
+    Line::Page(0, 0),
+    Line::Marked(1, 1),
+    Line::Page(2, 1),
+    Line::StepUndone(3, Kind::Take, 1),
+    Line::Nothing(4),
+];
+
+// Reports of a build that goes back to its mark, and whether they fit.
+const MARKED: &[(&str, Words, &[Line], bool)] = &[
+    ("the mark says what is open", MARKS, OPENED, true),
+    ("the mark says that nothing is open", MARKS, UNOPENED, false),
+    (
+        "a step is missing",
+        &["take 0", "mark", "take 1", "back"],
+        OPENED,
+        false,
+    ),
+];
 
 #[test]
-fn mark_returns_what_is_open(rt: HostRuntime) {
-    let history = [take(0, 0, 0), take(0, 1, 2), give_back(0, 1, 2)];
-    let steps = [
-        Step::Ask(Cmd::Take { order: 0 }),
-        Step::Mark,
-        Step::Ask(Cmd::Take { order: 1 }),
-        Step::Back,
-        Step::Back,
-    ];
-    let lines = [
-        replied(0, Reply::FirstPage(0)),
-        step(1, Answer::Marked(1)),
-        replied(2, Reply::FirstPage(1)),
-        undone(Asked::Step(3), Kind::Take, 1),
-        step(4, Answer::Nothing),
-    ];
-    fit(&rt, rt.alloc(), &history, 0, &steps, &lines, true);
-    let unopened = [
-        lines[0],
-        step(1, Answer::Marked(0)),
-        lines[2],
-        lines[3],
-        lines[4],
-    ];
-    fit(&rt, rt.alloc(), &history, 0, &steps, &unopened, false);
-    fit(&rt, rt.alloc(), &history, 0, &steps[..4], &lines, false);
+fn marks_return_what_is_open(rt: HostRuntime) {
+    for (name, steps, lines, want) in MARKED {
+        let is_fit = fit(&rt, rt.alloc(), GOES_BACK, 0, steps, lines);
+        holds(&rt, name, is_fit == *want);
+    }
 }

@@ -1,7 +1,6 @@
 //! Devices in memory that count what is asked of them, and fail at one call.
 ghost use Rattle.std.specs.Prelude.{◌≡◌, false};
 
-use crate::expected::{equal, holds};
 use checked_io::Told;
 use realm_program::Fault;
 use std::alloc::Global;
@@ -114,9 +113,12 @@ pub(crate) fn told_sink(
     Told::new(sink)
 }
 
-/// The devices of a program: how much a call takes at most, and which call fails.
+/// The devices of a program: how much a call takes at most, and which call fails. A failed test is named by the case, and
+/// by the number of the call.
 #[derive(Clone, Copy)]
 pub(crate) struct Devices<'a> {
+    pub case: &'a str,
+    pub call: usize,
     pub input: &'a [u8],
     pub most_read: usize,
     pub read_fails: Option<u64>,
@@ -127,8 +129,10 @@ pub(crate) struct Devices<'a> {
 
 impl<'a> Devices<'a> {
     /// Devices that take much in a call, and do not fail.
-    pub(crate) fn working(input: &'a [u8]) -> Devices<'a> {
+    pub(crate) fn working(case: &'a str, input: &'a [u8]) -> Devices<'a> {
         Devices {
+            case,
+            call: 0,
             input,
             most_read: 1000,
             read_fails: None,
@@ -141,19 +145,31 @@ impl<'a> Devices<'a> {
     /// Devices that fail at that read. Each other read gives 25 bytes.
     pub(crate) fn read_fails(input: &'a [u8], read: usize) -> Devices<'a> {
         Devices {
+            call: read,
             most_read: 25,
             read_fails: Some(read as u64),
-            ..Devices::working(input)
+            ..Devices::working("a read fails", input)
         }
     }
 
     /// Devices that fail at that write. Each other write takes one byte.
     pub(crate) fn write_fails(input: &'a [u8], write: usize) -> Devices<'a> {
         Devices {
+            call: write,
             most_read: 25,
             most_written: 1,
             write_fails: Some(write as u64),
-            ..Devices::working(input)
+            ..Devices::working("a write fails", input)
+        }
+    }
+
+    /// Devices that fail at the flush. Each write takes up to ten bytes.
+    pub(crate) fn flush_fails(input: &'a [u8]) -> Devices<'a> {
+        Devices {
+            most_read: 25,
+            most_written: 10,
+            flush_fails: true,
+            ..Devices::working("the flush fails", input)
         }
     }
 
@@ -218,14 +234,20 @@ impl<'a> Outcome<'a> {
     pub(crate) fn came(
         &self,
         rt: &impl Abort,
+        devices: &Devices<'_>,
         end: Result<(), Fault>,
         input: &Source<'_>,
         output: &Sink,
     ) {
-        holds(rt, "the end", end == self.end);
-        equal(rt, "bytes left", input.rest.len() as u64, self.left as u64);
-        holds(rt, "the text", output.has(self.text));
-        equal(rt, "writes", output.writes, self.writes);
-        equal(rt, "flushes", output.flushes, self.flushes);
+        let left = input.rest.len();
+        for (what, seen, want) in [
+            ("the end", u64::from(end == self.end), 1),
+            ("bytes left", left as u64, self.left as u64),
+            ("the text", u64::from(output.has(self.text)), 1),
+            ("writes", output.writes, self.writes),
+            ("flushes", output.flushes, self.flushes),
+        ] {
+            assert_eq!(rt; seen, want, "{} {}: {what}", devices.case, devices.call);
+        }
     }
 }

@@ -2,7 +2,6 @@
 //!
 //! A test is proved before it runs, and each comparison in its body branches: written out there, a row of them costs far
 //! more than a row of these calls.
-use builders::ReportLine;
 use std::process::Abort;
 
 /// What is seen is what is wanted.
@@ -15,12 +14,12 @@ pub(crate) fn same_text(rt: &impl Abort, seen: &str, want: &str) {
     assert_eq!(rt; seen, want);
 }
 
-/// The lines of a report are those that are wanted.
-pub(crate) fn same_lines(rt: &impl Abort, seen: &[ReportLine], want: &[ReportLine]) {
-    assert_eq!(rt; seen, want);
-}
-
 /// It holds: 1, and not 0.
 pub(crate) fn holds(rt: &impl Abort, what: &str, is_so: bool) {
     equal(rt, what, u64::from(is_so), 1);
+}
+
+/// It holds at that place of a table.
+pub(crate) fn holds_at(rt: &impl Abort, what: &str, place: usize, is_so: bool) {
+    assert!(rt; is_so, "{what}, row {place}");
 }

@@ -1,5 +1,5 @@
 //! Guests: builds with the same steps, each with a seat of one host.
-use crate::steps::{STEPS, steps_of};
+use crate::steps::{STEPS, guest_steps};
 use crate::tellers::Refusing;
 use builders::{Gate, Ledgers, Report, Seat, SeatTeller, Shared, work};
 use host_commands::Step;
@@ -12,7 +12,7 @@ use std::sync::Wait;
 #[derive(Drop)]
 pub struct Guest<L: Ledgers> {
     pub seat: Seat<L>,
-    pub steps: [Step; STEPS],
+    pub steps: Vec<Step>,
     pub refused: Option<usize>,
     pub report: Option<Report>,
     pub has_ended: bool,
@@ -27,6 +27,7 @@ impl<L: Ledgers> Guest<L> {
         shared: &Shared<S, L>,
         gate: &G,
     ) {
+        assert!(rt; self.steps.len() == STEPS);
         let lines = Vec::with_capacity(alloc, 2 * STEPS + 1).expect(rt, "memory");
         let mut report = Report {
             build: self.seat.build(),
@@ -38,7 +39,7 @@ impl<L: Ledgers> Guest<L> {
             asked: 0,
             refused: self.refused,
         };
-        let told = work(&mut report, &self.steps, &mut teller, gate);
+        let told = work(&mut report, self.steps.as_slice(), &mut teller, gate);
         self.has_ended = told.is_ok();
         self.report = Some(report);
     }
@@ -57,7 +58,7 @@ pub(crate) fn guests_of<L: Ledgers>(
         let refused = if number == 1 { Some(refused) } else { None };
         let guest = Guest {
             seat,
-            steps: steps_of(number.saturating_add(7)),
+            steps: guest_steps(rt, alloc, number.saturating_add(7)),
             refused,
             report: None,
             has_ended: false,

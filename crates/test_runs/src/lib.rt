@@ -4,14 +4,15 @@
 //! and what is printed where no device fails. These tests are for the rest: that each worker has a thread of its own,
 //! that threads come to their end, which world is left then, how often a device is asked, and what follows where it
 //! fails. What the built programs print is compared by `tests/program`.
+//!
+//! Steps are spelled as in a plan, and wanted lines are rows of tables: one proved function runs the rows of a table, and
+//! names the case and the row that fails.
 #![tactic(auto)]
 
 #[cfg(test)]
 mod audit;
 #[cfg(test)]
 mod devices;
-#[cfg(test)]
-mod each_step;
 #[cfg(test)]
 mod expected;
 #[cfg(test)]

@@ -1,30 +1,100 @@
-//! Lines of reports, and builds.
+//! Lines of reports by plain numbers.
+use crate::expected::{equal, holds_at};
 use builders::{Answer, Asked, ReportLine};
-use granule_addr::BuildId;
-use realm_host::{Kind, Reply, Undone};
+use granule_addr::RecNo;
+use realm_host::{Kind, Refusal, Reply, Rmi, Undone};
+use std::process::Abort;
 
-/// A step is answered so.
-pub(crate) fn step(place: usize, answer: Answer) -> ReportLine {
-    ReportLine {
-        asked: Asked::Step(place),
-        answer,
+/// Why a step is refused.
+#[derive(Drop)]
+pub(crate) enum No {
+    HistoryFull,
+    NothingToUndo,
+    RecRunning,
+    /// RMI_ERROR_INPUT
+    Input,
+    /// The build has no such page.
+    Page(u16),
+}
+
+/// A line of a report. The first number of a step's line is that of the step.
+#[derive(Drop)]
+pub(crate) enum Line {
+    Done(usize),
+    /// The first page of the block that is leased.
+    Page(usize, u16),
+    Byte(usize, u8),
+    Marked(usize, u16),
+    /// An abort or a way back has nothing to undo.
+    Nothing(usize),
+    No(usize, No),
+    /// An abort or a way back undoes an act of that kind, and leaves so many open.
+    StepUndone(usize, Kind, u16),
+    /// After a refusal an act of that kind is undone, and so many are left open.
+    Undone(Kind, u16),
+    /// After a refusal an undo is refused, since the history is full.
+    UndoRefused,
+    /// After a refusal that REC stops running.
+    Exited(u16),
+}
+
+impl No {
+    fn of_host(&self) -> Refusal {
+        match self {
+            No::HistoryFull => Refusal::HistoryFull,
+            No::NothingToUndo => Refusal::NothingToUndo,
+            No::RecRunning => Refusal::RecRunning,
+            No::Input => Refusal::Rmi(Rmi::INPUT),
+            No::Page(page) => Refusal::NotLeased(*page),
+        }
     }
 }
 
-/// A step has that reply.
-pub(crate) fn replied(place: usize, reply: Reply) -> ReportLine {
-    step(place, Answer::Replied(reply))
-}
+impl Line {
+    // What the line is about.
+    fn asked(&self) -> Asked {
+        match *self {
+            Line::Done(step)
+            | Line::Page(step, _)
+            | Line::Byte(step, _)
+            | Line::Marked(step, _)
+            | Line::Nothing(step)
+            | Line::No(step, _)
+            | Line::StepUndone(step, _, _) => Asked::Step(step),
+            Line::Undone(_, _) | Line::UndoRefused => Asked::Undo,
+            Line::Exited(number) => Asked::Exit(RecNo::new(number)),
+        }
+    }
 
-/// An act is undone, which leaves `left` acts open.
-pub(crate) fn undone(asked: Asked, kind: Kind, left: u16) -> ReportLine {
-    ReportLine {
-        asked,
-        answer: Answer::Undone(Undone { kind, left }),
+    /// The answer of the line.
+    pub(crate) fn answer(&self) -> Answer {
+        match self {
+            Line::Done(_) | Line::Exited(_) => Answer::Replied(Reply::Done),
+            Line::Page(_, page) => Answer::Replied(Reply::FirstPage(*page)),
+            Line::Byte(_, byte) => Answer::Replied(Reply::Byte(*byte)),
+            Line::Marked(_, open) => Answer::Marked(*open),
+            Line::Nothing(_) => Answer::Nothing,
+            Line::No(_, no) => Answer::Refused(no.of_host()),
+            Line::StepUndone(_, kind, left) | Line::Undone(kind, left) => {
+                let (kind, left) = (*kind, *left);
+                Answer::Undone(Undone { kind, left })
+            }
+            Line::UndoRefused => Answer::Refused(Refusal::HistoryFull),
+        }
+    }
+
+    /// The line of a report.
+    pub(crate) fn of_report(&self) -> ReportLine {
+        let (asked, answer) = (self.asked(), self.answer());
+        ReportLine { asked, answer }
     }
 }
 
-/// The build of that number, modulo 8.
-pub(crate) fn build(number: u8) -> BuildId {
-    BuildId::new(number % 8).unwrap()
+/// The lines of a report are those that are wanted.
+pub(crate) fn has_lines(rt: &impl Abort, name: &str, seen: &[ReportLine], want: &[Line]) {
+    for place in 0..want.len() {
+        let is_so = seen.get(place) == Some(&want[place].of_report());
+        holds_at(rt, name, place, is_so);
+    }
+    equal(rt, name, seen.len() as u64, want.len() as u64);
 }

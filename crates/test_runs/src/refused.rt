@@ -21,16 +21,16 @@ use std::thread::Threads;
 use std::time::Clock;
 
 // The report of a guest, refused that step or none, is as it has to be.
-fn is_reported(rt: &impl Abort, alloc: Global, report: &Option<Report>, refused: Option<usize>) {
+fn is_reported(rt: &impl Abort, report: &Option<Report>, refused: Option<usize>) {
     let report = report.as_ref().expect(rt, "a report");
     match refused {
-        Some(step) => is_refused(rt, alloc, report, step),
+        Some(step) => is_refused(rt, report, step),
         None => is_accepted(rt, report),
     }
 }
 
 // A guest has ended, and its report is as it has to be. Its seat comes back.
-fn ended<L: Ledgers>(rt: &impl Abort, alloc: Global, guest: Guest<L>) -> Seat<L> {
+fn ended<L: Ledgers>(rt: &impl Abort, guest: Guest<L>) -> Seat<L> {
     let Guest {
         seat,
         steps: _,
@@ -39,7 +39,7 @@ fn ended<L: Ledgers>(rt: &impl Abort, alloc: Global, guest: Guest<L>) -> Seat<L>
         has_ended,
     } = guest;
     holds(rt, "it got its turns", has_ended);
-    is_reported(rt, alloc, &report, refused);
+    is_reported(rt, &report, refused);
     seat
 }
 
@@ -47,7 +47,7 @@ fn ended<L: Ledgers>(rt: &impl Abort, alloc: Global, guest: Guest<L>) -> Seat<L>
 fn all_ended<L: Ledgers>(rt: &impl Abort, alloc: Global, guests: Vec<Guest<L>>) -> Vec<Seat<L>> {
     let mut seats = Vec::new(alloc);
     for guest in guests {
-        seats.push(ended(rt, alloc, guest)).expect(rt, "memory");
+        seats.push(ended(rt, guest)).expect(rt, "memory");
     }
     seats
 }
@@ -111,27 +111,24 @@ fn is_left_by_two(rt: &impl Abort, alloc: Global, host: &Host<PlainStore>) {
     is_without_build_1(rt, alloc, host, &mut fresh);
 }
 
-// Nothing is left of build 1, which is refused that step, and the others have all that they have built.
-fn refused_at<R: Threads + Wait + Abort + Clock + Sync>(
+// Nothing is left of build 1, at whichever step it is refused, and the others have all that they have built.
+fn refused_at_each<R: Threads + Wait + Abort + Clock + Sync>(
     rt: &R,
     alloc: Global,
     waiting: Waiting,
-    refused: usize,
 ) {
-    let host = host_after(rt, alloc, waiting, refused);
-    is_left_by_two(rt, alloc, &host);
+    for refused in 0..STEPS {
+        let host = host_after(rt, alloc, waiting, refused);
+        is_left_by_two(rt, alloc, &host);
+    }
 }
 
 #[test]
 fn build_1_is_refused_behind_build_2(rt: HostRuntime) {
-    for refused in 0..STEPS {
-        refused_at(&rt, rt.alloc(), Waiting::ForBuild2, refused);
-    }
+    refused_at_each(&rt, rt.alloc(), Waiting::ForBuild2);
 }
 
 #[test]
 fn build_1_is_refused_before_the_others(rt: HostRuntime) {
-    for refused in 0..STEPS {
-        refused_at(&rt, rt.alloc(), Waiting::ForBuild1, refused);
-    }
+    refused_at_each(&rt, rt.alloc(), Waiting::ForBuild1);
 }

@@ -31,62 +31,52 @@ fn replays(
     let mut input = devices.source();
     let mut output = devices.sink(alloc);
     let end = replay(alloc, &mut input, &mut output, erase);
-    want.came(rt, end, input.device(), output.device());
+    want.came(rt, devices, end, input.device(), output.device());
 }
 
 #[test]
-fn a_page_comes_back_empty(rt: HostRuntime) {
-    let want = Outcome::printed(TEXT, 1);
-    replays(&rt, rt.alloc(), &Devices::working(PLAN), None, &want);
-}
-
-#[test]
-fn the_only_build_is_left_out(rt: HostRuntime) {
-    let devices = Devices::working(PLAN);
-    let want = Outcome::printed(b"free 1\n", 1);
-    replays(&rt, rt.alloc(), &devices, BuildId::new(0), &want);
-}
-
-#[test]
-fn a_build_that_the_plan_has_not_is_not_left_out(rt: HostRuntime) {
-    let devices = Devices::working(PLAN);
-    let want = Outcome::nothing(Fault::EraseNamesNoBuild, 0);
-    replays(&rt, rt.alloc(), &devices, BuildId::new(1), &want);
+fn a_build_is_replayed_or_left_out(rt: HostRuntime) {
+    let rows = [
+        ("a page comes back empty", None, Outcome::printed(TEXT, 1)),
+        (
+            "the only build is left out",
+            BuildId::new(0),
+            Outcome::printed(b"free 1\n", 1),
+        ),
+        (
+            "a build that the plan has not",
+            BuildId::new(1),
+            Outcome::nothing(Fault::EraseNamesNoBuild, 0),
+        ),
+    ];
+    for (case, erase, want) in &rows {
+        let devices = Devices::working(case, PLAN);
+        replays(&rt, rt.alloc(), &devices, *erase, want);
+    }
 }
 
 #[test]
 fn a_plan_that_is_too_long_is_not_read_to_its_end(rt: HostRuntime) {
     let spaces = vec![in rt.alloc(); b' '; 1_048_600].expect(&rt, "memory");
-    let devices = Devices::working(&spaces);
+    let devices = Devices::working("a long plan", &spaces);
     let want = Outcome::nothing(Fault::Plan(PlanFault::Limit), 23);
     replays(&rt, rt.alloc(), &devices, None, &want);
 }
 
+// Each read fails in turn, then each write of one byte, and last the flush.
 #[test]
-fn a_read_that_fails_writes_nothing(rt: HostRuntime) {
+fn a_failure_leaves_a_prefix_of_the_text(rt: HostRuntime) {
     for n in 0..5 {
         let devices = Devices::read_fails(PLAN, n);
         let want = Outcome::nothing(Fault::Device, PLAN.len().saturating_sub(25 * n));
         replays(&rt, rt.alloc(), &devices, None, &want);
     }
-}
-
-#[test]
-fn a_write_that_fails_leaves_a_prefix_of_the_text(rt: HostRuntime) {
     for n in 0..TEXT.len() {
         let devices = Devices::write_fails(PLAN, n);
-        replays(&rt, rt.alloc(), &devices, None, &Outcome::cut(&TEXT[..n]));
+        let want = Outcome::cut(&TEXT[..n]);
+        replays(&rt, rt.alloc(), &devices, None, &want);
     }
-}
-
-#[test]
-fn a_flush_that_fails_is_reported(rt: HostRuntime) {
-    let devices = Devices {
-        most_read: 25,
-        most_written: 10,
-        flush_fails: true,
-        ..Devices::working(PLAN)
-    };
+    let devices = Devices::flush_fails(PLAN);
     let want = Outcome {
         end: Err(Fault::Device),
         ..Outcome::printed(TEXT, 11)

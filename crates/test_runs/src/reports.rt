@@ -1,25 +1,30 @@
 //! What the reports of guests have to be.
-use crate::expected::{equal, holds, same_lines};
+use crate::expected::{equal, holds_at};
+use crate::lines::{Line, No};
 use crate::steps::{ENTER, STEPS};
 use builders::{Answer, Asked, Report, ReportLine};
-use granule_addr::RecNo;
-use realm_host::{Kind, Refusal, Reply, Undone};
-use realm_model::Rmi;
-use std::alloc::Global;
+use realm_host::Kind;
 use std::process::Abort;
 
-// A place of a report has that question and that answer.
-fn line(rt: &impl Abort, report: &Report, place: usize, asked: Asked, answer: Answer) {
-    let seen = report.lines.get(place).expect(rt, "a line");
-    holds(rt, "the line", *seen == ReportLine { asked, answer });
+// A place of a report has that line.
+fn has_line(rt: &impl Abort, report: &Report, place: usize, want: &Line) {
+    let is_so = report.lines.get(place) == Some(&want.of_report());
+    holds_at(rt, "a line of a guest", place, is_so);
 }
 
 // The first steps of a report are accepted, each at its own place.
 fn accepted(rt: &impl Abort, report: &Report, steps: usize) {
     for step in 0..steps {
-        let line = report.lines.get(step).expect(rt, "a line");
-        holds(rt, "its own place", line.asked == Asked::Step(step));
-        holds(rt, "accepted", matches!(line.answer, Answer::Replied(_)));
+        let is_so = match report.lines.get(step) {
+            Some(
+                ReportLine {
+                    asked: Asked::Step(place),
+                    answer: Answer::Replied(_),
+                },
+            ) => *place == step,
+            _ => false,
+        };
+        holds_at(rt, "an accepted step of a guest", step, is_so);
     }
 }
 
@@ -29,50 +34,42 @@ pub(crate) fn is_accepted(rt: &impl Abort, report: &Report) {
     equal(rt, "lines", report.lines.len() as u64, STEPS as u64);
 }
 
-// What a step opens.
-fn opened(step: usize) -> Option<Kind> {
-    match step {
-        0 => Some(Kind::Take),
-        2..=8 => Some(Kind::Delegate),
-        9 => Some(Kind::Realm),
-        10 | 11 => Some(Kind::Rtt),
-        13 => Some(Kind::Data),
-        14 => Some(Kind::Rec),
-        _ => None,
-    }
-}
+// The steps that open something, the newest first, and the undo of each.
+const UNDOS: &[(usize, Line)] = &[
+    (14, Line::Undone(Kind::Rec, 12)),
+    (13, Line::Undone(Kind::Data, 11)),
+    (11, Line::Undone(Kind::Rtt, 10)),
+    (10, Line::Undone(Kind::Rtt, 9)),
+    (9, Line::Undone(Kind::Realm, 8)),
+    (8, Line::Undone(Kind::Delegate, 7)),
+    (7, Line::Undone(Kind::Delegate, 6)),
+    (6, Line::Undone(Kind::Delegate, 5)),
+    (5, Line::Undone(Kind::Delegate, 4)),
+    (4, Line::Undone(Kind::Delegate, 3)),
+    (3, Line::Undone(Kind::Delegate, 2)),
+    (2, Line::Undone(Kind::Delegate, 1)),
+    (0, Line::Undone(Kind::Take, 0)),
+];
 
-// The undos of the first steps, the newest first, until nothing is open.
-fn undos_of(rt: &impl Abort, alloc: Global, steps: usize) -> Vec<ReportLine> {
-    let mut undos = Vec::new(alloc);
-    let mut left = 0u16;
-    for step in 0..steps {
-        if let Some(kind) = opened(step) {
-            let answer = Answer::Undone(Undone { kind, left });
-            let undo = ReportLine {
-                asked: Asked::Undo,
-                answer,
-            };
-            undos.push(undo).expect(rt, "memory");
-            left = left.saturating_add(1);
+// From that place on, a report has the undos of the steps before the refused one, and no other line.
+fn is_undone(rt: &impl Abort, report: &Report, mut place: usize, refused: usize) {
+    for (step, undo) in UNDOS {
+        if *step < refused {
+            has_line(rt, report, place, undo);
+            place = place.saturating_add(1);
         }
     }
-    undos.reverse();
-    undos
+    equal(rt, "lines", report.lines.len() as u64, place as u64);
 }
 
 /// The steps before one are accepted, and that one is refused. Then a REC that runs exits, and all is undone.
-pub(crate) fn is_refused(rt: &impl Abort, alloc: Global, report: &Report, refused: usize) {
+pub(crate) fn is_refused(rt: &impl Abort, report: &Report, refused: usize) {
     accepted(rt, report, refused);
-    let refusal = Answer::Refused(Refusal::Rmi(Rmi::INPUT));
-    line(rt, report, refused, Asked::Step(refused), refusal);
+    has_line(rt, report, refused, &Line::No(refused, No::Input));
     let mut place = refused.saturating_add(1);
     if refused > ENTER {
-        let exit = Asked::Exit(RecNo::new(0));
-        line(rt, report, place, exit, Answer::Replied(Reply::Done));
+        has_line(rt, report, place, &Line::Exited(0));
         place = place.saturating_add(1);
     }
-    let undos = undos_of(rt, alloc, refused);
-    let rest = report.lines.as_slice().get(place..).expect(rt, "the undos");
-    same_lines(rt, rest, undos.as_slice());
+    is_undone(rt, report, place, refused);
 }

@@ -44,14 +44,15 @@ fn runs<R: Threads + Wait + Abort + Sync, G: Gate + Sync>(
     let mut input = devices.source();
     let mut output = devices.sink(alloc);
     let end = run(rt, alloc, &mut input, &mut output, gate);
-    want.came(rt, end, input.device(), output.device());
+    want.came(rt, devices, end, input.device(), output.device());
 }
 
 #[test]
 fn each_build_reads_after_both_have_filled(rt: HostRuntime) {
     let gate = Together::from(&rt);
     let want = Outcome::printed(TEXT, 1);
-    runs(&rt, rt.alloc(), &gate, &Devices::working(PLAN), &want);
+    let devices = Devices::working("both have filled", PLAN);
+    runs(&rt, rt.alloc(), &gate, &devices, &want);
 }
 
 #[test]
@@ -59,35 +60,24 @@ fn the_lowest_build_that_waits_in_vain_is_reported(rt: HostRuntime) {
     let fault = Fault::Stuck(BuildId::new(1).unwrap());
     equal(&rt, "the status", fault.status() as u64, 3);
     let want = Outcome::nothing(fault, 0);
-    runs(&rt, rt.alloc(), &ForBuild0, &Devices::working(PLAN), &want);
+    let devices = Devices::working("build 1 waits", PLAN);
+    runs(&rt, rt.alloc(), &ForBuild0, &devices, &want);
 }
 
+// An input that is no plan; then each read fails in turn, and each write of one byte.
 #[test]
-fn a_plan_that_is_none_is_reported(rt: HostRuntime) {
-    let devices = Devices::working(b"pages =");
+fn a_failure_leaves_a_prefix_of_the_text(rt: HostRuntime) {
+    let devices = Devices::working("no plan", b"pages =");
     let want = Outcome::nothing(Fault::Plan(PlanFault::Syntax), 0);
     runs(&rt, rt.alloc(), &OpenGate, &devices, &want);
-}
-
-#[test]
-fn a_read_that_fails_writes_nothing(rt: HostRuntime) {
     for n in 0..5 {
         let devices = Devices::read_fails(PLAN, n);
         let want = Outcome::nothing(Fault::Device, PLAN.len().saturating_sub(25 * n));
         runs(&rt, rt.alloc(), &OpenGate, &devices, &want);
     }
-}
-
-#[test]
-fn a_write_that_fails_leaves_a_prefix_of_the_text(rt: HostRuntime) {
     for n in 0..TEXT.len() {
         let devices = Devices::write_fails(PLAN, n);
-        runs(
-            &rt,
-            rt.alloc(),
-            &OpenGate,
-            &devices,
-            &Outcome::cut(&TEXT[..n]),
-        );
+        let want = Outcome::cut(&TEXT[..n]);
+        runs(&rt, rt.alloc(), &OpenGate, &devices, &want);
     }
 }

@@ -2,44 +2,55 @@
 ghost use Rattle.std.specs.Prelude.{◌≡◌, []};
 ghost use Rattle.builders.specs.Names.{AreNamed};
 
-use crate::expected::{equal, holds, same_text};
+use crate::expected::{equal, holds, holds_at, same_text};
 use crate::hosts;
 use crate::hosts::{booted, started};
-use builders::{Blanks, CloseFault, Ledgers, Seat, Shared};
-use granule_addr::{BuildId, PageOff};
+use crate::lines::{Line, No};
+use builders::{Answer, Blanks, CloseFault, Ledgers, Seat, Shared};
+use granule_addr::BuildId;
+use host_commands::Step;
 use page_arena::PlainStore;
 use plan_replay::map_text;
-use realm_host::{Cmd, Host, Kind, Refusal, Reply, Undone};
+use realm_host::{Cmd, Host, Kind, Reply, Undone};
+use realm_plan::step_from_text;
 use std::alloc::Global;
 use std::marker::Brand;
 use std::process::Abort;
 use std::sync::Wait;
+
+// Commands of a seat, as a plan spells them, and the answer of each. The steps of lines count for nothing.
+type Script = &'static [(&'static str, Line)];
 
 // A seat asks for a command, and is answered so.
 fn asks<R: Wait + Abort, L: Ledgers>(
     rt: &R,
     shared: &Shared<PlainStore, L>,
     seat: &mut Seat<L>,
+    word: &str,
     cmd: Cmd,
-    want: Result<Reply, Refusal>,
+    want: Answer,
 ) {
-    let answer = shared.call(rt, seat, cmd);
-    assert_eq!(rt; answer, want);
+    let answer = match shared.call(rt, seat, cmd) {
+        Ok(reply) => Answer::Replied(reply),
+        Err(refusal) => Answer::Refused(refusal),
+    };
+    holds(rt, word, answer == want);
 }
 
-// A seat takes a page, fills it, and reads what it filled.
-fn fills<R: Wait + Abort, L: Ledgers>(
+// A seat asks for commands, one after the other.
+fn runs<R: Wait + Abort, L: Ledgers>(
     rt: &R,
     shared: &Shared<PlainStore, L>,
     seat: &mut Seat<L>,
-    value: u8,
+    script: Script,
 ) {
-    let offset = PageOff::new(7).unwrap();
-    let (take, fill) = (Cmd::Take { order: 0 }, Cmd::Fill { page: 0, value });
-    asks(rt, shared, seat, take, Ok(Reply::FirstPage(0)));
-    asks(rt, shared, seat, fill, Ok(Reply::Done));
-    let peek = Cmd::Peek { page: 0, offset };
-    asks(rt, shared, seat, peek, Ok(Reply::Byte(value)));
+    for (word, want) in script {
+        let step = step_from_text(word).expect(rt, "a step");
+        match step.asked() {
+            Step::Ask(cmd) => asks(rt, shared, seat, word, cmd, want.answer()),
+            _ => panic!(rt; "no command"),
+        }
+    }
 }
 
 // A seat keeps a mark, delegates its page, and goes back.
@@ -49,7 +60,9 @@ fn goes_back<R: Wait + Abort, L: Ledgers>(
     seat: &mut Seat<L>,
 ) {
     let mark = shared.mark(rt, seat).expect(rt, "a mark");
-    asks(rt, shared, seat, Cmd::Delegate { page: 0 }, Ok(Reply::Done));
+    let delegate = Cmd::Delegate { page: 0 };
+    let done = Answer::Replied(Reply::Done);
+    asks(rt, shared, seat, "delegate 0", delegate, done);
     let above = shared.check_back(rt, seat, mark);
     holds(rt, "one act is above the mark", above == Ok(1));
     let undone = Undone {
@@ -60,19 +73,25 @@ fn goes_back<R: Wait + Abort, L: Ledgers>(
     holds(rt, "it is undone", answer == Ok(undone));
 }
 
-// A seat works on its page, and is refused another's.
-fn works<R: Wait + Abort, L: Ledgers>(
-    rt: &R,
-    shared: &Shared<PlainStore, L>,
-    seat: &mut Seat<L>,
-    value: u8,
-) {
-    fills(rt, shared, seat, value);
-    goes_back(rt, shared, seat);
-    let fill = Cmd::Fill { page: 1, value };
-    asks(rt, shared, seat, fill, Err(Refusal::NotLeased(1)));
-    equal(rt, "events", seat.count() as u64, 5);
-}
+// Of each build: a seat takes a page, fills it, and reads what it filled. Then it is refused another's.
+const WORKS: [(Script, Script); 2] = [
+    (
+        &[
+            ("take 0", Line::Page(0, 0)),
+            ("fill 0 10", Line::Done(0)),
+            ("peek 0 7", Line::Byte(0, 10)),
+        ],
+        &[("fill 1 10", Line::No(0, No::Page(1)))],
+    ),
+    (
+        &[
+            ("take 0", Line::Page(0, 0)),
+            ("fill 0 11", Line::Done(0)),
+            ("peek 0 7", Line::Byte(0, 11)),
+        ],
+        &[("fill 1 11", Line::No(0, No::Page(1)))],
+    ),
+];
 
 // The seats of two builds work, one after the other.
 fn all_work<R: Wait + Abort, L: Ledgers>(
@@ -80,11 +99,19 @@ fn all_work<R: Wait + Abort, L: Ledgers>(
     shared: &Shared<PlainStore, L>,
     seats: &mut [Seat<L>],
 ) {
-    equal(rt, "seats", seats.len() as u64, 2);
-    for seat in seats {
-        let value = 10 + seat.build().number();
-        works(rt, shared, seat, value);
+    assert!(rt; seats.len() == 2);
+    for place in 0..2 {
+        let (first, last) = WORKS[place];
+        let seat = &mut seats[place];
+        runs(rt, shared, seat, first);
+        goes_back(rt, shared, seat);
+        runs(rt, shared, seat, last);
+        equal(rt, "events", seat.count() as u64, 5);
     }
+}
+
+fn has_ten_events(rt: &impl Abort, host: &Host<PlainStore>) {
+    equal(rt, "events", host.history().len() as u64, 10);
 }
 
 // A host is closed, or not, and has ten events. At `Some` is what was wrong.
@@ -92,12 +119,16 @@ fn fault_of_close(
     rt: &impl Abort,
     closed: &Result<Host<PlainStore>, (CloseFault, Host<PlainStore>)>,
 ) -> Option<CloseFault> {
-    let (fault, host) = match closed {
-        Ok(host) => (None, host),
-        Err((fault, host)) => (Some(*fault), host),
-    };
-    equal(rt, "events", host.history().len() as u64, 10);
-    fault
+    match closed {
+        Ok(host) => {
+            has_ten_events(rt, host);
+            None
+        }
+        Err((fault, host)) => {
+            has_ten_events(rt, host);
+            Some(*fault)
+        }
+    }
 }
 
 // Two builds work on a shared host. It is closed with the first `kept` of their seats; at `Some` is what was wrong
@@ -126,51 +157,53 @@ fn booted_and_closed<R: Wait + Abort>(rt: &R, alloc: Global, kept: usize) -> Opt
 }
 
 #[test]
-fn closes_with_each_seat(rt: HostRuntime) {
-    let fault = booted_and_closed(&rt, rt.alloc(), 2);
-    holds(&rt, "it is closed", fault.is_none());
-}
-
-#[test]
-fn misses_a_seat(rt: HostRuntime) {
+fn closes_with_each_seat_and_misses_one(rt: HostRuntime) {
     let second = BuildId::new(1).unwrap();
-    let fault = booted_and_closed(&rt, rt.alloc(), 1);
-    holds(
-        &rt,
-        "a seat is missing",
-        fault == Some(CloseFault::SeatMissing(second)),
-    );
+    for (kept, want) in [(2, None), (1, Some(CloseFault::SeatMissing(second)))] {
+        let fault = booted_and_closed(&rt, rt.alloc(), kept);
+        holds_at(&rt, "closed, seats", kept, fault == want);
+    }
 }
 
-// A seat takes four pages, fills each with a value of its own, and reads each.
-fn fills_four<R: Wait + Abort, L: Ledgers>(
+// Of each build: a seat takes four pages, fills each with a value of its own, and reads each.
+const FILL_FOUR: [Script; 2] = [
+    &[
+        ("take 2", Line::Page(0, 0)),
+        ("fill 0 10", Line::Done(0)),
+        ("fill 1 11", Line::Done(0)),
+        ("fill 2 12", Line::Done(0)),
+        ("fill 3 13", Line::Done(0)),
+        ("peek 0 4095", Line::Byte(0, 10)),
+        ("peek 1 4095", Line::Byte(0, 11)),
+        ("peek 2 4095", Line::Byte(0, 12)),
+        ("peek 3 4095", Line::Byte(0, 13)),
+    ],
+    &[
+        ("take 2", Line::Page(0, 0)),
+        ("fill 0 20", Line::Done(0)),
+        ("fill 1 21", Line::Done(0)),
+        ("fill 2 22", Line::Done(0)),
+        ("fill 3 23", Line::Done(0)),
+        ("peek 0 4095", Line::Byte(0, 20)),
+        ("peek 1 4095", Line::Byte(0, 21)),
+        ("peek 2 4095", Line::Byte(0, 22)),
+        ("peek 3 4095", Line::Byte(0, 23)),
+    ],
+];
+
+// The seats of two builds fill four pages each, one after the other.
+fn all_fill<R: Wait + Abort, L: Ledgers>(
     rt: &R,
     shared: &Shared<PlainStore, L>,
-    seat: &mut Seat<L>,
-    first: u8,
+    seats: &mut [Seat<L>],
 ) {
-    let (take, offset) = (Cmd::Take { order: 2 }, PageOff::new(4095).unwrap());
-    asks(rt, shared, seat, take, Ok(Reply::FirstPage(0)));
-    for page in 0..4 {
-        let value = first.saturating_add(page);
-        let page = page as u16;
-        asks(rt, shared, seat, Cmd::Fill { page, value }, Ok(Reply::Done));
-    }
-    for page in 0..4 {
-        let value = first.saturating_add(page);
-        let page = page as u16;
-        asks(
-            rt,
-            shared,
-            seat,
-            Cmd::Peek { page, offset },
-            Ok(Reply::Byte(value)),
-        );
+    assert!(rt; seats.len() == 2);
+    for place in 0..2 {
+        runs(rt, shared, &mut seats[place], FILL_FOUR[place]);
     }
 }
 
-// Each build of a host fills four pages: build 0 from 10 on, and each other from 10 more. The host is closed, and this is
-// its map.
+// Each build of a host fills four pages. The host is closed, and this is its map.
 fn map_of_filled<R: Wait + Abort, L: Ledgers>(
     rt: &R,
     alloc: Global,
@@ -182,10 +215,7 @@ fn map_of_filled<R: Wait + Abort, L: Ledgers>(
     requires named { AreNamed L.names blanks }
 {
     let (shared, mut seats) = started::<PlainStore, L>(rt, alloc, blanks, host);
-    for seat in seats.as_mut_slice() {
-        let first = 10 + 10 * seat.build().number();
-        fills_four(rt, &shared, seat, first);
-    }
+    all_fill(rt, &shared, seats.as_mut_slice());
     map_text(alloc, &hosts::closed(rt, shared, seats)).expect(rt, "memory")
 }
 

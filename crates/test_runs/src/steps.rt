@@ -1,90 +1,64 @@
-//! The steps of a guest.
-use arrayvec::ArrayVec;
-use granule_addr::{PageOff, RecNo};
+//! Steps of builds, by the words of a plan.
 use host_commands::{Cmd, Step};
+use realm_plan::step_from_text;
+use std::alloc::Global;
+use std::process::Abort;
+
+/// The steps of a build, as a plan spells them.
+pub(crate) type Words = &'static [&'static str];
+
+/// The steps that are spelled so.
+pub(crate) fn steps_of(rt: &impl Abort, alloc: Global, words: Words) -> Vec<Step> {
+    let mut steps = Vec::new(alloc);
+    for word in words {
+        let step = step_from_text(word).expect(rt, "a step");
+        steps.push(step.asked()).expect(rt, "memory");
+    }
+    steps
+}
+
+/// The first two pages of a build, with the first one filled.
+pub(crate) const FILLS: Words = &["take 1", "fill 0 1"];
+
+/// The third step is refused by the monitor.
+pub(crate) const IS_REFUSED: Words = &["take 1", "delegate 0", "delegate 0", "fill 1 5"];
+
+/// The build reads the last byte of what it filled.
+pub(crate) const READS: Words = &["take 0", "fill 0 2", "peek 0 4095"];
 
 /// How many steps a guest has.
-pub const STEPS: usize = 18;
+pub(crate) const STEPS: usize = 18;
 
 /// The step that enters the REC, which runs from then on.
-pub const ENTER: usize = 16;
+pub(crate) const ENTER: usize = 16;
 
-fn delegate(page: u16) -> Step {
-    Step::Ask(Cmd::Delegate { page })
-}
+// From eight pages to a realm that runs: its one page of memory has the bytes of page 5 but for the last, which its REC
+// writes. The value of page 5 is left to each guest.
+const GUEST: Words = &[
+    "take 3",
+    "fill 5 0",
+    "delegate 0",
+    "delegate 1",
+    "delegate 2",
+    "delegate 3",
+    "delegate 4",
+    "delegate 6",
+    "delegate 7",
+    "realm 0 1 39",
+    "rtt 2 0 2",
+    "rtt 3 0 3",
+    "ripas 8 4",
+    "data 4 0 5",
+    "rec 6 7",
+    "activate",
+    "enter 0",
+    "poke 0 0 4095 1",
+];
 
-fn rtt(page: u16, level: u8) -> Step {
-    Step::Ask(Cmd::Rtt {
-        page,
-        ipa: 0,
-        level,
-    })
-}
-
-fn realm() -> Step {
-    Step::Ask(Cmd::Realm {
-        rd: 0,
-        root: 1,
-        width: 39,
-    })
-}
-
-fn ripas() -> Step {
-    Step::Ask(Cmd::Ripas { ipa: 8, count: 4 })
-}
-
-fn data() -> Step {
-    Step::Ask(Cmd::Data {
-        page: 4,
-        ipa: 0,
-        source: 5,
-    })
-}
-
-fn rec() -> Step {
-    let mut auxiliaries = ArrayVec::new();
-    auxiliaries.push(7);
-    Step::Ask(Cmd::Rec {
-        page: 6,
-        auxiliaries,
-    })
-}
-
-fn enter() -> Step {
-    let number = RecNo::new(0);
-    Step::Ask(Cmd::Enter { number })
-}
-
-fn poke() -> Step {
-    Step::Ask(Cmd::Poke {
-        number: RecNo::new(0),
-        ipa: 0,
-        offset: PageOff::new(4095).unwrap(),
-        value: 1,
-    })
-}
-
-/// From eight pages to a realm that runs: its one page of memory has the value in each byte but the last, which its REC
-/// writes.
-pub(crate) fn steps_of(value: u8) -> [Step; STEPS] {
-    [
-        Step::Ask(Cmd::Take { order: 3 }),
-        Step::Ask(Cmd::Fill { page: 5, value }),
-        delegate(0),
-        delegate(1),
-        delegate(2),
-        delegate(3),
-        delegate(4),
-        delegate(6),
-        delegate(7),
-        realm(),
-        rtt(2, 2),
-        rtt(3, 3),
-        ripas(),
-        data(),
-        rec(),
-        Step::Ask(Cmd::Activate),
-        enter(),
-        poke(),
-    ]
+/// The steps of a guest whose page of memory has that value in each byte but the last.
+pub(crate) fn guest_steps(rt: &impl Abort, alloc: Global, value: u8) -> Vec<Step> {
+    let mut steps = steps_of(rt, alloc, GUEST);
+    assert!(rt; steps.len() == STEPS);
+    steps[1] = Step::Ask(Cmd::Fill { page: 5, value });
+    steps
 }

@@ -1,6 +1,6 @@
 //! The lines of refusals that no plan meets.
 use crate::expected::same_text;
-use crate::lines::build;
+use granule_addr::BuildId;
 use host_commands::{Refusal, Step};
 use plan_replay::{TurnAnswer, push_turn};
 use realm_plan::PlanStep;
@@ -11,7 +11,8 @@ use std::process::Abort;
 fn has_line(rt: &impl Abort, alloc: Global, refusal: Refusal, line: &str) {
     let undo = PlanStep::Whole(Step::Undo);
     let mut text = String::new(alloc);
-    push_turn(&mut text, build(7), &undo, TurnAnswer::Refused(refusal)).expect(rt, "memory");
+    let build = BuildId::new(7).unwrap();
+    push_turn(&mut text, build, &undo, TurnAnswer::Refused(refusal)).expect(rt, "memory");
     same_text(rt, text.as_str(), line);
 }
 

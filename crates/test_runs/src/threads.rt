@@ -3,21 +3,17 @@
 ghost use Rattle.std.specs.Prelude.{◌≡◌, [], All};
 ghost use Rattle.builders.specs.Names.{AreNamed};
 
-use crate::expected::{equal, holds, same_lines, same_text};
+use crate::expected::{equal, holds, same_text};
 use crate::gates::{ForBuild0, Together};
 use crate::hosts::{booted, closed, started};
-use crate::lines;
-use crate::lines::{replied, step};
-use builders::{
-    Answer, Asked, Blanks, Gate, Ledgers, OpenGate, Report, ReportLine, Seat, Shared, Worker,
-    run_builds,
-};
-use granule_addr::{BuildId, PageOff};
+use crate::lines::{Line, No, has_lines};
+use crate::steps::{FILLS, IS_REFUSED, READS, Words, steps_of};
+use builders::{Blanks, Gate, Ledgers, OpenGate, Report, Seat, Shared, Worker, run_builds};
+use granule_addr::BuildId;
 use host_commands::Step;
 use page_arena::PlainStore;
 use plan_replay::map_text;
-use realm_host::{Cmd, Host, Kind, Refusal, Reply};
-use realm_model::Rmi;
+use realm_host::{Host, Kind};
 use std::alloc::Global;
 use std::marker::{Brand, Send, Sync};
 use std::process::Abort;
@@ -32,80 +28,17 @@ struct Outcome {
     map: String,
 }
 
-fn take(order: u8) -> Step {
-    Step::Ask(Cmd::Take { order })
-}
+// The plans of builds that work side by side, by build.
+type Plans = &'static [Words];
 
-fn delegate() -> Step {
-    Step::Ask(Cmd::Delegate { page: 0 })
-}
+// Build 0 fills a page, build 1 is refused at its third step, and build 2 reads what it filled.
+const THREE: Plans = &[FILLS, IS_REFUSED, READS];
 
-fn fill(page: u16, value: u8) -> Step {
-    Step::Ask(Cmd::Fill { page, value })
-}
-
-// The offset modulo 4096.
-fn peek(offset: u16) -> Step {
-    let offset = PageOff::new(offset % 4096).unwrap();
-    Step::Ask(Cmd::Peek { page: 0, offset })
-}
-
-// The steps of a plan.
-fn plan<const N: usize>(rt: &impl Abort, alloc: Global, steps: [Step; N]) -> Vec<Step> {
-    Vec::from_array(alloc, steps).expect(rt, "memory")
-}
-
-/// Which builds work side by side, and their plans.
-#[derive(Clone, Copy)]
-pub(crate) enum Plans {
-    /// Build 0 fills a page, build 1 is refused at its third step, and build 2 reads what it filled.
-    Three,
-    /// Both builds fill a page and read from it.
-    Two,
-}
-
-impl Plans {
-    fn builds(self) -> u8 {
-        match self {
-            Plans::Three => 3,
-            Plans::Two => 2,
-        }
-    }
-
-    fn pages(self) -> u16 {
-        match self {
-            Plans::Three => 16,
-            Plans::Two => 2,
-        }
-    }
-
-    /// The steps of a build.
-    pub(crate) fn steps(self, rt: &impl Abort, alloc: Global, number: u8) -> Vec<Step> {
-        match (self, number) {
-            (Plans::Three, 0) => plan(rt, alloc, [take(1), fill(0, 1)]),
-            (Plans::Three, 1) => plan(rt, alloc, [take(1), delegate(), delegate(), fill(1, 5)]),
-            (Plans::Three, _) => plan(rt, alloc, [take(0), fill(0, 2), peek(4095)]),
-            (Plans::Two, 0) => plan(rt, alloc, [take(0), fill(0, 9), peek(0)]),
-            (Plans::Two, _) => plan(rt, alloc, [take(0), fill(0, 3), peek(0)]),
-        }
-    }
-}
-
-// The first page of the build that was taken.
-fn taken() -> ReportLine {
-    replied(0, Reply::FirstPage(0))
-}
-
-fn undone(kind: Kind, left: u16) -> ReportLine {
-    lines::undone(Asked::Undo, kind, left)
-}
-
-// The report of a build has these lines.
-fn has_lines(rt: &impl Abort, outcome: &Outcome, number: u8, want: &[ReportLine]) {
-    let report = outcome.reports.get(number as usize).expect(rt, "a report");
-    equal(rt, "the build", report.build.number() as u64, number as u64);
-    same_lines(rt, report.lines.as_slice(), want);
-}
+// Both builds fill a page and read from it.
+const TWO: Plans = &[
+    &["take 0", "fill 0 9", "peek 0 0"],
+    &["take 0", "fill 0 3", "peek 0 0"],
+];
 
 // The worker of a seat that has asked nothing.
 fn worker_of<L: Ledgers>(
@@ -136,7 +69,10 @@ fn workers_of<L: Ledgers>(
     let mut workers = Vec::new(alloc);
     for _ in 0..seats.len() {
         let seat = seats.pop().expect(rt, "a seat");
-        let steps = plans.steps(rt, alloc, seat.build().number());
+        let plan = plans
+            .get(seat.build().number() as usize)
+            .expect(rt, "a plan");
+        let steps = steps_of(rt, alloc, plan);
         match workers.push(worker_of(rt, alloc, seat, steps)) {
             Ok(()) => {}
             Err(_) => panic!(rt; "there is no memory for a worker"),
@@ -201,9 +137,11 @@ fn boot_and_work<R: Threads + Wait + Abort + Sync, G: Gate + Sync>(
     rt: &R,
     alloc: Global,
     gate: &G,
+    pages: u16,
+    builds: u8,
     plans: Plans,
 ) -> Outcome {
-    let host = booted(rt, alloc, plans.pages(), 0, plans.builds());
+    let host = booted(rt, alloc, pages, 0, builds);
     work_together::<R, G, Brand>(rt, alloc, Blanks::new(), host, gate, plans)
 }
 
@@ -212,44 +150,47 @@ fn is_outcome(
     rt: &impl Abort,
     outcome: &Outcome,
     ends: Result<(), BuildId>,
-    lines: &[&[ReportLine]],
+    reports: &[&[Line]],
     map: &str,
 ) {
     holds(rt, "the ends", outcome.ends == ends);
-    let mut number = 0;
-    for want in lines {
-        has_lines(rt, outcome, number, want);
-        number = number.saturating_add(1);
+    for place in 0..reports.len() {
+        let report = outcome.reports.get(place).expect(rt, "a report");
+        equal(rt, "the build", report.build.number() as u64, place as u64);
+        has_lines(rt, "a report", report.lines.as_slice(), reports[place]);
     }
     same_text(rt, outcome.map.as_str(), map);
 }
 
+const FILLED: &[Line] = &[Line::Page(0, 0), Line::Done(1)];
+
 #[test]
 fn one_of_three_is_refused(rt: HostRuntime) {
-    let outcome = boot_and_work(&rt, rt.alloc(), &OpenGate, Plans::Three);
-    let is_refused = [
-        taken(),
-        replied(1, Reply::Done),
-        step(2, Answer::Refused(Refusal::Rmi(Rmi::INPUT))),
-        undone(Kind::Delegate, 1),
-        undone(Kind::Take, 0),
+    let outcome = boot_and_work(&rt, rt.alloc(), &OpenGate, 16, 3, THREE);
+    let reports: &[&[Line]] = &[
+        FILLED,
+        &[
+            Line::Page(0, 0),
+            Line::Done(1),
+            Line::No(2, No::Input),
+            Line::Undone(Kind::Delegate, 1),
+            Line::Undone(Kind::Take, 0),
+        ],
+        &[Line::Page(0, 0), Line::Done(1), Line::Byte(2, 2)],
     ];
-    let fills = [taken(), replied(1, Reply::Done)];
-    let reads = [taken(), replied(1, Reply::Done), replied(2, Reply::Byte(2))];
     let map = "0 page 0 UNDELEGATED 4096
 0 page 1 UNDELEGATED 0
 2 page 0 UNDELEGATED 8192
 free 13
 ";
-    is_outcome(&rt, &outcome, Ok(()), &[&fills, &is_refused, &reads], map);
+    is_outcome(&rt, &outcome, Ok(()), reports, map);
 }
 
 #[test]
 fn two_of_three_are_stopped(rt: HostRuntime) {
     let second = BuildId::new(1).unwrap();
-    let outcome = boot_and_work(&rt, rt.alloc(), &ForBuild0, Plans::Three);
-    let fills = [taken(), replied(1, Reply::Done)];
-    let is_stopped = [taken()];
+    let outcome = boot_and_work(&rt, rt.alloc(), &ForBuild0, 16, 3, THREE);
+    let reports: &[&[Line]] = &[FILLED, &[Line::Page(0, 0)], &[Line::Page(0, 0)]];
     let map = "0 page 0 UNDELEGATED 4096
 0 page 1 UNDELEGATED 0
 1 page 0 UNDELEGATED 0
@@ -257,24 +198,20 @@ fn two_of_three_are_stopped(rt: HostRuntime) {
 2 page 0 UNDELEGATED 0
 free 11
 ";
-    is_outcome(
-        &rt,
-        &outcome,
-        Err(second),
-        &[&fills, &is_stopped, &is_stopped],
-        map,
-    );
+    is_outcome(&rt, &outcome, Err(second), reports, map);
 }
 
 #[test]
 fn each_reads_after_both_have_filled(rt: HostRuntime) {
     let gate = Together::from(&rt);
-    let outcome = boot_and_work(&rt, rt.alloc(), &gate, Plans::Two);
-    let first = [taken(), replied(1, Reply::Done), replied(2, Reply::Byte(9))];
-    let second = [taken(), replied(1, Reply::Done), replied(2, Reply::Byte(3))];
+    let outcome = boot_and_work(&rt, rt.alloc(), &gate, 2, 2, TWO);
+    let reports: &[&[Line]] = &[
+        &[Line::Page(0, 0), Line::Done(1), Line::Byte(2, 9)],
+        &[Line::Page(0, 0), Line::Done(1), Line::Byte(2, 3)],
+    ];
     let map = "0 page 0 UNDELEGATED 36864
 1 page 0 UNDELEGATED 12288
 free 0
 ";
-    is_outcome(&rt, &outcome, Ok(()), &[&first, &second], map);
+    is_outcome(&rt, &outcome, Ok(()), reports, map);
 }

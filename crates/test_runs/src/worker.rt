@@ -1,11 +1,11 @@
 //! Workers over a teller and a gate in the place of a host.
 ghost use Rattle.std.specs.Prelude.{◌≡◌, ◌+◌, ◌*◌, ◌≤◌, [], length, vec_capacity};
 
-use crate::expected::{holds, same_lines};
-use crate::lines;
-use crate::lines::{replied, step};
-use builders::{Answer, Asked, Gate, Report, ReportLine, Stuck, Teller, work};
-use granule_addr::{BuildId, RecNo};
+use crate::expected::holds;
+use crate::lines::{Line, No, has_lines};
+use crate::steps::{FILLS, IS_REFUSED, READS, Words, steps_of};
+use builders::{Gate, Report, Stuck, Teller, work};
+use granule_addr::BuildId;
 use host_commands::{Cmd, Refusal, Reply, Step};
 use host_ledger::{HostLedger, Mark};
 use realm_host::{Kind, Undone};
@@ -97,63 +97,24 @@ impl Gate for Turns<'_> {
     }
 }
 
-/// What is refused, how many acts are above the mark, and how many turns come.
+// What is refused, how many acts are above the mark, and how many turns come.
 #[derive(Clone, Copy)]
-pub(crate) struct Case {
-    pub refused: u64,
-    pub refused_later: u64,
-    pub above: u16,
-    pub turns: u64,
+struct Case {
+    refused: u64,
+    refused_later: u64,
+    above: u16,
+    turns: u64,
 }
 
 const NEVER: u64 = 10_000;
 
-/// Nothing is refused, and all turns come.
-pub(crate) const ALL: Case = Case {
+// Nothing is refused, and all turns come.
+const ALL: Case = Case {
     refused: NEVER,
     refused_later: NEVER,
     above: 0,
     turns: NEVER,
 };
-
-/// A step is done.
-pub(crate) fn done(place: usize) -> ReportLine {
-    replied(place, Reply::Done)
-}
-
-/// A delegation is undone, and the answer says that one act is left.
-pub(crate) fn undone(asked: Asked) -> ReportLine {
-    lines::undone(asked, Kind::Delegate, 1)
-}
-
-fn exited(number: u16) -> ReportLine {
-    ReportLine {
-        asked: Asked::Exit(RecNo::new(number)),
-        answer: Answer::Replied(Reply::Done),
-    }
-}
-
-/// A step is refused.
-pub(crate) fn refused(place: usize) -> ReportLine {
-    step(place, Answer::Refused(Refusal::HistoryFull))
-}
-
-fn undo_refused() -> ReportLine {
-    ReportLine {
-        asked: Asked::Undo,
-        answer: Answer::Refused(Refusal::HistoryFull),
-    }
-}
-
-fn delegate() -> Step {
-    Step::Ask(Cmd::Delegate { page: 0 })
-}
-
-fn enter(number: u16) -> Step {
-    Step::Ask(Cmd::Enter {
-        number: RecNo::new(number),
-    })
-}
 
 // The mark of a build that has done nothing.
 fn first_mark(rt: &impl Abort, alloc: Global) -> Mark {
@@ -185,122 +146,250 @@ fn takes_all(report: &mut Report, case: &Case, mark: Mark, steps: &[Step]) -> bo
     work(report, steps, &mut fake, &gate).is_ok()
 }
 
-/// A worker takes the steps, and has these lines then, and has ended or not.
-pub(crate) fn works(
+// A worker takes the steps, and has these lines then, and has ended or not.
+fn works(
     rt: &impl Abort,
     alloc: Global,
+    name: &str,
     case: &Case,
-    steps: &[Step],
-    want: &[ReportLine],
+    steps: Words,
+    want: &[Line],
     ended: bool,
 ) {
+    let steps = steps_of(rt, alloc, steps);
     assert!(rt; steps.len() <= 16);
     let mark = first_mark(rt, alloc);
     let mut report = Report {
         build: BuildId::new(0).unwrap(),
         lines: Vec::with_capacity(alloc, 2 * steps.len() + 1).expect(rt, "memory"),
     };
-    let has_ended = takes_all(&mut report, case, mark, steps);
-    holds(rt, "it ends as is wanted", has_ended == ended);
-    same_lines(rt, report.lines.as_slice(), want);
+    let has_ended = takes_all(&mut report, case, mark, steps.as_slice());
+    holds(rt, name, has_ended == ended);
+    has_lines(rt, name, report.lines.as_slice(), want);
 }
 
-#[test]
-fn refused_step_is_followed_by_undos(rt: HostRuntime) {
-    let steps = [delegate(), delegate(), delegate(), Step::Undo];
-    let case = Case { refused: 2, ..ALL };
-    let want = [
-        done(0),
-        done(1),
-        refused(2),
-        undone(Asked::Undo),
-        undone(Asked::Undo),
-    ];
-    works(&rt, rt.alloc(), &case, &steps, &want, true);
-}
+// The question of that number is refused, counted from 0.
+const REFUSED_0: Case = Case { refused: 0, ..ALL };
+
+const REFUSED_1: Case = Case { refused: 1, ..ALL };
+
+const REFUSED_2: Case = Case { refused: 2, ..ALL };
+
+const REFUSED_3: Case = Case { refused: 3, ..ALL };
+
+// The undo after a refusal: each leaves 1, as the teller says.
+const UNDONE: Line = Line::Undone(Kind::Delegate, 1);
+
+// Each step of three plans is refused in turn, and then what is open is undone: takes and delegations. Or none is refused.
+const REFUSED_STEPS: &[(&str, Case, Words, &[Line])] = &[
+    (
+        "fills, 0",
+        REFUSED_0,
+        FILLS,
+        &[Line::No(0, No::HistoryFull)],
+    ),
+    (
+        "fills, 1",
+        REFUSED_1,
+        FILLS,
+        &[Line::Done(0), Line::No(1, No::HistoryFull), UNDONE],
+    ),
+    ("fills", ALL, FILLS, &[Line::Done(0), Line::Done(1)]),
+    (
+        "is refused, 0",
+        REFUSED_0,
+        IS_REFUSED,
+        &[Line::No(0, No::HistoryFull)],
+    ),
+    (
+        "is refused, 1",
+        REFUSED_1,
+        IS_REFUSED,
+        &[Line::Done(0), Line::No(1, No::HistoryFull), UNDONE],
+    ),
+    (
+        "is refused, 2",
+        REFUSED_2,
+        IS_REFUSED,
+        &[
+            Line::Done(0),
+            Line::Done(1),
+            Line::No(2, No::HistoryFull),
+            UNDONE,
+            UNDONE,
+        ],
+    ),
+    (
+        "is refused, 3",
+        REFUSED_3,
+        IS_REFUSED,
+        &[
+            Line::Done(0),
+            Line::Done(1),
+            Line::Done(2),
+            Line::No(3, No::HistoryFull),
+            UNDONE,
+            UNDONE,
+            UNDONE,
+        ],
+    ),
+    (
+        "is refused",
+        ALL,
+        IS_REFUSED,
+        &[Line::Done(0), Line::Done(1), Line::Done(2), Line::Done(3)],
+    ),
+    (
+        "reads, 0",
+        REFUSED_0,
+        READS,
+        &[Line::No(0, No::HistoryFull)],
+    ),
+    (
+        "reads, 1",
+        REFUSED_1,
+        READS,
+        &[Line::Done(0), Line::No(1, No::HistoryFull), UNDONE],
+    ),
+    (
+        "reads, 2",
+        REFUSED_2,
+        READS,
+        &[
+            Line::Done(0),
+            Line::Done(1),
+            Line::No(2, No::HistoryFull),
+            UNDONE,
+        ],
+    ),
+    (
+        "reads",
+        ALL,
+        READS,
+        &[Line::Done(0), Line::Done(1), Line::Done(2)],
+    ),
+];
 
 #[test]
-fn refused_undo_ends_it(rt: HostRuntime) {
-    let steps = [delegate(), delegate(), delegate()];
-    let case = Case {
-        refused: 2,
-        refused_later: 3,
-        ..ALL
-    };
-    let want = [done(0), done(1), refused(2), undo_refused()];
-    works(&rt, rt.alloc(), &case, &steps, &want, true);
+fn each_step_is_refused_once(rt: HostRuntime) {
+    for (name, case, steps, want) in REFUSED_STEPS {
+        works(&rt, rt.alloc(), name, case, steps, want, true);
+    }
 }
 
-#[test]
-fn nothing_is_reported_of_a_turn_that_does_not_come(rt: HostRuntime) {
-    let steps = [delegate(), delegate(), delegate()];
-    let case = Case {
-        refused: 2,
-        turns: 4,
-        ..ALL
-    };
-    let want = [done(0), done(1), refused(2), undone(Asked::Undo)];
-    works(&rt, rt.alloc(), &case, &steps, &want, false);
-}
+const DELEGATES: Words = &["delegate 0", "delegate 0", "delegate 0"];
+
+const ENDS: &[(&str, Case, Words, &[Line], bool)] = &[
+    (
+        "a refused step is followed by undos",
+        REFUSED_2,
+        &["delegate 0", "delegate 0", "delegate 0", "undo"],
+        &[
+            Line::Done(0),
+            Line::Done(1),
+            Line::No(2, No::HistoryFull),
+            UNDONE,
+            UNDONE,
+        ],
+        true,
+    ),
+    (
+        "a refused undo ends it",
+        Case {
+            refused: 2,
+            refused_later: 3,
+            ..ALL
+        },
+        DELEGATES,
+        &[
+            Line::Done(0),
+            Line::Done(1),
+            Line::No(2, No::HistoryFull),
+            Line::UndoRefused,
+        ],
+        true,
+    ),
+    (
+        "nothing is reported of a turn that does not come",
+        Case {
+            refused: 2,
+            turns: 4,
+            ..ALL
+        },
+        DELEGATES,
+        &[
+            Line::Done(0),
+            Line::Done(1),
+            Line::No(2, No::HistoryFull),
+            UNDONE,
+        ],
+        false,
+    ),
+    (
+        "an abort undoes what its own replies count",
+        ALL,
+        &["delegate 0", "delegate 0", "abort", "abort", "back"],
+        &[
+            Line::Done(0),
+            Line::Done(1),
+            Line::StepUndone(2, Kind::Delegate, 1),
+            Line::StepUndone(2, Kind::Delegate, 1),
+            Line::Nothing(3),
+            Line::No(4, No::NothingToUndo),
+        ],
+        true,
+    ),
+    (
+        "running RECs exit in rising number",
+        ALL,
+        &["enter 5", "enter 3", "delegate 0", "enter 5", "abort"],
+        &[
+            Line::Done(0),
+            Line::Done(1),
+            Line::Done(2),
+            Line::Done(3),
+            Line::No(4, No::RecRunning),
+            Line::Exited(3),
+            Line::Exited(5),
+            UNDONE,
+        ],
+        true,
+    ),
+    (
+        "the way back is no longer than the journal",
+        Case { above: 7, ..ALL },
+        &["delegate 0", "mark", "delegate 0", "back", "back"],
+        &[
+            Line::Done(0),
+            Line::Marked(1, 0),
+            Line::Done(2),
+            Line::StepUndone(3, Kind::Delegate, 1),
+            Line::StepUndone(3, Kind::Delegate, 1),
+            Line::Nothing(4),
+        ],
+        true,
+    ),
+    (
+        "checking back takes a turn",
+        Case {
+            above: 2,
+            turns: 5,
+            ..ALL
+        },
+        &["delegate 0", "mark", "delegate 0", "back"],
+        &[
+            Line::Done(0),
+            Line::Marked(1, 0),
+            Line::Done(2),
+            Line::StepUndone(3, Kind::Delegate, 1),
+        ],
+        false,
+    ),
+];
 
 #[test]
-fn abort_undoes_what_its_own_replies_count(rt: HostRuntime) {
-    let steps = [delegate(), delegate(), Step::Abort, Step::Abort, Step::Back];
-    let want = [
-        done(0),
-        done(1),
-        undone(Asked::Step(2)),
-        undone(Asked::Step(2)),
-        step(3, Answer::Nothing),
-        step(4, Answer::Refused(Refusal::NothingToUndo)),
-    ];
-    works(&rt, rt.alloc(), &ALL, &steps, &want, true);
-}
-
-#[test]
-fn running_recs_exit_in_rising_number(rt: HostRuntime) {
-    let steps = [enter(5), enter(3), delegate(), enter(5), Step::Abort];
-    let want = [
-        done(0),
-        done(1),
-        done(2),
-        done(3),
-        step(4, Answer::Refused(Refusal::RecRunning)),
-        exited(3),
-        exited(5),
-        undone(Asked::Undo),
-    ];
-    works(&rt, rt.alloc(), &ALL, &steps, &want, true);
-}
-
-#[test]
-fn way_back_is_no_longer_than_the_journal(rt: HostRuntime) {
-    let steps = [delegate(), Step::Mark, delegate(), Step::Back, Step::Back];
-    let case = Case { above: 7, ..ALL };
-    let want = [
-        done(0),
-        step(1, Answer::Marked(0)),
-        done(2),
-        undone(Asked::Step(3)),
-        undone(Asked::Step(3)),
-        step(4, Answer::Nothing),
-    ];
-    works(&rt, rt.alloc(), &case, &steps, &want, true);
-}
-
-#[test]
-fn checking_back_takes_a_turn(rt: HostRuntime) {
-    let steps = [delegate(), Step::Mark, delegate(), Step::Back];
-    let case = Case {
-        above: 2,
-        turns: 5,
-        ..ALL
-    };
-    let want = [
-        done(0),
-        step(1, Answer::Marked(0)),
-        done(2),
-        undone(Asked::Step(3)),
-    ];
-    works(&rt, rt.alloc(), &case, &steps, &want, false);
+fn workers_end_so(rt: HostRuntime) {
+    for (name, case, steps, want, ended) in ENDS {
+        works(&rt, rt.alloc(), name, case, steps, want, *ended);
+    }
 }
