@@ -10,7 +10,7 @@ use run_program::fits;
 use std::alloc::Global;
 use std::process::Abort;
 
-// An act of a build, with the order of a block, and granules by their numbers.
+// An operation of a build, with the order of a block, and granules by their numbers.
 enum Recorded {
     Take(u8, u16),
     GiveBack(u8, u16),

@@ -40,7 +40,7 @@ impl Read for Source<'_> {
     }
 }
 
-/// Such a source of bytes, which has told of no failure.
+/// Such a source of bytes, which has reported no failure.
 pub(crate) fn told_source(rest: &[u8], most: usize, fails_at: Option<u64>) -> Told<Source<'_>>
     ensures { result.failed ≡ false }
 {
@@ -93,7 +93,7 @@ impl Write for Sink {
     }
 }
 
-/// Such a sink, which has told of no failure.
+/// Such a sink, which has reported no failure.
 pub(crate) fn told_sink(
     alloc: Global,
     most: usize,
@@ -230,7 +230,7 @@ impl<'a> Outcome<'a> {
         }
     }
 
-    /// It is what came of a program.
+    /// The end of a program is this one.
     pub(crate) fn came(
         &self,
         rt: &impl Abort,

@@ -1,15 +1,15 @@
-//! What is seen, compared with what is wanted.
+//! Comparisons of values with the expected ones.
 //!
 //! A test is proved before it runs, and each comparison in its body branches: written out there, a row of them costs far
 //! more than a row of these calls.
 use std::process::Abort;
 
-/// What is seen is what is wanted.
+/// A number is the expected one.
 pub(crate) fn equal(rt: &impl Abort, what: &str, seen: u64, want: u64) {
     assert_eq!(rt; seen, want, "{what}");
 }
 
-/// A text is what is wanted.
+/// A text is the expected one.
 pub(crate) fn same_text(rt: &impl Abort, seen: &str, want: &str) {
     assert_eq!(rt; seen, want);
 }

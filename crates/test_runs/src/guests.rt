@@ -8,7 +8,7 @@ use std::alloc::Global;
 use std::process::Abort;
 use std::sync::Wait;
 
-/// A build's seat and its steps, which of them is refused, and what came of them.
+/// A build's seat and its steps, which of them is refused, and their results.
 #[derive(Drop)]
 pub struct Guest<L: Ledgers> {
     pub seat: Seat<L>,

@@ -1,4 +1,4 @@
-//! Hosts on which no build has done anything. Where one is not made, the test is aborted, so nothing is dropped there.
+//! Hosts on which no build has done anything. If one is not made, the test is aborted, so nothing is dropped there.
 ghost use Rattle.std.specs.Prelude.{◌≡◌, []};
 ghost use Rattle.builders.specs.Names.{AreNamed};
 

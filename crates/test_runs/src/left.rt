@@ -1,4 +1,4 @@
-//! What is left of a host of three guests.
+//! The state in which three guests leave their host.
 use crate::expected::{holds, same_text};
 use granule_addr::BuildId;
 use page_arena::PageStore;

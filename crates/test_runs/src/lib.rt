@@ -1,12 +1,12 @@
 //! Tests of hosts that builds share, of workers in threads, and of the parts of the programs over devices in memory.
 //!
-//! It is proved what a call answers, what a worker does after a refusal, that a history without a build is a history,
-//! and what is printed where no device fails. These tests are for the rest: that each worker has a thread of its own,
-//! that threads come to their end, which world is left then, how often a device is asked, and what follows where it
-//! fails. What the built programs print is compared by `tests/program`.
+//! The answers of calls are proved, and what a worker does after a refusal. So is what is printed if no device fails.
+//! These tests are for the rest: each worker has a thread of its own, and threads come to their end. They compare the
+//! world that is left then, how often a device is asked, and what follows if it fails. `tests/program` compares what the
+//! built programs print.
 //!
-//! Steps are spelled as in a plan, and wanted lines are rows of tables: one proved function runs the rows of a table, and
-//! names the case and the row that fails.
+//! Steps are spelled as in a plan, and expected lines are rows of tables. One proved function runs the rows of a table,
+//! and names the case and the row that fails.
 #![tactic(auto)]
 
 #[cfg(test)]

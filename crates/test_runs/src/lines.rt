@@ -28,9 +28,9 @@ pub(crate) enum Line {
     /// An abort or a way back has nothing to undo.
     Nothing(usize),
     No(usize, No),
-    /// An abort or a way back undoes an act of that kind, and leaves so many open.
+    /// An abort or a way back undoes an operation of that kind, and leaves so many open.
     StepUndone(usize, Kind, u16),
-    /// After a refusal an act of that kind is undone, and so many are left open.
+    /// After a refusal an operation of that kind is undone, and so many are left open.
     Undone(Kind, u16),
     /// After a refusal an undo is refused, since the history is full.
     UndoRefused,

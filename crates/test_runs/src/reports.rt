@@ -1,4 +1,4 @@
-//! What the reports of guests have to be.
+//! The expected reports of guests.
 use crate::expected::{equal, holds_at};
 use crate::lines::{Line, No};
 use crate::steps::{ENTER, STEPS};

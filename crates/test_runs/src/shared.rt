@@ -1,4 +1,4 @@
-//! A host that builds share: what their seats are told, and how it is closed.
+//! A host that builds share: the answers to their seats, and its closing.
 ghost use Rattle.std.specs.Prelude.{◌≡◌, []};
 ghost use Rattle.builders.specs.Names.{AreNamed};
 

@@ -20,7 +20,7 @@ pub(crate) fn steps_of(rt: &impl Abort, alloc: Global, words: Words) -> Vec<Step
 /// The first two pages of a build, with the first one filled.
 pub(crate) const FILLS: Words = &["take 1", "fill 0 1"];
 
-/// The third step is refused by the monitor.
+/// The third step is refused by the RMM.
 pub(crate) const IS_REFUSED: Words = &["take 1", "delegate 0", "delegate 0", "fill 1 5"];
 
 /// The build reads the last byte of what it filled.

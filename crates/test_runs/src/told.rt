@@ -1,4 +1,4 @@
-//! A device is asked as often as is told, never again where it has failed, and flushed once.
+//! Devices that count: each is asked as often as is reported, never again after a failure, and flushed once.
 ghost use Rattle.std.specs.Prelude.{◌≡◌, false};
 
 use crate::devices::{Sink, Source, told_sink, told_source};
@@ -8,14 +8,14 @@ use realm_program::{ReadError, read_whole};
 use std::alloc::Global;
 use std::process::Abort;
 
-// A reader was asked `reads` times, and this is told.
+// A reader was asked `reads` times, and this is reported.
 fn was_read(rt: &impl Abort, input: &Told<Source<'_>>, has_failed: bool, reads: u64) {
     holds(rt, "failure", input.has_failed() == has_failed);
     equal(rt, "reads", input.device().reads, reads);
     equal(rt, "reads that are told", input.reads(), reads);
 }
 
-// A writer was asked for `writes` writes and `flushes` flushes, and its failure is told.
+// A writer was asked for `writes` writes and `flushes` flushes, and its failure is reported.
 fn was_written(rt: &impl Abort, output: &Told<Sink>, has_failed: bool, writes: u64, flushes: u64) {
     holds(rt, "failure", output.has_failed() == has_failed);
     equal(rt, "writes", output.device().writes, writes);

@@ -6,12 +6,12 @@ use std::sync::atomic::{AtomicU64, Ordering};
 use std::thread;
 use std::time::{Clock, Duration};
 
-/// Who waits for whom.
+/// The build that waits, and the one that it waits for.
 #[derive(Clone, Copy)]
 pub enum Waiting {
-    /// Build 1 takes a turn only behind that turn of build 2, or behind its last one.
+    /// Build 1 takes a turn only after that turn of build 2, or after its last one.
     ForBuild2,
-    /// Builds 0 and 2 take a turn only behind that turn of build 1, or behind the one that is refused.
+    /// Builds 0 and 2 take a turn only after that turn of build 1, or after the one that is refused.
     ForBuild1,
 }
 

@@ -97,7 +97,7 @@ impl Gate for Turns<'_> {
     }
 }
 
-// What is refused, how many acts are above the mark, and how many turns come.
+// The refused questions, the operations above the mark, and the turns that come.
 #[derive(Clone, Copy)]
 struct Case {
     refused: u64,
