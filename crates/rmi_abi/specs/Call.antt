@@ -73,3 +73,47 @@ registers_of (RttFold rd ipa level) = registers 0xC4000166 rd ipa level 0
 registers_of (RecAuxCount rd) = registers 0xC4000167 rd 0 0 0
 registers_of (RttInitRipas rd base top) = registers 0xC4000168 rd base top 0
 registers_of (RttSetRipas rd rec base top) = registers 0xC4000169 rd rec base top
+
+-- ---- operands
+
+-- the number of operands of a call, in X1 and the registers after it
+abbrev pub operand_count : Call → ℕ
+operand_count (Version requested) = 1
+operand_count (GranuleDelegate address) = 1
+operand_count (GranuleUndelegate address) = 1
+operand_count (DataCreate rd page ipa source flags) = 5
+operand_count (DataCreateUnknown rd page ipa) = 3
+operand_count (DataDestroy rd ipa) = 2
+operand_count (RealmActivate rd) = 1
+operand_count (RealmCreate rd params) = 2
+operand_count (RealmDestroy rd) = 1
+operand_count (RecCreate rd rec params) = 3
+operand_count (RecDestroy rec) = 1
+operand_count (RecEnter rec run) = 2
+operand_count (RttCreate rd rtt ipa level) = 4
+operand_count (RttDestroy rd ipa level) = 3
+operand_count (RttMapUnprotected rd ipa level descriptor) = 4
+operand_count (RttReadEntry rd ipa level) = 3
+operand_count (RttUnmapUnprotected rd ipa level) = 3
+operand_count (PsciComplete calling target status) = 3
+operand_count (Features index) = 1
+operand_count (RttFold rd ipa level) = 3
+operand_count (RecAuxCount rd) = 1
+operand_count (RttInitRipas rd base top) = 3
+operand_count (RttSetRipas rd rec base top) = 4
+
+-- register k has an operand, of that many
+abbrev pub operand : ℕ → ℕ → ℕ → ℕ
+operand count k x = if nat_le k count then x else 0
+
+-- The function of registers and that many operands; zeros in the registers after them.
+abbrev pub with_operands : ℕ → Registers → Registers
+with_operands count r = record {
+  x0 = r.x0;
+  x1 = operand count 1 r.x1;
+  x2 = operand count 2 r.x2;
+  x3 = operand count 3 r.x3;
+  x4 = operand count 4 r.x4;
+  x5 = operand count 5 r.x5;
+  x6 = operand count 6 r.x6;
+}

@@ -1,5 +1,5 @@
 -- Settings that are in range.
-use Rattle.std.specs.Prelude.{◌≡◌, ℕ, ◌%◌, ◌^◌, ◌<◌, ◌≤◌, ◌==◌, ◌&&◌, ◌||◌, Bool, nat_le, nat_lt, IsTrue}
+use Rattle.std.specs.Prelude.{◌≡◌, ℕ, ◌%◌, ◌^◌, ◌<◌, ◌≤◌, ◌==◌, ◌&&◌, ◌||◌, Bool, false, nat_le, nat_lt}
 use Rattle.rmi_abi.specs.declared.settings.Layout.{Layout}
 use Rattle.rmi_abi.specs.declared.settings.Layout.TheVariants.{Rel0, Eac5}
 use Rattle.rmi_abi.specs.declared.settings.RmmSettings.{RmmSettings}
@@ -39,3 +39,29 @@ pub record IsPlatform (s : RmmSettings) : Type 0 where
   pub bps : s.bps ≤ 63
   pub wps : s.wps ≤ 63
   pub lrs : s.lrs ≤ 15
+
+-- The default of each setting: RMM 1.0-rel0, the widest sizes, and the likeliest choice where the standard leaves one.
+abbrev pub default_settings : RmmSettings
+default_settings = record {
+  base = 0x80000000;
+  secure_base = 0;
+  secure_count = 0;
+  aux = 2;
+  vmid_bits = 16;
+  s2sz = 48;
+  max_recs_order = 4;
+  block_level = 2;
+  bps = 0;
+  wps = 0;
+  lrs = 0;
+  layout = Rel0;
+  stops_at_destroyed = false;
+  measures_all_recs = false;
+  ignores_data_flags = false;
+  data_needs_ram = false;
+  aligns_live_top = false;
+  shows_target_alone = false;
+  takes_shareability = false;
+  checks_params = false;
+  checks_gic = false;
+}

@@ -1,12 +1,25 @@
-//! A theorem on all calls.
-ghost use Rattle.std.specs.Prelude.{◌≡◌, ◌<◌, ℕ, Some};
+//! Theorems on all calls, and on the default settings.
+ghost use Rattle.std.specs.Prelude.{◌≡◌, Some, true};
 ghost use Rattle.rmi_abi.specs.declared.call.Call.{Call};
-ghost use Rattle.rmi_abi.specs.declared.word.Word.{Word};
-ghost use Rattle.rmi_abi.specs.declared.word.Word.TheVariants.{ErrorRealm, ErrorRtt};
-ghost use Rattle.rmi_abi.specs.Call.{call_in, registers_of};
-ghost use Rattle.rmi_abi.specs.Word.{number, word_of};
+ghost use Rattle.rmi_abi.specs.declared.registers.Registers.{Registers};
+ghost use Rattle.rmi_abi.specs.Call.{call_in, registers_of, operand_count, with_operands};
+ghost use Rattle.rmi_abi.specs.Settings.{is_platform, default_settings};
+
+use crate::RmmSettings;
 
 /// The registers of a call are decoded as the call.
 pub fn calls_come_back()
     ensures { (call : Call) → call_in (registers_of call) ≡ Some call }
+{}
+
+/// Registers that are decoded as a call are its registers, as far as it has operands.
+pub fn registers_come_back()
+    ensures { (r : Registers) (call : Call) → call_in r ≡ Some call
+        → with_operands (operand_count call) r ≡ registers_of call }
+{}
+
+/// The default settings are those of a platform.
+pub fn defaults_are_a_platform()
+    ensures values { RmmSettings.DEFAULT ≡ default_settings }
+    ensures in_range { is_platform RmmSettings.DEFAULT ≡ true }
 {}
