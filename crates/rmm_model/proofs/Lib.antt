@@ -1,3 +1,4 @@
+pub mod ChildEntries
 pub mod FixedEntries
 pub mod LiveEntries
 pub mod Parts

@@ -27,13 +27,17 @@ descriptor_of UnassignedNs = 0
 abbrev pub repeated : ℕ → ℕ
 repeated byte = byte * 0x0101010101010101
 
--- The word of an entry: bits 63:56 have its kind and RIPAS; a live one has its descriptor in bits 47:0.
+-- the word of an entry without its descriptor: bits 63:56 have its kind and RIPAS
+abbrev pub kind_word : RmmRttEntry → ℕ
+kind_word (Unassigned ripas) = repeated (ripas_code ripas)
+kind_word UnassignedNs = repeated 3
+kind_word (Table address) = 4 * 2 ^ 56
+kind_word (AssignedNs descriptor) = 5 * 2 ^ 56
+kind_word (Assigned ripas address) = (6 + ripas_code ripas) * 2 ^ 56
+
+-- The word of an entry. A live one has its descriptor in bits 47:0.
 unfoldable pub entry_word : RmmRttEntry → ℕ
-entry_word (Unassigned ripas) = repeated (ripas_code ripas)
-entry_word UnassignedNs = repeated 3
-entry_word (Table address) = 4 * 2 ^ 56 + address % 2 ^ 48
-entry_word (AssignedNs descriptor) = 5 * 2 ^ 56 + descriptor % 2 ^ 48
-entry_word (Assigned ripas address) = (6 + ripas_code ripas) * 2 ^ 56 + address % 2 ^ 48
+entry_word entry = kind_word entry + descriptor_of entry % 2 ^ 48
 
 -- the entry of a kind, with a descriptor if it has one
 abbrev pub entry_at_kind : ℕ → ℕ → RmmRttEntry
@@ -126,6 +130,12 @@ abbrev pub child_entry : RmmRttEntry → ℕ → ℕ → RmmRttEntry
 child_entry (Assigned ripas address) level k = Assigned ripas (address + k * entry_size level)
 child_entry (AssignedNs descriptor) level k = AssignedNs (descriptor + k * entry_size level)
 child_entry entry level k = entry
+
+-- the step by which the descriptors of children rise in a table of a level
+abbrev pub child_step : RmmRttEntry → ℕ → ℕ
+child_step (Assigned ripas address) level = entry_size level
+child_step (AssignedNs descriptor) level = entry_size level
+child_step entry level = 0
 
 -- the byte that a page of children of an entry has throughout; one of a mapping has none
 abbrev pub repeated_byte : RmmRttEntry → Option ℕ

@@ -2,6 +2,7 @@ pub mod Access
 pub mod Allowed
 pub mod Call
 pub mod Check
+pub mod Children
 pub mod Codes
 pub mod Command
 pub mod Entry

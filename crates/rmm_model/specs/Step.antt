@@ -16,8 +16,8 @@ use Rattle.rmm_model.specs.declared.realm.RmmRealm.{RmmRealm}
 use Rattle.rmm_model.specs.declared.rec.LastExit.TheVariants.{Other, HostCall as LastHostCall, RipasChange as LastRipasChange, EmulatableAbort, UnprotectedAbort, SystemRegister as LastSystemRegister}
 use Rattle.rmm_model.specs.declared.rec.PsciRequest.TheVariants.{CpuOn as CpuOnRequest, AffinityInfo as AffinityInfoRequest, Complete}
 use Rattle.rmm_model.specs.declared.rec.RmmRec.{RmmRec as Attributes}
-use Rattle.rmm_model.specs.declared.step.Came.{Came}
-use Rattle.rmm_model.specs.declared.step.Came.TheVariants.{Result as IsResult, Exit as IsExit, Spin as Spins}
+use Rattle.rmm_model.specs.declared.step.StepOutcome.{StepOutcome}
+use Rattle.rmm_model.specs.declared.step.StepOutcome.TheVariants.{Result as IsResult, Exit as IsExit, Spin as Spins}
 use Rattle.rmm_model.specs.declared.step.GuestStep.{GuestStep}
 use Rattle.rmm_model.specs.declared.step.GuestStep.TheVariants.{Write, Read, Fetch, HostCall, SetRipas, CpuOn, AffinityInfo, CpuOff, CpuSuspend, SystemOff, SystemReset}
 use Rattle.rmm_model.specs.declared.step.GuestStep.TheVariants.{Wfi, Wfe, SystemRegister, Spin}
@@ -49,13 +49,13 @@ abbrev pub is_memory : RmmRttEntry → Bool
 is_memory (Assigned ripas address) = is_ram ripas
 is_memory _ = false
 
--- a granule, if it is one of the machine
-abbrev pub found_or_sea : Option ℕ → Result ℕ Came
+-- a granule, where it is one of the machine
+abbrev pub found_or_sea : Option ℕ → Result ℕ StepOutcome
 found_or_sea (Some granule) = Ok granule
 found_or_sea None = Err (IsResult Sea)
 
--- the granule of a protected address, or the outcome of an access there, by an exception class
-abbrev pub protected_access : Machine → ℕ → RmmRttEntry → ℕ → ℕ → Result ℕ Came
+-- the granule of a protected address, or what comes of an access there, by an exception class
+abbrev pub protected_access : Machine → ℕ → RmmRttEntry → ℕ → ℕ → Result ℕ StepOutcome
 protected_access m class entry level ipa =
     if is_memory entry then found_or_sea (granule_named m (descriptor_of entry + ipa % entry_size level)) else
     Err (if is_empty (ripas_in entry) then IsResult Sea else IsExit (abort (class + 4 + level) ipa) Other)
@@ -73,49 +73,49 @@ abbrev pub of_access : Bool → AccessSize → ℕ → ℕ
 of_access writes size level = syndrome size + (wnr writes + level)
 
 -- the granule of the host at a physical address
-abbrev pub host_access : Machine → ℕ → ℕ → Result ℕ Came
+abbrev pub host_access : Machine → ℕ → ℕ → Result ℕ StepOutcome
 host_access m address ipa = if is_host_page m address then Ok (number_of m address) else Err (IsExit (abort 0x90000028 ipa) UnprotectedAbort)
 
--- the granule of an unprotected address, or the outcome of an access there
-abbrev pub unprotected_access : Machine → RmmRttEntry → ℕ → ℕ → Bool → AccessSize → ℕ → Result ℕ Came
+-- the granule of an unprotected address, or what comes of an access there
+abbrev pub unprotected_access : Machine → RmmRttEntry → ℕ → ℕ → Bool → AccessSize → ℕ → Result ℕ StepOutcome
 unprotected_access m entry level ipa writes size value =
     if not (is_assigned_ns entry) then Err (IsExit (emulatable (0x91000004 + of_access writes size level) ipa value) EmulatableAbort) else
     (if may_access (descriptor_of entry) writes then host_access m (descriptor_of entry / 4096 * 4096 + ipa % entry_size level) ipa else
     Err (IsExit (emulatable (0x9100000C + of_access writes size level) ipa value) EmulatableAbort))
 
--- The granule that an address of a guest is in, or the outcome of an access there.
-unfoldable pub access : Machine → RmmRealm → ℕ → Bool → AccessSize → ℕ → Result ℕ Came
+-- The granule that an address of a guest is in, or what comes of an access there.
+unfoldable pub access : Machine → RmmRealm → ℕ → Bool → AccessSize → ℕ → Result ℕ StepOutcome
 access m realm ipa writes size value =
     let found = walk m realm ipa 3 in
     if not (is_in_space realm ipa) then Err (IsResult Sea) else
     (if is_protected realm ipa then protected_access m 0x90000000 (entry_at m found ipa) found.level ipa else
     unprotected_access m (entry_at m found ipa) found.level ipa writes size value)
 
--- the granule that a guest fetches an instruction from, or the outcome of the fetch
-unfoldable pub fetched : Machine → RmmRealm → ℕ → Result ℕ Came
+-- the granule that a guest fetches an instruction from, or what comes of it
+unfoldable pub fetched : Machine → RmmRealm → ℕ → Result ℕ StepOutcome
 fetched m realm ipa =
     let found = walk m realm ipa 3 in
     if is_protected realm ipa then protected_access m 0x80000000 (entry_at m found ipa) found.level ipa else Err (IsResult Sea)
 
--- the outcome of a step that only tries an access
-abbrev pub tried : Result ℕ Came → Came
+-- what comes of a step that only tries an access
+abbrev pub tried : Result ℕ StepOutcome → StepOutcome
 tried (Ok granule) = IsResult Done
-tried (Err came) = came
+tried (Err outcome) = outcome
 
--- the outcome of a read
-abbrev pub came_of_read : Machine → ℕ → AccessSize → Result ℕ Came → Came
-came_of_read m ipa size (Ok granule) = IsResult (IsRead (value_in (page_in m granule) size ipa))
-came_of_read m ipa size (Err came) = came
+-- what comes of a read
+abbrev pub read_outcome : Machine → ℕ → AccessSize → Result ℕ StepOutcome → StepOutcome
+read_outcome m ipa size (Ok granule) = IsResult (IsRead (value_in (page_in m granule) size ipa))
+read_outcome m ipa size (Err outcome) = outcome
 
 -- the machine after a write
-abbrev pub after_write : Machine → ℕ → AccessSize → ℕ → Result ℕ Came → Machine
+abbrev pub after_write : Machine → ℕ → AccessSize → ℕ → Result ℕ StepOutcome → Machine
 after_write m ipa size value (Ok granule) = with_value m granule size ipa value
-after_write m ipa size value (Err came) = m
+after_write m ipa size value (Err outcome) = m
 
 -- ---- calls
 
 -- RSI_HOST_CALL
-abbrev pub host_call : ℕ → ℕ → ℕ → ℕ → Came
+abbrev pub host_call : ℕ → ℕ → ℕ → ℕ → StepOutcome
 host_call imm gpr0 gpr1 gpr2 = IsExit (record (only_reason HostExit) { gpr0 = gpr0; gpr1 = gpr1; gpr2 = gpr2; imm = imm % 2 ^ 16 }) LastHostCall
 
 -- RSI_IPA_STATE_SET takes a range of pages of the protected half, and EMPTY or RAM
@@ -126,7 +126,7 @@ is_ripas_range realm base top ripas =
 abbrev pub ripas_of : ℕ → RmmRipas
 ripas_of code = if code == 1 then Ram else Empty
 
-abbrev pub ripas_exit : ℕ → ℕ → ℕ → Came
+abbrev pub ripas_exit : ℕ → ℕ → ℕ → StepOutcome
 ripas_exit base top ripas = IsExit (record (only_reason RipasExit) { ripas_base = base; ripas_top = top; ripas = ripas }) LastRipasChange
 
 -- the second and third operand that a PSCI exit shows, by a setting
@@ -134,11 +134,11 @@ abbrev pub shown : RmmSettings → ℕ → ℕ
 shown s operand = if s.shows_target_alone then 0 else operand
 
 -- the exit of a PSCI call
-abbrev pub psci_exit : RmmSettings → ℕ → ℕ → ℕ → ℕ → Came
+abbrev pub psci_exit : RmmSettings → ℕ → ℕ → ℕ → ℕ → StepOutcome
 psci_exit s function target b c =
     IsExit (record (only_reason PsciExit) { gpr0 = function; gpr1 = target; gpr2 = shown s b; gpr3 = shown s c }) Other
 
-abbrev pub psci_gives : ℕ → Came
+abbrev pub psci_gives : ℕ → StepOutcome
 psci_gives value = IsResult (Psci value)
 
 -- a REC of the realm was given that MPIDR
@@ -146,42 +146,42 @@ abbrev pub was_given : RmmRealm → ℕ → Bool
 was_given realm mpidr = is_mpidr mpidr && nat_lt (rec_number mpidr) realm.next_rec
 
 -- PSCI_CPU_ON
-abbrev pub cpu_on : RmmSettings → RmmRealm → Attributes → ℕ → ℕ → ℕ → Came
+abbrev pub cpu_on : RmmSettings → RmmRealm → Attributes → ℕ → ℕ → ℕ → StepOutcome
 cpu_on s realm rec target entry_point context =
     if not (is_protected realm entry_point) then psci_gives (2 ^ 64 - 9) else
     (if not (was_given realm target) then psci_gives (2 ^ 64 - 2) else
     (if target == rec.mpidr then psci_gives (2 ^ 64 - 4) else psci_exit s 0xC4000003 target entry_point context))
 
 -- PSCI_AFFINITY_INFO
-abbrev pub affinity_info : RmmSettings → RmmRealm → Attributes → ℕ → ℕ → Came
+abbrev pub affinity_info : RmmSettings → RmmRealm → Attributes → ℕ → ℕ → StepOutcome
 affinity_info s realm rec target level =
     if not (level == 0 && was_given realm target) then psci_gives (2 ^ 64 - 2) else
     (if target == rec.mpidr then psci_gives 0 else psci_exit s 0xC4000004 target level 0)
 
 -- a wait, trapped or not
-abbrev pub wait : Bool → ℕ → Came
+abbrev pub wait : Bool → ℕ → StepOutcome
 wait traps esr = if traps then IsExit (record (only_reason Sync) { esr = esr }) Other else IsResult Done
 
 -- a write of a system register
-abbrev pub system_register : ℕ → ℕ → Came
+abbrev pub system_register : ℕ → ℕ → StepOutcome
 system_register iss value = IsExit (record (only_reason Sync) { esr = 0x60000000 + iss % 2 ^ 25; gpr0 = value }) LastSystemRegister
 
--- The outcome of a step that accesses no memory.
-abbrev pub came_of_call : RmmSettings → RmmRealm → Attributes → ℕ → GuestStep → Came
-came_of_call s realm rec flags (HostCall imm gpr0 gpr1 gpr2) = host_call imm gpr0 gpr1 gpr2
-came_of_call s realm rec flags (SetRipas base top ripas more) = if is_ripas_range realm base top ripas then ripas_exit base top ripas else IsResult RsiErrorInput
-came_of_call s realm rec flags (CpuOn target entry_point context) = cpu_on s realm rec target entry_point context
-came_of_call s realm rec flags (AffinityInfo target level) = affinity_info s realm rec target level
-came_of_call s realm rec flags CpuOff = psci_exit s 0x84000002 0 0 0
-came_of_call s realm rec flags CpuSuspend = psci_exit s 0xC4000001 0 0 0
-came_of_call s realm rec flags SystemOff = psci_exit s 0x84000008 0 0 0
-came_of_call s realm rec flags SystemReset = psci_exit s 0x84000009 0 0 0
-came_of_call s realm rec flags Wfi = wait (traps_wfi flags) 0x04000000
-came_of_call s realm rec flags Wfe = wait (traps_wfe flags) 0x04000001
-came_of_call s realm rec flags (SystemRegister iss value) = system_register iss value
-came_of_call s realm rec flags _ = Spins
+-- What comes of a step that accesses no memory.
+abbrev pub call_outcome : RmmSettings → RmmRealm → Attributes → ℕ → GuestStep → StepOutcome
+call_outcome s realm rec flags (HostCall imm gpr0 gpr1 gpr2) = host_call imm gpr0 gpr1 gpr2
+call_outcome s realm rec flags (SetRipas base top ripas more) = if is_ripas_range realm base top ripas then ripas_exit base top ripas else IsResult RsiErrorInput
+call_outcome s realm rec flags (CpuOn target entry_point context) = cpu_on s realm rec target entry_point context
+call_outcome s realm rec flags (AffinityInfo target level) = affinity_info s realm rec target level
+call_outcome s realm rec flags CpuOff = psci_exit s 0x84000002 0 0 0
+call_outcome s realm rec flags CpuSuspend = psci_exit s 0xC4000001 0 0 0
+call_outcome s realm rec flags SystemOff = psci_exit s 0x84000008 0 0 0
+call_outcome s realm rec flags SystemReset = psci_exit s 0x84000009 0 0 0
+call_outcome s realm rec flags Wfi = wait (traps_wfi flags) 0x04000000
+call_outcome s realm rec flags Wfe = wait (traps_wfe flags) 0x04000001
+call_outcome s realm rec flags (SystemRegister iss value) = system_register iss value
+call_outcome s realm rec flags _ = Spins
 
-abbrev pub is_exit : Came → Bool
+abbrev pub is_exit : StepOutcome → Bool
 is_exit (IsExit exit last) = true
 is_exit _ = false
 

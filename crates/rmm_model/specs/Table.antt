@@ -1,5 +1,5 @@
 -- Tables: pages of 512 entries.
-use Rattle.std.specs.Prelude.{ℕ, zero, suc, ◌+◌, ◌-◌, ◌*◌, ◌/◌, ◌==◌, ◌&&◌, Bool, true, cond, not, List, Option, Some, None, if◌then◌else◌}
+use Rattle.std.specs.Prelude.{ℕ, zero, suc, ◌+◌, ◌-◌, ◌==◌, ◌&&◌, Bool, true, cond, not, List, Option, Some, None}
 use Rattle.granule_addr.specs.Page.{page_of, zero_page}
 use Rattle.page_arena.specs.Word.{word_of_page, page_with_word}
 use Rattle.rmm_model.specs.declared.entry.Changeable.{Changeable}
@@ -38,6 +38,11 @@ first_fixed changeable page (suc count) i = cond (can_change changeable (entry_i
 unfoldable pub has_parts : List ℕ → RmmRttEntry → ℕ → ℕ → ℕ → Bool
 has_parts page whole level zero i = true
 has_parts page whole level (suc count) i = word_of_page page i == entry_word (child_entry whole level i) && has_parts page whole level count (i + 1)
+
+-- A page of which that many words, from one on, are what a function gives for their index.
+unfoldable pub with_words_from : ℕ → ℕ → (ℕ → ℕ) → List ℕ → List ℕ
+with_words_from first zero f page = page
+with_words_from first (suc count) f page = page_with_word (with_words_from first count f page) (first + count) (f (first + count))
 
 -- a page with the first words that a function gives
 unfoldable pub with_words : ℕ → (ℕ → ℕ) → List ℕ → List ℕ

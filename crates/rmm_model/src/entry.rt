@@ -39,7 +39,7 @@ const REPEATED: u64 = 0x0101_0101_0101_0101;
 
 const KIND: u64 = 0x100_0000_0000_0000;
 
-const ADDRESSES: u64 = 0x1_0000_0000_0000;
+pub(crate) const ADDRESSES: u64 = 0x1_0000_0000_0000;
 
 /// The entry that a word is read as, whatever the word.
 #[tactic(auto, unfolding(crate::specs::Entry::entry_of))]
@@ -88,20 +88,27 @@ impl RmmRipas {
 }
 
 impl RmmRttEntry {
-    /// The word of the entry: bits 63:56 have its kind and RIPAS. A live one has its descriptor in bits 47:0; the bytes
-    /// of any other are all the same, so that a page of such entries is written as one byte.
-    #[tactic(auto, unfolding(crate::specs::Entry::entry_word))]
-    pub fn word(self) -> u64
-        ensures { result ≡ entries.entry_word self }
+    /// The word of the entry without its descriptor: bits 63:56 have its kind and RIPAS. The bytes of one that is not
+    /// live are all the same, so that a page of such entries is written as one byte.
+    pub fn kind_word(self) -> u64
+        ensures value { result ≡ entries.kind_word self }
+        ensures most { result ≤ 2 ^ 60 }
     {
         match self {
             RmmRttEntry::Unassigned(ripas) => ripas.code() as u64 * REPEATED,
             RmmRttEntry::UnassignedNs => 3 * REPEATED,
-            RmmRttEntry::Table(address) => 4 * KIND + address % ADDRESSES,
-            RmmRttEntry::AssignedNs(descriptor) => 5 * KIND + descriptor % ADDRESSES,
-            RmmRttEntry::Assigned(ripas, address) => (6 + ripas.code() as u64) * KIND
-                + address % ADDRESSES,
+            RmmRttEntry::Table(_) => 4 * KIND,
+            RmmRttEntry::AssignedNs(_) => 5 * KIND,
+            RmmRttEntry::Assigned(ripas, _) => (6 + ripas.code() as u64) * KIND,
         }
+    }
+
+    /// The word of the entry. A live one has its descriptor in bits 47:0.
+    #[tactic(auto, unfolding(crate::specs::Entry::entry_word))]
+    pub fn word(self) -> u64
+        ensures { result ≡ entries.entry_word self }
+    {
+        self.kind_word() + self.descriptor() % ADDRESSES
     }
 
     /// Whether the entry leads to a page, a block or a table.
@@ -221,17 +228,16 @@ impl RmmRttEntry {
         }
     }
 
-    /// Entry `index` of a table of a level that means the same as this entry above it.
-    pub fn child(self, level: u8, index: u16) -> RmmRttEntry
-        requires descriptor { entries.descriptor_of self < 2 ^ 48 }
-        requires index { index < 512 }
-        ensures { result ≡ entries.child_entry self level index }
+    /// The step by which the descriptors of this entry's children rise in a table of a level. Only those of a mapping
+    /// rise.
+    pub fn child_step(self, level: u8) -> u64
+        ensures value { result ≡ entries.child_step self level }
+        ensures most { result ≤ 2 ^ 39 }
     {
-        let offset = index as u64 * entry_size(level);
         match self {
-            RmmRttEntry::Assigned(ripas, address) => RmmRttEntry::Assigned(ripas, address + offset),
-            RmmRttEntry::AssignedNs(descriptor) => RmmRttEntry::AssignedNs(descriptor + offset),
-            _ => self,
+            RmmRttEntry::Assigned(_, _) => entry_size(level),
+            RmmRttEntry::AssignedNs(_) => entry_size(level),
+            _ => 0,
         }
     }
 

@@ -1,5 +1,7 @@
 //! Levels of translation tables, and the entry of a level that covers an address.
-ghost use Rattle.std.specs.Prelude.{◌≡◌, ◌<◌, ◌≤◌, ◌/◌, ◌^◌};
+//!
+//! The size of an entry is a power of two, and a division by a known one is a shift. So each size has an arm of its own.
+ghost use Rattle.std.specs.Prelude.{◌≡◌, ◌<◌, ◌≤◌, ◌/◌, ◌%◌, ◌^◌};
 ghost use Rattle.rmm_model.specs.Level as levels;
 
 /// The bytes that an entry of a level covers: 4 KiB, 2 MiB, 1 GiB or 512 GiB. RMM 1.0, RTT level.
@@ -17,13 +19,40 @@ pub fn entry_size(level: u8) -> u64
     }
 }
 
+/// The number of the entry of a level that covers an address. The entry of address 0 has number 0.
+#[tactic(auto, unfolding(crate::specs::Level::entry_size))]
+pub fn entry_number(level: u8, address: u64) -> u64
+    ensures { result ≡ address / levels.entry_size level }
+{
+    match level {
+        3 => address / 4096,
+        2 => address / 0x20_0000,
+        1 => address / 0x4000_0000,
+        _ => address / 0x80_0000_0000,
+    }
+}
+
+/// The offset of an address in the entry of a level that covers it.
+#[tactic(auto, unfolding(crate::specs::Level::entry_size))]
+pub fn entry_offset(level: u8, address: u64) -> u64
+    ensures value { result ≡ address % levels.entry_size level }
+    ensures below { result < 2 ^ 39 }
+{
+    match level {
+        3 => address % 4096,
+        2 => address % 0x20_0000,
+        1 => address % 0x4000_0000,
+        _ => address % 0x80_0000_0000,
+    }
+}
+
 /// The index of the entry that covers an address, among the 512 of a table.
 #[tactic(auto, unfolding(crate::specs::Level::entry_index))]
 pub fn entry_index(level: u8, ipa: u64) -> u16
     ensures value { result ≡ levels.entry_index level ipa }
     ensures below { result < 512 }
 {
-    (ipa / entry_size(level) % 512) as u16
+    (entry_number(level, ipa) % 512) as u16
 }
 
 /// The index of the starting table that covers an address.
@@ -31,5 +60,5 @@ pub fn entry_index(level: u8, ipa: u64) -> u16
 pub fn start_offset(level: u8, ipa: u64) -> u64
     ensures { result ≡ levels.start_offset level ipa }
 {
-    ipa / entry_size(level) / 512
+    entry_number(level, ipa) / 512
 }

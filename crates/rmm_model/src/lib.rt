@@ -1,11 +1,12 @@
 //! The Realm Management Monitor of RMM 1.0 as definitions, and the types of its values.
 //!
 //! A machine is a list of granules and a list of pages; a translation table is its page of 512 words. In
-//! `specs/Command` each command is a list of checks and an effect, and `specs/Call` defines a call by registers.
+//! `specs/Command` each command is a list of checks and an effect, and `specs/Call` has what a call by registers does.
 #![tactic(auto)]
 
 mod access;
 mod answer;
+mod children;
 mod condition;
 mod entry;
 mod granule;
@@ -17,11 +18,12 @@ mod table;
 
 pub use access::AccessSize;
 pub use answer::{FailedCondition, error_input, error_rtt};
+pub use children::ChildWords;
 pub use condition::Condition;
 pub use entry::{Changeable, RmmRipas, RmmRttEntry, entry_from_word};
 pub use granule::{RmmGranule, RmmGranuleState};
-pub use level::{entry_index, entry_size, start_offset};
+pub use level::{entry_index, entry_number, entry_offset, entry_size, start_offset};
 pub use realm::{RmmRealm, RmmRealmState, RttWalk, start_count};
 pub use rec::{LastExit, PsciRequest, RipasRequest, RmmRec, RmmRecState, aux_address};
-pub use step::{Came, GuestStep, Queued, StepResult, StepWords};
+pub use step::{GuestStep, Queued, StepOutcome, StepResult, StepWords};
 pub use table::{first_fixed, first_live, has_live, has_parts};

@@ -73,7 +73,7 @@ pub enum StepResult {
 
 /// The outcome of a step: a result, an exit, or a guest that spins.
 #[derive(Clone, Copy)]
-pub enum Came {
+pub enum StepOutcome {
     Result(StepResult),
     Exit(RecExit, LastExit),
     Spin,

@@ -3,7 +3,7 @@ ghost use Rattle.std.specs.Prelude.{◌≡◌, ◌-◌, ◌^◌, ◌<◌, ◌≤
 ghost use Rattle.rmm_model.specs.Table as tables;
 ghost use Rattle.rmm_model.specs.Entry.{descriptor_of};
 
-use crate::{Changeable, RmmRttEntry, entry_from_word};
+use crate::{Changeable, ChildWords, RmmRttEntry, entry_from_word};
 use page_arena::word_in;
 
 /// The first live entry of a table from one on, or 512.
@@ -55,8 +55,9 @@ pub fn has_parts(page: &[u8], whole: RmmRttEntry, level: u8) -> bool
     requires whole { descriptor_of whole < 2 ^ 48 }
     ensures { result ≡ tables.has_parts page.now whole level 512 0 }
 {
+    let words = ChildWords::new(whole, level);
     for index in 0..512 {
-        if word_in(page, index as usize) != whole.child(level, index).word() {
+        if word_in(page, index as usize) != words.word(index) {
             return false;
         }
     }

@@ -1,5 +1,5 @@
--- The command RMI_REC_ENTER: its checks, its answer and its effect.
-use Rattle.std.specs.Prelude.{ℕ, zero, suc, ◌+◌, ◌%◌, ◌==◌, ◌&&◌, Bool, true, false, not, List, [], ◌∷◌, ◌++◌, Option, Some, None, if◌then◌else◌}
+-- RMI_REC_ENTER.
+use Rattle.std.specs.Prelude.{ℕ, zero, suc, ◌+◌, ◌-◌, ◌==◌, ◌&&◌, Bool, true, false, not, List, [], ◌∷◌, ◌++◌, Option, Some, None, if◌then◌else◌}
 use Rattle.page_arena.specs.Word.{word_of_page}
 use Rattle.rmi_abi.specs.declared.rec_run.ExitReason.{ExitReason}
 use Rattle.rmi_abi.specs.declared.rec_run.ExitReason.TheVariants.{Sync, Irq}
@@ -23,8 +23,8 @@ use Rattle.rmm_model.specs.declared.rec.PsciRequest.TheVariants.{None as NoReque
 use Rattle.rmm_model.specs.declared.rec.RmmRec.{RmmRec as Attributes}
 use Rattle.rmm_model.specs.declared.rec.RmmRecState.TheVariants.{Ready, Running}
 use Rattle.rmm_model.specs.declared.rec.RipasRequest.{RipasRequest}
-use Rattle.rmm_model.specs.declared.step.Came.{Came}
-use Rattle.rmm_model.specs.declared.step.Came.TheVariants.{Result as IsResult, Exit as IsExit, Spin as Spins}
+use Rattle.rmm_model.specs.declared.step.StepOutcome.{StepOutcome}
+use Rattle.rmm_model.specs.declared.step.StepOutcome.TheVariants.{Result as IsResult, Exit as IsExit, Spin as Spins}
 use Rattle.rmm_model.specs.declared.step.GuestStep.{GuestStep}
 use Rattle.rmm_model.specs.declared.step.GuestStep.TheVariants.{Write, Read, Fetch, SystemOff as SystemOffStep, SystemReset}
 use Rattle.rmm_model.specs.declared.step.StepResult.{StepResult}
@@ -34,11 +34,12 @@ use Rattle.rmm_model.specs.Check.{Command, Check, check, success, error_realm, e
 use Rattle.rmm_model.specs.Granule.{of_no_realm, realm_of}
 use Rattle.rmm_model.specs.Guest.{rec_in, is_rec_named, first_step, past_step, with_result}
 use Rattle.rmm_model.specs.Host.{is_host_page}
-use Rattle.rmm_model.specs.Machine.{Machine, granule_at, page_in, number_of, with_granule, with_word}
+use Rattle.rmm_model.specs.Machine.{Machine, granule_at, page_in, number_of, with_granule, with_page}
 use Rattle.rmm_model.specs.Realm.{is_new}
 use Rattle.rmm_model.specs.Rec.{is_running, no_request}
 use Rattle.rmm_model.specs.Entry.{is_ram}
-use Rattle.rmm_model.specs.Step.{access, fetched, tried, came_of_read, after_write, came_of_call, is_exit, rec_after_exit}
+use Rattle.rmm_model.specs.Table.{with_words_from}
+use Rattle.rmm_model.specs.Step.{access, fetched, tried, read_outcome, after_write, call_outcome, is_exit, rec_after_exit}
 use Rattle.rmm_model.specs.Command.Operand.{host_checks, rec_checks, rec_at}
 use Rattle.rmm_model.specs.Command.PsciComplete.{is_pending, with_rec}
 use Rattle.rmm_model.specs.Command.RecCreate.{all_from}
@@ -77,11 +78,10 @@ is_emulatable _ = false
 
 -- ---- registers that are kept in pages
 
--- a page has as many words of another one, from one of its own on
+-- that many words of a page, from a place on, become those of another page from its first one on
 unfoldable pub with_copied : Machine → ℕ → ℕ → ℕ → ℕ → ℕ → Machine
-with_copied m from first to place zero = m
-with_copied m from first to place (suc k) =
-    with_word (with_copied m from first to place k) to (place + k) (word_of_page (page_in (with_copied m from first to place k) from) (first + k))
+with_copied m from first to place count =
+    with_page m to (with_words_from place count (λ i. word_of_page (page_in m from) (first + (i - place))) (page_in m to))
 
 -- general-purpose registers 0 to 30 of a REC are those of a run page. RMM 1.0, RmiRecEnter.gprs.
 abbrev pub with_gprs : Machine → ℕ → ℕ → Machine
@@ -97,19 +97,18 @@ with_exit_gic m g page = if m.settings.checks_gic then with_copied m g 192 page 
 
 -- ---- exits
 
--- the first words of a page from one on are those of an exit
-unfoldable pub with_exit_words : Machine → ℕ → RecExit → ℕ → Machine
-with_exit_words m page exit zero = m
-with_exit_words m page exit (suc k) = with_word (with_exit_words m page exit k) page (256 + k) (exit_word exit (256 + k))
+-- the upper half of a page is an exit
+unfoldable pub with_exit_words : Machine → ℕ → RecExit → Machine
+with_exit_words m page exit = with_page m page (with_words_from 256 256 (exit_word exit) (page_in m page))
 
 -- an exit of a REC is written into the run page at an address, if that is a page of the host
 abbrev pub with_exit : Machine → ℕ → ℕ → RecExit → Machine
 with_exit m g address exit =
-    if is_host_page m address then with_exit_gic (with_exit_words m (number_of m address) exit 256) g (number_of m address) else m
+    if is_host_page m address then with_exit_gic (with_exit_words m (number_of m address) exit) g (number_of m address) else m
 
 -- A REC leaves: it is READY, and its exit is in its run page. RMM 1.0, RmiRecExit.
-unfoldable pub left : Machine → ℕ → RecExit → LastExit → Machine
-left m g exit last =
+unfoldable pub after_exit : Machine → ℕ → RecExit → LastExit → Machine
+after_exit m g exit last =
     let rec = rec_in m g in
     with_exit (with_rec m g (record rec { state = Ready; exit = last })) g rec.run exit
 
@@ -126,56 +125,56 @@ emulated (Read ipa size) gpr0 = IsRead (low_bytes size gpr0)
 emulated _ gpr0 = Done
 
 -- the step that made the last exit ends with a result
-abbrev pub ended : Machine → ℕ → StepResult → Machine
-ended m g r = with_result (past_step m g) g r
+abbrev pub with_step_ended : Machine → ℕ → StepResult → Machine
+with_step_ended m g r = with_result (past_step m g) g r
 
 abbrev pub with_psci_result : Machine → ℕ → PsciRequest → Machine
 with_psci_result m g (Complete value) = with_result (with_rec m g (record (rec_in m g) { psci = NoRequest })) g (Psci value)
 with_psci_result m g _ = m
 
 -- The guest gets the host's answer to its last exit. RMM 1.0, RmiRecEnter.
-abbrev pub answered : Machine → ℕ → LastExit → ℕ → ℕ → Machine
-answered m g RipasChange page flags =
+abbrev pub with_host_answer : Machine → ℕ → LastExit → ℕ → ℕ → Machine
+with_host_answer m g RipasChange page flags =
     with_result (with_rec m g (record (rec_in m g) { ripas = no_request })) g (ripas_result (rec_in m g).ripas flags)
-answered m g HostCall page flags = with_result (with_gprs m g page) g (Returned (entry_gpr_in (page_in m page) 0))
-answered m g SystemRegister page flags = with_result m g Done
-answered m g UnprotectedAbort page flags = if injects_sea flags then ended m g Sea else m
-answered m g EmulatableAbort page flags =
-    if injects_sea flags then ended m g Sea else
-    (if emulates_mmio flags then ended m g (emulated (first_step m g) (entry_gpr_in (page_in m page) 0)) else m)
-answered m g Other page flags = with_psci_result m g (rec_in m g).psci
+with_host_answer m g HostCall page flags = with_result (with_gprs m g page) g (Returned (entry_gpr_in (page_in m page) 0))
+with_host_answer m g SystemRegister page flags = with_result m g Done
+with_host_answer m g UnprotectedAbort page flags = if injects_sea flags then with_step_ended m g Sea else m
+with_host_answer m g EmulatableAbort page flags =
+    if injects_sea flags then with_step_ended m g Sea else
+    (if emulates_mmio flags then with_step_ended m g (emulated (first_step m g) (entry_gpr_in (page_in m page) 0)) else m)
+with_host_answer m g Other page flags = with_psci_result m g (rec_in m g).psci
 
 -- a REC that runs, with the address of its run page
-abbrev pub begun : Attributes → ℕ → Attributes
-begun rec address = record rec { state = Running; run = address; exit = Other; result_count = 0 }
+abbrev pub running_at : Attributes → ℕ → Attributes
+running_at rec address = record rec { state = Running; run = address; exit = Other; result_count = 0 }
 
 -- A REC is entered.
-unfoldable pub entered : Machine → ℕ → ℕ → ℕ → Machine
-entered m g address flags =
+unfoldable pub after_entry : Machine → ℕ → ℕ → ℕ → Machine
+after_entry m g address flags =
     let page = number_of m address in
-    answered (with_gic (with_rec m g (begun (rec_in m g) address)) g page) g (rec_in m g).exit page flags
+    with_host_answer (with_gic (with_rec m g (running_at (rec_in m g) address)) g page) g (rec_in m g).exit page flags
 
 -- ---- steps
 
--- the outcome of a step
-unfoldable pub came_of : Machine → RmmRealm → ℕ → ℕ → GuestStep → Came
-came_of m realm g flags (Write ipa value size) = tried (access m realm ipa true size (low_bytes size value))
-came_of m realm g flags (Read ipa size) = came_of_read m ipa size (access m realm ipa false size 0)
-came_of m realm g flags (Fetch ipa) = tried (fetched m realm ipa)
-came_of m realm g flags step = came_of_call m.settings realm (rec_in m g) flags step
+-- what comes of a step
+unfoldable pub step_outcome : Machine → RmmRealm → ℕ → ℕ → GuestStep → StepOutcome
+step_outcome m realm g flags (Write ipa value size) = tried (access m realm ipa true size (low_bytes size value))
+step_outcome m realm g flags (Read ipa size) = read_outcome m ipa size (access m realm ipa false size 0)
+step_outcome m realm g flags (Fetch ipa) = tried (fetched m realm ipa)
+step_outcome m realm g flags step = call_outcome m.settings realm (rec_in m g) flags step
 
 abbrev pub with_exit_of : Machine → ℕ → GuestStep → Bool → Machine
 with_exit_of m g step true = with_rec m g (rec_after_exit (rec_in m g) step)
 with_exit_of m g step false = m
 
--- the machine after the effect of a step
-unfoldable pub after_step : Machine → RmmRealm → ℕ → GuestStep → Came → Machine
-after_step m realm g (Write ipa value size) came = after_write m ipa size value (access m realm ipa true size (low_bytes size value))
-after_step m realm g (Read ipa size) came = m
-after_step m realm g (Fetch ipa) came = m
-after_step m realm g SystemOffStep came = with_system_off m (granule_at m g).owner
-after_step m realm g SystemReset came = with_system_off m (granule_at m g).owner
-after_step m realm g step came = with_exit_of m g step (is_exit came)
+-- the machine after what a step does
+unfoldable pub after_step : Machine → RmmRealm → ℕ → GuestStep → StepOutcome → Machine
+after_step m realm g (Write ipa value size) outcome = after_write m ipa size value (access m realm ipa true size (low_bytes size value))
+after_step m realm g (Read ipa size) outcome = m
+after_step m realm g (Fetch ipa) outcome = m
+after_step m realm g SystemOffStep outcome = with_system_off m (granule_at m g).owner
+after_step m realm g SystemReset outcome = with_system_off m (granule_at m g).owner
+after_step m realm g step outcome = with_exit_of m g step (is_exit outcome)
 
 abbrev pub is_sync : ExitReason → Bool
 is_sync Sync = true
@@ -185,42 +184,41 @@ abbrev pub is_done : LastExit → Bool
 is_done SystemRegister = true
 is_done _ = false
 
--- the guest goes on after a step, but for one that caused a SYNC exit, which it tries again
-abbrev pub behind : Machine → ℕ → Came → Machine
-behind m g (IsResult r) = with_result (past_step m g) g r
-behind m g (IsExit exit last) = if is_sync exit.reason && not (is_done last) then m else past_step m g
-behind m g Spins = past_step m g
+-- the guest is past a step, but for one that made a SYNC exit, which it tries again
+abbrev pub with_step_passed : Machine → ℕ → StepOutcome → Machine
+with_step_passed m g (IsResult r) = with_result (past_step m g) g r
+with_step_passed m g (IsExit exit last) = if is_sync exit.reason && not (is_done last) then m else past_step m g
+with_step_passed m g Spins = past_step m g
 
--- an exit as by a timer of the host's, if a guest has no step
-abbrev pub no_step : Came
+-- an exit as by a timer of the host's, where a guest has no step
+abbrev pub no_step : StepOutcome
 no_step = IsExit (only_reason Irq) Other
 
-abbrev pub came_in : Machine → Option RmmRealm → ℕ → ℕ → Came
-came_in m (Some realm) g flags = came_of m realm g flags (first_step m g)
-came_in m None g flags = no_step
+abbrev pub step_outcome_in : Machine → Option RmmRealm → ℕ → ℕ → StepOutcome
+step_outcome_in m (Some realm) g flags = step_outcome m realm g flags (first_step m g)
+step_outcome_in m None g flags = no_step
 
-abbrev pub after_in : Machine → Option RmmRealm → ℕ → ℕ → Machine
-after_in m (Some realm) g flags =
-    behind (after_step m realm g (first_step m g) (came_of m realm g flags (first_step m g))) g (came_of m realm g flags (first_step m g))
-after_in m None g flags = m
+abbrev pub after_step_in : Machine → Option RmmRealm → ℕ → ℕ → Machine
+after_step_in m (Some realm) g flags =
+    with_step_passed (after_step m realm g (first_step m g) (step_outcome m realm g flags (first_step m g))) g (step_outcome m realm g flags (first_step m g))
+after_step_in m None g flags = m
 
--- The outcome of the first step of a guest, and the machine after it.
-unfoldable pub came_now : Machine → ℕ → ℕ → Came
-came_now m g flags = if (rec_in m g).step_count == 0 then no_step else came_in m (owner_realm m g) g flags
+-- What comes of the first step of a guest, and the machine after it.
+unfoldable pub first_step_outcome : Machine → ℕ → ℕ → StepOutcome
+first_step_outcome m g flags = if (rec_in m g).step_count == 0 then no_step else step_outcome_in m (owner_realm m g) g flags
 
-unfoldable pub after_now : Machine → ℕ → ℕ → Machine
-after_now m g flags = if (rec_in m g).step_count == 0 then m else after_in m (owner_realm m g) g flags
+unfoldable pub after_first_step : Machine → ℕ → ℕ → Machine
+after_first_step m g flags = if (rec_in m g).step_count == 0 then m else after_step_in m (owner_realm m g) g flags
 
-abbrev pub carried : Came → Machine → ℕ → Bool × Machine → Bool × Machine
-carried (IsResult r) m g rest = rest
-carried (IsExit exit last) m g rest = (true, left m g exit last)
-carried Spins m g rest = (false, m)
+abbrev pub continued : StepOutcome → Machine → ℕ → Bool × Machine → Bool × Machine
+continued (IsResult r) m g rest = rest
+continued (IsExit exit last) m g rest = (true, after_exit m g exit last)
+continued Spins m g rest = (false, m)
 
--- The guest performs at most that many steps, up to one that causes an exit or spins. The result is whether the REC
--- left, and the machine then.
-unfoldable pub ran : Machine → ℕ → ℕ → ℕ → Bool × Machine
-ran m g flags zero = (true, left m g (only_reason Irq) Other)
-ran m g flags (suc count) = carried (came_now m g flags) (after_now m g flags) g (ran (after_now m g flags) g flags count)
+-- The guest performs at most that many steps, up to one that makes an exit or spins. Whether the REC left, and the machine then.
+unfoldable pub after_steps : Machine → ℕ → ℕ → ℕ → Bool × Machine
+after_steps m g flags zero = (true, after_exit m g (only_reason Irq) Other)
+after_steps m g flags (suc count) = continued (first_step_outcome m g flags) (after_first_step m g flags) g (after_steps (after_first_step m g flags) g flags count)
 
 -- ---- the command
 
@@ -252,7 +250,7 @@ unfoldable pub rec_enter : ℕ → ℕ → Machine → Command
 rec_enter rec address m =
     let g = number_of m rec in
     let flags = flags_in (page_in m (number_of m address)) in
-    let after = ran (entered m g address flags) g flags 16 in
+    let after = after_steps (after_entry m g address flags) g flags 16 in
     record {
       checks = host_checks RunAlign RunBound RunPas m address ++ rec_checks RecAlign RecBound RecGranState m rec
           ++ enter_checks (state_of (owner_realm m g)) (rec_at m rec) flags (is_gic_wrong m.settings (page_in m (number_of m address)));
@@ -271,5 +269,5 @@ runs_at m address = is_rec_named m address && is_running (rec_at m address).stat
 unfoldable pub interrupted : Machine → ℕ → Option Word × Machine
 interrupted m address =
     if runs_at m address then
-    (Some (if is_host_page m (rec_in m (number_of m address)).run then Success else ErrorInput), left m (number_of m address) (only_reason Irq) Other)
+    (Some (if is_host_page m (rec_in m (number_of m address)).run then Success else ErrorInput), after_exit m (number_of m address) (only_reason Irq) Other)
     else (None, m)

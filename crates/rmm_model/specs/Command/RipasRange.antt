@@ -1,5 +1,5 @@
--- Changes of the RIPAS of a range, up to the end of one table. RMM 1.0, RMI_RTT_INIT_RIPAS and RMI_RTT_SET_RIPAS.
-use Rattle.std.specs.Prelude.{ℕ, zero, suc, ◌+◌, ◌-◌, ◌/◌, not, nat_le, List, [], ◌∷◌, if◌then◌else◌}
+-- Changes of the RIPAS of a range, as far as one table goes. RMM 1.0, RMI_RTT_INIT_RIPAS and RMI_RTT_SET_RIPAS.
+use Rattle.std.specs.Prelude.{ℕ, ◌+◌, ◌-◌, ◌/◌, not, nat_le, List, [], ◌∷◌, if◌then◌else◌}
 use Rattle.rmm_model.specs.declared.condition.Condition.{Condition}
 use Rattle.rmm_model.specs.declared.condition.Condition.TheVariants.{Size, BaseAlign, RtteState, NoProgress}
 use Rattle.rmm_model.specs.declared.entry.Changeable.{Changeable}
@@ -8,8 +8,8 @@ use Rattle.rmm_model.specs.declared.realm.RttWalk.{RttWalk as Walked}
 use Rattle.rmm_model.specs.Check.{Check, check, error_input, error_rtt}
 use Rattle.rmm_model.specs.Entry.{entry_word, can_change, entry_with_ripas}
 use Rattle.rmm_model.specs.Level.{entry_size, entry_index}
-use Rattle.rmm_model.specs.Machine.{Machine, page_in, with_word}
-use Rattle.rmm_model.specs.Table.{entry_in_page, first_fixed}
+use Rattle.rmm_model.specs.Machine.{Machine, page_in, with_page}
+use Rattle.rmm_model.specs.Table.{entry_in_page, first_fixed, with_words_from}
 use Rattle.rmm_model.specs.Walk.{entry_at}
 use Rattle.rmm_model.specs.Command.Operand.{is_multiple}
 
@@ -43,10 +43,9 @@ change_count m changeable found base top =
 
 -- the machine with another RIPAS in that many entries of a table, from one on
 unfoldable pub with_ripas_from : Machine → ℕ → ℕ → RmmRipas → ℕ → Machine
-with_ripas_from m table first ripas zero = m
-with_ripas_from m table first ripas (suc k) =
-    let before = with_ripas_from m table first ripas k in
-    with_word before table (first + k) (entry_word (entry_with_ripas ripas (entry_in_page (page_in before table) (first + k))))
+with_ripas_from m table first ripas count =
+    let page = page_in m table in
+    with_page m table (with_words_from first count (λ i. entry_word (entry_with_ripas ripas (entry_in_page page i))) page)
 
 -- the machine with another RIPAS in that many entries of a table, from the one of an address on
 abbrev pub with_ripas : Machine → Walked → ℕ → RmmRipas → ℕ → Machine

@@ -1,5 +1,5 @@
--- The command RMI_RTT_SET_RIPAS: its checks, its answer and its effect.
-use Rattle.std.specs.Prelude.{ℕ, ◌+◌, ◌*◌, ◌==◌, ◌&&◌, Bool, true, not, nat_le, Option, Some, List, [], ◌∷◌, ◌++◌}
+-- RMI_RTT_SET_RIPAS.
+use Rattle.std.specs.Prelude.{ℕ, ◌+◌, ◌*◌, ◌==◌, ◌&&◌, ◌||◌, Bool, true, not, nat_le, Some, List, [], ◌∷◌, ◌++◌}
 use Rattle.rmm_model.specs.declared.condition.Condition.TheVariants.{Size, TopGranAlign, BaseBound, TopBound, RdState, RecAlign, RecBound, RecGranState, RecState, RecOwner}
 use Rattle.rmm_model.specs.declared.entry.Changeable.{Changeable}
 use Rattle.rmm_model.specs.declared.realm.RmmRealm.{RmmRealm}
@@ -19,10 +19,10 @@ use Rattle.rmm_model.specs.Command.RipasRange.{size_checks, progress_checks, cha
 abbrev pub set_changeable : RipasRequest → Changeable
 set_changeable request = record { assigned = true; destroyed = request.changes_destroyed }
 
--- An address is the one that a REC asked for. It is a protected one: no REC asks for another, and the definition holds for every
--- machine.
-abbrev pub is_asked : RmmRealm → RmmRec → ℕ → Bool
-is_asked realm asking base = base == asking.ripas.base && is_protected realm base
+-- A range ends within what a REC asked for. In a REC of the realm it begins at a protected address too: what a guest asks for lies
+-- below the end of the protected half, and the definition holds for every machine.
+abbrev pub is_within : RmmRealm → RmmRec → Bool → ℕ → ℕ → Bool
+is_within realm asking is_owner base top = nat_le top asking.ripas.top && (not is_owner || is_protected realm base)
 
 -- a REC of the realm that does not run, and the range that it asked for from its address on
 unfoldable pub ripas_request_checks : RmmRealm → RmmRec → Bool → ℕ → ℕ → List Check
@@ -30,8 +30,8 @@ ripas_request_checks realm asking is_owner base top =
     check TopGranAlign [] (not (is_multiple top 4096)) error_input
     ∷ check RecState (RecGranState ∷ []) (is_running asking.state) error_rec
     ∷ check RecOwner (RecGranState ∷ RdState ∷ []) (not is_owner) error_rec
-    ∷ check BaseBound (RecState ∷ []) (not (is_asked realm asking base)) error_input
-    ∷ check TopBound (RecState ∷ []) (not (nat_le top asking.ripas.top)) error_input ∷ []
+    ∷ check BaseBound (RecState ∷ []) (not (base == asking.ripas.base)) error_input
+    ∷ check TopBound (RecState ∷ []) (not (is_within realm asking is_owner base top)) error_input ∷ []
 
 -- the REC at an address is one of the realm of an RD
 abbrev pub is_rec_of : Machine → ℕ → ℕ → Bool

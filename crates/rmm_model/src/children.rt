@@ -1,0 +1,41 @@
+//! The words of a table whose entries are the children of an entry above it.
+ghost use Rattle.std.specs.Prelude.{◌≡◌, ℕ, ◌^◌, ◌<◌, ◌≤◌};
+
+use crate::RmmRttEntry;
+use crate::entry::ADDRESSES;
+
+/// The words of an entry's children: one kind, and descriptors that rise by a step.
+#[derive(Clone, Copy)]
+pub struct ChildWords {
+    kind: u64,
+    first: u64,
+    step: u64,
+    ghost kind_fits: { kind ≤ 2 ^ 60 },
+    ghost first_fits: { first < 2 ^ 48 },
+    ghost step_fits: { step ≤ 2 ^ 39 },
+}
+
+impl ChildWords {
+    ghost use Rattle.rmm_model.specs.Children.{child_word};
+    ghost use Rattle.rmm_model.specs.Entry as entries;
+
+    /// The words of the children of an entry, in a table of a level.
+    pub fn new(parent: RmmRttEntry, level: u8) -> ChildWords
+        requires { entries.descriptor_of parent < 2 ^ 48 }
+        ensures { (k : ℕ) → child_word result k ≡ entries.entry_word (entries.child_entry parent level k) }
+    {
+        ChildWords {
+            kind: parent.kind_word(),
+            first: parent.descriptor(),
+            step: parent.child_step(level),
+        }
+    }
+
+    /// Word `index` of them.
+    pub fn word(&self, index: u16) -> u64
+        requires { index < 512 }
+        ensures { result ≡ child_word self.now index }
+    {
+        self.kind + (self.first + index as u64 * self.step) % ADDRESSES
+    }
+}
