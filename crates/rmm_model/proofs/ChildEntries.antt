@@ -2,7 +2,7 @@
 use Rattle.std.proofs.Common.{◌≡◌, ℕ, ◌+◌, ◌*◌, ◌%◌, ◌^◌, refl, arith}
 use Rattle.rmm_model.specs.declared.entry.RmmRttEntry.{RmmRttEntry}
 use Rattle.rmm_model.specs.declared.entry.RmmRttEntry.TheVariants.{Unassigned, Assigned, Table, UnassignedNs, AssignedNs}
-use Rattle.rmm_model.specs.Entry.{kind_word, descriptor_of, entry_word, child_entry, child_step, ripas_code}
+use Rattle.rmm_model.specs.Entry.{kind_word, descriptor_of, entry_word, child_entry, child_step}
 
 -- the word of child k has the kind of its parent, and a descriptor that is k steps above
 pub child_word_of : (parent : RmmRttEntry) (level k : ℕ) → kind_word parent + (descriptor_of parent + k * child_step parent level) % 2 ^ 48 ≡ entry_word (child_entry parent level k)

@@ -1,8 +1,8 @@
 -- A machine: its granules and their pages, by number, and the addresses that name them.
-use Rattle.std.specs.Prelude.{ℕ, ◌+◌, ◌-◌, ◌*◌, ◌/◌, ◌%◌, ◌==◌, ◌&&◌, Bool, false, not, nat_le, nat_lt, List, length, slice_index_or, slice_set, IfSome}
-use Rattle.granule_addr.specs.Page.{page_of, zero_page}
+use Rattle.std.specs.Prelude.{ℕ, ◌-◌, ◌/◌, ◌%◌, ◌==◌, ◌&&◌, Bool, false, nat_le, nat_lt, List, length, slice_index_or, slice_set, IfSome}
+use Rattle.granule_addr.specs.Page.{zero_page}
 use Rattle.page_arena.specs.Page.{page_at}
-use Rattle.page_arena.specs.Word.{word_of_page, page_with_word}
+use Rattle.page_arena.specs.Word.{page_with_word}
 use Rattle.rmi_abi.specs.declared.settings.RmmSettings.{RmmSettings}
 use Rattle.rmm_model.specs.declared.granule.RmmGranule.{RmmGranule}
 use Rattle.rmm_model.specs.declared.granule.RmmGranuleState.{RmmGranuleState}

@@ -1,5 +1,5 @@
 -- Realms. RMM 1.0, Realm attributes.
-use Rattle.std.specs.Prelude.{true, false, ℕ, [], ◌+◌, ◌-◌, ◌*◌, ◌/◌, ◌^◌, ◌<◌, ◌≤◌, ◌==◌, ◌&&◌, Bool, not, nat_le, nat_lt, List}
+use Rattle.std.specs.Prelude.{true, false, ℕ, [], ◌+◌, ◌-◌, ◌*◌, ◌/◌, ◌^◌, ◌≤◌, ◌==◌, ◌&&◌, Bool, not, nat_le, nat_lt, List}
 use Rattle.rmi_abi.specs.declared.hash.HashAlgorithm.TheVariants.{Sha256}
 use Rattle.rmm_model.specs.declared.realm.RmmRealm.{RmmRealm}
 use Rattle.rmm_model.specs.declared.realm.RmmRealmState.{RmmRealmState}

@@ -1,7 +1,6 @@
 -- The outcome of a guest's step. RMM 1.0, Realm exits, RSI_HOST_CALL, RSI_IPA_STATE_SET and PSCI; Arm Architecture
 -- Reference Manual, ESR_EL2.
 use Rattle.std.specs.Prelude.{ℕ, ◌+◌, ◌-◌, ◌*◌, ◌/◌, ◌%◌, ◌^◌, ◌==◌, ◌&&◌, Bool, true, false, not, nat_lt, Option, Some, None, Result, Ok, Err, if◌then◌else◌}
-use Rattle.rmi_abi.specs.declared.rec_run.ExitReason.{ExitReason}
 use Rattle.rmi_abi.specs.declared.rec_run.ExitReason.TheVariants.{Sync, Psci as PsciExit, RipasChange as RipasExit, HostCall as HostExit}
 use Rattle.rmi_abi.specs.declared.rec_run.RecExit.{RecExit}
 use Rattle.rmi_abi.specs.declared.settings.RmmSettings.{RmmSettings}
@@ -11,7 +10,7 @@ use Rattle.rmm_model.specs.declared.access.AccessSize.{AccessSize}
 use Rattle.rmm_model.specs.declared.entry.RmmRttEntry.{RmmRttEntry}
 use Rattle.rmm_model.specs.declared.entry.RmmRttEntry.TheVariants.{Assigned}
 use Rattle.rmm_model.specs.declared.entry.RmmRipas.{RmmRipas}
-use Rattle.rmm_model.specs.declared.entry.RmmRipas.TheVariants.{Empty, Ram, Destroyed}
+use Rattle.rmm_model.specs.declared.entry.RmmRipas.TheVariants.{Empty, Ram}
 use Rattle.rmm_model.specs.declared.realm.RmmRealm.{RmmRealm}
 use Rattle.rmm_model.specs.declared.rec.LastExit.TheVariants.{Other, HostCall as LastHostCall, RipasChange as LastRipasChange, EmulatableAbort, UnprotectedAbort, SystemRegister as LastSystemRegister}
 use Rattle.rmm_model.specs.declared.rec.PsciRequest.TheVariants.{CpuOn as CpuOnRequest, AffinityInfo as AffinityInfoRequest, Complete}
@@ -19,8 +18,8 @@ use Rattle.rmm_model.specs.declared.rec.RmmRec.{RmmRec as Attributes}
 use Rattle.rmm_model.specs.declared.step.StepOutcome.{StepOutcome}
 use Rattle.rmm_model.specs.declared.step.StepOutcome.TheVariants.{Result as IsResult, Exit as IsExit, Spin as Spins}
 use Rattle.rmm_model.specs.declared.step.GuestStep.{GuestStep}
-use Rattle.rmm_model.specs.declared.step.GuestStep.TheVariants.{Write, Read, Fetch, HostCall, SetRipas, CpuOn, AffinityInfo, CpuOff, CpuSuspend, SystemOff, SystemReset}
-use Rattle.rmm_model.specs.declared.step.GuestStep.TheVariants.{Wfi, Wfe, SystemRegister, Spin}
+use Rattle.rmm_model.specs.declared.step.GuestStep.TheVariants.{HostCall, SetRipas, CpuOn, AffinityInfo, CpuOff, CpuSuspend, SystemOff, SystemReset}
+use Rattle.rmm_model.specs.declared.step.GuestStep.TheVariants.{Wfi, Wfe, SystemRegister}
 use Rattle.rmm_model.specs.declared.step.StepResult.TheVariants.{Done, Read as IsRead, Sea, Psci, RsiErrorInput}
 use Rattle.rmm_model.specs.Access.{syndrome, value_in, with_value}
 use Rattle.rmm_model.specs.Entry.{descriptor_of, is_assigned_ns, is_ram, ripas_in}

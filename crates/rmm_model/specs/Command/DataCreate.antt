@@ -5,7 +5,7 @@ use Rattle.rmi_abi.specs.declared.settings.RmmSettings.{RmmSettings}
 use Rattle.rmm_measurement.specs.declared.measure.Extension.TheVariants.{Data as DataExtension}
 use Rattle.rmm_measurement.specs.Bytes.{zeros}
 use Rattle.rmm_measurement.specs.Measure.{digest, extended}
-use Rattle.rmm_model.specs.declared.condition.Condition.TheVariants.{FlagsValid, SrcAlign, SrcBound, SrcPas, DataAlign, DataBound, DataState, RdState, RealmState, RtteState, RtteRipas}
+use Rattle.rmm_model.specs.declared.condition.Condition.TheVariants.{FlagsValid, SrcAlign, SrcBound, SrcPas, DataAlign, DataBound, DataState, RealmState, RtteState, RtteRipas}
 use Rattle.rmm_model.specs.declared.entry.RmmRttEntry.{RmmRttEntry}
 use Rattle.rmm_model.specs.declared.entry.RmmRttEntry.TheVariants.{Assigned}
 use Rattle.rmm_model.specs.declared.entry.RmmRipas.TheVariants.{Ram}

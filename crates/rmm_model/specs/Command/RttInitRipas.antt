@@ -1,8 +1,7 @@
--- The command RMI_RTT_INIT_RIPAS: its checks, its answer and its effect.
-use Rattle.std.specs.Prelude.{ℕ, zero, suc, ◌+◌, ◌-◌, ◌*◌, not, false, nat_le, List, [], ◌∷◌, ◌++◌}
+-- RMI_RTT_INIT_RIPAS.
+use Rattle.std.specs.Prelude.{ℕ, zero, suc, ◌+◌, ◌-◌, ◌*◌, not, false, List, [], ◌∷◌, ◌++◌}
 use Rattle.rmi_abi.specs.declared.hash.HashAlgorithm.{HashAlgorithm}
 use Rattle.rmi_abi.specs.declared.settings.RmmSettings.{RmmSettings}
-use Rattle.rmi_abi.specs.declared.word.Word.TheVariants.{Success}
 use Rattle.rmm_measurement.specs.declared.measure.Extension.TheVariants.{Ripas as RipasExtension}
 use Rattle.rmm_measurement.specs.Measure.{extended}
 use Rattle.rmm_model.specs.declared.condition.Condition.TheVariants.{Size, BaseGranAlign, TopGranAlign, BaseBound, TopBound, RdState, RealmState}
