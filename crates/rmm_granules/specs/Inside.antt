@@ -1,8 +1,7 @@
 -- The fields of granules, and the machine that they are.
-use Rattle.std.specs.Prelude.{◌≡◌, ℕ, ◌^◌, ◌<◌, ◌≤◌, Bool, false, List, length, replicate}
+use Rattle.std.specs.Prelude.{◌≡◌, ℕ, ◌<◌, ◌≤◌, Bool, false, List, length, replicate}
 use Rattle.page_arena.specs.Page.{is_free}
 use Rattle.rmi_abi.specs.declared.settings.RmmSettings.{RmmSettings}
-use Rattle.rmi_abi.specs.Settings.{IsPlatform}
 use Rattle.rmm_model.specs.declared.granule.RmmGranule.{RmmGranule}
 use Rattle.rmm_model.specs.declared.granule.RmmGranuleState.TheVariants.{Undelegated}
 use Rattle.rmm_model.specs.Granule.{of_no_realm}

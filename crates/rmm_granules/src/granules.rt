@@ -1,5 +1,5 @@
 //! Granules, their pages and their attributes.
-ghost use Rattle.std.specs.Prelude.{◌≡◌, ◌≢◌, ◌+◌, ◌%◌, ◌^◌, ◌<◌, ◌≤◌, ◌*◌, false, length, replicate, slice_set, IfOk, IfSome, IsTrue};
+ghost use Rattle.std.specs.Prelude.{◌≡◌, ◌≢◌, ◌<◌, ◌≤◌, false, length, replicate, slice_set, IfErr, IfOk, IfSome, IsTrue};
 ghost use Rattle.granule_addr.specs.Page.{page_of};
 ghost use Rattle.rmi_abi.specs.Settings.{IsPlatform};
 ghost use Rattle.rmm_model.specs.declared.granule.RmmGranuleState.TheVariants.{Undelegated};
@@ -69,12 +69,14 @@ fn rows(alloc: Global, count: u16, vmids: u32) -> Result<(Vec<RmmGranule>, Vec<b
 
 impl<S: PageStore> Granules<S> {
     /// The granules of a platform, all UNDELEGATED, over the pages of a store. There are as many as the store has pages.
+    /// An error returns the store as it was.
     pub fn open(
         alloc: Global,
         platform: Platform,
         mut store: S,
     ) -> Result<Granules<S>, (AllocError, S)>
-        ensures { IfOk result (λ m. m ≡ platform_machine platform (S.page_bytes store)) }
+        ensures ok { IfOk result (λ m. m ≡ platform_machine platform (S.page_bytes store)) }
+        ensures err { IfErr result (λ error. error.1 ≡ store) }
     {
         match rows(alloc, store.pages(), VMIDS) {
             Ok((granules, vmids)) => {
@@ -222,7 +224,9 @@ impl<S: PageStore> Granules<S> {
     pub fn set_word(&mut self, granule: Gran, index: u16, word: u64)
         requires inside { granule < granule_count self.old }
         requires index { index < 512 }
-        ensures { self.new ≡ machine.with_word self.old granule index word }
+        ensures written { self.new ≡ machine.with_word self.old granule index word }
+        ensures page { granule < length self.old.pages }
+        ensures whole { length (page_in self.old granule) ≡ 4096 }
     {
         self.store.set_word(granule, index, word);
     }

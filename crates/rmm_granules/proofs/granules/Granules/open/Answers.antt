@@ -1,4 +1,4 @@
-use Rattle.std.proofs.Common.{◌≡◌, ◌≤◌, ℕ, Bool, List, length, replicate, false, sym, ap, ◌∙◌, subst, arith}
+use Rattle.std.proofs.Common.{◌≡◌, ℕ, Bool, List, length, replicate, false, sym, ap, ◌∙◌, subst, arith}
 use Rattle.std.proofs.lemmas.List.{length-replicate}
 use Rattle.rmm_model.specs.declared.granule.RmmGranule.{RmmGranule}
 use Rattle.rmm_model.specs.declared.granule.RmmGranuleState.TheVariants.{Undelegated}
@@ -25,9 +25,9 @@ invariant_of-result g c =
       each_vmid = set ∙ length-replicate {A = Bool} 65536 false;
     }
 
-pub returns-in-Ok : goal.returns-in-Ok
+pub returns-in-Ok-clause-ok : goal.returns-in-Ok-clause-ok
 unfolding no_vmids
-returns-in-Ok g c =
+returns-in-Ok-clause-ok g c =
     let s = c.args.platform in
     ap (λ (l : List RmmGranule). machine_of s l c.in-Ok.vmids.items (g.S.PageStore.page_bytes c.take_all.new.store)) c.in-Ok.ensures.granules
     ∙ ap (λ (l : List Bool). machine_of s (replicate c.pages.result (of_no_realm Undelegated)) l (g.S.PageStore.page_bytes c.take_all.new.store)) c.in-Ok.ensures.set
