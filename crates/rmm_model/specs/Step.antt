@@ -53,7 +53,7 @@ abbrev pub found_or_sea : Option ℕ → Result ℕ StepOutcome
 found_or_sea (Some granule) = Ok granule
 found_or_sea None = Err (IsResult Sea)
 
--- the granule of a protected address, or what comes of an access there, by an exception class
+-- the granule of a protected address, or the outcome of an access there, by an exception class
 abbrev pub protected_access : Machine → ℕ → RmmRttEntry → ℕ → ℕ → Result ℕ StepOutcome
 protected_access m class entry level ipa =
     if is_memory entry then found_or_sea (granule_named m (descriptor_of entry + ipa % entry_size level)) else
@@ -75,14 +75,14 @@ of_access writes size level = syndrome size + (wnr writes + level)
 abbrev pub host_access : Machine → ℕ → ℕ → Result ℕ StepOutcome
 host_access m address ipa = if is_host_page m address then Ok (number_of m address) else Err (IsExit (abort 0x90000028 ipa) UnprotectedAbort)
 
--- the granule of an unprotected address, or what comes of an access there
+-- the granule of an unprotected address, or the outcome of an access there
 abbrev pub unprotected_access : Machine → RmmRttEntry → ℕ → ℕ → Bool → AccessSize → ℕ → Result ℕ StepOutcome
 unprotected_access m entry level ipa writes size value =
     if not (is_assigned_ns entry) then Err (IsExit (emulatable (0x91000004 + of_access writes size level) ipa value) EmulatableAbort) else
     (if may_access (descriptor_of entry) writes then host_access m (descriptor_of entry / 4096 * 4096 + ipa % entry_size level) ipa else
     Err (IsExit (emulatable (0x9100000C + of_access writes size level) ipa value) EmulatableAbort))
 
--- The granule that an address of a guest is in, or what comes of an access there.
+-- The granule that an address of a guest is in, or the outcome of an access there.
 unfoldable pub access : Machine → RmmRealm → ℕ → Bool → AccessSize → ℕ → Result ℕ StepOutcome
 access m realm ipa writes size value =
     let found = walk m realm ipa 3 in
@@ -90,18 +90,18 @@ access m realm ipa writes size value =
     (if is_protected realm ipa then protected_access m 0x90000000 (entry_at m found ipa) found.level ipa else
     unprotected_access m (entry_at m found ipa) found.level ipa writes size value)
 
--- the granule that a guest fetches an instruction from, or what comes of it
+-- the granule that a guest fetches an instruction from, or the outcome
 unfoldable pub fetched : Machine → RmmRealm → ℕ → Result ℕ StepOutcome
 fetched m realm ipa =
     let found = walk m realm ipa 3 in
     if is_protected realm ipa then protected_access m 0x80000000 (entry_at m found ipa) found.level ipa else Err (IsResult Sea)
 
--- what comes of a step that only tries an access
+-- the outcome of a step that only tries an access
 abbrev pub tried : Result ℕ StepOutcome → StepOutcome
 tried (Ok granule) = IsResult Done
 tried (Err outcome) = outcome
 
--- what comes of a read
+-- the outcome of a read
 abbrev pub read_outcome : Machine → ℕ → AccessSize → Result ℕ StepOutcome → StepOutcome
 read_outcome m ipa size (Ok granule) = IsResult (IsRead (value_in (page_in m granule) size ipa))
 read_outcome m ipa size (Err outcome) = outcome
@@ -165,7 +165,7 @@ wait traps esr = if traps then IsExit (record (only_reason Sync) { esr = esr }) 
 abbrev pub system_register : ℕ → ℕ → StepOutcome
 system_register iss value = IsExit (record (only_reason Sync) { esr = 0x60000000 + iss % 2 ^ 25; gpr0 = value }) LastSystemRegister
 
--- What comes of a step that accesses no memory.
+-- The outcome of a step that accesses no memory.
 abbrev pub call_outcome : RmmSettings → RmmRealm → Attributes → ℕ → GuestStep → StepOutcome
 call_outcome s realm rec flags (HostCall imm gpr0 gpr1 gpr2) = host_call imm gpr0 gpr1 gpr2
 call_outcome s realm rec flags (SetRipas base top ripas more) = if is_ripas_range realm base top ripas then ripas_exit base top ripas else IsResult RsiErrorInput

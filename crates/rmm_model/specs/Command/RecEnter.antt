@@ -156,7 +156,7 @@ after_entry m g address flags =
 
 -- ---- steps
 
--- what comes of a step
+-- the outcome of a step
 unfoldable pub step_outcome : Machine → RmmRealm → ℕ → ℕ → GuestStep → StepOutcome
 step_outcome m realm g flags (Write ipa value size) = tried (access m realm ipa true size (low_bytes size value))
 step_outcome m realm g flags (Read ipa size) = read_outcome m ipa size (access m realm ipa false size 0)
@@ -203,7 +203,7 @@ after_step_in m (Some realm) g flags =
     with_step_passed (after_step m realm g (first_step m g) (step_outcome m realm g flags (first_step m g))) g (step_outcome m realm g flags (first_step m g))
 after_step_in m None g flags = m
 
--- What comes of the first step of a guest, and the machine after it.
+-- The outcome of the first step of a guest, and the machine after it.
 unfoldable pub first_step_outcome : Machine → ℕ → ℕ → StepOutcome
 first_step_outcome m g flags = if (rec_in m g).step_count == 0 then no_step else step_outcome_in m (owner_realm m g) g flags
 

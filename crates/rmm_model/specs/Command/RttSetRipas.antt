@@ -19,8 +19,8 @@ use Rattle.rmm_model.specs.Command.RipasRange.{size_checks, progress_checks, cha
 abbrev pub set_changeable : RipasRequest → Changeable
 set_changeable request = record { assigned = true; destroyed = request.changes_destroyed }
 
--- A range ends within what a REC asked for. In a REC of the realm it begins at a protected address too: what a guest asks for lies
--- below the end of the protected half, and the definition holds for every machine.
+-- A range ends within what a REC asked for. If the REC is one of the realm, the range begins at a protected address too. What a
+-- guest asks for is below the end of the protected half; the definition holds for every machine.
 abbrev pub is_within : RmmRealm → RmmRec → Bool → ℕ → ℕ → Bool
 is_within realm asking is_owner base top = nat_le top asking.ripas.top && (not is_owner || is_protected realm base)
 
