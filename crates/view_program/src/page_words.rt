@@ -24,7 +24,8 @@ pub(crate) fn refused_turns(alloc: Global, plan: &Plan) -> Result<Vec<RefusedTur
         .into_iter()
         .enumerate()
     {
-        if let Some(reason) = explained.reason {
+        let reason = explained.reason;
+        if let Some(reason) = reason {
             refused.push(RefusedTurn {
                 turn,
                 error: reason.error,

@@ -87,9 +87,9 @@ fn worlds_without(
 fn page_data(alloc: Global, plan: &Plan, source: &[u8]) -> Result<PageData, AllocError>
     ensures { IfOk result (IsPageData (plan_view plan.now)) }
 {
-    let (run, ledger) = run_of(alloc, plan)?;
+    let (document, ledger) = run_of(alloc, plan)?;
     Ok(PageData {
-        run,
+        run: document,
         without: worlds_without(alloc, plan, &ledger)?,
         refused: refused_turns(alloc, plan)?,
         title: plan_title(alloc, source)?,

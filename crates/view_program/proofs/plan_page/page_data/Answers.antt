@@ -8,5 +8,5 @@ use Rattle.view_program.proofs.plan_page.page_data.Goals as goal
 pub worlds_without-requires : goal.worlds_without-requires
 worlds_without-requires c =
     let plan = plan_view c.args.plan.now in
-    let ran = reported_run plan (opening_host plan) c.in_ok-run.ledger c.in_ok-run.run.turns.items c.in_ok-run.ensures.turns_are in
-    fresh_like-run plan (opening_host plan) c.in_ok-run.ledger [] ran.0 ran.1
+    let ran = reported_run plan (opening_host plan) c.in_ok-document.ledger c.in_ok-document.document.turns.items c.in_ok-document.ensures.turns_are in
+    fresh_like-run plan (opening_host plan) c.in_ok-document.ledger [] ran.0 ran.1
