@@ -2,7 +2,7 @@
 ghost use Rattle.std.specs.Prelude.{◌≡◌, IsTrue};
 ghost use Rattle.page_arena.specs.Block.{IsTakenBlock};
 
-use crate::expected::{built, equal, holds};
+use crate::expected::{built, holds_at};
 use crate::names::{granule, order};
 use buddy::BuddyArena;
 use granule_addr::{Gran, Order};
@@ -20,31 +20,28 @@ fn has_blocks(rt: &impl Abort, arena: &BuddyArena, wanted: &[(u8, u16)]) {
     }
 }
 
-// A block of that order is taken, the one that begins there.
-fn takes<S: PageStore>(rt: &impl Abort, store: &mut S, size: u8, first: u16) {
-    let taken = store.take(order(size));
-    holds(rt, "it begins there", taken == Some(granule(first)));
+// A call of a store, with orders and first pages as numbers. The last field is the answer.
+enum Call {
+    // The block that is taken.
+    Take(u8, Option<u16>),
+    // Whether that block is taken.
+    TakeAt(u8, u16, bool),
+    Free(u16),
 }
 
-// No block of that order is free.
-fn takes_none<S: PageStore>(rt: &impl Abort, store: &mut S, size: u8) {
-    holds(rt, "none is free", store.take(order(size)).is_none());
+fn is_answered<S: PageStore>(store: &mut S, call: &Call) -> bool {
+    match *call {
+        Call::Take(number, Some(first)) => store.take(order(number)) == Some(granule(first)),
+        Call::Take(number, None) => store.take(order(number)).is_none(),
+        Call::TakeAt(number, first, want) => store.take_at(order(number), granule(first)) == want,
+        Call::Free(count) => store.free_count() == count,
+    }
 }
 
-// The block that begins there is taken.
-fn takes_at<S: PageStore>(rt: &impl Abort, store: &mut S, size: u8, first: u16) {
-    let is_taken = store.take_at(order(size), granule(first));
-    holds(rt, "it is taken", is_taken);
-}
-
-// The block that would begin there is refused.
-fn refuses<S: PageStore>(rt: &impl Abort, store: &mut S, size: u8, first: u16, why: &str) {
-    let is_taken = store.take_at(order(size), granule(first));
-    holds(rt, why, !is_taken);
-}
-
-fn free<S: PageStore>(rt: &impl Abort, store: &S, count: u64) {
-    equal(rt, "free pages", store.free_count() as u64, count);
+fn run<S: PageStore>(rt: &impl Abort, store: &mut S, calls: &[Call]) {
+    for place in 0..calls.len() {
+        holds_at(rt, "a call", place, is_answered(store, &calls[place]));
+    }
 }
 
 // That page is taken. It has been free.
@@ -57,6 +54,9 @@ fn takes_the_page<S: PageStore>(rt: &impl Abort, store: &mut S, page: Gran, one:
     }
 }
 
+// What is left of 13 free pages.
+const OF_THIRTEEN: &[Call] = &[Call::Take(4, None), Call::Take(3, Some(0))];
+
 // Blocks of 13 pages: the last page of the block at 8 makes two halves of it, and they merge when it comes back.
 #[test]
 fn thirteen_pages(rt: HostRuntime) {
@@ -67,8 +67,7 @@ fn thirteen_pages(rt: HostRuntime) {
     has_blocks(&rt, &arena, &[(3, 0), (0, 8), (1, 10), (0, 12)]);
     arena.give(nine, one);
     has_blocks(&rt, &arena, &[(3, 0), (2, 8), (0, 12)]);
-    takes_none(&rt, &mut arena, 4);
-    takes(&rt, &mut arena, 3, 0);
+    run(&rt, &mut arena, OF_THIRTEEN);
 }
 
 // The same calls on a store that has no lists.
@@ -78,25 +77,32 @@ fn thirteen_pages_of_a_plain_store(rt: HostRuntime) {
     let (nine, one) = (granule(9), order(0));
     takes_the_page(&rt, &mut store, nine, one);
     store.give(nine, one);
-    takes_none(&rt, &mut store, 4);
-    takes(&rt, &mut store, 3, 0);
+    run(&rt, &mut store, OF_THIRTEEN);
 }
 
-// Blocks by their first page: one that is not aligned is refused, and so is one that is partly taken.
-fn are_named<S: PageStore>(rt: &impl Abort, store: &mut S) {
-    refuses(rt, store, 1, 1, "1 is no multiple of 2");
-    refuses(rt, store, 2, 2, "2 is no multiple of 4");
-    takes_at(rt, store, 1, 2);
-    refuses(rt, store, 0, 2, "it is taken");
-    takes_none(rt, store, 2);
-    free(rt, store, 2);
-    takes(rt, store, 1, 0);
-    takes_none(rt, store, 0);
-    free(rt, store, 0);
-}
+// Blocks of 4 pages by their first page: one that is not aligned is refused, and so is one that is partly taken.
+const OF_FOUR: &[Call] = &[
+    Call::TakeAt(1, 1, false),
+    Call::TakeAt(2, 2, false),
+    Call::TakeAt(1, 2, true),
+    Call::TakeAt(0, 2, false),
+    Call::Take(2, None),
+    Call::Free(2),
+    Call::Take(1, Some(0)),
+    Call::Take(0, None),
+    Call::Free(0),
+];
 
 #[test]
 fn four_pages(rt: HostRuntime) {
-    are_named(&rt, &mut built(&rt, BuddyArena::build(rt.alloc(), 4)));
-    are_named(&rt, &mut built(&rt, PlainStore::build(rt.alloc(), 4)));
+    run(
+        &rt,
+        &mut built(&rt, BuddyArena::build(rt.alloc(), 4)),
+        OF_FOUR,
+    );
+    run(
+        &rt,
+        &mut built(&rt, PlainStore::build(rt.alloc(), 4)),
+        OF_FOUR,
+    );
 }

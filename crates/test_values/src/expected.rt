@@ -1,7 +1,7 @@
 //! What is seen, compared with what is wanted.
 //!
-//! A test is proved before it runs, and each comparison in its body branches: written out there, a row of them costs far
-//! more than a row of these calls.
+//! A test is proved before it runs, and each comparison in its body branches: written out there, a row of them costs
+//! far more than a row of these calls.
 use page_arena::BuildError;
 use std::process::Abort;
 
@@ -13,6 +13,11 @@ pub(crate) fn equal(rt: &impl Abort, what: &str, seen: u64, want: u64) {
 /// It holds: 1, and not 0.
 pub(crate) fn holds(rt: &impl Abort, what: &str, is_so: bool) {
     equal(rt, what, u64::from(is_so), 1);
+}
+
+/// It holds at that place of a table.
+pub(crate) fn holds_at(rt: &impl Abort, what: &str, place: usize, is_so: bool) {
+    assert!(rt; is_so, "{what}, row {place}");
 }
 
 /// The store that was built.

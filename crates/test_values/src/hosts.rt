@@ -3,7 +3,6 @@ ghost use Rattle.std.specs.Prelude.{◌≡◌, true, length, replicate};
 ghost use Rattle.granule_addr.specs.Page.{zero_page};
 
 use buddy::BuddyArena;
-use granule_addr::BuildId;
 use page_arena::{PageStore, PlainStore};
 use realm_host::{Host, Settings};
 use std::alloc::Global;
@@ -34,9 +33,4 @@ fn boot<S: PageStore + Drop>(rt: &impl Abort, alloc: Global, store: S, builds: u
         Ok(host) => host,
         Err(_) => panic!(rt; "there is no memory for a host"),
     }
-}
-
-/// The build of that number, modulo 8.
-pub(crate) fn build(number: u8) -> BuildId {
-    BuildId::new(number % 8).unwrap()
 }

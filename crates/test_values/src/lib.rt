@@ -2,14 +2,14 @@
 //!
 //! For both stores of pages: sizes, blocks, bytes, and how many orders a call of the arena looks at. For the monitor:
 //! the numbers of a machine, the words of results and of table entries, and the bytes that are measured. For the host,
-//! over both stores: calls that no plan makes, or whose answers no plan prints.
+//! over both stores: scripts of calls that no plan makes, or whose answers no plan prints.
 //!
-//! The expected values are worked out by hand or by another tool, since a proof cannot see a mistake that a definition and the
-//! code share. What the monitor's commands answer, and what they leave in their pages, is in `traces/`.
+//! The expected values are worked out by hand or by another tool, since a proof cannot see a mistake that a definition
+//! and the code share. They are rows of tables, and one function runs the rows of a table: each function of a test is
+//! proved, and a row costs next to nothing. A row that fails is named by its table and its place there. What the
+//! monitor's commands answer, and what they leave in their pages, is in `traces/`.
 #![tactic(auto)]
 
-#[cfg(test)]
-mod aborts;
 #[cfg(test)]
 mod blocks;
 #[cfg(test)]
@@ -21,11 +21,7 @@ mod expected;
 #[cfg(test)]
 mod hosts;
 #[cfg(test)]
-mod marks;
-#[cfg(test)]
 mod measured;
-#[cfg(test)]
-mod measurement;
 #[cfg(test)]
 mod names;
 #[cfg(test)]
@@ -36,6 +32,8 @@ mod readings;
 mod recorded;
 #[cfg(test)]
 mod refusals;
+#[cfg(test)]
+mod scripts;
 #[cfg(test)]
 mod sizes;
 #[cfg(test)]

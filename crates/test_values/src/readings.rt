@@ -1,210 +1,159 @@
-//! What is read of granules, of a realm with its REC and its rows, and of what a build has open.
-use crate::calls;
-use crate::expected::{equal, holds};
-use crate::hosts::{arena, build, plain};
+//! What is read of a host: granules, what a build has open, and its realm.
+use crate::calls::{Call, Holder};
 use crate::names::granule;
 use realm_host::{
-    Act, Cmd, Entry, Gran, GranuleState, GranuleView, Host, IpaGran, Kind, Level, Order, PageStore,
-    RecNo, RecState, Reply, Ripas, RowView,
+    Act, BuildId, Gran, GranuleState, GranuleView, Host, Level, Order, PageStore, RealmState,
+    RecNo, RecState,
 };
-use std::process::Abort;
 
-// The first IPA granule of the second row of level 1.
-const SECOND: u32 = 262_144;
-
-// A granule is in that state, of that build, and of the realm whose RD is granule 0.
-fn is_read<S: PageStore>(
-    rt: &impl Abort,
+// Whether a granule is in that state, and of that holder.
+fn is_state<S: PageStore>(
     host: &Host<S>,
+    build: BuildId,
     number: u16,
-    state: GranuleState,
-    is_held: bool,
-) {
-    let view = GranuleView {
-        state,
-        build: Some(build(0)),
-        realm: if is_held { Some(granule(0)) } else { None },
-    };
+    want: &Option<(GranuleState, Holder)>,
+) -> bool {
     let seen = host.granule_view(granule(number));
-    holds(rt, "the granule", seen == Some(view));
-}
-
-// The RD, a starting table, a REC, and a granule of the host's; one that nobody leases, and none.
-fn granules_are_read<S: PageStore>(rt: &impl Abort, host: &Host<S>) {
-    is_read(rt, host, 0, GranuleState::Rd, true);
-    is_read(rt, host, 1, GranuleState::Rtt, true);
-    is_read(rt, host, 2, GranuleState::Rec, true);
-    is_read(rt, host, 3, GranuleState::Undelegated, false);
-    let free = GranuleView {
-        state: GranuleState::Undelegated,
-        build: None,
-        realm: None,
+    let Some((state, holder)) = want else {
+        return seen.is_none();
     };
-    let seen = host.granule_view(granule(4));
-    holds(rt, "a free granule", seen == Some(free));
-    let seen = host.granule_view(granule(5));
-    holds(rt, "no granule", seen.is_none());
-    equal(rt, "pages", host.pages() as u64, 5);
-    let seen = host.page_granule(build(0), 3);
-    holds(rt, "the page", seen == Some(granule(3)));
-}
-
-// The REC of build 0 of that number is in granule 2, READY, with no auxiliaries.
-fn rec_is_read<S: PageStore>(rt: &impl Abort, host: &Host<S>, number: u16) {
-    let Some((granule, rec)) = host.rec(build(0), RecNo::new(number)) else {
-        panic!(rt; "no REC");
+    let (build, realm) = match holder {
+        Holder::Nobody => (None, None),
+        Holder::Build => (Some(build), None),
+        Holder::Realm => (Some(build), Some(granule(0))),
     };
-    equal(rt, "its granule", granule.number() as u64, 2);
-    equal(
-        rt,
-        "its number",
-        rec.number().number() as u64,
-        number as u64,
-    );
-    holds(rt, "its state", rec.state() == RecState::Ready);
-    equal(rt, "its auxiliaries", rec.auxiliaries().len() as u64, 0);
+    let state = *state;
+    seen == Some(GranuleView {
+        state,
+        build,
+        realm,
+    })
 }
 
-fn realm_is_read<S: PageStore>(rt: &impl Abort, host: &Host<S>) {
-    let realm = host.realm(build(0)).expect(rt, "a realm");
-    equal(rt, "its width", realm.root().width.number() as u64, 39);
-    equal(rt, "its first table", realm.root().first.number() as u64, 1);
-    equal(rt, "its tables", realm.root().width.start_count() as u64, 1);
-    equal(rt, "its next REC", realm.next_number().number() as u64, 1);
-    let rd = host.rd(build(0));
-    holds(rt, "its RD", rd == Some(granule(0)));
+// Whether these are so many acts: the first is a take of two pages, the last the delegation of granule 1.
+fn are_open(acts: &[Act], count: u16) -> bool {
+    let order = Order::new(1).unwrap();
+    let (first, granule) = (granule(0), granule(1));
+    acts.len() == count as usize
+        && acts.first() == Some(&Act::Take { order, first })
+        && acts.last() == Some(&Act::Delegate { granule })
 }
 
-fn a_realm_is_read<S: PageStore + Drop>(rt: &impl Abort, mut host: Host<S>) {
-    holds(rt, "no RD yet", host.rd(build(0)).is_none());
-    calls::make_realm(rt, &mut host);
-    calls::ask_for_rec(rt, &mut host, Ok(Reply::Number(RecNo::new(0))));
-    granules_are_read(rt, &host);
-    realm_is_read(rt, &host);
-    rec_is_read(rt, &host, 0);
-    let other = host.rec(build(0), RecNo::new(1));
-    holds(rt, "no other REC", other.is_none());
-}
-
-// The walk of an IPA granule towards a level ends at that row of build 0, and the next row begins there.
-fn row_is_read<S: PageStore>(
-    rt: &impl Abort,
-    host: &Host<S>,
-    ipa: u32,
-    to: Level,
-    want: RowView,
-    next: u32,
-) {
-    let seen = host.row(build(0), ipa, to);
-    holds(rt, "the row", seen == Some(want));
-    equal(rt, "the next", want.next() as u64, next as u64);
-}
-
-// The row of a level at that IPA granule.
-fn row(rt: &impl Abort, level: Level, first: u32, entry: Entry) -> RowView {
-    let first = IpaGran::new(first, 39).expect(rt, "an IPA granule");
-    RowView {
-        level,
-        first,
-        entry,
+fn is_granule(seen: Option<Gran>, want: Option<u16>) -> bool {
+    match (seen, want) {
+        (Some(seen), Some(want)) => seen.number() == want,
+        (None, None) => true,
+        _ => false,
     }
 }
 
-// Granule 2 is the table of level 2 for the second row of level 1. That has 512 rows of 512 IPA granules each.
-fn rows_are_read<S: PageStore>(rt: &impl Abort, host: &Host<S>) {
-    let (start, last) = (Level::start(), Level::last());
-    let empty = Entry::unassigned(Ripas::Empty);
-    row_is_read(rt, host, 7, last, row(rt, start, 0, empty), SECOND);
-    let above = row(rt, start, SECOND, Entry::table(granule(2)));
-    row_is_read(rt, host, SECOND + 5, start, above, 524_288);
-    let third = row(rt, start.below(), SECOND + 1024, empty);
-    row_is_read(rt, host, SECOND + 1029, last, third, SECOND + 1536);
-    let outside = host.row(build(0), 134_217_728, last);
-    holds(rt, "outside of 39 bits", outside.is_none());
-    let other = host.row(build(1), 0, last);
-    holds(rt, "no realm", other.is_none());
+/// Whether a granule, a page, or what is open is read as it has to be.
+pub(crate) fn is_granule_read<S: PageStore>(host: &Host<S>, build: BuildId, call: &Call) -> bool {
+    match call {
+        Call::Pages(free, all, own) => {
+            host.free_count() == *free && host.pages() == *all && host.page_count(build) == *own
+        }
+        Call::Page(page, state, sum) => {
+            host.page_state(build, *page) == Some(*state)
+                && host.page_sum(build, *page) == Some(*sum)
+        }
+        Call::Granule(page, want) => is_granule(host.page_granule(build, *page), *want),
+        Call::State(number, want) => is_state(host, build, *number, want),
+        Call::Open(count) => are_open(host.open_acts(build), *count),
+        Call::NothingOpen => host.open_acts(build).is_empty(),
+        Call::IsAborting(want) => host.is_aborting(build) == *want,
+        _ => false,
+    }
 }
 
-fn a_walk_is_read<S: PageStore + Drop>(rt: &impl Abort, mut host: Host<S>) {
-    calls::make_realm(rt, &mut host);
-    let table = Cmd::Rtt {
-        page: 2,
-        ipa: SECOND,
-        level: 2,
+fn is_kept<S: PageStore>(host: &Host<S>, build: BuildId, want: Option<(u16, u32)>) -> bool {
+    match (host.kept_mark(build), want) {
+        (Some(mark), Some((length, place))) => mark.length() == length && mark.place() == place,
+        (None, None) => true,
+        _ => false,
+    }
+}
+
+fn is_realm<S: PageStore>(host: &Host<S>, build: BuildId, want: Option<(RealmState, u8)>) -> bool {
+    match (host.realm_view(build), want) {
+        (Some((seen, vmid)), Some((state, number))) => seen == state && vmid.number() == number,
+        (None, None) => true,
+        _ => false,
+    }
+}
+
+fn is_rec<S: PageStore>(
+    host: &Host<S>,
+    build: BuildId,
+    number: u16,
+    want: Option<(u16, RecState, usize)>,
+) -> bool {
+    match (host.rec(build, RecNo::new(number)), want) {
+        (Some((granule, rec)), Some((at, state, auxiliaries))) => {
+            granule.number() == at
+                && rec.number().number() == number
+                && rec.state() == state
+                && rec.auxiliaries().len() == auxiliaries
+        }
+        (None, None) => true,
+        _ => false,
+    }
+}
+
+fn is_row<S: PageStore>(
+    host: &Host<S>,
+    build: BuildId,
+    ipa: u32,
+    to: u8,
+    want: Option<(u8, u32, u64, u32)>,
+) -> bool {
+    let Some(to) = Level::new(to) else {
+        return false;
     };
-    calls::done(rt, &mut host, 0, table);
-    rows_are_read(rt, &host);
-    calls::undone(rt, &mut host, 0, Kind::Rtt, 5);
-    let gone = row(
-        rt,
-        Level::start(),
-        SECOND,
-        Entry::unassigned(Ripas::Destroyed),
-    );
-    row_is_read(rt, &host, SECOND + 1029, Level::last(), gone, 524_288);
+    match (host.row(build, ipa, to), want) {
+        (Some(row), Some((level, first, word, next))) => {
+            row.level.number() == level
+                && row.first.number() == first
+                && row.entry.to_word() == word
+                && row.next() == next
+        }
+        (None, None) => true,
+        _ => false,
+    }
 }
 
-// Build 0 has three acts open, the first a take of two pages, the last the delegation of granule 1; it is in abort or
-// not.
-fn open_is_read<S: PageStore>(rt: &impl Abort, host: &Host<S>, is_aborting: bool) {
-    let acts = host.open_acts(build(0));
-    let order = Order::new(1).unwrap();
-    let first = granule(0);
-    equal(rt, "open acts", acts.len() as u64, 3);
-    holds(
-        rt,
-        "the oldest",
-        acts.first() == Some(&Act::Take { order, first }),
-    );
-    let granule = granule(1);
-    holds(
-        rt,
-        "the newest",
-        acts.last() == Some(&Act::Delegate { granule }),
-    );
-    holds(rt, "its abort", host.is_aborting(build(0)) == is_aborting);
+fn are_tables<S: PageStore>(
+    host: &Host<S>,
+    build: BuildId,
+    width: u8,
+    first: u16,
+    count: u16,
+    next: u16,
+) -> bool {
+    match host.realm(build) {
+        Some(realm) => {
+            let root = realm.root();
+            root.width.number() == width
+                && root.first.number() == first
+                && root.width.start_count() == count
+                && realm.next_number().number() == next
+        }
+        None => false,
+    }
 }
 
-// The mark of build 0 was made where it had two acts open, and after three events.
-fn mark_is_read<S: PageStore>(rt: &impl Abort, host: &Host<S>) {
-    let seen = host.kept_mark(build(0));
-    let is_so = matches!(seen, Some(mark) if mark.length() == 2 && mark.place() == 3);
-    holds(rt, "its mark", is_so);
-}
-
-// A build that is not there has nothing.
-fn nothing_is_read<S: PageStore>(rt: &impl Abort, host: &Host<S>) {
-    equal(rt, "no act", host.open_acts(build(7)).len() as u64, 0);
-    holds(rt, "no abort", !host.is_aborting(build(7)));
-    holds(rt, "no mark", host.kept_mark(build(7)).is_none());
-    holds(rt, "no page", host.page_granule(build(7), 0).is_none());
-}
-
-fn what_is_open_is_read<S: PageStore + Drop>(rt: &impl Abort, mut host: Host<S>) {
-    let take = Cmd::Take { order: 1 };
-    calls::ask(rt, &mut host, 0, take, Ok(Reply::FirstPage(0)));
-    calls::done(rt, &mut host, 0, Cmd::Delegate { page: 0 });
-    calls::done(rt, &mut host, 0, Cmd::Fill { page: 1, value: 5 });
-    holds(rt, "no mark yet", host.kept_mark(build(0)).is_none());
-    holds(rt, "marked", host.mark(build(0)).is_ok());
-    calls::done(rt, &mut host, 0, Cmd::Delegate { page: 1 });
-    open_is_read(rt, &host, false);
-    mark_is_read(rt, &host);
-    nothing_is_read(rt, &host);
-    calls::counted(rt, host.begin_abort(build(0)), Ok(3));
-    open_is_read(rt, &host, true);
-}
-
-#[test]
-fn over_a_plain_store(rt: HostRuntime) {
-    a_realm_is_read(&rt, plain(&rt, rt.alloc(), 5, 1));
-    a_walk_is_read(&rt, plain(&rt, rt.alloc(), 4, 2));
-    what_is_open_is_read(&rt, plain(&rt, rt.alloc(), 2, 1));
-}
-
-#[test]
-fn over_an_arena(rt: HostRuntime) {
-    a_realm_is_read(&rt, arena(&rt, rt.alloc(), 5, 1));
-    a_walk_is_read(&rt, arena(&rt, rt.alloc(), 4, 2));
-    what_is_open_is_read(&rt, arena(&rt, rt.alloc(), 2, 1));
+/// Whether a mark, a realm, its REC or its row is read as it has to be.
+pub(crate) fn is_realm_read<S: PageStore>(host: &Host<S>, build: BuildId, call: &Call) -> bool {
+    match call {
+        Call::KeptMark(want) => is_kept(host, build, *want),
+        Call::Rd(want) => is_granule(host.rd(build), *want),
+        Call::Realm(want) => is_realm(host, build, *want),
+        Call::Measurement(want) => host.measurement(build) == *want,
+        Call::Tables(width, first, count, next) => {
+            are_tables(host, build, *width, *first, *count, *next)
+        }
+        Call::Rec(number, want) => is_rec(host, build, *number, *want),
+        Call::Row(ipa, to, want) => is_row(host, build, *ipa, *to, *want),
+        _ => false,
+    }
 }

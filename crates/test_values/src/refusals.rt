@@ -1,108 +1,64 @@
-//! Refusals that no plan meets, and how refusals are told.
-use crate::calls;
-use crate::expected::holds;
-use crate::hosts::{arena, build, plain};
+//! The limits of settings, and the texts of refusals.
+use crate::expected::holds_at;
 use granule_addr::Order;
-use page_arena::PageStore;
-use realm_host::{Cmd, Host, Refusal, Settings};
+use realm_host::{Refusal, Settings};
 use realm_model::{Rmi, Status};
 use std::alloc::Global;
 use std::process::Abort;
 
-// What a program that runs plans cannot ask: a build that the host has not got.
-fn there_is_no_such_build<S: PageStore + Drop>(rt: &impl Abort, mut host: Host<S>) {
-    let take = Cmd::Take { order: 10 };
-    calls::ask(rt, &mut host, 2, take, Err(Refusal::NoBuild));
-    let answer = host.undo(build(2));
-    holds(rt, "no undo", answer == Err(Refusal::NoBuild));
-}
-
-#[test]
-fn there_is_none_over_both_stores(rt: HostRuntime) {
-    there_is_no_such_build(&rt, plain(&rt, rt.alloc(), 1, 2));
-    there_is_no_such_build(&rt, arena(&rt, rt.alloc(), 1, 2));
-}
+// VMIDs, auxiliaries of a REC, room in the history and builds; whether a host can have them.
+const SETTINGS: [(u8, u8, u16, u8, bool); 7] = [
+    (255, 16, 16_384, 8, true),
+    (0, 0, 16, 1, false),
+    (1, 17, 16, 1, false),
+    (1, 0, 15, 1, false),
+    (1, 0, 16_385, 1, false),
+    (1, 0, 16, 0, false),
+    (1, 0, 16, 9, false),
+];
 
 #[test]
 fn settings_have_limits(rt: HostRuntime) {
-    let largest = Settings::new(255, 16, 16_384, 8);
-    holds(&rt, "the largest", largest.is_some());
-    for (vmids, aux, history, builds) in [
-        (0, 0, 16, 1),
-        (1, 17, 16, 1),
-        (1, 0, 15, 1),
-        (1, 0, 16_385, 1),
-        (1, 0, 16, 0),
-        (1, 0, 16, 9),
-    ] {
-        let none = Settings::new(vmids, aux, history, builds);
-        holds(&rt, "a limit", none.is_none());
+    let mut place = 0;
+    for (vmids, aux, history, builds, want) in SETTINGS {
+        let settings = Settings::new(vmids, aux, history, builds);
+        holds_at(&rt, "settings", place, settings.is_some() == want);
+        place = place.saturating_add(1);
     }
 }
 
-// A refusal has that text.
-fn is_told(rt: &impl Abort, alloc: Global, refusal: Refusal, text: &str) {
-    let told = format!(in alloc; "{refusal}").expect(rt, "memory");
-    assert_eq!(rt; told.as_str(), text);
-}
-
-#[test]
-fn refusals_before_the_journal_are_reported(rt: HostRuntime) {
-    is_told(&rt, rt.alloc(), Refusal::NoBuild, "there is no such build");
-    is_told(
-        &rt,
-        rt.alloc(),
-        Refusal::Aborting,
-        "the build is being aborted",
-    );
-    is_told(
-        &rt,
-        rt.alloc(),
-        Refusal::BadOrder,
-        "a block has at most 512 pages",
-    );
-    is_told(
-        &rt,
-        rt.alloc(),
-        Refusal::NotLeased(12),
-        "the build has no page 12",
-    );
-    is_told(
-        &rt,
-        rt.alloc(),
-        Refusal::RealmThere,
-        "the build has a realm",
-    );
-    is_told(&rt, rt.alloc(), Refusal::NoRealm, "the build has no realm");
-    is_told(
-        &rt,
-        rt.alloc(),
-        Refusal::NothingToUndo,
-        "there is nothing to undo",
-    );
-}
-
-#[test]
-fn refusals_of_room_and_of_the_monitor_are_reported(rt: HostRuntime) {
-    let order = Order::new(9).unwrap();
-    let rtt = Rmi {
-        status: Status::Rtt,
-        index: 2,
-    };
-    is_told(&rt, rt.alloc(), Refusal::RecRunning, "a REC is running");
-    is_told(&rt, rt.alloc(), Refusal::JournalFull, "the journal is full");
-    is_told(&rt, rt.alloc(), Refusal::HistoryFull, "the history is full");
-    is_told(
-        &rt,
-        rt.alloc(),
-        Refusal::NoBlock(order),
-        "no block of order 9 is free",
-    );
-    is_told(&rt, rt.alloc(), Refusal::NoVmid, "no VMID is free");
-    is_told(
-        &rt,
-        rt.alloc(),
-        Refusal::Rmi(rtt),
+const TEXTS: [(Refusal, &str); 12] = [
+    (Refusal::NoBuild, "there is no such build"),
+    (Refusal::Aborting, "the build is being aborted"),
+    (Refusal::BadOrder, "a block has at most 512 pages"),
+    (Refusal::NotLeased(12), "the build has no page 12"),
+    (Refusal::RealmThere, "the build has a realm"),
+    (Refusal::NoRealm, "the build has no realm"),
+    (Refusal::NothingToUndo, "there is nothing to undo"),
+    (Refusal::RecRunning, "a REC is running"),
+    (Refusal::JournalFull, "the journal is full"),
+    (Refusal::HistoryFull, "the history is full"),
+    (Refusal::NoVmid, "no VMID is free"),
+    (
+        Refusal::Rmi(Rmi {
+            status: Status::Rtt,
+            index: 2,
+        }),
         "the monitor refused: Rtt, index 2",
-    );
+    ),
+];
+
+// A refusal has that text.
+fn has_text(rt: &impl Abort, alloc: Global, refusal: Refusal, text: &str) {
+    let seen = format!(in alloc; "{refusal}").expect(rt, "memory");
+    assert_eq!(rt; seen.as_str(), text);
+}
+
+#[test]
+fn refusals_are_reported(rt: HostRuntime) {
+    for (refusal, text) in TEXTS {
+        has_text(&rt, rt.alloc(), refusal, text);
+    }
+    let no_block = Refusal::NoBlock(Order::new(9).unwrap());
+    has_text(&rt, rt.alloc(), no_block, "no block of order 9 is free");
 }

@@ -1,38 +1,40 @@
 //! How many pages a store can have.
-use crate::expected::{built, equal, holds};
+use crate::expected::holds_at;
 use buddy::BuddyArena;
 use page_arena::{BuildError, PageStore, PlainStore};
 use std::marker::Send;
-use std::process::Abort;
 
 // An arena can be handed to another thread.
 fn crosses<S: Send>() {}
 
-// There is no store of that many pages.
-fn has_bad_size<S: Drop>(rt: &impl Abort, built: Result<S, BuildError>) {
-    holds(rt, "no store", matches!(built, Err(BuildError::BadSize)));
-}
+// Numbers of pages, and whether there is a store of so many.
+const SIZES: [(u16, bool); 4] = [(0, false), (1, true), (4096, true), (4097, false)];
 
-// There is a store of `pages` pages, and all are free.
-fn has_pages<S: PageStore + Drop>(rt: &impl Abort, store: Result<S, BuildError>, pages: u16) {
-    let store = built(rt, store);
-    equal(rt, "pages", store.pages() as u64, pages as u64);
-    equal(rt, "free pages", store.free_count() as u64, pages as u64);
+// Whether there is a store of so many pages, all free; or none, for its size.
+fn is_size<S: PageStore + Drop>(built: Result<S, BuildError>, pages: u16, is_there: bool) -> bool {
+    match built {
+        Ok(store) => is_there && store.pages() == pages && store.free_count() == pages,
+        Err(error) => !is_there && matches!(error, BuildError::BadSize),
+    }
 }
 
 #[test]
-fn of_an_arena(rt: HostRuntime) {
+fn of_both_stores(rt: HostRuntime) {
     crosses::<BuddyArena>();
-    has_bad_size(&rt, BuddyArena::build(rt.alloc(), 0));
-    has_bad_size(&rt, BuddyArena::build(rt.alloc(), 4097));
-    has_pages(&rt, BuddyArena::build(rt.alloc(), 1), 1);
-    has_pages(&rt, BuddyArena::build(rt.alloc(), 4096), 4096);
-}
-
-#[test]
-fn of_a_plain_store(rt: HostRuntime) {
-    has_bad_size(&rt, PlainStore::build(rt.alloc(), 0));
-    has_bad_size(&rt, PlainStore::build(rt.alloc(), 4097));
-    has_pages(&rt, PlainStore::build(rt.alloc(), 1), 1);
-    has_pages(&rt, PlainStore::build(rt.alloc(), 4096), 4096);
+    for (pages, want) in SIZES {
+        let arena = BuddyArena::build(rt.alloc(), pages);
+        holds_at(
+            &rt,
+            "an arena, pages",
+            pages as usize,
+            is_size(arena, pages, want),
+        );
+        let plain = PlainStore::build(rt.alloc(), pages);
+        holds_at(
+            &rt,
+            "a plain store, pages",
+            pages as usize,
+            is_size(plain, pages, want),
+        );
+    }
 }

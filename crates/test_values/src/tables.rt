@@ -1,17 +1,67 @@
-//! The words of translation tables in the pages of either store: how they come and go with a realm's tables and its page.
+//! The words of translation tables in the pages of either store.
+//!
+//! They come and go with a realm's tables and its page.
 ghost use Rattle.std.specs.Prelude.{◌≡◌, true, length, replicate};
 ghost use Rattle.granule_addr.specs.Page.{zero_page};
 ghost use Rattle.rmi_monitor.specs.View.{IsTaken};
 
-use crate::expected::{equal, holds};
+use crate::expected::holds_at;
 use crate::names::granule;
 use buddy::BuddyArena;
 use granule_addr::{Gran, Order, Vmid};
 use page_arena::{PageStore, PlainStore};
-use realm_model::Rmi;
 use rmi_monitor::Monitor;
 use std::alloc::Global;
 use std::process::Abort;
+
+// A command that has to be done, or the words of a page. The realm is that of granule 0, and each IPA is 0.
+enum Call {
+    Fill(u16, u8),
+    Delegate(u16),
+    // The starting table.
+    Realm(u16),
+    // A granule becomes the table of that level.
+    Table(u16, u8),
+    // The page, and the source of its bytes.
+    Data(u16, u16),
+    DataDestroy,
+    TableDestroy(u8),
+    RealmDestroy,
+    // Word 0 of a page.
+    Begins(u16, u64),
+    // All words of a page are 0.
+    IsZero(u16),
+}
+
+// The words of the tables while all is made, and while one after the other goes.
+//
+// Granule 0 becomes the RD of a realm with tables in granules 1 to 3, and granule 4 its page, with the bytes of
+// granule 5.
+const CALLS: &[Call] = &[
+    Call::Fill(5, 7),
+    Call::Delegate(0),
+    Call::Delegate(1),
+    Call::Delegate(2),
+    Call::Delegate(3),
+    Call::Delegate(4),
+    Call::Realm(1),
+    Call::Table(2, 2),
+    Call::Table(3, 3),
+    Call::Data(4, 5),
+    Call::Begins(1, 8194),
+    Call::Begins(2, 12_290),
+    Call::Begins(3, 16_389),
+    Call::DataDestroy,
+    Call::Begins(3, 8),
+    Call::TableDestroy(3),
+    Call::IsZero(3),
+    Call::Begins(2, 8),
+    Call::TableDestroy(2),
+    Call::IsZero(2),
+    Call::Begins(1, 8),
+    Call::RealmDestroy,
+    Call::IsZero(1),
+];
 
 // The granule of that number, modulo 4096. The machine has it, and it is taken, since none is free.
 #[tactic(auto, using(crate::proofs::Taken::none_is_free))]
@@ -24,94 +74,72 @@ fn taken<S: PageStore>(rt: &impl Abort, monitor: &Monitor<S>, number: u16) -> Gr
     granule
 }
 
-fn done(rt: &impl Abort, answer: Result<(), Rmi>) {
-    holds(rt, "a command", answer == Ok(()));
-}
-
-// Word 0 of a granule's page.
-fn begins_with<S: PageStore>(rt: &impl Abort, monitor: &Monitor<S>, number: u16, word: u64) {
-    let granule = taken(rt, monitor, number);
-    equal(rt, "word 0", monitor.store().word(granule, 0), word);
-}
-
 // All words of a granule's page are 0.
-fn is_zero<S: PageStore>(rt: &impl Abort, monitor: &Monitor<S>, number: u16) {
+fn is_zero<S: PageStore>(rt: &impl Abort, monitor: &Monitor<S>, number: u16) -> bool {
     let granule = taken(rt, monitor, number);
     for index in 0..512 {
-        equal(rt, "a word", monitor.store().word(granule, index), 0);
+        if monitor.store().word(granule, index) != 0 {
+            return false;
+        }
+    }
+    true
+}
+
+fn is_made<S: PageStore>(rt: &impl Abort, monitor: &mut Monitor<S>, call: &Call) -> bool {
+    let rd = taken(rt, monitor, 0);
+    match *call {
+        Call::Realm(root) => {
+            let root = taken(rt, monitor, root);
+            let vmid = Vmid::new(1).unwrap();
+            monitor.realm_create(rd, root, vmid, 39) == Ok(())
+        }
+        Call::Table(table, level) => {
+            let table = taken(rt, monitor, table);
+            monitor.rtt_create(rd, table, 0, level) == Ok(())
+        }
+        Call::Data(page, source) => {
+            let (page, source) = (taken(rt, monitor, page), taken(rt, monitor, source));
+            monitor.data_create(rd, page, 0, source) == Ok(())
+        }
+        Call::DataDestroy => monitor.data_destroy(rd, 0) == Ok(()),
+        Call::TableDestroy(level) => monitor.rtt_destroy(rd, 0, level) == Ok(()),
+        Call::RealmDestroy => monitor.realm_destroy(rd) == Ok(()),
+        _ => false,
     }
 }
 
-fn delegates<S: PageStore>(rt: &impl Abort, monitor: &mut Monitor<S>, numbers: u16) {
-    for number in 0..numbers {
-        let granule = taken(rt, monitor, number);
-        done(rt, monitor.granule_delegate(granule));
+fn is_answered<S: PageStore>(rt: &impl Abort, monitor: &mut Monitor<S>, call: &Call) -> bool {
+    match *call {
+        Call::Fill(number, value) => {
+            let granule = taken(rt, monitor, number);
+            monitor.host_fill(granule, value) == Ok(())
+        }
+        Call::Delegate(number) => {
+            let granule = taken(rt, monitor, number);
+            monitor.granule_delegate(granule) == Ok(())
+        }
+        Call::Begins(number, word) => {
+            let granule = taken(rt, monitor, number);
+            monitor.store().word(granule, 0) == word
+        }
+        Call::IsZero(number) => is_zero(rt, monitor, number),
+        _ => is_made(rt, monitor, call),
     }
 }
 
-fn makes_realm<S: PageStore>(rt: &impl Abort, monitor: &mut Monitor<S>) {
-    let (rd, root) = (taken(rt, monitor, 0), taken(rt, monitor, 1));
-    done(
-        rt,
-        monitor.realm_create(rd, root, Vmid::new(1).unwrap(), 39),
-    );
-}
-
-fn makes_table<S: PageStore>(rt: &impl Abort, monitor: &mut Monitor<S>, number: u16, level: u8) {
-    let (rd, table) = (taken(rt, monitor, 0), taken(rt, monitor, number));
-    done(rt, monitor.rtt_create(rd, table, 0, level));
-}
-
-// Granule 0 becomes the RD of a realm with tables in granules 1 to 3, and granule 4 its page, with the bytes of granule 5.
-fn makes_all<S: PageStore>(rt: &impl Abort, monitor: &mut Monitor<S>) {
-    let source = taken(rt, monitor, 5);
-    done(rt, monitor.host_fill(source, 7));
-    delegates(rt, monitor, 5);
-    makes_realm(rt, monitor);
-    makes_table(rt, monitor, 2, 2);
-    makes_table(rt, monitor, 3, 3);
-    let (rd, page) = (taken(rt, monitor, 0), taken(rt, monitor, 4));
-    let source = taken(rt, monitor, 5);
-    done(rt, monitor.data_create(rd, page, 0, source));
-}
-
-fn destroys_table<S: PageStore>(rt: &impl Abort, monitor: &mut Monitor<S>, level: u8) {
-    let rd = taken(rt, monitor, 0);
-    done(rt, monitor.rtt_destroy(rd, 0, level));
-}
-
-// The words of the tables while all is made, and while one after the other goes.
-fn comes_and_goes<S: PageStore>(rt: &impl Abort, monitor: &mut Monitor<S>) {
-    makes_all(rt, monitor);
-    begins_with(rt, monitor, 1, 8194);
-    begins_with(rt, monitor, 2, 12_290);
-    begins_with(rt, monitor, 3, 16_389);
-    let rd = taken(rt, monitor, 0);
-    done(rt, monitor.data_destroy(rd, 0));
-    begins_with(rt, monitor, 3, 8);
-    destroys_table(rt, monitor, 3);
-    is_zero(rt, monitor, 3);
-    begins_with(rt, monitor, 2, 8);
-    destroys_table(rt, monitor, 2);
-    is_zero(rt, monitor, 2);
-    begins_with(rt, monitor, 1, 8);
-    let rd = taken(rt, monitor, 0);
-    done(rt, monitor.realm_destroy(rd));
-    is_zero(rt, monitor, 1);
-}
-
-// The same over a store of eight pages.
+// The calls over a store of eight pages.
 fn over<S: PageStore + Drop>(rt: &impl Abort, alloc: Global, store: S)
     requires zero { S.page_bytes store ≡ replicate (length (S.page_bytes store)) zero_page }
     requires free { S.free_flags store ≡ replicate (length (S.page_bytes store)) true }
 {
-    match Monitor::build(alloc, 8, 0, store) {
-        Ok(mut monitor) => {
-            let first = monitor.take(Order::new(3).unwrap());
-            holds(rt, "all pages", first == Some(granule(0)));
-            comes_and_goes(rt, &mut monitor);
-        }
-        Err(_) => panic!(rt; "there is no memory for a monitor"),
+    let Ok(mut monitor) = Monitor::build(alloc, 8, 0, store) else {
+        panic!(rt; "there is no memory for a monitor");
+    };
+    let first = monitor.take(Order::new(3).unwrap());
+    holds_at(rt, "all pages", 0, first == Some(granule(0)));
+    for place in 0..CALLS.len() {
+        let is_so = is_answered(rt, &mut monitor, &CALLS[place]);
+        holds_at(rt, "a call", place, is_so);
     }
 }
 
