@@ -113,8 +113,8 @@ pub(crate) fn told_sink(
     Told::new(sink)
 }
 
-/// The devices of a program: how much a call takes at most, and which call fails. A failed test is named by the case, and
-/// by the number of the call.
+/// The devices of a program: how much a call takes at most, and which call fails. A failed test is named by the case,
+/// and by the number of the call.
 #[derive(Clone, Copy)]
 pub(crate) struct Devices<'a> {
     pub case: &'a str,

@@ -1,7 +1,7 @@
 //! Comparisons of values with the expected ones.
 //!
-//! A test is proved before it runs, and each comparison in its body branches: written out there, a row of them costs far
-//! more than a row of these calls.
+//! A test is proved before it runs, and each comparison in its body branches: written out there, a row of them costs
+//! far more than a row of these calls.
 use std::process::Abort;
 
 /// A number is the expected one.

@@ -2,8 +2,8 @@
 //!
 //! The answers of calls are proved, and what a worker does after a refusal. So is what is printed if no device fails.
 //! These tests are for the rest: each worker has a thread of its own, and threads come to their end. They compare the
-//! world that is left then, how often a device is asked, and what follows if it fails. `tests/program` compares what the
-//! built programs print.
+//! world that is left then, how often a device is asked, and what follows if it fails. `tests/program` compares what
+//! the built programs print.
 //!
 //! Steps are spelled as in a plan, and expected lines are rows of tables. One proved function runs the rows of a table,
 //! and names the case and the row that fails.

@@ -180,7 +180,8 @@ const REFUSED_3: Case = Case { refused: 3, ..ALL };
 // The undo after a refusal: each leaves 1, as the teller says.
 const UNDONE: Line = Line::Undone(Kind::Delegate, 1);
 
-// Each step of three plans is refused in turn, and then what is open is undone: takes and delegations. Or none is refused.
+// Each step of three plans is refused in turn, and then what is open is undone: takes and delegations. Or none is
+// refused.
 const REFUSED_STEPS: &[(&str, Case, Words, &[Line])] = &[
     (
         "fills, 0",

@@ -1,4 +1,4 @@
-//! Which blocks are free, and which are taken.
+//! Free blocks and taken ones.
 ghost use Rattle.std.specs.Prelude.{◌≡◌, IsTrue};
 ghost use Rattle.page_arena.specs.Block.{IsTakenBlock};
 

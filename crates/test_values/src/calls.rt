@@ -64,11 +64,11 @@ pub(crate) enum Holder {
 /// A call of a host, or what is read of it. The last field is the answer.
 pub(crate) enum Call {
     Ask(Command, Result<Said, No>),
-    /// The kind of the act that is undone, and how many are left open.
+    /// The kind of the operation that is undone, and how many are left open.
     Undo(Result<(Kind, u16), No>),
     BeginAbort(Result<u16, No>),
     Abort(Result<u16, No>),
-    /// A mark, with so many acts open.
+    /// A mark, with so many operations open.
     Mark(Result<u16, No>),
     CheckBack(Which, Result<u16, No>),
     /// A way back, first checked and then gone, with one answer.
@@ -81,12 +81,12 @@ pub(crate) enum Call {
     Granule(u16, Option<u16>),
     /// The state of a granule, and its holder.
     State(u16, Option<(GranuleState, Holder)>),
-    /// How many acts are open. The first is a take of two pages, the last the delegation of granule 1.
+    /// The number of open operations. The first is a take of two pages, the last the delegation of granule 1.
     Open(u16),
-    /// No act is open.
+    /// No operation is open.
     NothingOpen,
     IsAborting(bool),
-    /// How many acts and how many events were there at the mark that is kept.
+    /// The numbers of open operations and of events at the mark that is kept.
     KeptMark(Option<(u16, u32)>),
     /// The RD of the build's realm.
     Rd(Option<u16>),
@@ -97,8 +97,8 @@ pub(crate) enum Call {
     Tables(u8, u16, u16, u16),
     /// The granule of a REC, its state, and how many auxiliaries it has.
     Rec(u16, Option<(u16, RecState, usize)>),
-    /// The walk of an IPA granule towards a level: the level of its row, the first IPA granule of that, its word, and
-    /// the first IPA granule of the next row.
+    /// The walk of an IPA granule towards a level. The row has its level, its first IPA granule and its word. The first
+    /// IPA granule of the next row is the last field.
     Row(u32, u8, Option<(u8, u32, u64, u32)>),
 }
 
@@ -177,7 +177,7 @@ struct Marks {
 }
 
 impl Marks {
-    // Keeps a mark, and returns how many acts were open then.
+    // Keeps a mark, and returns how many operations were open then.
     fn keep(&mut self, mark: Result<Mark, Refusal>) -> Result<u16, Refusal> {
         let mark = mark?;
         self.older = self.newest;

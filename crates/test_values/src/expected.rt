@@ -1,11 +1,11 @@
-//! What is seen, compared with what is wanted.
+//! Comparisons of values with the expected ones.
 //!
 //! A test is proved before it runs, and each comparison in its body branches: written out there, a row of them costs
 //! far more than a row of these calls.
 use page_arena::BuildError;
 use std::process::Abort;
 
-/// What is seen is what is wanted.
+/// A number is the expected one.
 pub(crate) fn equal(rt: &impl Abort, what: &str, seen: u64, want: u64) {
     assert_eq!(rt; seen, want, "{what}");
 }

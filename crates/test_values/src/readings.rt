@@ -1,4 +1,4 @@
-//! What is read of a host: granules, what a build has open, and its realm.
+//! Readings of a host: granules, a build's open operations, and its realm.
 use crate::calls::{Call, Holder};
 use crate::names::granule;
 use realm_host::{
@@ -30,7 +30,7 @@ fn is_state<S: PageStore>(
     })
 }
 
-// Whether these are so many acts: the first is a take of two pages, the last the delegation of granule 1.
+// Whether these are so many operations: the first is a take of two pages, the last the delegation of granule 1.
 fn are_open(acts: &[Act], count: u16) -> bool {
     let order = Order::new(1).unwrap();
     let (first, granule) = (granule(0), granule(1));

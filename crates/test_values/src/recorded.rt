@@ -6,7 +6,7 @@ use page_arena::PageStore;
 use realm_host::{Act, Event, Host};
 use std::process::Abort;
 
-// An act on a block of two pages, and on the first page of it.
+// An operation on a block of two pages, and on the first page of it.
 enum Recorded {
     Take,
     UnTake,
@@ -14,7 +14,7 @@ enum Recorded {
     Undelegate,
 }
 
-// The act of a build, from that granule on, and whether it is applied.
+// The operation of a build, from that granule on, and whether it is applied.
 const EVENTS: &[(u8, Recorded, u16, bool)] = &[
     (0, Recorded::Take, 1, false),
     (0, Recorded::Take, 2, true),
@@ -28,7 +28,7 @@ const EVENTS: &[(u8, Recorded, u16, bool)] = &[
 ];
 
 // The history is made of the events that are applied: two pages are leased, the first of them is delegated, and both
-// acts are reversed.
+// operations are reversed.
 const HISTORY: &[Recorded] = &[
     Recorded::Take,
     Recorded::Delegate,

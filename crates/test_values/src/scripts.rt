@@ -148,7 +148,7 @@ const WALKS: Script = &[
     ),
 ];
 
-// A build has three acts open, and a mark from before the third. A build that is not there has nothing.
+// A build has three operations open, and a mark from before the third. A build that is not there has nothing.
 const OPEN: Script = &[
     (0, Call::Ask(Command::Take(1), FIRST_PAGE)),
     (0, Call::Ask(Command::Delegate(0), Ok(Said::Done))),

@@ -1,4 +1,4 @@
-//! How many pages a store can have.
+//! Sizes of stores.
 use crate::expected::holds_at;
 use buddy::BuddyArena;
 use page_arena::{BuildError, PageStore, PlainStore};

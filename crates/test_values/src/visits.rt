@@ -1,16 +1,16 @@
-//! How many orders a call of the arena looks at.
+//! The block sizes that a call of the arena reads.
 use crate::expected::{built, equal, holds};
 use crate::names::order;
 use buddy::BuddyArena;
 use page_arena::PageStore;
 use std::process::Abort;
 
-// The last call looked at `count` orders.
+// The last call read `count` block sizes.
 fn visited(rt: &impl Abort, arena: &BuddyArena, count: u64) {
     equal(rt, "visits", arena.visits() as u64, count);
 }
 
-// A page is taken and given back, and each call looks at `count` orders.
+// A page is taken and given back, and each call reads `count` block sizes.
 #[tactic(auto, using(page_arena::specs::Blocks::taken_block))]
 fn comes_and_goes(rt: &impl Abort, arena: &mut BuddyArena, count: u64) {
     let one = order(0);
