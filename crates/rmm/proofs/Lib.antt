@@ -13,3 +13,4 @@ pub mod Starts
 pub mod StatesDiffer
 pub mod Steps
 pub mod Widths
+pub mod WordEdits

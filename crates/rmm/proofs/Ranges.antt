@@ -1,5 +1,5 @@
 -- The checks of RMI_RTT_INIT_RIPAS, one operand after another.
-use Rattle.std.proofs.Common.{◌≡◌, ℕ, ◌++◌, List, [], ◌∷◌, Some, None, ap, ◌∙◌}
+use Rattle.std.proofs.Common.{◌≡◌, ℕ, List, [], ◌∷◌, Some, None, ap, ◌∙◌}
 use Rattle.rmi_abi.specs.declared.settings.RmmSettings.{RmmSettings}
 use Rattle.rmm_model.specs.declared.answer.FailedCondition.{FailedCondition}
 use Rattle.rmm_model.specs.declared.condition.Condition.TheVariants.{Size, RdState, BaseBound, TopBound, RealmState}

@@ -9,7 +9,7 @@ use crate::step::access;
 use granule_addr::Gran;
 use page_arena::PageStore;
 use rmm_granules::Granules;
-use rmm_model::{AccessSize, Came, RmmRealm, StepResult};
+use rmm_model::{AccessSize, RmmRealm, StepOutcome, StepResult};
 
 // ---- stores
 
@@ -68,9 +68,9 @@ pub fn write<S: PageStore>(
     ipa: u64,
     size: AccessSize,
     value: u64,
-) -> Came
+) -> StepOutcome
     requires { IsServed (granule_count granules.old) realm.now }
-    ensures came { result
+    ensures outcome { result
         ≡ steps.tried (steps.access granules.old realm.now ipa true size (accesses.low_bytes size value)) }
     ensures machine { granules.new
         ≡ steps.after_write granules.old ipa size value (steps.access granules.old realm.now ipa true size (accesses.low_bytes size value)) }
@@ -79,9 +79,9 @@ pub fn write<S: PageStore>(
     match access(granules, realm, ipa, true, size, size.low(value)) {
         Ok(granule) => {
             set_value(granules, granule, size, ipa, value);
-            Came::Result(StepResult::Done)
+            StepOutcome::Result(StepResult::Done)
         }
-        Err(came) => came,
+        Err(outcome) => outcome,
     }
 }
 
@@ -91,16 +91,16 @@ pub fn read<S: PageStore>(
     realm: &RmmRealm,
     ipa: u64,
     size: AccessSize,
-) -> Came
+) -> StepOutcome
     requires { IsServed (granule_count granules.now) realm.now }
     ensures { result
-        ≡ steps.came_of_read granules.now ipa size (steps.access granules.now realm.now ipa false size 0) }
+        ≡ steps.read_outcome granules.now ipa size (steps.access granules.now realm.now ipa false size 0) }
 {
     match access(granules, realm, ipa, false, size, 0) {
         Ok(granule) => {
             let value = size.read(granules.page(granule), ipa);
-            Came::Result(StepResult::Read(value))
+            StepOutcome::Result(StepResult::Read(value))
         }
-        Err(came) => came,
+        Err(outcome) => outcome,
     }
 }

@@ -126,13 +126,16 @@ fn check_mapped<S: PageStore>(
     ensures page { IfOk result (λ page. memory_below granules.now entry ≡ Some page) }
     ensures below { IfOk result (λ page. page < granule_count granules.now) }
 {
-    let next = top(granules, found, ipa);
     if found.level != 3 {
+        let next = top(granules, found, ipa);
         return Err(error_rtt_top(Condition::RttWalk, found.level, next));
     }
     match memory_below(granules, entry) {
         Some(page) => Ok(page),
-        None => Err(error_rtt_top(Condition::RtteState, found.level, next)),
+        None => {
+            let next = top(granules, found, ipa);
+            Err(error_rtt_top(Condition::RtteState, found.level, next))
+        }
     }
 }
 

@@ -16,8 +16,8 @@ use page_arena::{PageStore, word_in};
 use rmi_abi::{RmmSettings, SmcResult, Word};
 use rmm_granules::Granules;
 use rmm_model::{
-    Condition, FailedCondition, RmmGranuleState, RmmRttEntry, RttWalk, entry_from_word, entry_size,
-    error_rtt, has_parts,
+    Condition, FailedCondition, RmmGranuleState, RmmRttEntry, RttWalk, entry_from_word,
+    entry_offset, error_rtt, has_parts,
 };
 
 // A table that can be folded, and the entry that leads to it.
@@ -43,7 +43,7 @@ fn is_aligned_above(entry: RmmRttEntry, level: u8) -> bool
     requires { 1 ≤ level }
     ensures { result ≡ command.is_aligned_above entry level }
 {
-    !entry.is_mapping() || entry.descriptor() / 4096 * 4096 % entry_size(level - 1) == 0
+    !entry.is_mapping() || entry_offset(level - 1, entry.descriptor() / 4096 * 4096) == 0
 }
 
 // Whether a table says the same as one entry above it.

@@ -12,7 +12,7 @@ use page_arena::PageStore;
 use rmi_abi::{RmmSettings, SmcResult, Word};
 use rmm_granules::Granules;
 use rmm_model::{
-    Condition, FailedCondition, RmmRealm, RttWalk, entry_size, error_input, error_rtt,
+    Condition, FailedCondition, RmmRealm, RttWalk, entry_offset, error_input, error_rtt,
 };
 
 // The names of an operand's conditions: of its alignment, its bound and its state.
@@ -171,7 +171,7 @@ pub fn check_ipa(
         return Err(error_input(Condition::LevelBound));
     }
     let found = level as u8;
-    if ipa % entry_size(found - above) != 0 {
+    if entry_offset(found - above, ipa) != 0 {
         return Err(error_input(Condition::IpaAlign));
     }
     if !is_in_space(realm, ipa) {
@@ -223,7 +223,7 @@ pub fn check_unprotected(
         return Err(error_input(Condition::LevelBound));
     }
     let found = level as u8;
-    if ipa % entry_size(found) != 0 {
+    if entry_offset(found, ipa) != 0 {
         return Err(error_input(Condition::IpaAlign));
     }
     if !is_unprotected(realm, ipa) {

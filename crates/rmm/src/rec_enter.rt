@@ -1,5 +1,5 @@
 //! RMI_REC_ENTER.
-ghost use Rattle.std.specs.Prelude.{◌≡◌, ◌%◌, ◌<◌, ◌≤◌, ◌&&◌, not, true, false, IfOk};
+ghost use Rattle.std.specs.Prelude.{◌≡◌, ◌<◌, ◌≤◌, ◌&&◌, not, true, false, IfOk};
 ghost use Rattle.rmm_model.specs.declared.rec.LastExit.TheVariants.{RipasChange, HostCall, EmulatableAbort};
 ghost use Rattle.rmm_model.specs.Granule.{realm_of};
 ghost use Rattle.rmm_model.specs.Guest as guests;
@@ -19,14 +19,14 @@ use crate::realm::error_realm;
 use crate::rec::{REC, error_rec, rec_of, set_rec};
 use crate::rec_destroy::realm_in;
 use crate::run_page::{copy_gic, copy_gprs, is_gic_wrong, write_run};
-use crate::step::{came_of_call, fetched, rec_after_exit, tried};
+use crate::step::{call_outcome, fetched, rec_after_exit, tried};
 use granule_addr::Gran;
 use page_arena::PageStore;
 use rmi_abi::{EnterFlags, ExitReason, RecExit, SmcResult, Word, entry_gpr};
 use rmm_granules::Granules;
 use rmm_model::{
-    Came, Condition, FailedCondition, GuestStep, LastExit, PsciRequest, RipasRequest, RmmGranule,
-    RmmGranuleState, RmmRealm, RmmRealmState, RmmRec, RmmRecState, StepResult,
+    Condition, FailedCondition, GuestStep, LastExit, PsciRequest, RipasRequest, RmmGranule,
+    RmmGranuleState, RmmRealm, RmmRealmState, RmmRec, RmmRecState, StepOutcome, StepResult,
 };
 
 const RUN: Names = Names {
@@ -45,10 +45,10 @@ pub struct Entering {
 // ---- exits
 
 // A REC leaves.
-#[tactic(auto, unfolding(rmm_model::specs::Command::RecEnter::left))]
+#[tactic(auto, unfolding(rmm_model::specs::Command::RecEnter::after_exit))]
 pub fn leave<S: PageStore>(granules: &mut Granules<S>, g: Gran, exit: &RecExit, last: LastExit)
     requires { g < granule_count granules.old }
-    ensures machine { granules.new ≡ command.left granules.old g exit.now last }
+    ensures machine { granules.new ≡ command.after_exit granules.old g exit.now last }
     ensures count { granule_count granules.new ≡ granule_count granules.old }
 {
     let rec = rec_in(granules, g);
@@ -87,7 +87,7 @@ fn emulated(step: GuestStep, gpr0: u64) -> StepResult
 // The step that made the last exit ends with a result.
 fn end_step<S: PageStore>(granules: &mut Granules<S>, g: Gran, r: &StepResult)
     requires { g < granule_count granules.old }
-    ensures machine { granules.new ≡ command.ended granules.old g r.now }
+    ensures machine { granules.new ≡ command.with_step_ended granules.old g r.now }
     ensures count { granule_count granules.new ≡ granule_count granules.old }
 {
     past_step(granules, g);
@@ -114,7 +114,7 @@ fn push_psci<S: PageStore>(granules: &mut Granules<S>, g: Gran, request: PsciReq
 // The guest gets how far a change of RIPAS came.
 fn push_ripas<S: PageStore>(granules: &mut Granules<S>, g: Gran, flags: u64)
     requires { g < granule_count granules.old }
-    ensures machine { granules.new ≡ command.answered granules.old g RipasChange 0 flags }
+    ensures machine { granules.new ≡ command.with_host_answer granules.old g RipasChange 0 flags }
     ensures count { granule_count granules.new ≡ granule_count granules.old }
 {
     let rec = rec_in(granules, g);
@@ -131,7 +131,7 @@ fn push_ripas<S: PageStore>(granules: &mut Granules<S>, g: Gran, flags: u64)
 fn push_return<S: PageStore>(granules: &mut Granules<S>, g: Gran, run: Gran)
     requires inside { g < granule_count granules.old }
     requires run { run < granule_count granules.old }
-    ensures machine { granules.new ≡ command.answered granules.old g HostCall run 0 }
+    ensures machine { granules.new ≡ command.with_host_answer granules.old g HostCall run 0 }
     ensures count { granule_count granules.new ≡ granule_count granules.old }
 {
     let value = entry_gpr(granules.page(run), 0);
@@ -143,7 +143,7 @@ fn push_return<S: PageStore>(granules: &mut Granules<S>, g: Gran, run: Gran)
 fn push_abort<S: PageStore>(granules: &mut Granules<S>, g: Gran, run: Gran, flags: u64)
     requires inside { g < granule_count granules.old }
     requires run { run < granule_count granules.old }
-    ensures machine { granules.new ≡ command.answered granules.old g EmulatableAbort run flags }
+    ensures machine { granules.new ≡ command.with_host_answer granules.old g EmulatableAbort run flags }
     ensures count { granule_count granules.new ≡ granule_count granules.old }
 {
     if EnterFlags::injects_sea(flags) {
@@ -165,7 +165,7 @@ fn answer_exit<S: PageStore>(
 )
     requires inside { g < granule_count granules.old }
     requires run { run < granule_count granules.old }
-    ensures machine { granules.new ≡ command.answered granules.old g last run flags }
+    ensures machine { granules.new ≡ command.with_host_answer granules.old g last run flags }
     ensures count { granule_count granules.new ≡ granule_count granules.old }
 {
     match last {
@@ -186,23 +186,23 @@ fn answer_exit<S: PageStore>(
 }
 
 // A REC is entered.
-#[tactic(auto, unfolding(rmm_model::specs::Command::RecEnter::entered))]
+#[tactic(auto, unfolding(rmm_model::specs::Command::RecEnter::after_entry))]
 fn enter<S: PageStore>(granules: &mut Granules<S>, g: Gran, address: u64, run: Gran, flags: u64)
     requires inside { g < granule_count granules.old }
     requires run { run < granule_count granules.old }
     requires number { run ≡ number_of granules.old address }
-    ensures machine { granules.new ≡ command.entered granules.old g address flags }
+    ensures machine { granules.new ≡ command.after_entry granules.old g address flags }
     ensures count { granule_count granules.new ≡ granule_count granules.old }
 {
     let rec = rec_in(granules, g);
-    let begun = RmmRec {
+    let running = RmmRec {
         state: RmmRecState::Running,
         run: address,
         exit: LastExit::Other,
         result_count: 0,
         ..rec
     };
-    set_rec(granules, g, begun);
+    set_rec(granules, g, running);
     copy_gic(granules, g, run);
     answer_exit(granules, g, rec.exit, run, flags);
 }
@@ -246,20 +246,20 @@ fn call<S: PageStore>(
     g: Gran,
     flags: u64,
     step: GuestStep,
-) -> Came
+) -> StepOutcome
     requires inside { g < granule_count granules.old }
     requires width { realm.now.s2sz ≤ 48 }
-    ensures came { result
-        ≡ steps.came_of_call granules.old.settings realm.now (guests.rec_in granules.old g) flags step }
+    ensures outcome { result
+        ≡ steps.call_outcome granules.old.settings realm.now (guests.rec_in granules.old g) flags step }
     ensures machine { granules.new ≡ command.with_exit_of granules.old g step (steps.is_exit result) }
     ensures count { granule_count granules.new ≡ granule_count granules.old }
 {
     let rec = rec_in(granules, g);
-    let came = came_of_call(granules.settings(), realm, &rec, flags, step);
-    if let Came::Exit(_, _) = came {
+    let outcome = call_outcome(granules.settings(), realm, &rec, flags, step);
+    if let StepOutcome::Exit(_, _) = outcome {
         set_rec(granules, g, rec_after_exit(&rec, step));
     }
-    came
+    outcome
 }
 
 // A guest calls to turn its realm off.
@@ -269,33 +269,33 @@ fn turn_off<S: PageStore>(
     g: Gran,
     flags: u64,
     step: GuestStep,
-) -> Came
+) -> StepOutcome
     requires inside { g < granule_count granules.old }
     requires width { realm.now.s2sz ≤ 48 }
-    ensures came { result
-        ≡ steps.came_of_call granules.old.settings realm.now (guests.rec_in granules.old g) flags step }
+    ensures outcome { result
+        ≡ steps.call_outcome granules.old.settings realm.now (guests.rec_in granules.old g) flags step }
     ensures machine { granules.new
         ≡ command.with_system_off granules.old (granule_at granules.old g).owner }
     ensures count { granule_count granules.new ≡ granule_count granules.old }
 {
     let rec = rec_in(granules, g);
-    let came = came_of_call(granules.settings(), realm, &rec, flags, step);
+    let outcome = call_outcome(granules.settings(), realm, &rec, flags, step);
     system_off(granules, g);
-    came
+    outcome
 }
 
 // A guest performs a step.
-#[tactic(auto, unfolding(rmm_model::specs::Command::RecEnter::came_of, rmm_model::specs::Command::RecEnter::after_step))]
+#[tactic(auto, unfolding(rmm_model::specs::Command::RecEnter::step_outcome, rmm_model::specs::Command::RecEnter::after_step))]
 fn perform<S: PageStore>(
     granules: &mut Granules<S>,
     realm: &RmmRealm,
     g: Gran,
     flags: u64,
     step: GuestStep,
-) -> Came
+) -> StepOutcome
     requires inside { g < granule_count granules.old }
     requires served { IsServed (granule_count granules.old) realm.now }
-    ensures came { result ≡ command.came_of granules.old realm.now g flags step }
+    ensures outcome { result ≡ command.step_outcome granules.old realm.now g flags step }
     ensures machine { granules.new ≡ command.after_step granules.old realm.now g step result }
     ensures count { granule_count granules.new ≡ granule_count granules.old }
 {
@@ -316,36 +316,36 @@ fn is_tried_again(reason: ExitReason, last: LastExit) -> bool
     matches!(reason, ExitReason::Sync) && !matches!(last, LastExit::SystemRegister)
 }
 
-// The guest goes on behind a step, but for one that it tries again.
-fn go_behind<S: PageStore>(granules: &mut Granules<S>, g: Gran, came: Came)
+// The guest is past a step, but for one that it tries again.
+fn pass_step<S: PageStore>(granules: &mut Granules<S>, g: Gran, outcome: StepOutcome)
     requires { g < granule_count granules.old }
-    ensures machine { granules.new ≡ command.behind granules.old g came }
+    ensures machine { granules.new ≡ command.with_step_passed granules.old g outcome }
     ensures count { granule_count granules.new ≡ granule_count granules.old }
 {
-    match came {
-        Came::Result(r) => end_step(granules, g, &r),
-        Came::Exit(exit, last) => {
+    match outcome {
+        StepOutcome::Result(r) => end_step(granules, g, &r),
+        StepOutcome::Exit(exit, last) => {
             if !is_tried_again(exit.reason, last) {
                 past_step(granules, g);
             }
         }
-        Came::Spin => past_step(granules, g),
+        StepOutcome::Spin => past_step(granules, g),
     }
 }
 
 // An exit as by a timer of the host's.
-fn no_step() -> Came
+fn no_step() -> StepOutcome
     ensures { result ≡ command.no_step }
 {
-    Came::Exit(RecExit::only(ExitReason::Irq), LastExit::Other)
+    StepOutcome::Exit(RecExit::only(ExitReason::Irq), LastExit::Other)
 }
 
 // A guest performs its first step.
-#[tactic(auto, unfolding(rmm_model::specs::Command::RecEnter::came_now, rmm_model::specs::Command::RecEnter::after_now))]
-fn perform_first<S: PageStore>(granules: &mut Granules<S>, g: Gran, flags: u64) -> Came
+#[tactic(auto, unfolding(rmm_model::specs::Command::RecEnter::first_step_outcome, rmm_model::specs::Command::RecEnter::after_first_step))]
+fn perform_first<S: PageStore>(granules: &mut Granules<S>, g: Gran, flags: u64) -> StepOutcome
     requires { g < granule_count granules.old }
-    ensures came { result ≡ command.came_now granules.old g flags }
-    ensures machine { granules.new ≡ command.after_now granules.old g flags }
+    ensures outcome { result ≡ command.first_step_outcome granules.old g flags }
+    ensures machine { granules.new ≡ command.after_first_step granules.old g flags }
     ensures count { granule_count granules.new ≡ granule_count granules.old }
 {
     if rec_in(granules, g).step_count == 0 {
@@ -354,27 +354,27 @@ fn perform_first<S: PageStore>(granules: &mut Granules<S>, g: Gran, flags: u64) 
     match owner_realm(granules, g) {
         Some(realm) => {
             let step = first_step(granules, g);
-            let came = perform(granules, &realm, g, flags, step);
-            go_behind(granules, g, came);
-            came
+            let outcome = perform(granules, &realm, g, flags, step);
+            pass_step(granules, g, outcome);
+            outcome
         }
         None => no_step(),
     }
 }
 
 // A guest performs its steps, up to one that makes an exit or spins. Whether the REC left.
-fn ran<S: PageStore>(granules: &mut Granules<S>, g: Gran, flags: u64) -> bool
+fn perform_steps<S: PageStore>(granules: &mut Granules<S>, g: Gran, flags: u64) -> bool
     requires { g < granule_count granules.old }
-    ensures { (result, granules.new) ≡ command.ran granules.old g flags 16 }
+    ensures { (result, granules.new) ≡ command.after_steps granules.old g flags 16 }
 {
     for i in 0..16u8 {
         match perform_first(granules, g, flags) {
-            Came::Result(_) => {}
-            Came::Exit(exit, last) => {
+            StepOutcome::Result(_) => {}
+            StepOutcome::Exit(exit, last) => {
                 leave(granules, g, &exit, last);
                 return true;
             }
-            Came::Spin => return false,
+            StepOutcome::Spin => return false,
         }
     }
     leave(
@@ -473,7 +473,7 @@ pub fn rec_enter<S: PageStore>(granules: &mut Granules<S>, rec: u64, address: u6
         Ok(found) => {
             let flags = EnterFlags::read(granules.page(found.run));
             enter(granules, found.rec, address, found.run, flags);
-            if ran(granules, found.rec, flags) {
+            if perform_steps(granules, found.rec, flags) {
                 SmcResult::only(Word::Success)
             } else {
                 SmcResult::only(Word::Running)

@@ -10,7 +10,7 @@ use page_arena::{PageStore, word_in};
 use rmm_granules::Granules;
 use rmm_model::{
     Changeable, Condition, FailedCondition, RmmRipas, RttWalk, entry_from_word, entry_index,
-    entry_size, error_input, error_rtt, first_fixed,
+    entry_number, entry_offset, entry_size, error_input, error_rtt, first_fixed,
 };
 
 // Passes a range that has addresses.
@@ -37,14 +37,13 @@ pub fn check_progress<S: PageStore>(
     ensures { refusal_in result
         ≡ first_failing (ranges.progress_checks [] granules.now changeable found.now base top) }
 {
-    let size = entry_size(found.level);
-    if base % size != 0 {
+    if entry_offset(found.level, base) != 0 {
         return Err(error_rtt(Condition::BaseAlign, found.level));
     }
     if !read(granules, found, base).can_change(changeable) {
         return Err(error_rtt(Condition::RtteState, found.level));
     }
-    if base + size > top {
+    if base + entry_size(found.level) > top {
         return Err(error_rtt(Condition::NoProgress, found.level));
     }
     Ok(())
@@ -58,7 +57,7 @@ fn entries_below(found: &RttWalk, base: u64, top: u64) -> u16
     ensures within { index_of found.now.level base + result ≤ 512 }
 {
     let rest = 512 - entry_index(found.level, base);
-    let whole = (top - base) / entry_size(found.level);
+    let whole = entry_number(found.level, top - base);
     if whole <= rest as u64 {
         whole as u16
     } else {

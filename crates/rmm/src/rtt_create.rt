@@ -1,5 +1,5 @@
 //! RMI_RTT_CREATE.
-ghost use Rattle.std.specs.Prelude.{◌≡◌, ◌^◌, ◌<◌, ◌≤◌, IfOk, None};
+ghost use Rattle.std.specs.Prelude.{◌≡◌, ◌^◌, ◌<◌, IfOk, None};
 ghost use Rattle.rmm_model.specs.Check.{outcome, first_failing, refusal_in};
 ghost use Rattle.rmm_model.specs.Entry.{descriptor_of, repeated_byte};
 ghost use Rattle.rmm_model.specs.Machine.{granule_count, with_page};
@@ -13,7 +13,9 @@ use granule_addr::Gran;
 use page_arena::PageStore;
 use rmi_abi::{SmcResult, Word};
 use rmm_granules::Granules;
-use rmm_model::{Condition, FailedCondition, RmmGranule, RmmGranuleState, RmmRttEntry, RttWalk};
+use rmm_model::{
+    ChildWords, Condition, FailedCondition, RmmGranule, RmmGranuleState, RmmRttEntry, RttWalk,
+};
 
 const RTT: Names = Names {
     align: Condition::RttAlign,
@@ -43,9 +45,10 @@ fn write_mappings<S: PageStore>(
     requires mapping { repeated_byte parent ≡ None }
     ensures { granules.new ≡ with_page granules.old table (children_page parent level) }
 {
+    let words = ChildWords::new(parent, level);
     granules.fill(table, 0);
     for index in 0..512 {
-        granules.set_word(table, index, parent.child(level, index).word());
+        granules.set_word(table, index, words.word(index));
     }
 }
 

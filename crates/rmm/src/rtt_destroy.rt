@@ -42,17 +42,22 @@ fn check_unused<S: PageStore>(
     ensures table { IfOk result (λ table. table_below granules.now parent ≡ Some table) }
     ensures below { IfOk result (λ table. table < granule_count granules.now) }
 {
-    let next = top(granules, found, ipa);
     if found.level != level - 1 {
+        let next = top(granules, found, ipa);
         return Err(error_rtt_top(Condition::RttWalk, found.level, next));
     }
     match table_below(granules, parent) {
-        None => Err(error_rtt_top(Condition::RtteState, found.level, next)),
-        Some(table) => if has_live(granules.page(table)) {
-            Err(error_rtt_top(Condition::RttLive, level, next))
-        } else {
+        None => {
+            let next = top(granules, found, ipa);
+            Err(error_rtt_top(Condition::RtteState, found.level, next))
+        }
+        Some(table) => {
+            if has_live(granules.page(table)) {
+                let next = top(granules, found, ipa);
+                return Err(error_rtt_top(Condition::RttLive, level, next));
+            }
             Ok(table)
-        },
+        }
     }
 }
 

@@ -1,7 +1,8 @@
 //! Registers of a REC in its page and in its run page.
-ghost use Rattle.std.specs.Prelude.{◌≡◌, ◌+◌, ◌<◌, ◌≤◌, length};
+ghost use Rattle.std.specs.Prelude.{◌≡◌, ◌+◌, ◌<◌, ◌≤◌, ◌⊎◌, length};
 ghost use Rattle.rmi_abi.specs.Gic.{is_gicv3_lr};
-ghost use Rattle.rmm_model.specs.Machine.{granule_count, page_in};
+ghost use Rattle.rmm_model.specs.Machine.{granule_count, page_in, with_page};
+ghost use Rattle.rmm_model.specs.Table.{with_words_from};
 ghost use Rattle.rmm_model.specs.Command.RecCreate.{all_from};
 ghost use Rattle.rmm_model.specs.Command.RecEnter as entering;
 
@@ -11,7 +12,8 @@ use page_arena::{PageStore, word_in};
 use rmi_abi::{GicFields, RecExit, RmmSettings};
 use rmm_granules::Granules;
 
-// Words `first` to `first + count` of a page become words `place` to `place + count` of another one.
+// Words `first` to `first + count` of a page become words `place` to `place + count` of another one, or of the same one
+// beside them.
 fn copy_words<S: PageStore>(
     granules: &mut Granules<S>,
     from: Gran,
@@ -24,6 +26,7 @@ fn copy_words<S: PageStore>(
     requires to { to < granule_count granules.old }
     requires first { first + count ≤ 512 }
     requires place { place + count ≤ 512 }
+    requires apart { (first + count ≤ place) ⊎ (place + count ≤ first) }
     ensures machine { granules.new ≡ entering.with_copied granules.old from first to place count }
     ensures count { granule_count granules.new ≡ granule_count granules.old }
 {
@@ -103,15 +106,39 @@ pub fn is_gic_wrong<S: PageStore>(granules: &Granules<S>, run: Gran) -> bool
 
 // ---- exits
 
-// Writes an exit into a page.
-fn write_exit<S: PageStore>(granules: &mut Granules<S>, page: Gran, exit: &RecExit)
+// The upper half of a page becomes zero.
+fn clear_exit<S: PageStore>(granules: &mut Granules<S>, page: Gran)
     requires { page < granule_count granules.old }
-    ensures machine { granules.new ≡ entering.with_exit_words granules.old page exit.now 256 }
+    ensures cleared { granules.new
+        ≡ with_page granules.old page (with_words_from 256 256 (λ i. 0) (page_in granules.old page)) }
+    ensures inside { page < length granules.old.pages }
+    ensures whole { length (page_in granules.old page) ≡ 4096 }
     ensures count { granule_count granules.new ≡ granule_count granules.old }
 {
     for k in 0..256u16 {
-        granules.set_word(page, 256 + k, exit.word(256 + k));
+        granules.set_word(page, 256 + k, 0);
     }
+}
+
+// Writes an exit into a page. Words that are no field of it are zero.
+fn write_exit<S: PageStore>(granules: &mut Granules<S>, page: Gran, exit: &RecExit)
+    requires { page < granule_count granules.old }
+    ensures machine { granules.new ≡ entering.with_exit_words granules.old page exit.now }
+    ensures count { granule_count granules.new ≡ granule_count granules.old }
+{
+    clear_exit(granules, page);
+    granules.set_word(page, 448, exit.imm);
+    granules.set_word(page, 418, exit.ripas);
+    granules.set_word(page, 417, exit.ripas_top);
+    granules.set_word(page, 416, exit.ripas_base);
+    granules.set_word(page, 323, exit.gpr3);
+    granules.set_word(page, 322, exit.gpr2);
+    granules.set_word(page, 321, exit.gpr1);
+    granules.set_word(page, 320, exit.gpr0);
+    granules.set_word(page, 290, exit.hpfar);
+    granules.set_word(page, 289, exit.far);
+    granules.set_word(page, 288, exit.esr);
+    granules.set_word(page, 256, exit.reason.code());
 }
 
 // Writes an exit of a REC into the run page at an address, if that is a page of the host.

@@ -1,8 +1,7 @@
 //! RMI_RTT_SET_RIPAS.
-ghost use Rattle.std.specs.Prelude.{◌≡◌, ◌^◌, ◌<◌, ◌≤◌, ◌∷◌, [], IfOk, OnOk};
+ghost use Rattle.std.specs.Prelude.{◌≡◌, ◌^◌, ◌<◌, ◌≤◌, IfOk, OnOk};
 ghost use Rattle.rmm_model.specs.Check.{outcome, first_failing, refusal_in};
 ghost use Rattle.rmm_model.specs.Machine.{granule_count, number_of};
-ghost use Rattle.rmm_model.specs.Command.Operand.{realm_at, rec_at};
 ghost use Rattle.rmm_model.specs.Command.RttSetRipas as command;
 ghost use Rattle.rmm.specs.Found.{IsRequestedRange};
 
@@ -38,12 +37,12 @@ fn changeable(request: &RipasRequest) -> Changeable
     }
 }
 
-// Whether an address is the one that a REC asked for.
-fn is_asked(realm: &RmmRealm, asking: &RmmRec, base: u64) -> bool
+// Whether a range ends within what a REC asked for. That of a REC of the realm begins at a protected address too.
+fn is_within(realm: &RmmRealm, asking: &RmmRec, is_owner: bool, base: u64, top: u64) -> bool
     requires { realm.now.s2sz ≤ 48 }
-    ensures { result ≡ command.is_asked realm.now asking.now base }
+    ensures { result ≡ command.is_within realm.now asking.now is_owner base top }
 {
-    base == asking.ripas.base && is_protected(realm, base)
+    top <= asking.ripas.top && (!is_owner || is_protected(realm, base))
 }
 
 // Whether a REC is one of the realm of an RD.
@@ -86,10 +85,10 @@ fn check_request(
     if !is_owner {
         return Err(error_rec(Condition::RecOwner));
     }
-    if !is_asked(realm, asking, base) {
+    if base != asking.ripas.base {
         return Err(error_input(Condition::BaseBound));
     }
-    if top > asking.ripas.top {
+    if !is_within(realm, asking, is_owner, base, top) {
         return Err(error_input(Condition::TopBound));
     }
     Ok(())

@@ -13,8 +13,8 @@ use page_arena::PageStore;
 use rmi_abi::{EnterFlags, ExitReason, RecExit, RmmSettings, is_mpidr, rec_number};
 use rmm_granules::Granules;
 use rmm_model::{
-    AccessSize, Came, GuestStep, LastExit, PsciRequest, RipasRequest, RmmRealm, RmmRec, RmmRipas,
-    RmmRttEntry, StepResult, entry_size,
+    AccessSize, GuestStep, LastExit, PsciRequest, RipasRequest, RmmRealm, RmmRec, RmmRipas,
+    RmmRttEntry, StepOutcome, StepResult, entry_offset,
 };
 
 // ---- accesses to memory
@@ -60,12 +60,12 @@ fn is_empty(ripas: RmmRipas) -> bool
 }
 
 // A granule, if it is one of the machine.
-fn found_or_sea(found: Option<Gran>) -> Result<Gran, Came>
+fn found_or_sea(found: Option<Gran>) -> Result<Gran, StepOutcome>
     ensures { result ≡ steps.found_or_sea found }
 {
     match found {
         Some(granule) => Ok(granule),
-        None => Err(Came::Result(StepResult::Sea)),
+        None => Err(StepOutcome::Result(StepResult::Sea)),
     }
 }
 
@@ -76,20 +76,20 @@ fn protected_access<S: PageStore>(
     entry: RmmRttEntry,
     level: u8,
     ipa: u64,
-) -> Result<Gran, Came>
+) -> Result<Gran, StepOutcome>
     requires class { class ≤ 0x90000000 }
     requires fits { descriptor_of entry < 2 ^ 48 }
     ensures value { result ≡ steps.protected_access granules.now class entry level ipa }
     ensures inside { IfOk result (λ granule. granule < granule_count granules.now) }
 {
     if is_memory(entry) {
-        let address = entry.descriptor() + ipa % entry_size(level);
+        let address = entry.descriptor() + entry_offset(level, ipa);
         return found_or_sea(granule_named(granules, address));
     }
     if is_empty(entry.ripas()) {
-        Err(Came::Result(StepResult::Sea))
+        Err(StepOutcome::Result(StepResult::Sea))
     } else {
-        Err(Came::Exit(abort(class + 4 + level as u64, ipa), LastExit::Other))
+        Err(StepOutcome::Exit(abort(class + 4 + level as u64, ipa), LastExit::Other))
     }
 }
 
@@ -113,13 +113,17 @@ fn wnr(writes: bool) -> u64
 }
 
 // The granule of the host at a physical address, or what comes of an access there.
-fn host_access<S: PageStore>(granules: &Granules<S>, address: u64, ipa: u64) -> Result<Gran, Came>
+fn host_access<S: PageStore>(
+    granules: &Granules<S>,
+    address: u64,
+    ipa: u64,
+) -> Result<Gran, StepOutcome>
     ensures value { result ≡ steps.host_access granules.now address ipa }
     ensures inside { IfOk result (λ granule. granule < granule_count granules.now) }
 {
     match host_granule(granules, address) {
         Some(granule) => Ok(granule),
-        None => Err(Came::Exit(abort(0x9000_0028, ipa), LastExit::UnprotectedAbort)),
+        None => Err(StepOutcome::Exit(abort(0x9000_0028, ipa), LastExit::UnprotectedAbort)),
     }
 }
 
@@ -140,7 +144,7 @@ fn unprotected_access<S: PageStore>(
     writes: bool,
     size: AccessSize,
     value: u64,
-) -> Result<Gran, Came>
+) -> Result<Gran, StepOutcome>
     requires { descriptor_of entry < 2 ^ 48 }
     ensures value { result
         ≡ steps.unprotected_access granules.now entry level ipa writes size value }
@@ -149,14 +153,14 @@ fn unprotected_access<S: PageStore>(
     let esr = of_access(writes, size, level);
     if !entry.is_assigned_ns() {
         let exit = emulatable(0x9100_0004 + esr, ipa, value);
-        return Err(Came::Exit(exit, LastExit::EmulatableAbort));
+        return Err(StepOutcome::Exit(exit, LastExit::EmulatableAbort));
     }
     if may_access(entry.descriptor(), writes) {
-        let address = entry.descriptor() / 4096 * 4096 + ipa % entry_size(level);
+        let address = entry.descriptor() / 4096 * 4096 + entry_offset(level, ipa);
         host_access(granules, address, ipa)
     } else {
         let exit = emulatable(0x9100_000C + esr, ipa, value);
-        Err(Came::Exit(exit, LastExit::EmulatableAbort))
+        Err(StepOutcome::Exit(exit, LastExit::EmulatableAbort))
     }
 }
 
@@ -169,13 +173,13 @@ pub fn access<S: PageStore>(
     writes: bool,
     size: AccessSize,
     value: u64,
-) -> Result<Gran, Came>
+) -> Result<Gran, StepOutcome>
     requires { IsServed (granule_count granules.now) realm.now }
     ensures value { result ≡ steps.access granules.now realm.now ipa writes size value }
     ensures inside { IfOk result (λ granule. granule < granule_count granules.now) }
 {
     if !is_in_space(realm, ipa) {
-        return Err(Came::Result(StepResult::Sea));
+        return Err(StepOutcome::Result(StepResult::Sea));
     }
     let found = walk(granules, realm, ipa, 3);
     let entry = read(granules, &found, ipa);
@@ -192,12 +196,12 @@ pub fn fetched<S: PageStore>(
     granules: &Granules<S>,
     realm: &RmmRealm,
     ipa: u64,
-) -> Result<Gran, Came>
+) -> Result<Gran, StepOutcome>
     requires { IsServed (granule_count granules.now) realm.now }
     ensures { result ≡ steps.fetched granules.now realm.now ipa }
 {
     if !is_protected(realm, ipa) {
-        return Err(Came::Result(StepResult::Sea));
+        return Err(StepOutcome::Result(StepResult::Sea));
     }
     let found = walk(granules, realm, ipa, 3);
     let entry = read(granules, &found, ipa);
@@ -205,19 +209,19 @@ pub fn fetched<S: PageStore>(
 }
 
 // What comes of a step that only tries an access.
-pub fn tried(found: Result<Gran, Came>) -> Came
+pub fn tried(found: Result<Gran, StepOutcome>) -> StepOutcome
     ensures { result ≡ steps.tried found }
 {
     match found {
-        Ok(_) => Came::Result(StepResult::Done),
-        Err(came) => came,
+        Ok(_) => StepOutcome::Result(StepResult::Done),
+        Err(outcome) => outcome,
     }
 }
 
 // ---- calls
 
 // RSI_HOST_CALL
-fn host_call(imm: u64, gpr0: u64, gpr1: u64, gpr2: u64) -> Came
+fn host_call(imm: u64, gpr0: u64, gpr1: u64, gpr2: u64) -> StepOutcome
     ensures { result ≡ steps.host_call imm gpr0 gpr1 gpr2 }
 {
     let exit = RecExit {
@@ -227,7 +231,7 @@ fn host_call(imm: u64, gpr0: u64, gpr1: u64, gpr2: u64) -> Came
         imm: imm % 0x1_0000,
         ..RecExit::only(ExitReason::HostCall)
     };
-    Came::Exit(exit, LastExit::HostCall)
+    StepOutcome::Exit(exit, LastExit::HostCall)
 }
 
 // Whether RSI_IPA_STATE_SET takes a range and a RIPAS.
@@ -247,7 +251,7 @@ fn ripas_of(code: u64) -> RmmRipas
     }
 }
 
-fn ripas_exit(base: u64, top: u64, ripas: u64) -> Came
+fn ripas_exit(base: u64, top: u64, ripas: u64) -> StepOutcome
     ensures { result ≡ steps.ripas_exit base top ripas }
 {
     let exit = RecExit {
@@ -256,7 +260,7 @@ fn ripas_exit(base: u64, top: u64, ripas: u64) -> Came
         ripas,
         ..RecExit::only(ExitReason::RipasChange)
     };
-    Came::Exit(exit, LastExit::RipasChange)
+    StepOutcome::Exit(exit, LastExit::RipasChange)
 }
 
 // What a PSCI exit shows of its second or third operand.
@@ -271,7 +275,7 @@ fn shown(settings: &RmmSettings, operand: u64) -> u64
 }
 
 // The exit of a PSCI call.
-fn psci_exit(settings: &RmmSettings, function: u64, target: u64, b: u64, c: u64) -> Came
+fn psci_exit(settings: &RmmSettings, function: u64, target: u64, b: u64, c: u64) -> StepOutcome
     ensures { result ≡ steps.psci_exit settings.now function target b c }
 {
     let exit = RecExit {
@@ -281,13 +285,13 @@ fn psci_exit(settings: &RmmSettings, function: u64, target: u64, b: u64, c: u64)
         gpr3: shown(settings, c),
         ..RecExit::only(ExitReason::Psci)
     };
-    Came::Exit(exit, LastExit::Other)
+    StepOutcome::Exit(exit, LastExit::Other)
 }
 
-fn psci_gives(value: u64) -> Came
+fn psci_gives(value: u64) -> StepOutcome
     ensures { result ≡ steps.psci_gives value }
 {
-    Came::Result(StepResult::Psci(value))
+    StepOutcome::Result(StepResult::Psci(value))
 }
 
 // Whether a REC of the realm was given that MPIDR.
@@ -305,7 +309,7 @@ fn cpu_on(
     target: u64,
     entry_point: u64,
     context: u64,
-) -> Came
+) -> StepOutcome
     requires { realm.now.s2sz ≤ 48 }
     ensures { result ≡ steps.cpu_on settings.now realm.now rec.now target entry_point context }
 {
@@ -327,7 +331,7 @@ fn affinity_info(
     rec: &RmmRec,
     target: u64,
     level: u64,
-) -> Came
+) -> StepOutcome
     ensures { result ≡ steps.affinity_info settings.now realm.now rec.now target level }
 {
     if !(level == 0 && was_given(realm, target)) {
@@ -340,7 +344,7 @@ fn affinity_info(
 }
 
 // A wait, trapped or not.
-fn wait(traps: bool, esr: u64) -> Came
+fn wait(traps: bool, esr: u64) -> StepOutcome
     ensures { result ≡ steps.wait traps esr }
 {
     if traps {
@@ -348,14 +352,14 @@ fn wait(traps: bool, esr: u64) -> Came
             esr,
             ..RecExit::only(ExitReason::Sync)
         };
-        Came::Exit(exit, LastExit::Other)
+        StepOutcome::Exit(exit, LastExit::Other)
     } else {
-        Came::Result(StepResult::Done)
+        StepOutcome::Result(StepResult::Done)
     }
 }
 
 // A write of a system register.
-fn system_register(iss: u64, value: u64) -> Came
+fn system_register(iss: u64, value: u64) -> StepOutcome
     ensures { result ≡ steps.system_register iss value }
 {
     let exit = RecExit {
@@ -363,19 +367,19 @@ fn system_register(iss: u64, value: u64) -> Came
         gpr0: value,
         ..RecExit::only(ExitReason::Sync)
     };
-    Came::Exit(exit, LastExit::SystemRegister)
+    StepOutcome::Exit(exit, LastExit::SystemRegister)
 }
 
 // What comes of a step that accesses no memory.
-pub fn came_of_call(
+pub fn call_outcome(
     settings: &RmmSettings,
     realm: &RmmRealm,
     rec: &RmmRec,
     flags: u64,
     step: GuestStep,
-) -> Came
+) -> StepOutcome
     requires { realm.now.s2sz ≤ 48 }
-    ensures { result ≡ steps.came_of_call settings.now realm.now rec.now flags step }
+    ensures { result ≡ steps.call_outcome settings.now realm.now rec.now flags step }
 {
     match step {
         GuestStep::HostCall {
@@ -393,7 +397,7 @@ pub fn came_of_call(
             if is_ripas_range(realm, base, top, ripas) {
                 ripas_exit(base, top, ripas)
             } else {
-                Came::Result(StepResult::RsiErrorInput)
+                StepOutcome::Result(StepResult::RsiErrorInput)
             }
         }
         GuestStep::CpuOn {
@@ -411,7 +415,7 @@ pub fn came_of_call(
         GuestStep::Wfi => wait(EnterFlags::traps_wfi(flags), 0x0400_0000),
         GuestStep::Wfe => wait(EnterFlags::traps_wfe(flags), 0x0400_0001),
         GuestStep::SystemRegister { iss, value } => system_register(iss, value),
-        _ => Came::Spin,
+        _ => StepOutcome::Spin,
     }
 }
 

@@ -13,7 +13,7 @@ use crate::walking::{read, top, walk, write};
 use page_arena::PageStore;
 use rmi_abi::{RmmSettings, SmcResult, Word};
 use rmm_granules::Granules;
-use rmm_model::{Condition, FailedCondition, RmmRttEntry, RttWalk, entry_size, error_input};
+use rmm_model::{Condition, FailedCondition, RmmRttEntry, RttWalk, entry_offset, error_input};
 
 // ---- descriptors
 
@@ -42,7 +42,7 @@ fn has_attributes(settings: &RmmSettings, desc: u64) -> bool
 fn is_descriptor(settings: &RmmSettings, level: u8, desc: u64) -> bool
     ensures { result ≡ mapping.is_descriptor settings.now level desc }
 {
-    has_attributes(settings, desc) && desc / 4096 * 4096 % entry_size(level) == 0
+    has_attributes(settings, desc) && entry_offset(level, desc / 4096 * 4096) == 0
 }
 
 // ---- mapping
@@ -123,11 +123,12 @@ fn check_mapped<S: PageStore>(
     ensures { refusal_in result
         ≡ first_failing (unmapping.mapped_checks granules.now found.now ipa level) }
 {
-    let next = top(granules, found, ipa);
     if found.level != level {
+        let next = top(granules, found, ipa);
         return Err(error_rtt_next(Condition::RttWalk, found.level, next));
     }
     if !read(granules, found, ipa).is_assigned_ns() {
+        let next = top(granules, found, ipa);
         return Err(error_rtt_next(Condition::RtteState, found.level, next));
     }
     Ok(())

@@ -9,8 +9,8 @@ use granule_addr::{Gran, MOST_PAGES};
 use page_arena::{PageStore, word_in};
 use rmm_granules::Granules;
 use rmm_model::{
-    RmmRealm, RmmRttEntry, RttWalk, entry_from_word, entry_index, entry_size, first_live,
-    start_offset,
+    RmmRealm, RmmRttEntry, RttWalk, entry_from_word, entry_index, entry_number, entry_size,
+    first_live, start_offset,
 };
 
 // The entry of a table that covers an address.
@@ -119,12 +119,12 @@ pub fn top<S: PageStore>(granules: &Granules<S>, found: &RttWalk, ipa: u64) -> u
 {
     let index = entry_index(found.level, ipa);
     let live = first_live(granules.page(found.table), index);
-    let size = entry_size(found.level);
+    let number = entry_number(found.level, ipa);
     if live != index {
-        return (ipa / size + (live - index) as u64) * size;
+        return (number + (live - index) as u64) * entry_size(found.level);
     }
     if granules.settings().aligns_live_top {
-        ipa / size * size
+        number * entry_size(found.level)
     } else {
         ipa
     }

@@ -1,4 +1,7 @@
 //! Scripts of calls: X0 to X4 before each, and after it.
+ghost use Rattle.std.specs.Prelude.{◌≡◌, true};
+ghost use Rattle.rmi_abi.specs.Settings.{is_platform};
+
 use crate::measurements::BY_SHA_256;
 use page_arena::{PageStore, PlainStore};
 use rmi_abi::{Platform, Registers, RmmSettings};
@@ -54,7 +57,18 @@ pub type Script<'a> = &'a [([u64; 5], [u64; 5])];
 
 // A monitor of granules from 0x8000_0000 on.
 pub(crate) fn over(alloc: Global, store: PlainStore) -> Result<Rmm<PlainStore>, AllocError> {
-    let platform = Platform::new(RmmSettings::DEFAULT).unwrap();
+    on(alloc, RmmSettings::DEFAULT, store)
+}
+
+// A monitor with settings.
+pub(crate) fn on(
+    alloc: Global,
+    settings: RmmSettings,
+    store: PlainStore,
+) -> Result<Rmm<PlainStore>, AllocError>
+    requires { is_platform settings ≡ true }
+{
+    let platform = Platform::new(settings).unwrap();
     match Granules::open(alloc, platform, store) {
         Ok(granules) => Ok(Rmm::over(granules)),
         Err((error, _store)) => Err(error),

@@ -1,4 +1,4 @@
-use Rattle.std.proofs.Common.{◌≡◌, ◌+◌, ◌*◌, ℕ, List, refl, sym, ap, ◌∙◌, add-one}
+use Rattle.std.proofs.Common.{◌+◌, ◌*◌, ℕ, List, refl, sym, ap, ◌∙◌, add-one}
 use Rattle.rmm_measurement.specs.declared.measure.Extension.TheVariants.{Ripas as RipasExtension}
 use Rattle.rmm_measurement.specs.Measure.{extended}
 use Rattle.rmm_model.specs.Command.RttInitRipas.{rim_with_ripas}

@@ -16,7 +16,7 @@ loop-index-preserved g c =
     let f : ℕ → ℕ = λ n. entry_word (start_entry c.args.realm.now (c.args.k * 512 + n)) in
     let i : ℕ = c.loop-index.index in
     let word : c.word.result ≡ f i = c.word.ensures ∙ ap entry_word c.start_entry.ensures in
-    c.set_word.ensures
+    c.set_word.ensures.written
     ∙ ap (λ (m : Machine). with_word m c.args.table i c.word.result) c.loop-index.invariant
     ∙ ap (with_word (with_page c.args.granules.now c.args.table (with_words i f zero_page)) c.args.table i) word
     ∙ with_words-more c.args.granules.now c.args.table i f zero_page c.fill.ensures.page

@@ -19,7 +19,7 @@ loop-k-preserved g c =
     ap (λ (now : Machine). page_in now c.args.source) c.loop-k.invariant
     ∙ page_in-other m c.args.rec c.args.source (with_words k f zero_page) c.requires.different in
     let word : c.rec_word-word.result ≡ f k = c.rec_word-word.ensures ∙ ap (λ (page : List ℕ). rec_word page k) (c.page.ensures.value ∙ source) in
-    c.set_word.ensures
+    c.set_word.ensures.written
     ∙ ap (λ (now : Machine). with_word now c.args.rec k c.rec_word-word.result) c.loop-k.invariant
     ∙ ap (with_word (with_page m c.args.rec (with_words k f zero_page)) c.args.rec k) word
     ∙ with_words-more m c.args.rec k f zero_page c.fill.ensures.page

@@ -1,5 +1,4 @@
 use Rattle.std.proofs.Common.{◌≡◌, ◌+◌, ◌-◌, ℕ, List, ap, ◌∙◌, arith}
-use Rattle.rmm_model.specs.Level.{entry_index}
 use Rattle.rmm_model.specs.Machine.{page_in}
 use Rattle.rmm_model.specs.Table.{first_fixed}
 use Rattle.rmm_model.specs.Command.RipasRange.{change_count, entries_below}

@@ -14,8 +14,8 @@ pub loop-index-preserved : goal.loop-index-preserved
 loop-index-preserved g c =
     let f : ℕ → ℕ = λ k. entry_word (child_entry c.args.parent c.args.level k) in
     let i : ℕ = c.loop-index.index in
-    let word : c.word.result ≡ f i = c.word.ensures ∙ ap entry_word c.child.ensures in
-    c.set_word.ensures
+    let word : c.word.result ≡ f i = c.word.ensures ∙ c.new-words.ensures i in
+    c.set_word.ensures.written
     ∙ ap (λ (m : Machine). with_word m c.args.table i c.word.result) c.loop-index.invariant
     ∙ ap (with_word (with_page c.args.granules.now c.args.table (with_words i f zero_page)) c.args.table i) word
     ∙ with_words-more c.args.granules.now c.args.table i f zero_page c.fill.ensures.page

@@ -7,4 +7,4 @@ use Rattle.rmm.proofs.rtt_create.write_mappings.Given as goal
 
 abbrev pub invariant-loop-index : goal.invariant-loop-index
 invariant-loop-index g l =
-    l.granules ≡ with_page l.fn.granules l.table (with_words l.index (λ k. entry_word (child_entry l.parent l.level k)) zero_page)
+    l.granules ≡ with_page l.fn.granules l.table (with_words l.index (λ k. entry_word (child_entry l.fn.parent l.level k)) zero_page)

@@ -1,7 +1,5 @@
-use Rattle.std.proofs.Common.{◌≡◌, ◌∙◌, ℕ, Bool, Option, Some, ap, rules}
+use Rattle.std.proofs.Common.{◌≡◌, ◌∙◌, Some, rules}
 use Rattle.rmm_model.specs.Check.{first_failing}
-use Rattle.rmm_model.specs.Machine.{granule_at, number_of}
-use Rattle.rmm_model.specs.Command.PsciComplete.{is_same_owner}
 use Rattle.rmm_model.specs.Command.RttSetRipas.{rtt_set_ripas}
 use Rattle.rmm.proofs.RequestedRanges.{size_fails, rd_fails, rec_fails, request_fails, by_progress}
 use Rattle.rmm.proofs.set_ripas.find_range.Goals as goal

@@ -1,4 +1,4 @@
-use Rattle.std.proofs.Common.{◌≡◌, ℕ, Option, Some, ap, ◌∙◌}
+use Rattle.std.proofs.Common.{ℕ, Option, Some, ap, ◌∙◌}
 use Rattle.rmm_model.specs.Machine.{granule_at, number_of}
 use Rattle.rmm_model.specs.Command.PsciComplete.{is_same_owner}
 use Rattle.rmm.proofs.set_ripas.is_rec_of.Goals as goal

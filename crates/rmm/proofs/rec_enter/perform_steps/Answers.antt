@@ -1,0 +1,32 @@
+use Rattle.std.proofs.Common.{true, sym, ap, ◌∙◌, arith}
+use Rattle.rmi_abi.specs.declared.rec_run.RecExit.{RecExit}
+use Rattle.rmm_model.specs.declared.rec.LastExit.TheVariants.{Other}
+use Rattle.rmm_model.specs.Command.RecEnter.{after_exit}
+use Rattle.rmm_model.specs.Machine.{Machine}
+use Rattle.rmm.proofs.Runs.{by_step, after_steps-end}
+use Rattle.rmm.proofs.rec_enter.perform_steps.Goals as goal
+
+pub loop-i-preserved : goal.loop-i-preserved
+loop-i-preserved g c = record {
+  goes_on = sym (by_step c.loop-i.granules c.perform_first.new.granules c.args.g c.args.flags c.loop-i.i c.in-Result.ensures.machine _ c.loop-i-test.true c.in-Result.ensures.outcome)
+      ∙ c.loop-i.invariant.goes_on;
+  count = c.in-Result.ensures.count ∙ c.loop-i.invariant.count;
+}
+
+pub returns-in-Exit : goal.returns-in-Exit
+returns-in-Exit g c =
+    ap (λ (m : Machine). (true, m)) c.leave.ensures.machine
+    ∙ sym (by_step c.loop-i.granules c.perform_first.new.granules c.args.g c.args.flags c.loop-i.i c.in-Exit.ensures.machine _ c.loop-i-test.true c.in-Exit.ensures.outcome)
+    ∙ c.loop-i.invariant.goes_on
+
+pub returns-in-Spin : goal.returns-in-Spin
+returns-in-Spin g c =
+    sym (by_step c.loop-i.granules c.perform_first.new.granules c.args.g c.args.flags c.loop-i.i c.in-Spin.ensures.machine _ c.loop-i-test.true c.in-Spin.ensures.outcome)
+    ∙ c.loop-i.invariant.goes_on
+
+pub returns : goal.returns
+returns g c =
+    ap (λ (m : Machine). (true, m)) c.leave-2.ensures.machine
+    ∙ ap (λ (exit : RecExit). (true, after_exit c.loop-i.granules c.args.g exit Other)) c.only.ensures
+    ∙ sym (after_steps-end c.loop-i.granules c.args.g c.args.flags c.loop-i.i (omega arith))
+    ∙ c.loop-i.invariant.goes_on
