@@ -1,0 +1,14 @@
+pub mod Cuts
+pub mod Digits
+pub mod Parts
+pub mod Places
+pub mod Texts
+pub mod Words
+pub mod Sentences
+pub mod Printed
+pub mod Signs
+pub mod Trims
+pub mod Compared
+pub mod Operands
+pub mod Rounds
+pub mod Commas

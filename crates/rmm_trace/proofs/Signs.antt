@@ -1,0 +1,47 @@
+-- Where a text is cut at its answer.
+use Rattle.std.proofs.Common.{◌≡◌, ℕ, suc, ◌<◌, ◌+◌, List, [], ◌∷◌, ◌++◌, length, get_or, take, drop, Bool, true}
+use Rattle.std.proofs.Common.{false, cond, nat_eq, codes, Some, sym, ap, ◌∙◌, add-one, append_assoc, append-nil, drop-cons, drop-drop, length-drop, ◌-◌, arith}
+use Rattle.std.proofs.Math.Seq.{take-suc}
+use Rattle.std.proofs.lemmas.List.{take_all}
+use Rattle.std.specs.List.{starts_with}
+use Rattle.rmm_trace.specs.Lines.{before_answer, answer_in}
+
+-- the place of the answer's sign
+abbrev pub begins : List ℕ → Bool
+begins text = starts_with nat_eq text (codes " = ")
+
+before_at : (xs : List ℕ) (b : ℕ) (bs : List ℕ) (t : Bool) → xs ≡ b ∷ bs → begins xs ≡ t → before_answer xs ≡ cond t [] (b ∷ before_answer bs)
+before_at xs b bs t is test = ap before_answer is ∙ ap (λ (u : Bool). cond u [] (b ∷ before_answer bs)) (sym (ap begins is) ∙ test)
+
+answer_at : (xs : List ℕ) (b : ℕ) (bs : List ℕ) (t : Bool) → xs ≡ b ∷ bs → begins xs ≡ t → answer_in xs ≡ cond t (Some (drop 3 (b ∷ bs))) (answer_in bs)
+answer_at xs b bs t is test = ap answer_in is ∙ ap (λ (u : Bool). cond u (Some (drop 3 (b ∷ bs))) (answer_in bs)) (sym (ap begins is) ∙ test)
+
+-- up to a place, no answer begins
+pub record NoSign (text : List ℕ) (at : ℕ) : Type 0 where
+  pub before : before_answer text ≡ take at text ++ before_answer (drop at text)
+  pub answer : answer_in text ≡ answer_in (drop at text)
+
+pub no_sign_more : (text : List ℕ) (at : ℕ) → at < length text → begins (drop at text) ≡ false → NoSign text at → NoSign text (at + 1)
+no_sign_more text at within test passed =
+    let is = drop-cons text at 0 within in
+    let b = get_or text at 0 in
+    let bs = drop (suc at) text in
+    rw add-one (record {
+      before = passed.before ∙ ap (λ t. take at text ++ t) (before_at (drop at text) b bs false is test)
+          ∙ sym (append_assoc (take at text) (b ∷ []) (before_answer bs)) ∙ ap (λ t. t ++ before_answer bs) (sym (take-suc text at 0 within));
+      answer = passed.answer ∙ answer_at (drop at text) b bs false is test;
+    })
+
+pub before_sign_here : (text : List ℕ) (at : ℕ) → at < length text → begins (drop at text) ≡ true → NoSign text at → take at text ≡ before_answer text
+before_sign_here text at within test passed =
+    let is = drop-cons text at 0 within in
+    sym (passed.before ∙ ap (λ t. take at text ++ t) (before_at (drop at text) (get_or text at 0) (drop (suc at) text) true is test) ∙ append-nil (take at text))
+
+pub answer_here : (text : List ℕ) (at : ℕ) → at < length text → begins (drop at text) ≡ true → NoSign text at → Some (drop (at + 3) text) ≡ answer_in text
+answer_here text at within test passed =
+    let is = drop-cons text at 0 within in
+    sym (passed.answer ∙ answer_at (drop at text) (get_or text at 0) (drop (suc at) text) true is test ∙ ap (λ t. Some (drop 3 t)) (sym is) ∙ ap Some (drop-drop 3 at text))
+
+-- what a slice from a place on holds
+pub rest_from : (text : List ℕ) (at : ℕ) → take (length text - at) (drop at text) ≡ drop at text
+rest_from text at = take_all (length text - at) (drop at text) (omega (arith, length-drop at text))

@@ -1,0 +1,51 @@
+-- The content of a question: the registers of a call, and the values of its groups.
+use Rattle.std.specs.Prelude.{ℕ, zero, suc, ◌+◌, ◌*◌, ◌%◌, ◌^◌, ◌==◌, nat_lt, Bool, false, if◌then◌else◌, List, [], ◌∷◌, slice_index, Option, Some, None}
+use Rattle.std.specs.Option.{unwrap_or}
+use Rattle.rmm_trace.specs.declared.access.TheConstants.{FUNCTIONS}
+use Rattle.rmm_trace.specs.declared.place.TheConstants.{PLATFORM, SMC}
+use Rattle.rmm_trace.specs.declared.word.Atom.{Atom}
+use Rattle.rmm_trace.specs.declared.word.Atom.TheVariants.{Name}
+use Rattle.rmm_trace.specs.declared.word.TraceWord.{TraceWord}
+use Rattle.rmm_trace.specs.Compare.{atom_number}
+
+abbrev pub number_or_zero : Option Atom → ℕ
+number_or_zero None = 0
+number_or_zero (Some a) = unwrap_or (atom_number a) 0
+
+-- each round of a repeat adds the step
+abbrev pub number_at : TraceWord → ℕ → ℕ
+number_at w round = (number_or_zero (Some w.value) + number_or_zero w.step * round % 2 ^ 64) % 2 ^ 64
+
+-- the number at a place; 0 if there is none
+abbrev pub operand_at : List TraceWord → ℕ → ℕ → ℕ
+operand_at [] place round = 0
+operand_at (w ∷ ws) zero round = number_at w round
+operand_at (w ∷ ws) (suc place) round = operand_at ws place round
+
+abbrev pub is_name : ℕ → Atom → Bool
+is_name name (Name place) = place == name
+is_name name _ = false
+
+-- the words after the first that is a name
+abbrev pub after_name : ℕ → List TraceWord → List TraceWord
+after_name name [] = []
+after_name name (w ∷ ws) = if is_name name w.value then ws else after_name name ws
+
+-- so many operands, from a place on
+abbrev pub operands : ℕ → ℕ → List TraceWord → ℕ → List ℕ
+operands zero place ws round = []
+operands (suc count) place ws round = operand_at ws place round ∷ operands count (place + 1) ws round
+
+-- X0 to X6: a command has its function in X0, and its operands from X1 on
+abbrev pub registers_by : ℕ → List TraceWord → ℕ → Option (List ℕ)
+registers_by place ws round =
+    if nat_lt place PLATFORM then Some (slice_index FUNCTIONS place ∷ operands 6 0 ws round)
+    else (if place == SMC then Some (operands 7 0 ws round) else None)
+
+abbrev pub registers_from : Atom → List TraceWord → ℕ → Option (List ℕ)
+registers_from (Name place) ws round = registers_by place ws round
+registers_from _ ws round = None
+
+abbrev pub call_registers : List TraceWord → ℕ → Option (List ℕ)
+call_registers [] round = None
+call_registers (w ∷ ws) round = registers_from w.value ws round

@@ -1,0 +1,13 @@
+pub mod Cuts
+pub mod Names
+pub mod Numbers
+pub mod Words
+pub mod Sentences
+pub mod Grammar
+pub mod Lines
+pub mod Compare
+pub mod Access
+pub mod Places
+pub mod Consistent
+pub mod Answers
+pub mod Commands

@@ -1,0 +1,62 @@
+-- The lines of a trace.
+use Rattle.std.specs.Prelude.{ℕ, ◌==◌, nat_eq, nat_lt, Bool, ◌&&◌, ◌||◌, if◌then◌else◌, List, [], ◌∷◌, codes, drop, length, Option, Some, None, option_and_then}
+use Rattle.std.specs.List.{slice_split, starts_with}
+use Rattle.arrayvec.specs.ArrayVec.{ArrayVec}
+use Rattle.rmm_trace.specs.declared.word.TraceWord.{TraceWord}
+use Rattle.rmm_trace.specs.declared.grammar.Group.{Group}
+use Rattle.rmm_trace.specs.declared.grammar.Place.{Place}
+use Rattle.rmm_trace.specs.declared.line.RmmTraceLine.{RmmTraceLine}
+use Rattle.rmm_trace.specs.declared.line.RmmTraceLine.TheVariants.{Remark, Question, Neither}
+use Rattle.rmm_trace.specs.Cuts.{before_mark}
+use Rattle.rmm_trace.specs.Sentences.{words_in}
+use Rattle.rmm_trace.specs.Consistent.{is_consistent}
+use Rattle.rmm_trace.specs.Grammar.{accepts}
+
+-- a space, or a carriage return
+abbrev pub is_blank : ℕ → Bool
+is_blank b = b == 32 || b == 13
+
+-- the byte before a text, which is left out if it is blank and the text is empty
+abbrev pub before_trimmed : ℕ → List ℕ → List ℕ
+before_trimmed b [] = if is_blank b then [] else b ∷ []
+before_trimmed b (c ∷ bs) = b ∷ c ∷ bs
+
+-- the text without blanks at its end
+abbrev pub trimmed : List ℕ → List ℕ
+trimmed [] = []
+trimmed (b ∷ bs) = before_trimmed b (trimmed bs)
+
+-- the text of a line before its comment
+abbrev pub bare_text : List ℕ → List ℕ
+bare_text line = trimmed (before_mark 35 line)
+
+-- the text before the first ` = `, and the answer after it
+abbrev pub before_answer : List ℕ → List ℕ
+before_answer [] = []
+before_answer (b ∷ bs) = if starts_with nat_eq (b ∷ bs) (codes " = ") then [] else b ∷ before_answer bs
+
+abbrev pub answer_in : List ℕ → Option (List ℕ)
+answer_in [] = None
+answer_in (b ∷ bs) = if starts_with nat_eq (b ∷ bs) (codes " = ") then Some (drop 3 (b ∷ bs)) else answer_in bs
+
+-- the grammar accepts the words, and their numbers fit each other
+abbrev pub is_question : List Group → Place → List TraceWord → Bool
+is_question groups start ws = accepts groups (Some start) ws && is_consistent ws
+
+-- words that are a question
+abbrev pub as_question : List Group → Place → List TraceWord → Option (ArrayVec TraceWord)
+as_question groups start ws = if is_question groups start ws then Some (record { items = ws }) else None
+
+abbrev pub question_in : List Group → Place → List ℕ → Option (ArrayVec TraceWord)
+question_in groups start text = option_and_then (as_question groups start) (words_in 64 (slice_split (λ b. b == 32) text))
+
+abbrev pub as_line : Option (ArrayVec TraceWord) → RmmTraceLine
+as_line (Some words) = Question words
+as_line None = Neither
+
+abbrev pub line_of_question : List Group → Place → List ℕ → ℕ → RmmTraceLine
+line_of_question groups start [] bytes = Remark
+line_of_question groups start (b ∷ bs) bytes = if nat_lt 65536 bytes then Neither else as_line (question_in groups start (b ∷ bs))
+
+abbrev pub line_in : List Group → Place → List ℕ → RmmTraceLine
+line_in groups start line = line_of_question groups start (before_answer (bare_text line)) (length line)

@@ -1,0 +1,25 @@
+-- Sentences: words with one space between two.
+use Rattle.std.specs.Prelude.{ℕ, zero, suc, ◌<◌, ◌≤◌, List, [], ◌∷◌, ◌++◌, length, Option, Some, None, option_map, option_and_then}
+use Rattle.std.specs.List.{flat_map, AllByRecursion}
+use Rattle.rmm_trace.specs.declared.word.TraceWord.{TraceWord}
+use Rattle.rmm_trace.specs.Words.{word_text, word_in, IsWord}
+
+-- each word after one space
+abbrev pub spaced : List TraceWord → List ℕ
+spaced ws = flat_map (λ w. 32 ∷ word_text w) ws
+
+abbrev pub sentence_text : List TraceWord → List ℕ
+sentence_text [] = []
+sentence_text (w ∷ ws) = word_text w ++ spaced ws
+
+-- the words that texts are, of which there are at most so many
+abbrev pub words_in : ℕ → List (List ℕ) → Option (List TraceWord)
+words_in most [] = Some []
+words_in zero (text ∷ texts) = None
+words_in (suc most) (text ∷ texts) = option_and_then (λ w. option_map (λ ws. w ∷ ws) (words_in most texts)) (word_in text)
+
+-- a sentence that can be written
+pub record IsSentence (ws : List TraceWord) : Type 0 where
+  pub some : 0 < length ws
+  pub few : length ws ≤ 64
+  pub words : AllByRecursion (λ w. IsWord w) ws

@@ -1,0 +1,95 @@
+//! Answers, made of their parts.
+ghost use Rattle.std.specs.Prelude.{◌≡◌, ◌<◌, ◌≤◌, ◌++◌, [], ◌∷◌, length};
+ghost use Rattle.rmm_trace.specs.Answers.{plain, status_of, index_of, output_atom, with_comma, listed};
+
+use crate::place::{
+    AFTER, COUNT, EMPTY, EXIT, LEVEL, RIPAS_OUTPUT, RMI_SUCCESS, RUNNING, STATE, SYNC, UNASSIGNED,
+};
+use crate::sentence::Sentence;
+use crate::word::{Atom, TraceWord};
+
+/// X0 of an entry whose guest runs on.
+pub const RUNS_ON: u64 = 0xFFFF_FFFF_FFFF_FFFE;
+
+/// The word that is an atom alone.
+pub fn plain(value: Atom) -> TraceWord
+    ensures { result ≡ plain value }
+{
+    TraceWord {
+        value,
+        mask: None,
+        step: None,
+        is_listed: false,
+    }
+}
+
+/// The word of a result in X0: its status, or the number if it has none.
+pub fn status_of(x0: u64) -> Atom
+    ensures { result ≡ status_of x0 }
+{
+    if x0 == RUNS_ON {
+        return Atom::Name(RUNNING);
+    }
+    if x0 >= 0x1_0000 || x0 % 256 > 4 {
+        return Atom::Hexadecimal(x0);
+    }
+    Atom::Name(RMI_SUCCESS + (x0 % 256) as usize)
+}
+
+/// The index of a result in X0, if it is written: it is not 0, or the status is RMI_ERROR_RTT.
+pub fn index_of(x0: u64) -> Option<Atom>
+    ensures { result ≡ index_of x0 }
+{
+    if x0 >= 0x1_0000 || x0 % 256 > 4 {
+        return None;
+    }
+    if x0 / 256 == 0 && x0 % 256 != 4 {
+        return None;
+    }
+    Some(Atom::Decimal(x0 / 256))
+}
+
+/// The value of an output: a level and a count in decimal, a state or a reason by its name, and others in hexadecimal.
+pub fn output_atom(name: usize, value: u64) -> Atom
+    ensures { result ≡ output_atom name value }
+{
+    if name == LEVEL || name == COUNT || name == AFTER {
+        return Atom::Decimal(value);
+    }
+    if name == STATE && value < 3 {
+        return Atom::Name(UNASSIGNED + value as usize);
+    }
+    if name == RIPAS_OUTPUT && value < 3 {
+        return Atom::Name(EMPTY + value as usize);
+    }
+    if name == EXIT && value < 7 {
+        return Atom::Name(SYNC + value as usize);
+    }
+    Atom::Hexadecimal(value)
+}
+
+// Puts a comma after the last word.
+fn list_last(answer: &mut Sentence)
+    requires { length answer.old.items ≤ 64 }
+    ensures items { answer.new.items ≡ with_comma answer.old.items }
+    ensures len { length answer.new.items ≡ length answer.old.items }
+{
+    let Some(last) = answer.pop() else {
+        return;
+    };
+    answer.push(TraceWord {
+        is_listed: true,
+        ..last
+    });
+}
+
+/// Appends a word; the first word of a further part comes after a comma.
+pub fn push_word(answer: &mut Sentence, word: TraceWord, is_part: bool)
+    requires { length answer.old.items < 64 }
+    ensures { answer.new.items ≡ listed is_part answer.old.items ++ word ∷ [] }
+{
+    if is_part {
+        list_last(answer);
+    }
+    answer.push(word);
+}

@@ -1,0 +1,21 @@
+//! Measurements as they are written.
+ghost use Rattle.std.specs.Prelude.{◌≡◌};
+ghost use Rattle.hex.specs.Hex.{encode_lower};
+
+/// Two small hexadecimal digits for each byte of a measurement of SHA-256.
+pub fn sha256_text(measurement: &[u8; 32]) -> [u8; 64]
+    ensures { result ≡ encode_lower measurement.now }
+{
+    let mut digits = [0; 64];
+    hex::encode_to_slice(measurement.as_slice(), &mut digits).unwrap();
+    digits
+}
+
+/// Two small hexadecimal digits for each byte of a measurement of SHA-512.
+pub fn sha512_text(measurement: &[u8; 64]) -> [u8; 128]
+    ensures { result ≡ encode_lower measurement.now }
+{
+    let mut text = [0; 128];
+    hex::encode_to_slice(measurement.as_slice(), &mut text).unwrap();
+    text
+}

@@ -1,0 +1,170 @@
+//! The grammar of questions, by a table: the groups of words that a question is.
+ghost use Rattle.std.specs.Prelude.{◌≡◌, Some};
+ghost use Rattle.rmm_trace.specs.Grammar.{is_number_of, is_of_kind, kind_at, row_of};
+ghost use Rattle.rmm_trace.specs.Grammar.{enter, opened, next, is_complete, accepts};
+
+use crate::word::{Atom, TraceWord};
+
+/// The values that a place of a group takes.
+///
+/// A number is in the range, a multiple of the unit, and a divisor of the multiple if that is not 0. A name is one of
+/// so many, from the first on.
+#[derive(Clone, Copy)]
+pub struct ValueKind {
+    pub least: u64,
+    pub most: u64,
+    pub unit: u64,
+    pub multiple: u64,
+    pub first_name: usize,
+    pub name_count: usize,
+}
+
+/// A group: its name, how many values come after it and of which kinds, and which groups may follow.
+#[derive(Clone, Copy)]
+pub struct Group {
+    /// The contexts in which the group may come, a bit each.
+    pub contexts: u64,
+    pub name: usize,
+    pub least: usize,
+    pub most: usize,
+    pub first: ValueKind,
+    pub second: ValueKind,
+    pub third: ValueKind,
+    pub others: ValueKind,
+    /// The context of the groups that follow; 0 if none may.
+    pub opens: u64,
+    /// Whether a question may end with the group.
+    pub is_last: bool,
+    /// The group's own bit, and the bits of the groups that may not come before it.
+    pub bit: u64,
+    pub excludes: u64,
+}
+
+/// A place in a question that is read: its group, and how many values of it have come.
+#[derive(Clone, Copy)]
+pub struct Place {
+    pub group: Group,
+    pub context: u64,
+    pub count: usize,
+    /// The bits of the groups that have come.
+    pub seen: u64,
+}
+
+/// The context of the operands that may have a step.
+pub const REPEATED: u64 = 2;
+
+fn is_number_of(kind: ValueKind, number: u64) -> bool
+    ensures { result ≡ is_number_of kind number }
+{
+    if number < kind.least || kind.most < number {
+        return false;
+    }
+    if kind.unit == 0 || number % kind.unit != 0 {
+        return false;
+    }
+    number == 0 || kind.multiple % number == 0
+}
+
+/// Whether an atom is a value of a kind.
+pub fn is_of_kind(kind: ValueKind, atom: Atom) -> bool
+    ensures { result ≡ is_of_kind kind atom }
+{
+    match atom {
+        Atom::Name(name) => { kind.first_name <= name && name - kind.first_name < kind.name_count }
+        Atom::Decimal(number) => is_number_of(kind, number),
+        Atom::Hexadecimal(number) => is_number_of(kind, number),
+    }
+}
+
+// The kind of a value by how many come before it.
+fn kind_at(group: Group, count: usize) -> ValueKind
+    ensures { result ≡ kind_at group count }
+{
+    match count {
+        0 => group.first,
+        1 => group.second,
+        2 => group.third,
+        _ => group.others,
+    }
+}
+
+// The first group of a name in a context.
+fn row_of(groups: &[Group], context: u64, name: usize) -> Option<Group>
+    ensures { result ≡ row_of context name groups.now }
+{
+    for group in groups {
+        if group.name == name && group.contexts & context != 0 {
+            return Some(*group);
+        }
+    }
+    None
+}
+
+// The place at the begin of a group, if no group came that it excludes.
+fn enter(it: Place, group: Group) -> Option<Place>
+    ensures { result ≡ enter it group }
+{
+    if it.seen & group.excludes != 0 {
+        return None;
+    }
+    Some(Place {
+        group,
+        context: it.group.opens,
+        count: 0,
+        seen: it.seen | group.bit,
+    })
+}
+
+// The place after the name of a group.
+fn opened(groups: &[Group], it: Place, atom: Atom) -> Option<Place>
+    ensures { result ≡ opened groups.now it atom }
+{
+    match atom {
+        Atom::Name(name) => enter(it, row_of(groups, it.group.opens, name)?),
+        Atom::Decimal(_) => None,
+        Atom::Hexadecimal(_) => None,
+    }
+}
+
+// The place after a word.
+fn next(groups: &[Group], it: Place, word: TraceWord) -> Option<Place>
+    ensures { result ≡ next groups.now it word }
+{
+    if word.is_listed || word.mask.is_some() {
+        return None;
+    }
+    if word.step.is_some() && it.context != REPEATED {
+        return None;
+    }
+    if it.count < it.group.most && is_of_kind(kind_at(it.group, it.count), word.value) {
+        return Some(Place {
+            count: it.count + 1,
+            ..it
+        });
+    }
+    if word.step.is_some() || it.count < it.group.least {
+        return None;
+    }
+    opened(groups, it, word.value)
+}
+
+// Whether a question may end at a place.
+fn is_complete(it: Place) -> bool
+    ensures { result ≡ is_complete it }
+{
+    it.group.is_last && it.group.least <= it.count
+}
+
+/// Whether words go on from a place to the end of a question.
+pub fn accepts(groups: &[Group], start: Place, words: &[TraceWord]) -> bool
+    ensures { result ≡ accepts groups.now (Some start) words.now }
+{
+    let mut it = start;
+    for word in words {
+        let Some(after) = next(groups, it, *word) else {
+            return false;
+        };
+        it = after;
+    }
+    is_complete(it)
+}

@@ -1,0 +1,61 @@
+//! Theorems about texts.
+ghost use Rattle.std.specs.Prelude.{◌≡◌, ◌≤◌, ◌==◌, ◌++◌, true, ℕ, List, Some, length, codes};
+ghost use Rattle.hex.specs.Hex.{encode_lower, IsBytes};
+ghost use Rattle.std.specs.List.{slice_split};
+ghost use Rattle.rmm_trace.specs.declared.grammar.Group.{Group};
+ghost use Rattle.rmm_trace.specs.declared.grammar.Place.{Place};
+ghost use Rattle.rmm_trace.specs.declared.line.RmmTraceLine.TheVariants.{Question};
+ghost use Rattle.rmm_trace.specs.declared.word.TraceWord.{TraceWord};
+ghost use Rattle.rmm_trace.specs.Commands.{are_commands_named};
+ghost use Rattle.rmm_trace.specs.Lines.{bare_text, answer_in, is_question, line_in};
+ghost use Rattle.rmm_trace.specs.Places.{are_places_named};
+ghost use Rattle.rmm_trace.specs.Sentences.{sentence_text, words_in, IsSentence};
+
+/// Words that are printed are read back as themselves.
+pub fn printed_words_are_read_back()
+    ensures { (ws : List TraceWord) → IsSentence ws
+        → words_in 64 (slice_split (λ b. b == 32) (sentence_text ws)) ≡ Some ws }
+{}
+
+/// No two sentences are written alike.
+pub fn sentences_are_injective()
+    ensures { (vs ws : List TraceWord) → IsSentence vs → IsSentence ws → sentence_text vs ≡ sentence_text ws → vs ≡ ws }
+{}
+
+/// A line that is a question's text is that question.
+pub fn printed_questions_are_read_back()
+    ensures { (groups : List Group) (start : Place) (ws : List TraceWord)
+        → IsSentence ws → is_question groups start ws ≡ true
+        → length (sentence_text ws) ≤ 65536
+        → line_in groups start (sentence_text ws) ≡ Question (record { items = ws }) }
+{}
+
+/// A line that is a question's text and an answer's is that question.
+pub fn answered_questions_are_read_back()
+    ensures { (groups : List Group) (start : Place) (ws vs : List TraceWord)
+        → IsSentence ws → IsSentence vs → is_question groups start ws ≡ true
+        → length (sentence_text ws ++ (codes " = " ++ sentence_text vs)) ≤ 65536
+        → line_in groups start (sentence_text ws ++ (codes " = " ++ sentence_text vs))
+        ≡ Question (record { items = ws }) }
+{}
+
+/// The answer's text in a line that is a question's text and an answer's is that answer's.
+pub fn printed_answers_are_read_back()
+    ensures { (ws vs : List TraceWord) → IsSentence vs
+        → answer_in (bare_text (sentence_text ws ++ (codes " = " ++ sentence_text vs))) ≡ Some (sentence_text vs) }
+{}
+
+/// No two measurements are written alike.
+pub fn measurement_texts_are_injective()
+    ensures { (a b : List ℕ) → IsBytes a → IsBytes b → encode_lower a ≡ encode_lower b → a ≡ b }
+{}
+
+/// The places that the grammar has are those of their names.
+pub fn places_are_of_their_names()
+    ensures { are_places_named ≡ true }
+{}
+
+/// Each command has its name, its function identifier and its operands in the tables.
+pub fn commands_have_their_rows()
+    ensures { are_commands_named ≡ true }
+{}

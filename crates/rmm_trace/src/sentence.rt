@@ -1,0 +1,68 @@
+//! Sentences: words with one space between two.
+ghost use Rattle.std.specs.Prelude.{◌≡◌, ◌==◌, option_map};
+ghost use Rattle.std.specs.List.{slice_split};
+ghost use Rattle.rmm_trace.specs.Sentences.{words_in};
+
+use crate::cut::cut_at;
+use crate::word::{TraceWord, read_word};
+use arrayvec::ArrayVec;
+use std::fmt;
+
+/// The most words of a sentence.
+pub const MOST_WORDS: usize = 64;
+
+/// A sentence: its words.
+pub type Sentence = ArrayVec<TraceWord, MOST_WORDS>;
+
+/// The words that a text is. It takes no memory.
+pub fn read_words(text: &[u8]) -> Option<Sentence>
+    ensures { option_map (λ v. v.items) result ≡ words_in 64 (slice_split (λ b. b == 32) text.now) }
+{
+    let mut words = ArrayVec::new();
+    let mut rest = Some(text);
+    'words: while let Some(here) = rest {
+        let (first, after) = cut_at(here, b' ');
+        if words.is_full() {
+            return None;
+        }
+        words.push(read_word(first)?);
+        rest = after;
+    }
+    Some(words)
+}
+
+// Each word after one space.
+#[derive(Clone, Copy)]
+struct SpacedWords<'a>(&'a [TraceWord]);
+
+impl fmt::Display for SpacedWords<'_> {
+    ghost use Rattle.std.specs.Prelude.{Some};
+    ghost use Rattle.rmm_trace.specs.Sentences.{spaced};
+
+    ghost output = { λ s. Some (spaced s.0.now) };
+
+    fn fmt<W: fmt::Write>(&self, f: &mut fmt::Formatter<W>) -> fmt::Result {
+        for word in self.0 {
+            write!(f, " {word}")?;
+        }
+        Ok(())
+    }
+}
+
+/// The text of words.
+#[derive(Clone, Copy)]
+pub struct SentenceText<'a>(pub &'a [TraceWord]);
+
+impl fmt::Display for SentenceText<'_> {
+    ghost use Rattle.std.specs.Prelude.{Some};
+    ghost use Rattle.rmm_trace.specs.Sentences.{sentence_text};
+
+    ghost output = { λ s. Some (sentence_text s.0.now) };
+
+    fn fmt<W: fmt::Write>(&self, f: &mut fmt::Formatter<W>) -> fmt::Result {
+        match self.0 {
+            [] => Ok(()),
+            [first, rest @ ..] => write!(f, "{first}{}", SpacedWords(rest)),
+        }
+    }
+}

@@ -1,0 +1,150 @@
+//! Words of a line: a name or a number, with what may stand after it.
+ghost use Rattle.std.specs.Prelude.{◌≡◌};
+ghost use Rattle.std.specs.Option.{option_copied};
+ghost use Rattle.rmm_trace.specs.Words.{number_in, atom_in, tail_in, comma_in, word_in};
+
+use crate::cut::cut_at;
+use crate::name::{find_name, name_text};
+use crate::number::plain_value;
+use std::fmt;
+
+/// A name or a number.
+#[derive(Clone, Copy)]
+pub enum Atom {
+    /// The name at a place of the names.
+    Name(usize),
+    Decimal(u64),
+    /// A number after `0x`.
+    Hexadecimal(u64),
+}
+
+/// A word: a value, a mask after `/`, a step after `+`, and a comma.
+#[derive(Clone, Copy)]
+pub struct TraceWord {
+    pub value: Atom,
+    pub mask: Option<Atom>,
+    pub step: Option<Atom>,
+    pub is_listed: bool,
+}
+
+impl Default for TraceWord {
+    fn default() -> TraceWord {
+        TraceWord {
+            value: Atom::Decimal(0),
+            mask: None,
+            step: None,
+            is_listed: false,
+        }
+    }
+}
+
+// ---- read
+
+// The number that a text is.
+fn read_number(text: &[u8]) -> Option<Atom>
+    ensures { result ≡ number_in text.now }
+{
+    match text.strip_prefix(b"0x") {
+        Some(digits) => plain_value(16, digits).map(Atom::Hexadecimal),
+        None => plain_value(10, text).map(Atom::Decimal),
+    }
+}
+
+// The number or the name that a text is.
+fn read_atom(text: &[u8]) -> Option<Atom>
+    ensures { result ≡ atom_in text.now }
+{
+    match read_number(text) {
+        Some(atom) => Some(atom),
+        None => find_name(text).map(Atom::Name),
+    }
+}
+
+// What stands after a mark, if the mark is there.
+fn read_tail(text: Option<&[u8]>) -> Option<Option<Atom>>
+    ensures { result ≡ tail_in (option_copied text.entry) }
+{
+    match text {
+        Some(text) => read_atom(text).map(Some),
+        None => Some(None),
+    }
+}
+
+// Whether a comma is there, with nothing after it.
+fn read_comma(text: Option<&[u8]>) -> Option<bool>
+    ensures { result ≡ comma_in (option_copied text.entry) }
+{
+    match text {
+        Some([]) => Some(true),
+        Some(_) => None,
+        None => Some(false),
+    }
+}
+
+/// The word that a text is.
+pub(crate) fn read_word(text: &[u8]) -> Option<TraceWord>
+    ensures { result ≡ word_in text.now }
+{
+    let (text, end) = cut_at(text, b',');
+    let (text, step) = cut_at(text, b'+');
+    let (text, mask) = cut_at(text, b'/');
+    Some(TraceWord {
+        value: read_atom(text)?,
+        mask: read_tail(mask)?,
+        step: read_tail(step)?,
+        is_listed: read_comma(end)?,
+    })
+}
+
+// ---- printed
+
+impl fmt::Display for Atom {
+    ghost use Rattle.std.specs.Prelude.{Some};
+    ghost use Rattle.rmm_trace.specs.Words.{atom_text};
+
+    ghost output = { λ a. Some (atom_text a) };
+
+    fn fmt<W: fmt::Write>(&self, f: &mut fmt::Formatter<W>) -> fmt::Result {
+        match self {
+            Atom::Name(place) => write!(f, "{}", name_text(*place)),
+            Atom::Decimal(number) => write!(f, "{number}"),
+            Atom::Hexadecimal(number) => write!(f, "0x{number:x}"),
+        }
+    }
+}
+
+// A mark and what stands after it, if that is there.
+#[derive(Clone, Copy)]
+struct TailText<'a>(&'a str, Option<Atom>);
+
+impl fmt::Display for TailText<'_> {
+    ghost use Rattle.std.specs.Prelude.{Some};
+    ghost use Rattle.rmm_trace.specs.Words.{tail_text};
+
+    ghost output = { λ t. Some (tail_text t.0.now t.1) };
+
+    fn fmt<W: fmt::Write>(&self, f: &mut fmt::Formatter<W>) -> fmt::Result {
+        match self.1 {
+            Some(atom) => write!(f, "{}{atom}", self.0),
+            None => Ok(()),
+        }
+    }
+}
+
+impl fmt::Display for TraceWord {
+    ghost use Rattle.std.specs.Prelude.{Some};
+    ghost use Rattle.rmm_trace.specs.Words.{word_text};
+
+    ghost output = { λ w. Some (word_text w) };
+
+    fn fmt<W: fmt::Write>(&self, f: &mut fmt::Formatter<W>) -> fmt::Result {
+        let end = if self.is_listed { "," } else { "" };
+        write!(
+            f,
+            "{}{}{}{end}",
+            self.value,
+            TailText("/", self.mask),
+            TailText("+", self.step)
+        )
+    }
+}
