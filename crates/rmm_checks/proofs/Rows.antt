@@ -1,0 +1,37 @@
+-- Evaluated checks, one list after another.
+use Rattle.std.proofs.Common.{◌≡◌, Bool, true, false, not, List, [], ◌∷◌, ◌++◌, Option, Some, None, is_none, is_some, refl, ap, subst, ◌∙◌}
+use Rattle.rmi_abi.specs.declared.registers.SmcResult.{SmcResult}
+use Rattle.rmm_model.specs.declared.condition.Condition.{Condition}
+use Rattle.rmm_checks.specs.declared.evaluated.EvaluatedCheck.{EvaluatedCheck}
+use Rattle.rmm_model.specs.Check.{Check, check}
+use Rattle.rmm_checks.specs.Evaluated.{Adds, row_after, evaluated_after}
+
+pub then : (rows : List EvaluatedCheck) (xs ys : List Check) → evaluated_after (evaluated_after rows xs) ys ≡ evaluated_after rows (xs ++ ys)
+unfolding evaluated_after
+then rows [] ys = refl
+then rows (x ∷ xs) ys = then (rows ++ row_after rows x ∷ []) xs ys
+
+-- checks are evaluated, and further ones after them
+pub on : {r s t : List EvaluatedCheck} {xs ys : List Check} → Adds r xs s → Adds s ys t → Adds r (xs ++ ys) t
+on {r} {s} {t} {xs} {ys} first second = record { rows = second.rows ∙ ap (λ (now : List EvaluatedCheck). evaluated_after now ys) first.rows ∙ then r xs ys }
+
+-- a check is evaluated by the test of its definition
+pub told : {r s : List EvaluatedCheck} {condition : Condition} {after : List Condition} {test fails : Bool} {answer : SmcResult} → test ≡ fails
+    → Adds r (check condition after test answer ∷ []) s → Adds r (check condition after fails answer ∷ []) s
+told {r} {s} {condition} {after} {test} {fails} {answer} same added = subst (λ (b : Bool). Adds r (check condition after b answer ∷ []) s) same added
+
+-- and by the answer of its definition
+pub told_answer : {r s : List EvaluatedCheck} {condition : Condition} {after : List Condition} {fails : Bool} {given answer : SmcResult} → given ≡ answer
+    → Adds r (check condition after fails given ∷ []) s → Adds r (check condition after fails answer ∷ []) s
+told_answer {r} {s} {condition} {after} {fails} {given} {answer} same added = subst (λ (a : SmcResult). Adds r (check condition after fails a ∷ []) s) same added
+
+-- checks are evaluated after none
+pub from_none : {r s : List EvaluatedCheck} {xs : List Check} → r ≡ [] → Adds r xs s → s ≡ evaluated_after [] xs
+from_none {r} {s} {xs} none added = added.rows ∙ ap (λ (now : List EvaluatedCheck). evaluated_after now xs) none
+
+-- the test that there is none
+pub none_told : {X : Type 0} (o : Option X) (b : Bool) → is_some o ≡ not b → b ≡ is_none o
+none_told None true h = refl
+none_told None false h = cc
+none_told (Some x) true h = cc
+none_told (Some x) false h = refl

@@ -1,0 +1,16 @@
+-- Walks that can be made, and the tables that their entries lead to.
+use Rattle.std.specs.Prelude.{ℕ, ◌&&◌, Bool, nat_le, List, is_some, unwrap_or}
+use Rattle.rmm_model.specs.declared.entry.RmmRttEntry.{RmmRttEntry}
+use Rattle.rmm_model.specs.Granule.{realm_of}
+use Rattle.rmm_model.specs.Machine.{Machine, page_in, state_at}
+use Rattle.rmm_model.specs.Realm.{is_in_space}
+use Rattle.rmm_model.specs.Walk.{table_below}
+use Rattle.rmm_model.specs.Command.Operand.{realm_at}
+
+-- there is an RD at an address, a level is one of its realm's tables, and an address one of its realm
+abbrev pub can_walk : Machine → ℕ → ℕ → ℕ → Bool
+can_walk m rd ipa level = is_some (realm_of (state_at m rd)) && (nat_le level 3 && is_in_space (realm_at m rd) ipa)
+
+-- the page of the table that an entry leads to
+abbrev pub page_below : Machine → RmmRttEntry → List ℕ
+page_below m entry = page_in m (unwrap_or (table_below m entry) 0)

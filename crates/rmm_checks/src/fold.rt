@@ -1,0 +1,122 @@
+//! RMI_RTT_FOLD.
+ghost use Rattle.std.specs.Prelude.{◌≡◌, ◌^◌, ◌<◌, ◌≤◌, nat_le, true, length, is_some};
+ghost use Rattle.rmm_model.specs.Entry.{descriptor_of};
+ghost use Rattle.rmm_model.specs.Table.{entry_in_page};
+ghost use Rattle.rmm_model.specs.Walk as walks;
+ghost use Rattle.rmm_model.specs.Command.RttFold as command;
+ghost use Rattle.rmm_checks.specs.CanWalk.{page_below};
+ghost use Rattle.rmm_checks.specs.Evaluated.{evaluated};
+
+use crate::EvaluatedChecks;
+use crate::entry::add_entry;
+use crate::realm::{add_ipa, add_rd, start_level_at};
+use crate::walking::{reach, table_below};
+use page_arena::{PageStore, word_in};
+use rmi_abi::{RmmSettings, SmcResult, Word};
+use rmm_granules::Granules;
+use rmm_model::{Condition, RmmRttEntry, entry_from_word, entry_size, has_parts};
+
+// The first entry of a table.
+#[tactic(auto, unfolding(rmm_model::specs::Table::entry_in_page))]
+fn first_entry(page: &[u8]) -> RmmRttEntry
+    requires { length page.now ≡ 4096 }
+    ensures value { result ≡ entry_in_page page.now 0 }
+    ensures fits { descriptor_of result < 2 ^ 48 }
+{
+    entry_from_word(word_in(page, 0))
+}
+
+// Whether an entry can be one a level higher.
+fn is_aligned_above(entry: RmmRttEntry, level: u8) -> bool
+    requires { 1 ≤ level }
+    ensures { result ≡ command.is_aligned_above entry level }
+{
+    !entry.is_mapping() || entry.descriptor() / 4096 * 4096 % entry_size(level - 1) == 0
+}
+
+// Whether a table says the same as one entry above it.
+#[tactic(auto, unfolding(rmm_model::specs::Command::RttFold::is_homogeneous))]
+fn is_homogeneous(page: &[u8], level: u8) -> bool
+    requires page { length page.now ≡ 4096 }
+    requires level { 1 ≤ level }
+    ensures { result ≡ command.is_homogeneous page.now level }
+{
+    let first = first_entry(page);
+    !first.is_table() && is_aligned_above(first, level) && has_parts(page, first, level)
+}
+
+// Whether a table would become a block of a level at which there is none.
+fn is_block_too_high(settings: &RmmSettings, page: &[u8], level: u8) -> bool
+    requires { length page.now ≡ 4096 }
+    ensures { result ≡ command.is_block_too_high settings.now page.now level }
+{
+    first_entry(page).is_mapping() && level <= settings.block_level
+}
+
+// A level of a table that is below another one: it is 1 to 3.
+fn lower_level(level: u64) -> u8
+    ensures value { nat_le 1 level ≡ true → nat_le level 3 ≡ true → result ≡ level }
+    ensures some { 1 ≤ result }
+{
+    if 1 <= level && level <= 3 {
+        level as u8
+    } else {
+        1
+    }
+}
+
+// Whether the table that an entry leads to says the same as one entry.
+fn is_homogeneous_below<S: PageStore>(granules: &Granules<S>, entry: RmmRttEntry, level: u8) -> bool
+    requires { 1 ≤ level }
+    ensures { is_some (walks.table_below granules.now entry) ≡ true
+        → result ≡ command.is_homogeneous (page_below granules.now entry) level }
+{
+    match table_below(granules, entry) {
+        Some(table) => is_homogeneous(granules.page(table), level),
+        None => false,
+    }
+}
+
+// Whether the table that an entry leads to would become a block of a level at which there is none.
+fn is_too_high_below<S: PageStore>(granules: &Granules<S>, entry: RmmRttEntry, level: u8) -> bool
+    ensures { is_some (walks.table_below granules.now entry) ≡ true
+        → result ≡ command.is_block_too_high granules.now.settings (page_below granules.now entry) level }
+{
+    match table_below(granules, entry) {
+        Some(table) => is_block_too_high(granules.settings(), granules.page(table), level),
+        None => false,
+    }
+}
+
+// RMI_RTT_FOLD
+pub fn rtt_fold<S: PageStore>(
+    granules: &Granules<S>,
+    rd: u64,
+    ipa: u64,
+    level: u64,
+) -> EvaluatedChecks
+    ensures { result ≡ evaluated (command.rtt_fold rd ipa level granules.now).checks }
+{
+    let mut checks = EvaluatedChecks::new();
+    add_rd(&mut checks, granules, rd);
+    let least = start_level_at(granules, rd) + 1;
+    add_ipa(&mut checks, granules, rd, least, level, 1, ipa);
+    let to = level.saturating_sub(1);
+    let reached = reach(granules, rd, ipa, to);
+    let table = table_below(granules, reached.entry);
+    let answer = SmcResult::only(Word::ErrorRtt(reached.level));
+    add_entry(
+        &mut checks,
+        &[Condition::RdState, Condition::IpaAlign, Condition::IpaBound],
+        &reached,
+        to,
+        table.is_some(),
+        answer,
+    );
+    let own = lower_level(level);
+    let same = is_homogeneous_below(granules, reached.entry, own);
+    checks.rtt(Condition::RttHomo, &[Condition::RtteState], !same, own);
+    let high = is_too_high_below(granules, reached.entry, own);
+    checks.rtt(Condition::RttBlock, &[Condition::RttHomo], high, own - 1);
+    checks
+}

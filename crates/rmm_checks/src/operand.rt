@@ -1,0 +1,155 @@
+//! Operands that are addresses of granules, and their checks.
+ghost use Rattle.std.specs.Prelude.{◌≡◌, ◌+◌, ◌<◌, ◌≤◌, length, IfSome, IfNone};
+ghost use Rattle.rmm_model.specs.Machine as machine;
+ghost use Rattle.rmm_model.specs.Machine.{granule_count, granule_at, number_of};
+ghost use Rattle.rmm_model.specs.Command.Operand as operands;
+ghost use Rattle.rmm_checks.specs.Evaluated.{Adds};
+
+use crate::EvaluatedChecks;
+use granule_addr::{Gran, MOST_PAGES};
+use page_arena::PageStore;
+use rmm_granules::Granules;
+use rmm_model::{Condition, RmmGranuleState};
+
+// The conditions of an operand: of its alignment, its bound and its state.
+#[derive(Clone, Copy)]
+pub struct OperandConditions {
+    pub align: Condition,
+    pub bound: Condition,
+    pub state: Condition,
+}
+
+// ---- granules
+
+// Whether an address is one at which a granule begins.
+pub fn is_aligned(address: u64) -> bool
+    ensures { result ≡ machine.is_aligned address }
+{
+    address % 4096 == 0
+}
+
+// The number of the granule that an address lies in; an address below the first one counts as in that one.
+#[tactic(auto, unfolding(rmm_model::specs::Machine::number_of))]
+pub fn number_at<S: PageStore>(granules: &Granules<S>, address: u64) -> u64
+    ensures { result ≡ number_of granules.now address }
+{
+    address.saturating_sub(granules.settings().base) / 4096
+}
+
+// The granule that many after another.
+pub fn granule_after(first: Gran, k: u16) -> Gran
+    requires { first + k < 4096 }
+    ensures { result ≡ first + k }
+{
+    Gran::new(first.number() + k, MOST_PAGES).unwrap()
+}
+
+// The granule that an address lies in.
+pub fn covering<S: PageStore>(granules: &Granules<S>, address: u64) -> Option<Gran>
+    ensures number { IfSome result (λ granule. granule ≡ number_of granules.now address) }
+    ensures inside { IfSome result (λ granule. granule < granule_count granules.now) }
+    ensures outside { IfNone result (granule_count granules.now ≤ number_of granules.now address) }
+{
+    let number = number_at(granules, address);
+    if number < granules.count() as u64 {
+        Some(Gran::new(number as u16, MOST_PAGES).unwrap())
+    } else {
+        None
+    }
+}
+
+// The state of the granule that an address lies in; one outside the machine counts as UNDELEGATED.
+#[tactic(auto, using(crate::proofs::Outside::outside))]
+pub fn state_at<S: PageStore>(granules: &Granules<S>, address: u64) -> RmmGranuleState
+    ensures { result ≡ machine.state_at granules.now address }
+{
+    match covering(granules, address) {
+        Some(granule) => granules.state(granule),
+        None => RmmGranuleState::Undelegated,
+    }
+}
+
+// The RD of the realm that owns the granule that an address lies in; one outside the machine has none.
+#[tactic(auto, using(crate::proofs::Outside::outside))]
+pub fn owner_at<S: PageStore>(granules: &Granules<S>, address: u64) -> Option<Gran>
+    ensures { result ≡ (granule_at granules.now (number_of granules.now address)).owner }
+{
+    match covering(granules, address) {
+        Some(granule) => granules.owner(granule),
+        None => None,
+    }
+}
+
+// Whether the granule at an address is the host's, and not of the secure world.
+pub fn is_host<S: PageStore>(granules: &Granules<S>, address: u64) -> bool
+    ensures { result ≡ operands.is_host_s granules.now address }
+{
+    state_at(granules, address).is_undelegated() && !granules.is_secure(address)
+}
+
+// ---- checks
+
+// Adds the checks of an address that is that of a granule.
+pub fn add_address<S: PageStore>(
+    checks: &mut EvaluatedChecks,
+    granules: &Granules<S>,
+    align: Condition,
+    bound: Condition,
+    address: u64,
+)
+    requires room { length checks.old + 2 ≤ 18 }
+    ensures rows { Adds checks.old (operands.address_checks align bound granules.now address) checks.new }
+    ensures length { length checks.new ≡ length checks.old + 2 }
+{
+    checks.input(align, &[], !is_aligned(address));
+    checks.input(bound, &[align], !granules.is_inside(address));
+}
+
+// Adds the checks of an address that is that of a DELEGATED granule.
+pub fn add_delegated<S: PageStore>(
+    checks: &mut EvaluatedChecks,
+    granules: &Granules<S>,
+    conditions: OperandConditions,
+    address: u64,
+)
+    requires room { length checks.old + 3 ≤ 18 }
+    ensures rows { Adds checks.old
+        (operands.delegated_checks conditions.align conditions.bound conditions.state granules.now address) checks.new }
+    ensures length { length checks.new ≡ length checks.old + 3 }
+{
+    add_address(
+        checks,
+        granules,
+        conditions.align,
+        conditions.bound,
+        address,
+    );
+    let state = state_at(granules, address);
+    checks.input(conditions.state, &[conditions.bound], !state.is_delegated());
+}
+
+// Adds the checks of an address that is that of a page of the host.
+pub fn add_host<S: PageStore>(
+    checks: &mut EvaluatedChecks,
+    granules: &Granules<S>,
+    conditions: OperandConditions,
+    address: u64,
+)
+    requires room { length checks.old + 3 ≤ 18 }
+    ensures rows { Adds checks.old
+        (operands.host_checks conditions.align conditions.bound conditions.state granules.now address) checks.new }
+    ensures length { length checks.new ≡ length checks.old + 3 }
+{
+    add_address(
+        checks,
+        granules,
+        conditions.align,
+        conditions.bound,
+        address,
+    );
+    checks.input(
+        conditions.state,
+        &[conditions.bound],
+        !is_host(granules, address),
+    );
+}

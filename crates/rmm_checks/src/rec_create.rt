@@ -1,0 +1,287 @@
+//! RMI_REC_CREATE.
+ghost use Rattle.std.specs.Prelude.{◌≡◌, ◌^◌, ◌+◌, ◌<◌, ◌≤◌, nat_eq, nat_lt, true, false, [], ◌∷◌, length};
+ghost use Rattle.rmm_model.specs.declared.condition.Condition.TheVariants.{ParamsPas, ParamsValid, NumAux};
+ghost use Rattle.rmm_model.specs.declared.condition.Condition.TheVariants.{AuxAlign, AuxBound};
+ghost use Rattle.rmm_model.specs.Machine.{is_aligned as begins, is_inside, number_of, page_in};
+ghost use Rattle.rmm_model.specs.Command.Operand.{realm_at};
+ghost use Rattle.rmm_model.specs.Command.RecCreate as command;
+ghost use Rattle.rmm_checks.specs.Evaluated.{Adds, evaluated, is_made, is_passed};
+ghost use Rattle.rmm_checks.specs.NewRec.{aux_address_passes, facts_in, aux_rows, number_rows};
+ghost use Rattle.rmm_checks.specs.declared.rec_create.RecFacts.{RecFacts as Facts};
+
+use crate::EvaluatedChecks;
+use crate::operand::{OperandConditions, add_delegated, add_host};
+use crate::realm::{add_rd, is_new_at, realm_named};
+use crate::realm_create::PARAMS;
+use page_arena::PageStore;
+use rmi_abi::{RecParams, is_mpidr, rec_number};
+use rmm_granules::Granules;
+use rmm_model::Condition;
+
+const NEW_REC: OperandConditions = OperandConditions {
+    align: Condition::RecAlign,
+    bound: Condition::RecBound,
+    state: Condition::RecState,
+};
+
+// Facts of the parameters of a REC, as checks ask for them.
+#[derive(Clone, Copy)]
+pub struct RecFacts {
+    pub has_count: bool,
+    pub are_aligned: bool,
+    pub are_inside: bool,
+    pub are_apart: bool,
+    pub are_delegated: bool,
+    pub is_mpidr: bool,
+    pub number: u64,
+}
+
+// ---- auxiliary granules
+
+// A test of the address of an auxiliary granule.
+#[derive(Clone, Copy)]
+pub enum AuxAddressTest {
+    Aligned,
+    Inside,
+    Delegated,
+    Not(u64),
+}
+
+// Whether an address passes a test.
+fn passes<S: PageStore>(granules: &Granules<S>, test: AuxAddressTest, address: u64) -> bool
+    ensures { result ≡ aux_address_passes granules.now test address }
+{
+    match test {
+        AuxAddressTest::Aligned => address % 4096 == 0,
+        AuxAddressTest::Inside => granules.is_inside(address),
+        AuxAddressTest::Delegated => {
+            granules.is_inside(address) && granules.is_delegated(granules.number_of(address))
+        }
+        AuxAddressTest::Not(other) => address != other,
+    }
+}
+
+// Whether each of the first auxiliary granules that parameters name passes a test.
+fn all_aux<S: PageStore>(
+    granules: &Granules<S>,
+    page: &[u8],
+    test: AuxAddressTest,
+    count: u8,
+) -> bool
+    requires page { length page.now ≡ 4096 }
+    requires few { count ≤ 16 }
+    ensures { result ≡ command.all_aux (aux_address_passes granules.now test) page.now count }
+{
+    for k in 0..count {
+        if !passes(granules, test, RecParams::aux(page, k)) {
+            return false;
+        }
+    }
+    true
+}
+
+// Whether each of the first auxiliary granules is at a multiple of 4,096.
+fn are_aligned<S: PageStore>(granules: &Granules<S>, page: &[u8], count: u8) -> bool
+    requires page { length page.now ≡ 4096 }
+    requires few { count ≤ 16 }
+    ensures { result ≡ command.all_aux begins page.now count }
+{
+    all_aux(granules, page, AuxAddressTest::Aligned, count)
+}
+
+// Whether each of the first auxiliary granules is one of the machine.
+fn are_inside<S: PageStore>(granules: &Granules<S>, page: &[u8], count: u8) -> bool
+    requires page { length page.now ≡ 4096 }
+    requires few { count ≤ 16 }
+    ensures { result ≡ command.all_aux (is_inside granules.now) page.now count }
+{
+    all_aux(granules, page, AuxAddressTest::Inside, count)
+}
+
+// Whether each of the first auxiliary granules is a DELEGATED one of the machine.
+fn are_delegated<S: PageStore>(granules: &Granules<S>, page: &[u8], count: u8) -> bool
+    requires page { length page.now ≡ 4096 }
+    requires few { count ≤ 16 }
+    ensures { result ≡ command.all_aux (command.can_be_aux granules.now) page.now count }
+{
+    all_aux(granules, page, AuxAddressTest::Delegated, count)
+}
+
+// Whether auxiliary granule k is neither the REC nor one before it.
+fn is_apart<S: PageStore>(granules: &Granules<S>, page: &[u8], rec: u64, k: u8) -> bool
+    requires page { length page.now ≡ 4096 }
+    requires below { k < 16 }
+    ensures { result ≡ command.is_apart rec page.now k }
+{
+    let address = RecParams::aux(page, k);
+    address != rec && all_aux(granules, page, AuxAddressTest::Not(address), k)
+}
+
+// Whether no two of the REC and its auxiliary granules are one.
+fn are_apart<S: PageStore>(granules: &Granules<S>, page: &[u8], rec: u64, count: u8) -> bool
+    requires page { length page.now ≡ 4096 }
+    requires few { count ≤ 16 }
+    ensures { result ≡ command.all_from (command.is_apart rec page.now) 0 count }
+{
+    for k in 0..count {
+        if !is_apart(granules, page, rec, k) {
+            return false;
+        }
+    }
+    true
+}
+
+// ---- parameters
+
+// The facts of the parameters in a page.
+fn facts_of<S: PageStore>(granules: &Granules<S>, page: &[u8], rec: u64) -> RecFacts
+    requires { length page.now ≡ 4096 }
+    ensures { result ≡ facts_in granules.now page.now rec }
+{
+    let count = granules.settings().aux;
+    let mpidr = RecParams::mpidr(page);
+    RecFacts {
+        has_count: RecParams::num_aux(page) == count as u64,
+        are_aligned: are_aligned(granules, page, count),
+        are_inside: are_inside(granules, page, count),
+        are_apart: are_apart(granules, page, rec, count),
+        are_delegated: are_delegated(granules, page, count),
+        is_mpidr: is_mpidr(mpidr),
+        number: rec_number(mpidr),
+    }
+}
+
+// The facts of the parameters at an address.
+fn facts_at<S: PageStore>(granules: &Granules<S>, params: u64, rec: u64) -> RecFacts
+    ensures { is_inside granules.now params ≡ true
+        → result ≡ facts_in granules.now (page_in granules.now (number_of granules.now params)) rec }
+{
+    if granules.is_inside(params) {
+        return facts_of(granules, granules.page(granules.number_of(params)), rec);
+    }
+    RecFacts {
+        has_count: false,
+        are_aligned: false,
+        are_inside: false,
+        are_apart: false,
+        are_delegated: false,
+        is_mpidr: false,
+        number: 0,
+    }
+}
+
+// ---- the realm
+
+// The number of the next REC of the realm at an address; where there is none it is 0.
+fn next_rec_at<S: PageStore>(granules: &Granules<S>, rd: u64) -> u32
+    ensures { result ≡ (realm_at granules.now rd).next_rec }
+{
+    match realm_named(granules, rd) {
+        Some(realm) => realm.next_rec,
+        None => 0,
+    }
+}
+
+// The number of RECs of the realm at an address; where there is none it is 0.
+fn rec_count_at<S: PageStore>(granules: &Granules<S>, rd: u64) -> u16
+    ensures { result ≡ (realm_at granules.now rd).rec_count }
+{
+    match realm_named(granules, rd) {
+        Some(realm) => realm.rec_count,
+        None => 0,
+    }
+}
+
+// Whether the realm at an address has fewer RECs than it can have.
+fn can_have_more<S: PageStore>(granules: &Granules<S>, rd: u64) -> bool
+    ensures { result
+        ≡ nat_lt (realm_at granules.now rd).rec_count (2 ^ granules.now.settings.max_recs_order) }
+{
+    (rec_count_at(granules, rd) as u64) < 1 << granules.settings().max_recs_order
+}
+
+// Whether a number is that of the next REC of the realm at an address.
+fn is_next<S: PageStore>(granules: &Granules<S>, rd: u64, number: u64) -> bool
+    ensures { result ≡ nat_eq number (realm_at granules.now rd).next_rec }
+{
+    number == next_rec_at(granules, rd) as u64
+}
+
+// ---- checks
+
+// Adds the checks of as many auxiliary granules as a REC has. All of them are DELEGATED, and no two of them and the REC
+// are one.
+fn add_aux(checks: &mut EvaluatedChecks, facts: &RecFacts)
+    requires room { length checks.old + 5 ≤ 18 }
+    ensures rows { (known : Facts) → (is_made checks.old (ParamsPas ∷ []) ≡ true → facts.now ≡ known)
+        → is_passed checks.old NumAux ≡ false → is_passed checks.old AuxAlign ≡ false
+        → is_passed checks.old AuxBound ≡ false → Adds checks.old (aux_rows known) checks.new }
+    ensures length { length checks.new ≡ length checks.old + 5 }
+{
+    checks.input(Condition::NumAux, &[Condition::ParamsPas], !facts.has_count);
+    checks.input(
+        Condition::AuxAlign,
+        &[Condition::NumAux],
+        !facts.are_aligned,
+    );
+    checks.input(
+        Condition::AuxBound,
+        &[Condition::AuxAlign],
+        !facts.are_inside,
+    );
+    checks.input(Condition::AuxAlias, &[Condition::NumAux], !facts.are_apart);
+    checks.input(
+        Condition::AuxState,
+        &[Condition::AuxBound],
+        !facts.are_delegated,
+    );
+}
+
+// Adds the checks of the MPIDR of the next REC of a NEW realm that can have one more.
+fn add_number<S: PageStore>(
+    checks: &mut EvaluatedChecks,
+    granules: &Granules<S>,
+    rd: u64,
+    facts: &RecFacts,
+)
+    requires room { length checks.old + 4 ≤ 18 }
+    ensures rows { (known : Facts) → (is_made checks.old (ParamsPas ∷ []) ≡ true → facts.now ≡ known)
+        → is_passed checks.old ParamsValid ≡ false
+        → Adds checks.old (number_rows granules.now.settings (realm_at granules.now rd) known) checks.new }
+    ensures length { length checks.new ≡ length checks.old + 4 }
+{
+    checks.input(
+        Condition::ParamsValid,
+        &[Condition::ParamsPas],
+        !facts.is_mpidr,
+    );
+    let is_next = is_next(granules, rd, facts.number);
+    checks.input(
+        Condition::MpidrIndex,
+        &[Condition::ParamsValid, Condition::RdState],
+        !is_next,
+    );
+    let is_new = is_new_at(granules, rd);
+    checks.realm(Condition::RealmState, &[Condition::RdState], !is_new);
+    let more = can_have_more(granules, rd);
+    checks.realm(Condition::NumRecs, &[Condition::RdState], !more);
+}
+
+// RMI_REC_CREATE
+pub fn rec_create<S: PageStore>(
+    granules: &Granules<S>,
+    rd: u64,
+    rec: u64,
+    params: u64,
+) -> EvaluatedChecks
+    ensures { result ≡ evaluated (command.rec_create rd rec params granules.now).checks }
+{
+    let mut checks = EvaluatedChecks::new();
+    add_host(&mut checks, granules, PARAMS, params);
+    add_delegated(&mut checks, granules, NEW_REC, rec);
+    add_rd(&mut checks, granules, rd);
+    let facts = facts_at(granules, params, rec);
+    add_aux(&mut checks, &facts);
+    add_number(&mut checks, granules, rd, &facts);
+    checks
+}

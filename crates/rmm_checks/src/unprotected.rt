@@ -1,0 +1,98 @@
+//! RMI_RTT_MAP_UNPROTECTED and RMI_RTT_UNMAP_UNPROTECTED.
+ghost use Rattle.std.specs.Prelude.{◌≡◌};
+ghost use Rattle.rmm_model.specs.Command.RttMapUnprotected as mapping;
+ghost use Rattle.rmm_model.specs.Command.RttUnmapUnprotected as unmapping;
+ghost use Rattle.rmm_checks.specs.Evaluated.{evaluated};
+
+use crate::EvaluatedChecks;
+use crate::entry::{add_entry, rtt_next};
+use crate::realm::{add_rd, add_unprotected, is_multiple, size_of};
+use crate::walking::reach;
+use page_arena::PageStore;
+use rmi_abi::{RmmSettings, SmcResult, Word};
+use rmm_granules::Granules;
+use rmm_model::Condition;
+
+// Whether bits 9:8 of a descriptor are a shareability that the host may choose.
+fn is_shareability(settings: &RmmSettings, desc: u64) -> bool
+    ensures { result ≡ mapping.is_shareability settings.now desc }
+{
+    let sh = desc / 0x100 % 4;
+    sh == 0 || (settings.takes_shareability && sh != 1)
+}
+
+// Whether the bits of a descriptor but those of its address are ones that the host may choose.
+fn has_attributes(settings: &RmmSettings, desc: u64) -> bool
+    ensures { result ≡ mapping.has_attributes settings.now desc }
+{
+    desc < 0x1_0000_0000_0000
+        && desc % 4 == 0
+        && desc / 4 % 8 != 4
+        && desc / 0x20 % 2 == 0
+        && is_shareability(settings, desc)
+        && desc / 0x400 % 4 == 0
+}
+
+// Whether a number is a descriptor of a level.
+#[tactic(auto, unfolding(rmm_model::specs::Command::RttMapUnprotected::is_descriptor))]
+fn is_descriptor(settings: &RmmSettings, level: u64, desc: u64) -> bool
+    ensures { result ≡ mapping.is_descriptor settings.now level desc }
+{
+    has_attributes(settings, desc) && is_multiple(desc / 4096 * 4096, size_of(level))
+}
+
+// RMI_RTT_MAP_UNPROTECTED
+pub fn rtt_map_unprotected<S: PageStore>(
+    granules: &Granules<S>,
+    rd: u64,
+    ipa: u64,
+    level: u64,
+    desc: u64,
+) -> EvaluatedChecks
+    ensures { result ≡ evaluated (mapping.rtt_map_unprotected rd ipa level desc granules.now).checks }
+{
+    let mut checks = EvaluatedChecks::new();
+    add_rd(&mut checks, granules, rd);
+    add_unprotected(&mut checks, granules, rd, level, ipa);
+    let settings = granules.settings();
+    let is_right = is_descriptor(settings, level, desc);
+    checks.input(Condition::DescBound, &[Condition::LevelBound], !is_right);
+    let reached = reach(granules, rd, ipa, level);
+    let fits = reached.entry.is_unassigned_ns();
+    let answer = SmcResult::only(Word::ErrorRtt(reached.level));
+    add_entry(
+        &mut checks,
+        &[Condition::RdState, Condition::IpaAlign, Condition::IpaBound],
+        &reached,
+        level,
+        fits,
+        answer,
+    );
+    checks
+}
+
+// RMI_RTT_UNMAP_UNPROTECTED
+pub fn rtt_unmap_unprotected<S: PageStore>(
+    granules: &Granules<S>,
+    rd: u64,
+    ipa: u64,
+    level: u64,
+) -> EvaluatedChecks
+    ensures { result ≡ evaluated (unmapping.rtt_unmap_unprotected rd ipa level granules.now).checks }
+{
+    let mut checks = EvaluatedChecks::new();
+    add_rd(&mut checks, granules, rd);
+    add_unprotected(&mut checks, granules, rd, level, ipa);
+    let reached = reach(granules, rd, ipa, level);
+    let fits = reached.entry.is_assigned_ns();
+    let answer = rtt_next(reached.level, reached.top);
+    add_entry(
+        &mut checks,
+        &[Condition::RdState, Condition::IpaAlign, Condition::IpaBound],
+        &reached,
+        level,
+        fits,
+        answer,
+    );
+    checks
+}
