@@ -33,10 +33,12 @@ build: ## proves the three programs with their libraries, and puts them into bin
 
 c-library: ## proves the RMM as a library for C, and puts it into build/
 	@tools/c-library
+	@tools/rmm-library
 
 c-test: c-library ## tries the library from C, C++ and Python, over 1,000 random traces too (needs a C compiler)
 	@test -x bin/rmitrace || tools/build rmitrace
 	@tests/c-library --all
+	@tests/rmm-c --all
 
 docs-html: ## makes a site of the documents in build/html, which can be read offline (needs pandoc)
 	@tools/docs_html
@@ -73,8 +75,8 @@ test: ## the whole gate from nothing: proofs, tests, what the built programs pri
 	@tools/gate
 	@mkdir -p bin
 	@for it in $(PROGRAMS) test_memory; do install -m 755 crates/$$it/out/$$it bin/$$it || exit 1; done
-	@! command -v $(CC) > /dev/null || tools/c-library
-	@tools/at_once tests/commands tests/program tests/traces tests/rules tests/rmm_traces tests/rmm_rules tests/rmm_program tests/view tests/terminal tests/orders tests/json tests/page tests/allocations tests/c-library tests/documents tests/prose tests/believed tests/names tests/pages tests/schema "tools/pictures --check" "tools/calls --check" "tools/commands_index --check" "tools/page_template --check"
+	@! command -v $(CC) > /dev/null || { tools/c-library && tools/rmm-library; }
+	@tools/at_once tests/commands tests/program tests/traces tests/rules tests/rmm_traces tests/rmm_rules tests/rmm_program tests/view tests/terminal tests/orders tests/json tests/page tests/allocations tests/c-library tests/rmm-c tests/documents tests/prose tests/believed tests/names tests/pages tests/schema "tools/pictures --check" "tools/calls --check" "tools/commands_index --check" "tools/page_template --check"
 
 mutants: ## tries the mutants of CRATE or all: the prover has to refuse each
 	@tests/mutants $(if $(JOBS),--jobs $(JOBS)) $(if $(SINCE),--since $(SINCE)) $(CRATE)

@@ -1,0 +1,55 @@
+-- Guests of RECs on a handle: their steps, the end of their run, and their results.
+use Rattle.std.specs.Prelude.{ℕ, ◌+◌, ◌*◌, ◌&&◌, nat_lt, Option, Some, None, option_map, option_and_then, if◌then◌else◌}
+use Rattle.rmi_abi.specs.Word.{number}
+use Rattle.rmm_model.specs.declared.rec.RmmRec.{RmmRec}
+use Rattle.rmm_model.specs.declared.step.Queued.{Queued}
+use Rattle.rmm_model.specs.declared.step.Queued.TheVariants.{Queued as IsQueued, Full, NoRec}
+use Rattle.rmm_model.specs.declared.step.StepWords.{StepWords}
+use Rattle.rmm_model.specs.Granule.{rec_of}
+use Rattle.rmm_model.specs.Guest.{queued}
+use Rattle.rmm_model.specs.Host.{state_shown}
+use Rattle.rmm_model.specs.Machine.{Machine}
+use Rattle.rmm_model.specs.Command.RecEnter.{interrupted}
+use Rattle.rmm.specs.Reading.{word_shown}
+use Rattle.rmm_c.specs.declared.guest.RawStep.{RawStep}
+use Rattle.rmm_c.specs.declared.guest.GuestStepResult.{GuestStepResult}
+
+-- ---- steps
+
+-- the step as the RMM has it
+abbrev pub words_of : RawStep → StepWords
+words_of step = record { kind = step.kind; a = step.a; b = step.b; c = step.c; d = step.d }
+
+abbrev pub queued_code : Queued → ℕ
+queued_code IsQueued = 0
+queued_code Full = 1
+queued_code NoRec = 2
+
+-- The answer to a step, and the machine after it. A closed handle has no REC.
+abbrev pub on_guest : ℕ → RawStep → Option Machine → ℕ × Option Machine
+on_guest rec step (Some m) = (queued_code (queued m rec (words_of step)).0, Some (queued m rec (words_of step)).1)
+on_guest rec step None = (2, None)
+
+-- ---- the end of a run
+
+-- the word that RMI_REC_ENTER returns; none comes for a REC that does not run
+abbrev pub interrupt_word : ℕ → Machine → Option ℕ
+interrupt_word rec m = option_map number (interrupted m rec).0
+
+abbrev pub after_interrupt : ℕ → Machine → Machine
+after_interrupt rec m = (interrupted m rec).1
+
+-- ---- results
+
+-- the pair of words of a result
+abbrev pub outcome_shown : ℕ → ℕ → Machine → Option GuestStepResult
+outcome_shown rec first m =
+    option_and_then (λ kind. option_map (λ value. record { kind = kind; value = value }) (word_shown m rec (first + 1))) (word_shown m rec first)
+
+-- result k of a REC with these attributes
+abbrev pub outcome_in : ℕ → ℕ → Machine → RmmRec → Option GuestStepResult
+outcome_in rec k m attributes = if nat_lt k 32 && nat_lt k attributes.result_count then outcome_shown rec (128 + 2 * k) m else None
+
+-- Result k of those since the last entry of the REC at an address.
+abbrev pub result_shown : ℕ → ℕ → Machine → Option GuestStepResult
+result_shown rec k m = option_and_then (outcome_in rec k m) (option_and_then rec_of (state_shown m rec))

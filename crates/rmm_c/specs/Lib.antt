@@ -1,0 +1,6 @@
+pub mod Guest
+pub mod Memory
+pub mod Owned
+pub mod Reading
+pub mod Settings
+pub mod Smc

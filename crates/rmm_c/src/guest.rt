@@ -1,0 +1,135 @@
+//! Guests of RECs: their steps, the end of their run, and their results.
+ghost use Rattle.std.specs.Prelude.{◌≡◌, option_map};
+ghost use Rattle.rmm_c.specs.Guest.{words_of, queued_code, on_guest, result_shown, interrupt_word, after_interrupt};
+ghost use Rattle.rmm_c.specs.Reading.{Reads};
+
+use crate::reading::report;
+use crate::{PlainRmm, RmmHandle};
+use rmm_model::{Queued, StepWords};
+use std::alloc::Global;
+
+/// A step of a guest: its kind, and its operands.
+#[repr(C)]
+#[derive(Drop)]
+pub struct RawStep {
+    pub kind: u64,
+    pub a: u64,
+    pub b: u64,
+    pub c: u64,
+    pub d: u64,
+}
+
+/// The result of a step: its kind, and its value, 0 where there is none.
+#[repr(C)]
+#[derive(Drop)]
+pub struct GuestStepResult {
+    pub kind: u64,
+    pub value: u64,
+}
+
+impl RawStep {
+    // The step as the RMM has it.
+    fn words(&self) -> StepWords
+        ensures { result ≡ words_of self.now }
+    {
+        StepWords {
+            kind: self.kind,
+            a: self.a,
+            b: self.b,
+            c: self.c,
+            d: self.d,
+        }
+    }
+}
+
+// The answer to a step if no REC is at the address.
+const NO_REC: u64 = 2;
+
+// The number of the answer to a step.
+fn code(queued: Queued) -> u64
+    ensures { result ≡ queued_code queued }
+{
+    match queued {
+        Queued::Queued => 0,
+        Queued::Full => 1,
+        Queued::NoRec => NO_REC,
+    }
+}
+
+/// Gives the guest of a REC a step. Returns 0; or 1 if it has 16, and 2 if no REC is at the address, and then nothing
+/// changes.
+#[unsafe(no_mangle)]
+pub extern "C" fn rmm_guest(alloc: Global, handle: &mut RmmHandle, rec: u64, step: &RawStep) -> u64
+    ensures { (result, handle.new.held.machine) ≡ on_guest rec step.now handle.old.held.machine }
+{
+    let words = step.words();
+    let Some(mut plain) = handle.take(alloc) else {
+        return NO_REC;
+    };
+    let queued = plain.rmm.guest(rec, &words);
+    handle.give(plain);
+    code(queued)
+}
+
+// Ends the run of a REC, and returns the word of its entry; `None` comes if it does not run.
+fn interrupt(plain: &mut PlainRmm, rec: u64) -> Option<u64>
+    ensures word { result ≡ interrupt_word rec plain.old }
+    ensures machine { plain.new ≡ after_interrupt rec plain.old }
+{
+    let word = plain.rmm.interrupt(rec)?;
+    Some(word.number())
+}
+
+/// Ends the run of a REC: `word` is what RMI_REC_ENTER returns now. False, with nothing changed, if it does not run.
+#[unsafe(no_mangle)]
+pub extern "C" fn rmm_interrupt(
+    alloc: Global,
+    handle: &mut RmmHandle,
+    rec: u64,
+    word: &mut u64,
+) -> bool
+    ensures answer { Reads (interrupt_word rec) handle.old.held.machine word.old result word.new }
+    ensures machine { handle.new.held.machine ≡ option_map (after_interrupt rec) handle.old.held.machine }
+{
+    let Some(mut plain) = handle.take(alloc) else {
+        return false;
+    };
+    let found = interrupt(&mut plain, rec);
+    handle.give(plain);
+    report(found, word)
+}
+
+// Result `number` of those since the last entry of a REC.
+fn result_of(plain: &PlainRmm, rec: u64, number: u64) -> Option<GuestStepResult>
+    ensures { result ≡ result_shown rec number plain.now }
+{
+    let attributes = plain.rmm.state(rec)?.rec()?;
+    if number >= 32 || number >= u64::from(attributes.result_count) {
+        return None;
+    }
+    let first = 128 + 2 * number as u16;
+    Some(GuestStepResult {
+        kind: plain.rmm.word(rec, first)?,
+        value: plain.rmm.word(rec, first + 1)?,
+    })
+}
+
+/// Result `number` of those since the last entry of a REC. False, and nothing is written, if there is none.
+#[unsafe(no_mangle)]
+pub extern "C" fn rmm_result(
+    alloc: Global,
+    handle: &mut RmmHandle,
+    rec: u64,
+    number: u64,
+    outcome: &mut GuestStepResult,
+) -> bool
+    ensures read { Reads (result_shown rec number) handle.old.held.machine outcome.old result outcome.new }
+    ensures same { handle.new.held.machine ≡ handle.old.held.machine }
+{
+    let Some(plain) = handle.take(alloc) else {
+        return false;
+    };
+    let found = result_of(&plain, rec, number);
+    handle.give(plain);
+    report(found, outcome)
+}

@@ -1,0 +1,54 @@
+//! Handles: what C keeps of an RMM.
+ghost use Rattle.std.specs.Prelude.{◌≡◌, Some, None, IfSome, IfNone, is_some};
+
+use crate::parts::BoxParts;
+use crate::{HeldRmm, PlainRmm};
+use std::alloc::Global;
+use std::mem::replace;
+
+/// An RMM that C keeps, or none, which is a closed handle. A handle whose bytes are all 0 is closed.
+#[repr(C)]
+#[derive(Drop)]
+pub struct RmmHandle {
+    is_open: bool,
+    pub held: HeldRmm,
+    ghost agrees: { is_some held.machine ≡ is_open },
+}
+
+impl RmmHandle {
+    // Takes the RMM out, which closes the handle.
+    pub(crate) fn take(&mut self, alloc: Global) -> Option<Box<PlainRmm>>
+        ensures some { IfSome result (λ rmm. self.old.held.machine ≡ Some rmm.value) }
+        ensures none { IfNone result (self.old.held.machine ≡ None) }
+        ensures closed { self.new.held.machine ≡ None }
+    {
+        if !self.is_open {
+            return None;
+        }
+        let closed = RmmHandle {
+            is_open: false,
+            held: HeldRmm::none(),
+        };
+        let RmmHandle { is_open: _, held } = replace(self, closed);
+        Some(held.into_parts(alloc).into_box())
+    }
+
+    // Puts an RMM into a closed handle. The RMM of an open one would never be given back.
+    pub(crate) fn give(&mut self, rmm: Box<PlainRmm>)
+        requires closed { self.old.held.machine ≡ None }
+        ensures { self.new.held.machine ≡ Some rmm.value }
+    {
+        *self = RmmHandle {
+            is_open: true,
+            held: HeldRmm::of(BoxParts::of(rmm)),
+        };
+    }
+
+    // Whether there is an RMM.
+    pub(crate) fn is_open(&mut self) -> bool
+        ensures answer { result ≡ is_some self.old.held.machine }
+        ensures same { self.new ≡ self.old }
+    {
+        self.is_open
+    }
+}

@@ -1,0 +1,51 @@
+//! An RMM on the heap that C keeps. No other file knows its pointer.
+ghost use Rattle.std.specs.Prelude.{◌≡◌, true, Option, Some, None, is_some};
+ghost use Rattle.std.specs.Coded.{coded_option};
+ghost use Rattle.rmm_model.specs.Codes.{machine_code};
+ghost use Rattle.rmm_model.specs.Machine.{Machine};
+ghost use Rattle.rmm_c.specs.Owned.{held_owns};
+
+use crate::PlainRmm;
+use crate::parts::BoxParts;
+use std::alloc::Global;
+use std::marker::Model;
+
+/// An RMM on the heap, or none. To C it is one pointer, null if there is none.
+#[repr(C)]
+#[derive(Drop)]
+pub struct HeldRmm {
+    at: *mut u8,
+    pub ghost machine: { Option Machine } by { coded_option machine_code },
+}
+
+impl Model for HeldRmm {
+    ghost also_owns = { λ h. held_owns h.at h.machine };
+}
+
+impl HeldRmm {
+    pub(crate) fn none() -> HeldRmm
+        ensures { result.machine ≡ None }
+    {
+        HeldRmm {
+            at: std::ptr::null_mut(),
+        }
+    }
+
+    pub(crate) fn of(parts: BoxParts<PlainRmm, Global>) -> HeldRmm
+        ensures { result.machine ≡ Some parts.value }
+    {
+        let BoxParts { ptr, alloc: _ } = parts;
+        HeldRmm { at: ptr as *mut u8 }
+    }
+
+    pub(crate) fn into_parts(self, alloc: Global) -> BoxParts<PlainRmm, Global>
+        requires { is_some self.machine ≡ true }
+        ensures { self.machine ≡ Some result.value }
+    {
+        let HeldRmm { at } = self;
+        BoxParts {
+            ptr: at as *mut PlainRmm,
+            alloc,
+        }
+    }
+}

@@ -1,0 +1,25 @@
+//! The RMM by registers for C: each function of `include/rmm.h` is exported here, and its contract has its result.
+//!
+//! C keeps a handle, and the handle owns an RMM on the heap. `rmm_open` alone takes memory. No call has a
+//! precondition but those of its pointers, which `include/rmm.h` has at each function.
+#![tactic(auto)]
+
+mod attributes;
+mod guest;
+mod handle;
+mod held;
+mod memory;
+mod open;
+mod parts;
+mod plain_rmm;
+mod reading;
+mod settings;
+mod smc;
+
+pub use attributes::{RealmAttributes, RecAttributes};
+pub use guest::{GuestStepResult, RawStep};
+pub use handle::RmmHandle;
+pub use held::HeldRmm;
+pub use plain_rmm::PlainRmm;
+pub use settings::PlatformSettings;
+pub use smc::SmcRegisters;

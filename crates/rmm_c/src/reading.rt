@@ -1,0 +1,134 @@
+//! Readings of a machine, which no host has.
+ghost use Rattle.std.specs.Prelude.{◌≡◌};
+ghost use Rattle.rmm.specs.Reading.{word_shown};
+ghost use Rattle.rmm_c.specs.Reading as shown;
+ghost use Rattle.rmm_c.specs.Reading.{Reports, Reads};
+
+use crate::attributes::{granule_state_code, realm_attributes, rec_attributes};
+use crate::{PlainRmm, RealmAttributes, RecAttributes, RmmHandle};
+use std::alloc::Global;
+
+// Writes what is read to `into`, which stays as it is if there is nothing. Returns whether there is something.
+pub(crate) fn report<T: Drop>(read: Option<T>, into: &mut T) -> bool
+    ensures { Reports read into.old result into.new }
+{
+    match read {
+        Some(it) => {
+            *into = it;
+            true
+        }
+        None => false,
+    }
+}
+
+// The number of the state of the granule at an address.
+fn state_of(plain: &PlainRmm, address: u64) -> Option<u64>
+    ensures { result ≡ shown.state_code_shown address plain.now }
+{
+    Some(granule_state_code(plain.rmm.state(address)?))
+}
+
+// Word `index` of the granule at an address.
+fn word_of(plain: &PlainRmm, address: u64, index: u64) -> Option<u64>
+    ensures { result ≡ word_shown plain.now address index }
+{
+    if index < 512 {
+        plain.rmm.word(address, index as u16)
+    } else {
+        None
+    }
+}
+
+// The attributes of the realm whose RD is at an address.
+fn realm_of(plain: &PlainRmm, rd: u64) -> Option<RealmAttributes>
+    ensures { result ≡ shown.realm_shown rd plain.now }
+{
+    let realm = plain.rmm.state(rd)?.realm()?;
+    Some(realm_attributes(plain.rmm.settings().base, &realm))
+}
+
+// The attributes of the REC at an address.
+fn rec_of(plain: &PlainRmm, rec: u64) -> Option<RecAttributes>
+    ensures { result ≡ shown.rec_shown rec plain.now }
+{
+    let attributes = plain.rmm.state(rec)?.rec()?;
+    Some(rec_attributes(&attributes))
+}
+
+/// The state of the granule at an address, into `state`. False if there is none.
+#[unsafe(no_mangle)]
+pub extern "C" fn rmm_read_state(
+    alloc: Global,
+    handle: &mut RmmHandle,
+    address: u64,
+    state: &mut u64,
+) -> bool
+    ensures read { Reads (shown.state_code_shown address) handle.old.held.machine state.old result state.new }
+    ensures same { handle.new.held.machine ≡ handle.old.held.machine }
+{
+    let Some(plain) = handle.take(alloc) else {
+        return false;
+    };
+    let found = state_of(&plain, address);
+    handle.give(plain);
+    report(found, state)
+}
+
+/// The eight bytes from 8 * `index` on of the granule at an address, little endian, into `word`. False if there is no
+/// such granule, for an index above 511, and on a closed handle.
+#[unsafe(no_mangle)]
+pub extern "C" fn rmm_read_word(
+    alloc: Global,
+    handle: &mut RmmHandle,
+    address: u64,
+    index: u64,
+    word: &mut u64,
+) -> bool
+    ensures read { Reads (λ m. word_shown m address index) handle.old.held.machine word.old result word.new }
+    ensures same { handle.new.held.machine ≡ handle.old.held.machine }
+{
+    let Some(plain) = handle.take(alloc) else {
+        return false;
+    };
+    let found = word_of(&plain, address, index);
+    handle.give(plain);
+    report(found, word)
+}
+
+/// The attributes of the realm whose RD is at an address, into `realm`. False if no RD is there.
+#[unsafe(no_mangle)]
+pub extern "C" fn rmm_read_realm(
+    alloc: Global,
+    handle: &mut RmmHandle,
+    rd: u64,
+    realm: &mut RealmAttributes,
+) -> bool
+    ensures read { Reads (shown.realm_shown rd) handle.old.held.machine realm.old result realm.new }
+    ensures same { handle.new.held.machine ≡ handle.old.held.machine }
+{
+    let Some(plain) = handle.take(alloc) else {
+        return false;
+    };
+    let found = realm_of(&plain, rd);
+    handle.give(plain);
+    report(found, realm)
+}
+
+/// The attributes of the REC at an address, into `attributes`. False if no REC is there.
+#[unsafe(no_mangle)]
+pub extern "C" fn rmm_read_rec(
+    alloc: Global,
+    handle: &mut RmmHandle,
+    rec: u64,
+    attributes: &mut RecAttributes,
+) -> bool
+    ensures read { Reads (shown.rec_shown rec) handle.old.held.machine attributes.old result attributes.new }
+    ensures same { handle.new.held.machine ≡ handle.old.held.machine }
+{
+    let Some(plain) = handle.take(alloc) else {
+        return false;
+    };
+    let found = rec_of(&plain, rec);
+    handle.give(plain);
+    report(found, attributes)
+}

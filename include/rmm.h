@@ -1,0 +1,285 @@
+/* rmm.h: a simulated Realm Management Monitor as a library, to test hosts against. For C11 and C++11.
+ *
+ * It is the monitor of RMM 1.0 (Arm DEN0137), called by registers as firmware is: all 23 commands of the RMI, with
+ * addresses, parameter pages and run pages. Its guests are simulated: each REC has a list of steps. Each function is
+ * proved to do what the definition of its command says, whatever the registers are.
+ *
+ * Commands by name, parameter pages and names of values are in `rmm_commands.h`, which can be left out. Each name here
+ * begins with `rmm_` or `RMM_`, so a host's own headers can be included too.
+ *
+ * A handle is 16 bytes of the caller's. All of them 0 is a closed handle. A closed handle is no mistake in any call: it
+ * is firmware without an RMM. Numbers have 64 bits, as registers have, and nothing is cut. rmm_open alone takes memory.
+ *
+ * What a caller has to guarantee is at each function after `Required:`, and nothing checks it. There `handle` is:
+ *   - a pointer to an rmm_handle, and not NULL;
+ *   - all bytes of it are 0, or it came from rmm_open and was neither copied, moved nor written to since;
+ *   - no other pointer of the call leads into it;
+ *   - one call with it at a time, and none from a signal handler, nor from the forked child of a process with threads.
+ * Two handles have nothing in common: each may be in a thread of its own.
+ */
+#ifndef RMM_H
+#define RMM_H
+
+#include <stdbool.h>
+#include <stddef.h>
+#include <stdint.h>
+
+#ifdef __cplusplus
+extern "C" {
+#define RMM_STATIC_ASSERT static_assert
+#else
+#define RMM_STATIC_ASSERT _Static_assert
+#endif
+
+/* Compilers that know it warn of a NULL. */
+#if defined(__GNUC__)
+#define RMM_NO_NULL __attribute__((nonnull))
+#else
+#define RMM_NO_NULL
+#endif
+
+#define RMM_GRANULE_SIZE 4096
+
+/* ---- handles */
+
+typedef struct rmm_handle {
+    bool is_open;
+    void *monitor;
+} rmm_handle;
+
+#define RMM_CLOSED {false, NULL}
+
+RMM_STATIC_ASSERT(sizeof(rmm_handle) == 16 && offsetof(rmm_handle, monitor) == 8, "rmm_handle has 16 bytes");
+
+/* The memory of a machine, and the choices that RMM 1.0 leaves to a monitor. */
+typedef struct rmm_settings {
+    uint64_t granules;       /* 1 to 4096, from `base` on */
+    uint64_t base;           /* a multiple of 4096 below 2^47 */
+    uint64_t secure_base;    /* granules that cannot be delegated: the address of the first, as `base`, .. */
+    uint64_t secure_count;   /* .. and their number, at most 65535 */
+    uint64_t aux;            /* auxiliary granules of a REC, at most 16 */
+    uint64_t vmid_bits;      /* 8 or 16 */
+    uint64_t s2sz;           /* the widest address space of a realm in bits, 32 to 48 */
+    uint64_t max_recs_order; /* a realm has at most 2^max_recs_order RECs at a time; 0 to 15 */
+    uint64_t block_level;    /* the least level of a block, 1 or 2 */
+    uint64_t bps;            /* NUM_BPS of feature register 0, at most 63, and with RMM_EAC5 15 */
+    uint64_t wps;            /* NUM_WPS, as `bps` */
+    uint64_t lrs;            /* GICV3_NUM_LRS, at most 15 */
+    uint64_t layout;         /* of feature register 0: RMM_REL0 or RMM_EAC5 */
+    bool stops_at_destroyed; /* RMI_RTT_INIT_RIPAS stops at an entry that is UNASSIGNED, DESTROYED */
+    bool measures_all_recs;  /* a REC that is not runnable extends the RIM */
+    bool ignores_data_flags; /* RMI_DATA_CREATE ignores flags above bit 0 */
+    bool data_needs_ram;     /* RMI_DATA_CREATE requires that the RIPAS is RAM */
+    bool aligns_live_top;    /* `top` of a live entry is the address at which the entry begins */
+    bool shows_target_alone; /* a PSCI exit shows the function and the target alone */
+    bool takes_shareability; /* bits 9:8 of a descriptor are the host's to choose, but for 0b01 */
+    bool checks_params;      /* fields of RmiRealmParams above those of feature register 0 are refused */
+    bool checks_gic;         /* RMI_REC_ENTER checks gicv3_hcr and gicv3_lrs */
+} rmm_settings;
+
+enum { RMM_REL0 = 0, RMM_EAC5 = 1 };
+
+/* The defaults: 2048 granules from 0x80000000 on. A field can be set after `rmm_settings settings = RMM_DEFAULTS;`. */
+#define RMM_DEFAULTS                                             \
+    {2048, 0x80000000, 0, 0, 2, 16, 48, 4, 2, 0, 0, 0, RMM_REL0, \
+     false, false, false, false, false, false, false, false, false}
+
+RMM_STATIC_ASSERT(sizeof(rmm_settings) == 120 && offsetof(rmm_settings, stops_at_destroyed) == 104,
+                  "rmm_settings has 120 bytes");
+
+/* The answers of rmm_open. */
+enum { RMM_OPENED = 0, RMM_NO_MACHINE = 1, RMM_NO_MEMORY = 2, RMM_ALREADY_OPEN = 3 };
+
+/* Opens a closed handle: a fresh machine, all of whose granules are UNDELEGATED and 0.
+ * RMM_OPENED, or nothing has changed: RMM_ALREADY_OPEN exactly if it was open, RMM_NO_MACHINE exactly if it was closed
+ * and a setting is out of its range, RMM_NO_MEMORY if allocation failed.
+ * Required: handle; `settings` is not NULL, each of its fields is written, and its bools are true or false. */
+uint64_t rmm_open(rmm_handle *handle, const rmm_settings *settings) RMM_NO_NULL;
+
+/* Closes a handle, and gives its memory back. A closed one stays closed.   Required: handle. */
+void rmm_close(rmm_handle *handle) RMM_NO_NULL;
+
+/* ---- calls */
+
+/* The registers of a call. SMCCC 1.2. */
+typedef struct rmm_registers {
+    uint64_t x0;
+    uint64_t x1;
+    uint64_t x2;
+    uint64_t x3;
+    uint64_t x4;
+    uint64_t x5;
+    uint64_t x6;
+} rmm_registers;
+
+RMM_STATIC_ASSERT(sizeof(rmm_registers) == 56, "rmm_registers has 56 bytes");
+
+/* An SMC: X0 to X6 before the call; after it X0 is the result word, X1 to X4 are the outputs, 0 where there is none.
+ *
+ * X0 is RMM_NOT_SUPPORTED, and no other register changes, for a function that is no command, and on a closed handle.
+ * X0 is RMM_RUNNING if the guest that was entered spins: RMI_REC_ENTER would not have come back. The REC is RUNNING,
+ * and rmm_interrupt ends that.   Required: handle; `registers` is not NULL, and each of its fields is written. */
+void rmm_smc(rmm_handle *handle, rmm_registers *registers) RMM_NO_NULL;
+
+#define RMM_NOT_SUPPORTED 0xffffffffffffffff
+#define RMM_RUNNING 0xfffffffffffffffe
+
+/* Result words. RMM 1.0, RmiCommandReturnCode: the status in bits 7:0, the index in bits 15:8. */
+enum { RMM_SUCCESS = 0, RMM_ERROR_INPUT = 1, RMM_ERROR_REALM = 2, RMM_ERROR_REC = 3, RMM_ERROR_RTT = 4 };
+
+static inline unsigned rmm_status(uint64_t word) { return (unsigned)(word & 0xff); }
+static inline unsigned rmm_index(uint64_t word) { return (unsigned)(word >> 8 & 0xff); }
+
+/* ---- memory of the host */
+
+/* Reads and writes bytes within one granule. False, with nothing changed, where a host gets a granule protection fault:
+ * the granule is not UNDELEGATED, is secure, or there is none. False also for bytes of more than one granule, and on a
+ * closed handle.
+ * Required: handle; `bytes` is not NULL, not even if `count` is 0; it points to `count` bytes, which rmm_store reads
+ * and rmm_load may write to. */
+bool rmm_load(rmm_handle *handle, uint64_t address, void *bytes, size_t count) RMM_NO_NULL;
+bool rmm_store(rmm_handle *handle, uint64_t address, const void *bytes, size_t count) RMM_NO_NULL;
+
+/* ---- guests. A REC has a list of at most 16 steps. RMI_REC_ENTER performs them until one makes an exit; if none is
+ * left, the exit is IRQ */
+
+/* A step, and its operands a to d in the sequence here. An operand that is not named is not looked at. */
+enum {
+    RMM_STEP_WRITE = 0,           /* ipa, value, bytes: 2, 4 or 8; any other number is 1 byte */
+    RMM_STEP_READ = 1,            /* ipa, bytes */
+    RMM_STEP_HOST_CALL = 2,       /* imm, gprs 0 to 2 */
+    RMM_STEP_SET_RIPAS = 3,       /* base, top, ripas, 1 if DESTROYED may change */
+    RMM_STEP_CPU_ON = 4,          /* mpidr, entry point, context */
+    RMM_STEP_AFFINITY_INFO = 5,   /* mpidr, level */
+    RMM_STEP_CPU_OFF = 6,
+    RMM_STEP_CPU_SUSPEND = 7,
+    RMM_STEP_SYSTEM_OFF = 8,
+    RMM_STEP_SYSTEM_RESET = 9,
+    RMM_STEP_WFI = 10,
+    RMM_STEP_WFE = 11,
+    RMM_STEP_SPIN = 12,           /* until rmm_interrupt; so is each number that is not here */
+    RMM_STEP_FETCH = 13,          /* ipa */
+    RMM_STEP_SYSTEM_REGISTER = 14 /* iss, value: a write, as of ICC_SGI1R */
+};
+
+typedef struct rmm_step {
+    uint64_t kind;
+    uint64_t a;
+    uint64_t b;
+    uint64_t c;
+    uint64_t d;
+} rmm_step;
+
+RMM_STATIC_ASSERT(sizeof(rmm_step) == 40, "rmm_step has 40 bytes");
+
+/* The answers of rmm_guest. */
+enum { RMM_QUEUED = 0, RMM_FULL = 1, RMM_NO_REC = 2 };
+
+/* Gives the guest of a REC a step, after those that it has. RMM_FULL if it has 16, RMM_NO_REC if no REC is at the
+ * address, and then nothing changes. A closed handle has no REC.
+ * Required: handle; `step` is not NULL, and each of its fields is written. */
+uint64_t rmm_guest(rmm_handle *handle, uint64_t rec, const rmm_step *step) RMM_NO_NULL;
+
+/* Ends the run of a REC: the exit IRQ is written to the run page that RMI_REC_ENTER named, and `word` is what it
+ * returns. False, with nothing changed, if the REC is not RUNNING.
+ * Required: handle; `word` is not NULL, and may be written to. */
+bool rmm_interrupt(rmm_handle *handle, uint64_t rec, uint64_t *word) RMM_NO_NULL;
+
+/* The result of a step, as its guest sees it, and its value, 0 where there is none. */
+enum {
+    RMM_RESULT_DONE = 0,
+    RMM_RESULT_READ = 1,     /* what was read */
+    RMM_RESULT_SEA = 2,      /* an abort of the guest's own */
+    RMM_RESULT_ACCEPTED = 3, /* up to which address the RIPAS is changed */
+    RMM_RESULT_REJECTED = 4, /* the same */
+    RMM_RESULT_RETURNED = 5, /* gprs 0 of RmiRecEnter */
+    RMM_RESULT_PSCI = 6,     /* the PSCI result */
+    RMM_RESULT_RSI_ERROR_INPUT = 7
+};
+
+typedef struct rmm_step_result {
+    uint64_t kind;
+    uint64_t value;
+} rmm_step_result;
+
+RMM_STATIC_ASSERT(sizeof(rmm_step_result) == 16, "rmm_step_result has 16 bytes");
+
+/* Result `number` of those since the last entry of a REC, from 0 on. False, and nothing is written, if there is none.
+ * Required: handle; `result` is not NULL, and may be written to. */
+bool rmm_result(rmm_handle *handle, uint64_t rec, uint64_t number, rmm_step_result *result) RMM_NO_NULL;
+
+/* ---- readings, which no host has. False, and nothing is written, if there is nothing to read. None changes the
+ * machine. An address is that of a whole granule. */
+
+/* RMM 1.0, RmmGranuleState. */
+enum {
+    RMM_UNDELEGATED = 0,
+    RMM_DELEGATED = 1,
+    RMM_RD = 2,
+    RMM_REC = 3,
+    RMM_REC_AUX = 4,
+    RMM_DATA = 5,
+    RMM_RTT = 6
+};
+
+/* The state of a granule.   Required: handle; `state` is not NULL, and may be written to. */
+bool rmm_read_state(rmm_handle *handle, uint64_t address, uint64_t *state) RMM_NO_NULL;
+
+/* The eight bytes from 8 * index on of a granule in any state, the least first; `index` is at most 511. Of a REC, words
+ * 0 to 30 are its gprs, and word 31 is its pc.   Required: handle; `word` is not NULL, and may be written to. */
+bool rmm_read_word(rmm_handle *handle, uint64_t address, uint64_t index, uint64_t *word) RMM_NO_NULL;
+
+/* RMM 1.0, RmmRealmState. */
+enum { RMM_NEW = 0, RMM_ACTIVE = 1, RMM_SYSTEM_OFF = 2 };
+
+/* RMM 1.0, RmiHashAlgorithm. */
+enum { RMM_SHA_256 = 0, RMM_SHA_512 = 1 };
+
+/* A realm. RMM 1.0, Realm attributes. */
+typedef struct rmm_realm {
+    uint64_t state;
+    uint64_t hash_algo;
+    uint64_t s2sz;
+    uint64_t rtt_level_start;
+    uint64_t rtt_num_start;
+    uint64_t rtt_base;
+    uint64_t vmid;
+    uint64_t next_rec;  /* how many RECs it was given, so the number of its next REC */
+    uint64_t rec_count; /* how many RECs it has */
+    uint8_t rim[64];    /* with SHA-256, zeros from byte 32 on */
+} rmm_realm;
+
+RMM_STATIC_ASSERT(sizeof(rmm_realm) == 136 && offsetof(rmm_realm, rim) == 72, "rmm_realm has 136 bytes");
+
+/* The realm whose RD is at an address.   Required: handle; `realm` is not NULL, and may be written to. */
+bool rmm_read_realm(rmm_handle *handle, uint64_t rd, rmm_realm *realm) RMM_NO_NULL;
+
+/* RMM 1.0, RmmRecState. */
+enum { RMM_READY = 0, RMM_REC_RUNNING = 1 };
+
+/* RMM 1.0, RmiRipas. */
+enum { RMM_EMPTY = 0, RMM_RAM = 1, RMM_DESTROYED = 2 };
+
+/* A REC. RMM 1.0, REC attributes. */
+typedef struct rmm_rec {
+    uint64_t state;
+    uint64_t mpidr;
+    uint64_t ripas_base;   /* what is left of the change of RIPAS that it asked for; base and top are 0 without one */
+    uint64_t ripas_top;
+    uint64_t ripas_value;
+    uint64_t step_count;   /* how many steps its guest has yet to perform */
+    uint64_t result_count; /* how many results there are since its last entry */
+    bool is_runnable;
+    bool is_psci_pending;
+} rmm_rec;
+
+RMM_STATIC_ASSERT(sizeof(rmm_rec) == 64 && offsetof(rmm_rec, is_runnable) == 56, "rmm_rec has 64 bytes");
+
+/* The REC at an address.   Required: handle; `attributes` is not NULL, and may be written to. */
+bool rmm_read_rec(rmm_handle *handle, uint64_t rec, rmm_rec *attributes) RMM_NO_NULL;
+
+#ifdef __cplusplus
+}
+#endif
+
+#endif

@@ -1,0 +1,86 @@
+/* Refuses each allocation of rmm_open in turn, and counts what is not given back.
+ * Link it with -Wl,--wrap=malloc,--wrap=realloc,--wrap=free. The last line is
+ * `N allocations were refused, each in turn`. */
+#include "life.h"
+
+#include <stdlib.h>
+
+enum { ALL = -1 };
+
+/* How many allocations are granted before one is refused; and how many blocks are out. */
+static long granted = ALL, out, taken;
+
+void *__real_malloc(size_t size);
+void *__real_realloc(void *old, size_t size);
+void __real_free(void *block);
+
+static bool refuses(void) { return granted != ALL && granted-- == 0; }
+
+void *__wrap_malloc(size_t size)
+{
+    void *block = refuses() ? NULL : __real_malloc(size);
+    out += block != NULL;
+    taken++;
+    return block;
+}
+
+void *__wrap_realloc(void *old, size_t size)
+{
+    void *block = refuses() ? NULL : __real_realloc(old, size);
+    out += block != NULL && old == NULL;
+    taken++;
+    return block;
+}
+
+void __wrap_free(void *block)
+{
+    out -= block != NULL;
+    __real_free(block);
+}
+
+/* The life of a realm takes no block, nor does a reading. */
+static bool takes_none(rmm_handle *handle)
+{
+    rmm_realm realm;
+    rmm_rec rec;
+    uint64_t state = 0;
+    long before = taken;
+    WANTED(live(handle, 1, 3) && make_realm(handle, 1, 3));
+    WANTED(rmm_read_realm(handle, RD, &realm) && rmm_read_rec(handle, REC, &rec) && rmm_read_state(handle, RD, &state));
+    WANTED(taken == before);
+    return true;
+}
+
+/* What is wrong with an open that is granted `n` allocations, or NULL; `is_open` says whether they are enough. */
+static const char *fault(rmm_handle *handle, long n, bool *is_open)
+{
+    granted = n;
+    uint64_t answer = opened(handle, PAGE_COUNT);
+    granted = ALL;
+    *is_open = answer == RMM_OPENED;
+    if (!*is_open && (answer != RMM_NO_MEMORY || handle->is_open))
+        return "the answer is not RMM_NO_MEMORY on a closed handle";
+    if (*is_open && opened(handle, PAGE_COUNT) != RMM_ALREADY_OPEN)
+        return "it can be opened again";
+    if (*is_open && !takes_none(handle))
+        return "a command is refused, or takes a block";
+    rmm_close(handle);
+    rmm_close(handle);
+    return handle->is_open || out != 0 ? "a block is not given back" : NULL;
+}
+
+int main(void)
+{
+    rmm_handle handle = RMM_CLOSED;
+    bool is_open = false;
+    long n = 0;
+    for (; n < 1000 && !is_open; n++) {
+        const char *what = fault(&handle, n, &is_open);
+        if (what != NULL) {
+            printf("with %ld allocations granted: %s\n", n, what);
+            return 1;
+        }
+    }
+    printf("%ld allocations were refused, each in turn\n", n - 1);
+    return n == 1 || !is_open;
+}
