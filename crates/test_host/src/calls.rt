@@ -1,13 +1,11 @@
 //! Scripts of a host: calls of its builds, what is read of it, and what each has to answer.
 use crate::expected::holds_at;
 use crate::hosts::{booted, over_arena};
-use crate::readings::{is_granule_read, is_realm_read};
+use crate::readings::is_read;
 use arrayvec::ArrayVec;
 use granule_addr::{BuildId, RecNo, Vmid};
 use page_arena::PageStore;
-use realm_host::{
-    Cmd, GranuleState, Host, Kind, Mark, RealmState, RecState, Refusal, Reply, Undone,
-};
+use realm_host::{Cmd, GranuleState, Host, Kind, Mark, RealmState, Refusal, Reply, Undone};
 use std::alloc::Global;
 use std::process::Abort;
 
@@ -23,8 +21,6 @@ pub(crate) enum Command {
     Delegate(u16),
     /// Pages 0 and 1 become the RD and the starting table of a realm.
     Realm,
-    /// Page 2 becomes the table of level 2 at that IPA granule.
-    Table(u32),
     /// Page 2 becomes a REC.
     Rec,
 }
@@ -53,14 +49,6 @@ pub(crate) enum Which {
     Older,
 }
 
-/// The holder of a granule.
-pub(crate) enum Holder {
-    Nobody,
-    Build,
-    /// The build's realm, whose RD is granule 0.
-    Realm,
-}
-
 /// A call of a host, or what is read of it. The last field is the answer.
 pub(crate) enum Call {
     Ask(Command, Result<Said, No>),
@@ -77,29 +65,9 @@ pub(crate) enum Call {
     Pages(u16, u16, u16),
     /// The state of a page, and the sum of its bytes.
     Page(u16, GranuleState, u32),
-    /// The granule of a page.
-    Granule(u16, Option<u16>),
-    /// The state of a granule, and its holder.
-    State(u16, Option<(GranuleState, Holder)>),
-    /// The number of open operations. The first is a take of two pages, the last the delegation of granule 1.
-    Open(u16),
-    /// No operation is open.
-    NothingOpen,
-    IsAborting(bool),
-    /// The numbers of open operations and of events at the mark that is kept.
-    KeptMark(Option<(u16, u32)>),
-    /// The RD of the build's realm.
-    Rd(Option<u16>),
     /// The state of the realm, and its VMID.
     Realm(Option<(RealmState, u8)>),
     Measurement(Option<[u8; 32]>),
-    /// The width of the realm, its first starting table, how many there are, and the number of its next REC.
-    Tables(u8, u16, u16, u16),
-    /// The granule of a REC, its state, and how many auxiliaries it has.
-    Rec(u16, Option<(u16, RecState, usize)>),
-    /// The walk of an IPA granule towards a level. The row has its level, its first IPA granule and its word. The first
-    /// IPA granule of the next row is the last field.
-    Row(u32, u8, Option<(u8, u32, u64, u32)>),
 }
 
 impl Command {
@@ -112,11 +80,6 @@ impl Command {
                 rd: 0,
                 root: 1,
                 width: 39,
-            },
-            Command::Table(ipa) => Cmd::Rtt {
-                page: 2,
-                ipa,
-                level: 2,
             },
             Command::Rec => Cmd::Rec {
                 page: 2,
@@ -235,7 +198,7 @@ fn is_answered<S: PageStore>(
             let mark = marks.get(which);
             checks_back(host, build, mark, want) && goes_back(host, build, mark, want)
         }
-        _ => is_granule_read(host, build, call) || is_realm_read(host, build, call),
+        _ => is_read(host, build, call),
     }
 }
 

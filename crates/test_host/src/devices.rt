@@ -22,7 +22,7 @@ fn failure(call: u64) -> io::Error {
 pub(crate) struct Source<'a> {
     pub rest: &'a [u8],
     most: usize,
-    pub reads: u64,
+    reads: u64,
     fails_at: Option<u64>,
 }
 
@@ -40,26 +40,13 @@ impl Read for Source<'_> {
     }
 }
 
-/// Such a source of bytes, which has reported no failure.
-pub(crate) fn told_source(rest: &[u8], most: usize, fails_at: Option<u64>) -> Told<Source<'_>>
-    ensures { result.failed ≡ false }
-{
-    let source = Source {
-        rest,
-        most,
-        reads: 0,
-        fails_at,
-    };
-    Told::new(source)
-}
-
 /// Takes up to `most` bytes a write, and fails at one of its writes, counted from 0, or at its flush.
 #[derive(Drop)]
 pub(crate) struct Sink {
     got: Vec<u8>,
     most: usize,
-    pub writes: u64,
-    pub flushes: u64,
+    writes: u64,
+    flushes: u64,
     fails_at: Option<u64>,
     fails_to_flush: bool,
 }
@@ -91,26 +78,6 @@ impl Write for Sink {
         }
         Ok(())
     }
-}
-
-/// Such a sink, which has reported no failure.
-pub(crate) fn told_sink(
-    alloc: Global,
-    most: usize,
-    fails_at: Option<u64>,
-    fails_to_flush: bool,
-) -> Told<Sink>
-    ensures { result.failed ≡ false }
-{
-    let sink = Sink {
-        got: Vec::new(alloc),
-        most,
-        writes: 0,
-        flushes: 0,
-        fails_at,
-        fails_to_flush,
-    };
-    Told::new(sink)
 }
 
 /// The devices of a program: how much a call takes at most, and which call fails. A failed test is named by the case,
@@ -176,13 +143,25 @@ impl<'a> Devices<'a> {
     pub(crate) fn source(&self) -> Told<Source<'a>>
         ensures { result.failed ≡ false }
     {
-        told_source(self.input, self.most_read, self.read_fails)
+        Told::new(Source {
+            rest: self.input,
+            most: self.most_read,
+            reads: 0,
+            fails_at: self.read_fails,
+        })
     }
 
     pub(crate) fn sink(&self, alloc: Global) -> Told<Sink>
         ensures { result.failed ≡ false }
     {
-        told_sink(alloc, self.most_written, self.write_fails, self.flush_fails)
+        Told::new(Sink {
+            got: Vec::new(alloc),
+            most: self.most_written,
+            writes: 0,
+            flushes: 0,
+            fails_at: self.write_fails,
+            fails_to_flush: self.flush_fails,
+        })
     }
 }
 

@@ -1,7 +1,7 @@
 //! Tests of the host and of what is below and above it.
 //!
-//! Worked values: blocks, bytes and sizes of both stores, numbers of a machine, words of results and of table entries,
-//! measured bytes, and scripts of calls that no plan makes, or whose answers no plan prints. The expected values are
+//! Worked values: blocks of the arena, numbers of a machine, words of results and of table entries, measured bytes, and
+//! scripts of calls that no plan makes, or whose answers no plan prints. The expected values are
 //! worked out by hand or by another tool, since a proof cannot see a mistake that a definition and the code share.
 //!
 //! Runs: hosts that builds share, workers in threads, and the parts of the programs over devices in memory. The answers
@@ -18,8 +18,6 @@
 mod audit;
 #[cfg(test)]
 mod blocks;
-#[cfg(test)]
-mod bytes;
 #[cfg(test)]
 mod calls;
 #[cfg(test)]
@@ -61,8 +59,6 @@ mod scripts;
 #[cfg(test)]
 mod shared;
 #[cfg(test)]
-mod sizes;
-#[cfg(test)]
 mod steps;
 #[cfg(test)]
 mod tables;
@@ -72,8 +68,6 @@ mod tellers;
 mod text;
 #[cfg(test)]
 mod threads;
-#[cfg(test)]
-mod told;
 #[cfg(test)]
 mod turns;
 #[cfg(test)]

@@ -1,5 +1,5 @@
-//! Orders, granules and offsets by plain numbers.
-use granule_addr::{Gran, Order, PageOff};
+//! Orders and granules by plain numbers.
+use granule_addr::{Gran, Order};
 
 /// The order of that number, modulo 10.
 pub(crate) fn order(number: u8) -> Order {
@@ -9,9 +9,4 @@ pub(crate) fn order(number: u8) -> Order {
 /// The granule of that number, modulo 4096.
 pub(crate) fn granule(number: u16) -> Gran {
     Gran::new(number % 4096, 4096).unwrap()
-}
-
-/// The offset of that number, modulo 4096.
-pub(crate) fn offset(number: u16) -> PageOff {
-    PageOff::new(number % 4096).unwrap()
 }

@@ -1,86 +1,9 @@
 //! Numbers of a machine, and the words of results and of table entries, by rows that are worked out by hand.
 use crate::expected::{equal, holds_at};
-use crate::names::{granule, order};
-use granule_addr::{
-    BuildId, Gran, IpaGran, IpaWidth, Level, Order, PageOff, Vmid, align_down, buddy_of, index_at,
-    is_protected, start_table,
-};
+use crate::names::granule;
+use granule_addr::{IpaGran, IpaWidth, Level, index_at, is_protected, start_table};
 use realm_model::{Ripas, Rmi, Status};
 use rtt::Entry;
-
-// A number of a kind.
-enum Number {
-    // The number of a granule, and of how many.
-    Granule(u16, u16),
-    Order(u8),
-    Build(u8),
-    Vmid(u8),
-    Offset(u16),
-    Level(u8),
-    Width(u8),
-    // The number of an IPA granule, and the width.
-    Ipa(u32, u8),
-}
-
-// The last number of each kind, and the first that is out of range.
-const RANGES: &[(Number, bool)] = &[
-    (Number::Granule(4095, 4096), true),
-    (Number::Granule(4096, 5000), false),
-    (Number::Granule(3, 4), true),
-    (Number::Granule(4, 4), false),
-    (Number::Order(9), true),
-    (Number::Order(10), false),
-    (Number::Build(7), true),
-    (Number::Build(8), false),
-    (Number::Vmid(255), true),
-    (Number::Vmid(0), false),
-    (Number::Offset(4095), true),
-    (Number::Offset(4096), false),
-    (Number::Level(1), true),
-    (Number::Level(0), false),
-    (Number::Level(3), true),
-    (Number::Level(4), false),
-    (Number::Width(38), false),
-    (Number::Width(44), false),
-    (Number::Ipa(134_217_727, 39), true),
-    (Number::Ipa(134_217_728, 39), false),
-    (Number::Ipa(2_147_483_647, 43), true),
-    (Number::Ipa(2_147_483_648, 43), false),
-    (Number::Ipa(0, 38), false),
-    (Number::Ipa(0, 44), false),
-];
-
-fn is_there(number: &Number) -> bool {
-    match *number {
-        Number::Granule(number, count) => Gran::new(number, count).is_some(),
-        Number::Order(number) => Order::new(number).is_some(),
-        Number::Build(number) => BuildId::new(number).is_some(),
-        Number::Vmid(number) => Vmid::new(number).is_some(),
-        Number::Offset(number) => PageOff::new(number).is_some(),
-        Number::Level(number) => Level::new(number).is_some(),
-        Number::Width(number) => IpaWidth::new(number).is_some(),
-        Number::Ipa(number, width) => IpaGran::new(number, width).is_some(),
-    }
-}
-
-#[test]
-fn ends_of_ranges(rt: HostRuntime) {
-    for place in 0..RANGES.len() {
-        let (number, want) = &RANGES[place];
-        holds_at(&rt, "a range", place, is_there(number) == *want);
-    }
-}
-
-#[test]
-fn blocks(rt: HostRuntime) {
-    holds_at(&rt, "the block of 13", 0, align_down(13, order(2)) == 12);
-    holds_at(
-        &rt,
-        "the block beside 8",
-        0,
-        buddy_of(granule(8), order(2)) == 12,
-    );
-}
 
 // IPA granules and widths, and the entries of levels that cover each; of level 1, of the starting table that serves it.
 //

@@ -1,31 +1,9 @@
-//! The limits of settings, and the texts of refusals.
-use crate::expected::holds_at;
+//! The texts of refusals.
 use granule_addr::Order;
-use realm_host::{Refusal, Settings};
+use realm_host::Refusal;
 use realm_model::{Rmi, Status};
 use std::alloc::Global;
 use std::process::Abort;
-
-// VMIDs, auxiliaries of a REC, room in the history and builds; whether a host can have them.
-const SETTINGS: [(u8, u8, u16, u8, bool); 7] = [
-    (255, 16, 16_384, 8, true),
-    (0, 0, 16, 1, false),
-    (1, 17, 16, 1, false),
-    (1, 0, 15, 1, false),
-    (1, 0, 16_385, 1, false),
-    (1, 0, 16, 0, false),
-    (1, 0, 16, 9, false),
-];
-
-#[test]
-fn settings_have_limits(rt: HostRuntime) {
-    let mut place = 0;
-    for (vmids, aux, history, builds, want) in SETTINGS {
-        let settings = Settings::new(vmids, aux, history, builds);
-        holds_at(&rt, "settings", place, settings.is_some() == want);
-        place = place.saturating_add(1);
-    }
-}
 
 const TEXTS: [(Refusal, &str); 12] = [
     (Refusal::NoBuild, "there is no such build"),

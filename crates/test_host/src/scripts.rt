@@ -1,6 +1,6 @@
 //! Scripts of a host that no plan makes, or whose answers no plan prints, over both stores.
-use crate::calls::{Call, Command, Holder, No, Said, Script, Which, over_both};
-use realm_host::{GranuleState, Kind, RealmState, RecState};
+use crate::calls::{Call, Command, No, Said, Script, Which, over_both};
+use realm_host::{GranuleState, Kind, RealmState};
 
 const FIRST_PAGE: Result<Said, No> = Ok(Said::FirstPage(0));
 
@@ -87,87 +87,6 @@ const MEASUREMENT: Script = &[
     (0, Call::Measurement(Some(AFTER_REC_1))),
 ];
 
-// The RD, a starting table, a REC, and a page of the host's; one that nobody leases, and none.
-const REALM: Script = &[
-    (0, Call::Rd(None)),
-    (0, Call::Ask(Command::Take(2), FIRST_PAGE)),
-    (0, Call::Ask(Command::Delegate(0), Ok(Said::Done))),
-    (0, Call::Ask(Command::Delegate(1), Ok(Said::Done))),
-    (0, Call::Ask(Command::Delegate(2), Ok(Said::Done))),
-    (0, Call::Ask(Command::Realm, Ok(Said::Vmid(1)))),
-    (0, Call::Ask(Command::Rec, Ok(Said::Number(0)))),
-    (0, Call::State(0, Some((GranuleState::Rd, Holder::Realm)))),
-    (0, Call::State(1, Some((GranuleState::Rtt, Holder::Realm)))),
-    (0, Call::State(2, Some((GranuleState::Rec, Holder::Realm)))),
-    (
-        0,
-        Call::State(3, Some((GranuleState::Undelegated, Holder::Build))),
-    ),
-    (
-        0,
-        Call::State(4, Some((GranuleState::Undelegated, Holder::Nobody))),
-    ),
-    (0, Call::State(5, None)),
-    (0, Call::Pages(1, 5, 4)),
-    (0, Call::Granule(3, Some(3))),
-    (0, Call::Tables(39, 1, 1, 1)),
-    (0, Call::Rd(Some(0))),
-    (0, Call::Rec(0, Some((2, RecState::Ready, 0)))),
-    (0, Call::Rec(1, None)),
-];
-
-// The first IPA granule of the second row of level 1.
-const SECOND: u32 = 262_144;
-
-// Granule 2 is the table of level 2 for the second row of level 1. That has 512 rows of 512 IPA granules each.
-//
-// Word 0 is UNASSIGNED and EMPTY, 8194 the table in granule 2, and 8 UNASSIGNED and DESTROYED. Build 1 has no realm,
-// and the realm of build 0 no IPA granule outside of 39 bits.
-const WALKS: Script = &[
-    (0, Call::Ask(Command::Take(2), FIRST_PAGE)),
-    (0, Call::Ask(Command::Delegate(0), Ok(Said::Done))),
-    (0, Call::Ask(Command::Delegate(1), Ok(Said::Done))),
-    (0, Call::Ask(Command::Delegate(2), Ok(Said::Done))),
-    (0, Call::Ask(Command::Realm, Ok(Said::Vmid(1)))),
-    (0, Call::Ask(Command::Table(SECOND), Ok(Said::Done))),
-    (0, Call::Row(7, 3, Some((1, 0, 0, SECOND)))),
-    (
-        0,
-        Call::Row(SECOND + 5, 1, Some((1, SECOND, 8194, 524_288))),
-    ),
-    (
-        0,
-        Call::Row(SECOND + 1029, 3, Some((2, SECOND + 1024, 0, SECOND + 1536))),
-    ),
-    (0, Call::Row(134_217_728, 3, None)),
-    (1, Call::Row(0, 3, None)),
-    (0, Call::Undo(Ok((Kind::Rtt, 5)))),
-    (
-        0,
-        Call::Row(SECOND + 1029, 3, Some((1, SECOND, 8, 524_288))),
-    ),
-];
-
-// A build has three operations open, and a mark from before the third. A build that is not there has nothing.
-const OPEN: Script = &[
-    (0, Call::Ask(Command::Take(1), FIRST_PAGE)),
-    (0, Call::Ask(Command::Delegate(0), Ok(Said::Done))),
-    (0, Call::Ask(Command::Fill(1, 5), Ok(Said::Done))),
-    (0, Call::KeptMark(None)),
-    (0, Call::Mark(Ok(2))),
-    (0, Call::Ask(Command::Delegate(1), Ok(Said::Done))),
-    (0, Call::Open(3)),
-    (0, Call::IsAborting(false)),
-    (0, Call::KeptMark(Some((2, 3)))),
-    (7, Call::NothingOpen),
-    (7, Call::IsAborting(false)),
-    (7, Call::KeptMark(None)),
-    (7, Call::Granule(0, None)),
-    (0, Call::BeginAbort(Ok(3))),
-    (0, Call::Open(3)),
-    (0, Call::IsAborting(true)),
-];
-
 // A program that runs plans cannot ask for a build that the host has not got.
 const NO_BUILD: Script = &[
     (2, Call::Ask(Command::Take(10), Err(No::Build))),
@@ -180,9 +99,6 @@ const SCRIPTS: &[(&str, u16, u8, Script)] = &[
     ("marks", 4, 1, MARKS),
     ("refused marks", 4, 1, REFUSED_MARKS),
     ("a measurement", 4, 1, MEASUREMENT),
-    ("a realm", 5, 1, REALM),
-    ("walks", 4, 2, WALKS),
-    ("what is open", 2, 1, OPEN),
     ("no build", 1, 2, NO_BUILD),
 ];
 
