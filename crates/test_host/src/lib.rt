@@ -1,15 +1,15 @@
 //! Tests of the host and of what is below and above it.
 //!
-//! Worked values: blocks of the arena, numbers of a machine, words of results and of table entries, measured bytes, and
-//! scripts of calls that no plan makes, or whose answers no plan prints. The expected values are
-//! worked out by hand or by another tool, since a proof cannot see a mistake that a definition and the code share.
+//! Worked values: blocks of the arena, numbers of a machine, words of results and of table entries, and measured bytes.
+//! With them are scripts of calls that no plan makes, or whose answers no plan prints. The expected values are worked
+//! out by hand or by another tool. A proof cannot see a mistake that a definition and the code share.
 //!
 //! Runs: hosts that builds share, workers in threads, and the parts of the programs over devices in memory. The answers
-//! of calls are proved, and what a worker does after a refusal. These tests are for the rest: each worker has a thread
+//! of calls are proved, and what a worker does after a refusal. These tests are for the rest. Each worker has a thread
 //! of its own, threads come to their end, and a device is asked as often as it has to be.
 //!
 //! Steps are spelled as in a plan, and expected values are rows of tables. One proved function runs the rows of a
-//! table, and names the case and the row that fails: each function of a test is proved, and a row costs next to nothing.
+//! table, and names the case and the row that fails. Each function of a test is proved, and a row costs next to nothing.
 //! What the RMM's commands answer, and what they leave in their pages, is in `traces/`. `tests/program` compares what
 //! the built programs print.
 #![tactic(auto)]
