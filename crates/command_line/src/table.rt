@@ -33,20 +33,30 @@ pub(crate) struct Program {
     pub subcommands: &'static [Subcommand],
 }
 
+// An option with a number of 32 bits.
+fn number<'a>(alloc: Global, name: &'a str, value: &'a str, help: &'a str) -> Arg<'a> {
+    Arg::new(alloc, name)
+        .long(name)
+        .value_name(value)
+        .help(help)
+        .action(ArgAction::Set)
+        .value_parser(value_parser!(u32))
+}
+
+// A flag.
+fn flag<'a>(alloc: Global, name: &'a str, help: &'a str) -> Arg<'a> {
+    Arg::new(alloc, name)
+        .long(name)
+        .help(help)
+        .action(ArgAction::SetTrue)
+}
+
 impl Opt {
     fn argument<'a>(self, alloc: Global) -> Arg<'a> {
         match self {
             Opt::Erase(help) => erase(alloc, help),
-            Opt::Number(name, value, help) => Arg::new(alloc, name)
-                .long(name)
-                .value_name(value)
-                .help(help)
-                .action(ArgAction::Set)
-                .value_parser(value_parser!(u32)),
-            Opt::Flag(name, help) => Arg::new(alloc, name)
-                .long(name)
-                .help(help)
-                .action(ArgAction::SetTrue),
+            Opt::Number(name, value, help) => number(alloc, name, value, help),
+            Opt::Flag(name, help) => flag(alloc, name, help),
         }
     }
 }
