@@ -1,8 +1,8 @@
 //! The progress of an exploration, on a terminal.
-use view_program::schedules::{Expected, Progress};
 use std::cell::Cell;
 use std::io::IsTerminal;
 use std::time::Instant;
+use view_program::schedules::{Expected, Progress};
 
 /// Milliseconds from one line to the next.
 const PAUSE: u128 = 200;

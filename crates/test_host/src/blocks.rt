@@ -41,5 +41,9 @@ fn thirteen_pages(rt: HostRuntime) {
     arena.give(nine, one);
     has_blocks(&rt, &arena, &[(3, 0), (2, 8), (0, 12)]);
     holds(&rt, "no block of 16", arena.take(order(4)).is_none());
-    holds(&rt, "the block of 8", arena.take(order(3)) == Some(granule(0)));
+    holds(
+        &rt,
+        "the block of 8",
+        arena.take(order(3)) == Some(granule(0)),
+    );
 }

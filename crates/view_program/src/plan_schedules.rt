@@ -6,15 +6,15 @@ ghost use Rattle.view_program.specs.Lines.{schedules_text, drawn_text};
 ghost use Rattle.view_program.specs.Orders.{IsFirstText, IsDrawnText, IsSchedulesText, IsWithoutSchedules};
 
 use crate::plan_text::ViewText;
+use crate::schedules::{
+    Expected, Explored, Progress, Totals, explore as run_first, push_drawn, push_schedules, sample,
+    schedule_in_rotation,
+};
 use command_line::realmview::Schedules;
 use rand_core::SeedableRng;
 use rand_xoshiro::Xoshiro256PlusPlus;
 use realm_plan::Plan;
 use realm_program::{Fault, PlanText};
-use crate::schedules::{
-    Expected, Explored, Progress, Totals, explore as run_first, push_drawn, push_schedules, sample,
-    schedule_in_rotation,
-};
 use std::alloc::{AllocError, Global};
 
 // The text of the outcomes of the first schedules.

@@ -4,12 +4,12 @@ ghost use Rattle.view_program.specs.Printed.{IsRunEnd};
 ghost use Rattle.view_program.specs.declared.fault.ViewError.TheVariants.{Device};
 
 use crate::printing::print;
+use crate::schedules::Progress;
 use crate::{
     Documents, Exploring, Histories, Pages, Reasons, ViewError, ViewOutcome, ViewSubcommand, apply,
     check, reorder,
 };
 use checked_io::Told;
-use crate::schedules::Progress;
 use std::alloc::Global;
 use std::io::{Read, Write};
 

@@ -5,7 +5,9 @@ ghost use Rattle.realm_plan.specs.PlanView.{plan_view};
 ghost use Rattle.view_program.specs.Lines.{step_count, build_lines, smooth_lines, map_lines, totals_text, schedules_text, drawn_text};
 
 use crate::schedules::exploration::Explored;
-use crate::schedules::lines::{push_count, push_drawn_count, push_map, push_smooth, push_step, push_wholes};
+use crate::schedules::lines::{
+    push_count, push_drawn_count, push_map, push_smooth, push_step, push_wholes,
+};
 use crate::schedules::{Tally, Totals};
 use realm_plan::Plan;
 use std::alloc::AllocError;
