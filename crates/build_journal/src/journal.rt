@@ -1,5 +1,5 @@
 //! The stack of the operations that a build has open.
-ghost use Rattle.std.specs.Prelude.{◌≡◌, ◌≤◌, [], length, drop, IfOk, IfSome, option_map, true};
+ghost use Rattle.std.specs.Prelude.{◌≡◌, ◌≤◌, [], length, drop, nat_le, IfOk, IfSome, option_map, true};
 ghost use Rattle.std.specs.List.{last_or};
 ghost use Rattle.realm_model.specs.Act.{is_paired};
 ghost use Rattle.realm_model.specs.Stack.{pushed};
@@ -40,6 +40,13 @@ impl Journal {
         ensures at_most { result ≤ 512 }
     {
         self.entries.len() as u16
+    }
+
+    /// Whether at least `count` operations are open. A build can go back to a mark of `count` operations exactly then.
+    pub fn has(&self, count: u16) -> bool
+        ensures { result ≡ nat_le count (length self.now) }
+    {
+        count <= self.entries.len() as u16
     }
 
     /// Follows an operation of the build: one that has a reverse is put on top, a reverse takes the top off, and no

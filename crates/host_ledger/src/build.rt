@@ -65,12 +65,11 @@ impl Build {
     fn follow_points(&mut self)
         ensures { self.new ≡ points_after self.old }
     {
-        let opened = self.journal.len();
-        if opened == 0 {
+        if self.journal.len() == 0 {
             self.aborting = false;
         }
         if let Some(mark) = self.mark {
-            if mark.length() > opened {
+            if !self.journal.has(mark.length()) {
                 self.mark = None;
             }
         }

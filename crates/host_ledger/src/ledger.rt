@@ -17,6 +17,7 @@ ghost use Rattle.host_ledger.specs.Booted.{booted};
 
 use crate::build::Build;
 use crate::mark::Mark;
+use build_journal::append_event;
 use granule_addr::{BuildId, Gran, RecNo, Vmid};
 use leases::{Holders, Leases, VmidPool};
 use realm_model::{Act, Event, RealmAndRec};
@@ -349,6 +350,6 @@ impl HostLedger {
         follow_holders(&mut self.holders, build, &act);
         follow_vmids(&mut self.vmids, &act);
         self.builds[build.number() as usize].follow(&act);
-        self.history.push_reserved(Event { build, act });
+        append_event(&mut self.history, Event { build, act });
     }
 }

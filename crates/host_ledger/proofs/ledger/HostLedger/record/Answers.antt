@@ -21,8 +21,8 @@ follow-requires c = can_follow c.self.inside.builds.items c.self.inside.leases c
     c.self.inside.history c.args.self.now c.self.view_is c.self.invariant c.args.build c.args.act c.requires.there c.requires.can c.number.result
     c.index_mut.result.now c.number.ensures.value c.index_mut.ensures.value
 
-pub push_reserved-requires : goal.push_reserved-requires
-push_reserved-requires c =
+pub append_event-requires : goal.append_event-requires
+append_event-requires c =
     memory_fits c.self.inside.builds.items c.self.inside.leases c.self.inside.holders c.self.inside.vmids c.self.inside.aux c.self.inside.capacity
     c.self.inside.history c.args.self.now c.self.view_is c.self.invariant c.args.build c.args.act c.requires.there c.requires.can c.number.result
     c.index_mut.result.now c.number.ensures.value c.index_mut.ensures.value
@@ -32,12 +32,12 @@ invariant_of-self c =
     kept_grows c.self.inside.builds.items c.self.inside.leases c.self.inside.holders c.self.inside.vmids c.self.inside.aux c.self.inside.capacity
     c.self.inside.history c.args.self.now c.self.view_is c.self.invariant c.args.build c.args.act c.requires.there c.requires.can c.number.result
     c.index_mut.result.now c.number.ensures.value c.index_mut.ensures.value
-    c.follow.new.self c.follow_pages.new.leases c.follow_holders.new.holders c.follow_vmids.new.vmids c.push_reserved.new.self c.follow.ensures
-    c.follow_pages.ensures c.follow_holders.ensures c.follow_vmids.ensures c.push_reserved.ensures.items c.push_reserved.ensures.capacity
+    c.follow.new.self c.follow_pages.new.leases c.follow_holders.new.holders c.follow_vmids.new.vmids c.append_event.new.history c.follow.ensures
+    c.follow_pages.ensures c.follow_holders.ensures c.follow_vmids.ensures c.append_event.ensures.items c.append_event.ensures.capacity
 
 pub returns : goal.returns
 returns c = view_grows c.self.inside.builds.items c.self.inside.leases c.self.inside.holders c.self.inside.vmids c.self.inside.aux c.self.inside.capacity
     c.self.inside.history c.args.self.now c.self.view_is c.self.invariant c.args.build c.args.act c.requires.there c.requires.can c.number.result
     c.index_mut.result.now c.number.ensures.value c.index_mut.ensures.value
-    c.follow.new.self c.follow_pages.new.leases c.follow_holders.new.holders c.follow_vmids.new.vmids c.push_reserved.new.self c.follow.ensures
-    c.follow_pages.ensures c.follow_holders.ensures c.follow_vmids.ensures c.push_reserved.ensures.items c.push_reserved.ensures.capacity
+    c.follow.new.self c.follow_pages.new.leases c.follow_holders.new.holders c.follow_vmids.new.vmids c.append_event.new.history c.follow.ensures
+    c.follow_pages.ensures c.follow_holders.ensures c.follow_vmids.ensures c.append_event.ensures.items c.append_event.ensures.capacity

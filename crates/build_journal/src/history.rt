@@ -1,0 +1,13 @@
+//! The history of a host, to which events are appended.
+ghost use Rattle.std.specs.Prelude.{◌≡◌, ◌<◌, ◌∷◌, ◌++◌, [], vec_len, vec_capacity};
+
+use realm_model::Event;
+
+/// Appends an event to a history that has capacity for it. No event before it goes.
+pub fn append_event(history: &mut Vec<Event>, event: Event)
+    requires { vec_len history.old < vec_capacity history.old }
+    ensures items { history.new.items ≡ history.old.items ++ event ∷ [] }
+    ensures capacity { vec_capacity history.new ≡ vec_capacity history.old }
+{
+    history.push_reserved(event);
+}
