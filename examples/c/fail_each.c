@@ -61,7 +61,7 @@ int main(int argc, char **argv)
     rmm_settings settings = RMM_DEFAULTS;
     unsigned pages = argc > 1 ? (unsigned)strtoul(argv[1], NULL, 10) : 8, runs = 0, leaks = 0;
     settings.base = 0x40000000;
-    settings.granules = 1024;
+    settings.granules = pages + 64;
     if (!opened(&settings) || !run(pages))
         return 2;
     for (unsigned k = 0; k < sizeof words / sizeof words[0]; k++) {

@@ -108,7 +108,7 @@ static bool load_image(const struct host *host, unsigned pages)
 
 static void free_rec(struct host_rec *it, uint64_t rec)
 {
-    for (unsigned k = 0; k < HOST_AUX && LEAK != 5; k++)
+    for (unsigned k = 0; k < HOST_AUX; k++)
         free_delegated(it->aux[k], 1);
     free_delegated(rec, 1);
     free_pages(it->run, 1);
@@ -138,7 +138,7 @@ static bool create_rec(struct host *host, unsigned number)
         it->rec = rmi_rec_create(host->rd, rec, page) == RMI_SUCCESS ? rec : 0;
     }
     free_pages(page, 1);
-    if (it->rec == 0)
+    if (it->rec == 0 && LEAK != 5)
         free_rec(it, rec);
     return it->rec != 0;
 }

@@ -217,6 +217,8 @@ static void on_fault(int number, siginfo_t *info, void *context)
     length += put_hex(line + length, address - address % PAGE);
     length += put_text(line + length, " is ");
     length += put_text(line + length, rmm_granule_state_name(window.granules[number_of(address)].state));
+    if (window.granules[number_of(address)].state == RMM_UNDELEGATED)
+        length += put_text(line + length, ", and secure");
     line[length++] = '\n';
     (void)!write(STDERR_FILENO, line, length);
 }
