@@ -33,7 +33,9 @@ class Table:
     """The rows of a trace. `base` is where its memory is moved to, if it is moved."""
 
     def __init__(self, base=None):
-        self.base, self.memory, self.runs = base, Memory(), {}
+        self.base, self.memory = base, Memory()
+        # The run page of each REC that runs on.
+        self.runs = {}
 
     def trace(self, name, lines):
         print(f"/* {name} */")
@@ -68,9 +70,10 @@ class Table:
         moved = [self.result(role, it, is_mapped) for role, it in zip(roles, results)]
         self.row("SMC", fid, *self.memory.operands(name, values), compared=[self.x0(word), *moved],
                  results=1 + len(roles))
-        if name == "rmi_rec_enter":
+        if name == "rmi_rec_enter" and word == ["RUNNING"]:
             self.runs[values[0]] = self.memory.moved(values[1])
-            self.exit(values[0], outputs)
+        elif name == "rmi_rec_enter":
+            self.exit(self.memory.moved(values[1]), outputs)
 
     def result(self, role, value, is_mapped):
         """An output as the RMM has it. Where nothing is mapped `desc` is 0, and no address."""
@@ -81,12 +84,12 @@ class Table:
     def x0(word):
         return NOT_COMPARED if word[0] == NOT_COMPARED else x0_of(word)
 
-    def exit(self, rec, outputs):
+    def exit(self, run, outputs):
         """Loads of the fields of an exit that an answer has."""
         for role, texts in outputs.items():
             first, width, _ = EXIT[role]
             for k, text in enumerate(texts):
-                self.row("LOAD", self.runs[rec] + first + k * width, width, compared=[value_of(role, text)])
+                self.row("LOAD", run + first + k * width, width, compared=[value_of(role, text)])
 
     def of_repeat(self, _kind, words, answer):
         """Each call of a repeat: those before the last are accepted."""
@@ -111,7 +114,7 @@ class Table:
         if results[0] == SUCCESS:
             results[1:] = [self.result(role, it, is_mapped) for role, it in zip(roles, results[1:])]
         self.row("SMC", fid, *self.memory.operands(name, given), compared=results, results=1 + len(roles))
-        if name == "rmi_rec_enter":
+        if results[0] == X0_RUNNING:
             self.runs[given[0]] = self.memory.moved(given[1])
 
     # ---- the host's memory, and platforms
@@ -126,7 +129,7 @@ class Table:
         self.row("PLATFORM", at, granules, *numbers, len(settings), text=text)
 
     def of_page(self, kind, words, _answer):
-        address, page = self.memory.moved(number(words[0])), self.memory.page(kind, fields_of(words[1:]))
+        address, page = self.memory.moved(number(words[0])), self.memory.page(kind, fields_of(kind, words[1:]))
         self.row("FILL", address, 0)
         for at in range(0, PAGE, 8):
             if any(page[at : at + 8]):
@@ -155,4 +158,4 @@ class Table:
         is_running = answer != "not running"
         self.row("INTERRUPT", self.memory.moved(rec), compared=[self.x0(word) if is_running else NOT_RUNNING])
         if is_running and rec in self.runs:
-            self.exit(rec, outputs)
+            self.exit(self.runs.pop(rec), outputs)

@@ -7,20 +7,16 @@
       --base HEX                      moves the memory of the traces to this address
       --seconds N                     the longest that a call may take (5)
 
-`Simulated` is in the place of your RMM: the proved one of python/rmm.py. Put a class of your own there. It needs three
-methods, and has four more where a guest performs the steps of the traces:
+`Simulated` is in the place of your RMM: the proved one of python/rmm.py. Put a class of your own there, with the three
+methods of `Firmware`. If its guests perform the steps of the traces, it has three more:
 
-    smc(registers)                  X0 to X6; returns X0 to X4 when the call comes back, so RMI_REC_ENTER at the exit
-    store(address, bytes)           the host stores bytes within a granule; False where it gets a fault
-    load(address, count)            the host loads bytes within a granule; None where it gets a fault
-    fresh(base, granules, settings) a new `platform`; returns whether the RMM is one with these settings
     guest(rec, step, *operands)     the guest of a REC gets a step: 'queued', 'full' or 'no REC'
     interrupt(rec)                  the host interrupts the REC, and so its RMI_REC_ENTER comes back
     results(rec)                    the results of its steps, each a name and a value; None if there is no REC
 
 Before the next platform the driver takes down what the calls have made: RECs, pages and mappings by `top`, tables,
-realms. Then it undelegates each granule, and clears the memory that the trace has named. Lines that are no calls and
-that the RMM has no method for are left out, and so is all of a machine from there on if it is a guest's line.
+realms. Then it undelegates each granule, and clears the memory that the trace has named. Readings are left out. Without
+a method for a guest's line, this line and all below it are left out, up to the next platform.
 
 Verdicts: `same`, `refused` if both refuse and by another word, `wrong` else. By the standard another refusal can be
 right: `rmitrace check` says so of a log. The names of checks are not compared. The status is 0 if an answer is the
@@ -36,8 +32,8 @@ from pathlib import Path
 
 sys.dont_write_bytecode = True
 from rmi_lines import (
-    COMMANDS, EXIT, EXIT_REASONS, FIELDS, NAME_OF, OF_EXIT, PAGE, PHYSICAL, PSCI_RESULTS, READINGS, STATUSES,
-    SUCCESS, X0_RUNNING, Memory, fields_of, line_of, number, operand, outputs_of, repeated, rtt_index,
+    ADDRESS_OF_DESC, COMMANDS, EXIT, EXIT_REASONS, FIELDS, NAME_OF, OF_EXIT, PAGE, PHYSICAL, PSCI_RESULTS, READINGS,
+    SUCCESS, X0_RUNNING, Memory, NoLine, fields_of, line_of, number, operand, outputs_of, repeated, rtt_index,
     settings_of, size, step_of, value_text, verdict, word_text,
 )
 
@@ -45,36 +41,53 @@ from rmi_lines import (
 # ---- the RMM that is asked
 
 
-class Simulated:
+class Firmware:
+    """The methods that an RMM needs here. Addresses are those of the machine's memory."""
+
+    def smc(self, registers):
+        """X0 to X4 after a call with X0 to X6. RMI_REC_ENTER comes back at the exit."""
+        raise NotImplementedError
+
+    def store(self, address, content):
+        """The host stores bytes within a granule. False where it gets a fault."""
+        raise NotImplementedError
+
+    def load(self, address, count):
+        """The host loads bytes within a granule. None where it gets a fault."""
+        raise NotImplementedError
+
+    def fresh(self, base, granules, settings):
+        """A new platform begins, and nothing of the last one is left. Returns whether the RMM has these settings."""
+        return True
+
+
+class Simulated(Firmware):
     """The RMM of python/rmm.py, as firmware: it is called by registers, and a guest that spins does not come back."""
 
-    OTHERS = {
-        "init_destroyed": "stops_at_destroyed", "measure_rec": "measures_all_recs", "data_flags": "ignores_data_flags",
-        "live_top": "aligns_live_top", "psci_args": "shows_target_alone", "desc_sh": "takes_shareability",
-        "data_ripas": "data_needs_ram", "params": "checks_params", "gic": "checks_gic",
+    # Of a setting with names the first name, and the flag that another one sets.
+    FLAGS = {
+        "init_destroyed": ("change", "stops_at_destroyed"), "measure_rec": ("runnable", "measures_all_recs"),
+        "data_flags": ("checked", "ignores_data_flags"), "live_top": ("given", "aligns_live_top"),
+        "psci_args": ("all", "shows_target_alone"), "desc_sh": ("zero", "takes_shareability"),
+        "data_ripas": ("any", "data_needs_ram"), "params": ("loose", "checks_params"), "gic": ("none", "checks_gic"),
     }
-    FIRST = ("change", "runnable", "checked", "given", "all", "zero", "any", "loose", "none")
 
     def __init__(self):
-        here = Path(__file__).resolve().parent.parent
-        sys.path[:0] = [str(here / "python")]
+        sys.path[:0] = [str(Path(__file__).resolve().parent.parent / "python")]
         import rmm
 
         self.module, self.rmm, self.platform, self.spinning = rmm, None, None, {}
 
     def fresh(self, base, granules, settings):
         """A machine that was taken down is one of the same settings again, so it is kept."""
-        if (base, granules, settings) == self.platform:
-            return True
-        is_other = {it: settings[it] != first for it, first in zip(self.OTHERS, self.FIRST) if it in settings}
-        flags = {self.OTHERS[it]: value for it, value in is_other.items()}
-        secure_base, secure_count = settings.get("secure", (0, 0))
-        numbers = {it: value for it, value in settings.items() if it not in self.OTHERS and it != "secure"}
-        secure = {"secure_base": secure_base, "secure_count": secure_count}
-        if self.rmm:
-            self.rmm.close()
-        self.rmm = self.module.Rmm(base=base, granules=granules, **numbers, **secure, **flags)
-        self.platform = base, granules, settings
+        if (base, granules, settings) != self.platform:
+            self.platform = base, granules, settings
+            numbers = {it: value for it, value in settings.items() if it not in self.FLAGS and it != "secure"}
+            flags = {flag: settings[it] != first for it, (first, flag) in self.FLAGS.items() if it in settings}
+            secure = dict(zip(("secure_base", "secure_count"), settings.get("secure", ())))
+            if self.rmm:
+                self.rmm.close()
+            self.rmm = self.module.Rmm(base=base, granules=granules, **numbers, **flags, **secure)
         return True
 
     def smc(self, registers):
@@ -166,7 +179,7 @@ class Ledger:
         elif name == "rmi_rec_destroy":
             del self.recs[values[0]]
         elif name == "rmi_rtt_map_unprotected":
-            desc, most = values[3] & 0xFFFFFFFFF000, size(max(values[2], 2))
+            desc, most = values[3] & ADDRESS_OF_DESC, size(max(values[2], 2))
             self.named.update(range(desc, desc + most, PAGE))
 
 
@@ -291,6 +304,7 @@ class Driver:
 
     # An entry that is expected to run on is given this time, and else the longest that a call may take.
     SPIN_SECONDS = 0.2
+    LINES = ("repeat", "smc", "fill", "store", "load", "guest", "interrupt", "saw")
 
     def __init__(self, rmm, seconds=5.0, base=None):
         self.rmm, self.watch, self.base = rmm, Watch(seconds), base
@@ -308,7 +322,9 @@ class Driver:
         if kind in COMMANDS:
             return self.call(kind, [operand(it) for it in words], line.answer)
         if kind in FIELDS:
-            return self.stored(number(words[0]), self.memory.page(kind, fields_of(words[1:])))
+            return self.stored(number(words[0]), self.memory.page(kind, fields_of(kind, words[1:])))
+        if kind not in self.LINES:
+            raise NoLine(line.question)
         return getattr(self, kind)(words, line.answer)
 
     def fresh(self, words):
@@ -331,6 +347,8 @@ class Driver:
 
     def called(self, name, values, written):
         """X0 to X4 after a command, as the trace has them, or None if the guest runs on."""
+        if len(values) != len(COMMANDS[name][1]):
+            raise NoLine(name)
         is_spin = name == "rmi_rec_enter" and (written or "RUNNING").startswith(("RUNNING", hex(X0_RUNNING)))
         after = self.machine.call(name, self.memory.operands(name, values), self.SPIN_SECONDS if is_spin else None)
         return after and [after[0], *self.memory.outputs(name, after)]
@@ -483,7 +501,7 @@ def main(words):
     try:
         for path in given.traces:
             report.trace(path, lines_in(path))
-    except (Late, NotUndone) as why:
+    except (Late, NoLine, NotUndone) as why:
         print(f"{path}: {why}")
         return 1
     print(report.total(), file=sys.stderr if given.log else sys.stdout)

@@ -88,7 +88,7 @@ def rtt_index(word):
     return word >> 8 & 0xFF if word & 0xFF == RTT else None
 
 
-# ---- lines of traces. docs/reference/RMM-TRACES.md
+# ---- lines of traces
 
 
 class Line(NamedTuple):
@@ -105,12 +105,21 @@ def line_of(text):
     return Line(question, answer if is_answered else None, text[len(bare) :])
 
 
-def number(text):
-    return int(text, 0)
+class NoLine(Exception):
+    """A line that is none of a trace by registers."""
+
+    def __init__(self, text):
+        super().__init__(f"no line of a trace by registers: {text}")
 
 
 def is_number(text):
     return bool(re.fullmatch(r"0x[0-9a-f]+|[0-9]+", text))
+
+
+def number(text):
+    if not is_number(text):
+        raise NoLine(text)
+    return int(text, 0)
 
 
 def operand(text):
@@ -128,15 +137,16 @@ def settings_of(words):
     return found
 
 
-def fields_of(words):
+def fields_of(kind, words):
     """The fields of a page by name, each with its values."""
     found = {}
     for word in words:
-        if is_number(word):
-            found[name].append(number(word))
+        if word in FIELDS[kind]:
+            name, found[word] = word, []
+        elif not found:
+            raise NoLine(word)
         else:
-            name = word
-            found[name] = []
+            found[name].append(number(word))
     if "aux" in found:
         found["num_aux"] = [len(found["aux"])]
     return found
