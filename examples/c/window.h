@@ -9,8 +9,8 @@
 #include <rmm.h>
 #include <stdio.h>
 
-/* Opens the RMM, and maps the memory that it has. False, with nothing open, if either is not possible. The memory has
- * to be free in the process: from 0x40000000 on it is, under the address sanitizer too. */
+/* Opens the RMM, and maps the memory that it has. False, with nothing open, if either is not possible. The addresses
+ * have to be free in the process: those from 0x40000000 on are, with the address sanitizer too. */
 bool window_open(const rmm_settings *settings);
 void window_close(void);
 
@@ -23,7 +23,7 @@ void window_smc(rmm_registers *registers);
 /* Gives the guest of a REC a step, which a log has as `text`. False if it has no place for it. */
 bool window_guest(uint64_t rec, const rmm_step *step, const char *text);
 
-/* Writes each call from here on, and each page that it reads, as a line of a trace: for `rmitrace check`. NULL ends it. */
+/* Writes each call from here on, and each page that it reads, as lines of a trace. NULL ends that. */
 void window_log(FILE *log);
 
 #endif
