@@ -76,7 +76,7 @@ class Table:
             self.exit(self.memory.moved(values[1]), outputs)
 
     def result(self, role, value, is_mapped):
-        """An output as the RMM has it. Where nothing is mapped `desc` is 0, and no address."""
+        """An output as the RMM has it. If nothing is mapped, `desc` is 0, and no address."""
         is_plain = value == NOT_COMPARED or role == "desc" and not is_mapped
         return value if is_plain else self.memory.operand(role, value)
 

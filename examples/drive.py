@@ -3,7 +3,7 @@
 
     drive.py [OPTION ..] TRACE ..     each line with another answer, and at the end the counts; `-` is standard input
       --log                           prints each line with the answer of the RMM, for `rmitrace check`
-      --c                             prints a table of C, which examples/c/table.c runs where no Python is
+      --c                             prints a table of C, which examples/c/table.c runs without Python
       --base HEX                      moves the memory of the traces to this address
       --seconds N                     the longest that a call may take (5)
 
@@ -49,11 +49,11 @@ class Firmware:
         raise NotImplementedError
 
     def store(self, address, content):
-        """The host stores bytes within a granule. False where it gets a fault."""
+        """The host stores bytes within a granule. False if it gets a fault."""
         raise NotImplementedError
 
     def load(self, address, count):
-        """The host loads bytes within a granule. None where it gets a fault."""
+        """The host loads bytes within a granule. None if it gets a fault."""
         raise NotImplementedError
 
     def fresh(self, base, granules, settings):

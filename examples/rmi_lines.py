@@ -182,7 +182,7 @@ def repeated(words):
 
 
 class Memory:
-    """The memory of a trace, moved by a number of bytes to where the RMM has some."""
+    """The memory of a trace, moved by a number of bytes to memory that the RMM has."""
 
     def __init__(self, by=0):
         self.by = by
@@ -209,7 +209,7 @@ class Memory:
         return {it: (self.moved(value[0]), value[1]) if it == "secure" else value for it, value in found.items()}
 
     def outputs(self, name, after):
-        """X1 on after a call, as the trace has them. Where nothing is mapped `desc` is 0, and no address."""
+        """X1 on after a call, as the trace has them. If nothing is mapped, `desc` is 0, and no address."""
         roles = COMMANDS[name][2]
         is_mapped = dict(zip(roles, after[1:])).get("state") in (1, 2)
         is_address = lambda role: after[0] == SUCCESS and (role != "desc" or is_mapped)
@@ -248,32 +248,32 @@ def values_of(texts):
     return word.split(" "), {name: values for name, *values in (it.split(" ") for it in outputs)}
 
 
-def is_value(name, wanted, here):
+def is_value(name, written, here):
     """Whether a value is the same. `-` is not compared, and of a value with `/MASK` its bits alone."""
-    if wanted in ("-", here):
+    if written in ("-", here):
         return True
     read = lambda it: NAMES[name].index(it) if it in NAMES.get(name, ()) else number(it) if is_number(it) else None
-    wanted, _, mask = wanted.partition("/")
-    return None not in (read(wanted), read(here)) and (read(wanted) ^ read(here)) & number(mask or hex(2**64 - 1)) == 0
+    written, _, mask = written.partition("/")
+    return None not in (read(written), read(here)) and (read(written) ^ read(here)) & number(mask or hex(2**64 - 1)) == 0
 
 
-def are_values(name, wanted, here):
-    most = max(len(wanted), len(here)) if name == "gprs" else 0
-    wanted, here = (it + ["0x0"] * (most - len(it)) for it in (wanted, here))
-    return len(wanted) == len(here) and all(is_value(name, *pair) for pair in zip(wanted, here))
+def are_values(name, written, here):
+    most = max(len(written), len(here)) if name == "gprs" else 0
+    written, here = (it + ["0x0"] * (most - len(it)) for it in (written, here))
+    return len(written) == len(here) and all(is_value(name, *pair) for pair in zip(written, here))
 
 
-def verdict(question, wanted, here):
+def verdict(question, written, here):
     """How the answer of the RMM compares with the one that is written."""
     kind = question.split(" ")[0]
     if kind == "smc":
-        wanted, here = wanted.split(" "), here.split(" ")
-        is_same = len(wanted) <= len(here) and are_values("", wanted, here[: len(wanted)])
-        are_refused = all(it != "-" and 1 <= number(it) & 0xFF < len(STATUSES) for it in (wanted[0], here[0]))
-        return "same" if is_same else "refused" if are_refused and wanted[0] != here[0] else "wrong"
+        written, here = written.split(" "), here.split(" ")
+        is_same = len(written) <= len(here) and are_values("", written, here[: len(written)])
+        are_refused = all(it != "-" and 1 <= number(it) & 0xFF < len(STATUSES) for it in (written[0], here[0]))
+        return "same" if is_same else "refused" if are_refused and written[0] != here[0] else "wrong"
     if kind not in COMMANDS and kind not in ("repeat", "interrupt"):
-        return "same" if wanted == here else "wrong"
-    (word, outputs), (our_word, ours) = values_of(wanted), values_of(here)
+        return "same" if are_values("", written.split(" "), here.split(" ")) else "wrong"
+    (word, outputs), (our_word, ours) = values_of(written), values_of(here)
     full = lambda it: it if len(it) > 1 else [*it, "0"]
     is_same = are_values("", full(word), full(our_word)) and all(
         name in ours and are_values(name, values, ours[name]) for name, values in outputs.items())

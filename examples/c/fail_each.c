@@ -80,6 +80,6 @@ int main(int argc, char **argv)
         }
     }
     window_close();
-    printf("%u runs, each with one call refused: %u leave something behind\n", runs, leaks);
+    printf("%u runs, each with one call refused: %u leave granules delegated or lost\n", runs, leaks);
     return leaks != 0;
 }

@@ -13,7 +13,7 @@
 enum { HOST_S2SZ = 33, HOST_START_LEVEL = 2, HOST_TABLES = 8, HOST_RECS = 2, HOST_AUX = 16 };
 
 struct host_rec {
-    uint64_t rec; /* 0 where RMI_REC_CREATE has not been accepted */
+    uint64_t rec; /* 0 unless RMI_REC_CREATE has been accepted */
     uint64_t run;
     uint64_t aux[HOST_AUX];
     bool is_on;
@@ -21,7 +21,7 @@ struct host_rec {
 
 /* A realm, and what the host needs to take it down. All zeros before host_boot. */
 struct host {
-    uint64_t rd; /* 0 where RMI_REALM_CREATE has not been accepted */
+    uint64_t rd; /* 0 unless RMI_REALM_CREATE has been accepted */
     uint64_t tables;
     uint64_t shared; /* the page that the guest has as unprotected memory, or 0 */
     struct host_rec recs[HOST_RECS];

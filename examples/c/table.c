@@ -1,6 +1,6 @@
-/* Runs a table that `drive.py --c` has made of a trace, where nothing but C is: at EL2, say. Each call is one line of a
- * trace, with the registers after it, so `rmitrace names` and `rmitrace check` read the output. The last line is a
- * comment with the number of rows that differ.
+/* Runs a table that `drive.py --c` has made of a trace, and needs C alone, as at EL2. Each call is a line of a trace,
+ * with the registers after it, so `rmitrace names` and `rmitrace check` read the output. The last line is a comment
+ * with the number of rows that differ.
  *
  *     drive.py --c TRACE > rows.inc && cc -DROWS='"rows.inc"' table.c table_rmm.c ..
  */

@@ -1,4 +1,4 @@
-/* The RMM that a table is run on: the simulated one. Where firmware is, these are an SMC and accesses to memory. */
+/* The RMM that a table is run on: the simulated one. For firmware these functions are an SMC and accesses to memory. */
 #include "table.h"
 
 #include <rmm_commands.h>
