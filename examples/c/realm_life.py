@@ -1,55 +1,42 @@
-"""The same life of a realm in Python: PYTHONPATH=python python3 examples/c/realm_life.py"""
-from rmi_bench import Bench, Refused
+"""The same life of a realm in Python, as a trace: PYTHONPATH=python python3 examples/c/realm_life.py"""
+from rmm import RealmParams, Rmm
+
+RD, TABLE, DATA, PARAMS, ROOT, END = (0x40000000 + 0x1000 * k for k in (0, 1, 2, 3, 4, 8))
 
 
-def line(name, *numbers):
-    return " ".join([name, *map(str, numbers)])
+def ask(rmm, name, *operands):
+    """Calls a command, and prints it as a line."""
+    answer = rmm.command(name, *operands)
+    index = f" {answer.index}" if answer.name == "RMI_ERROR_RTT" else ""
+    print(f"rmi_{name} {' '.join(map(hex, operands))} = {answer.name}{index}")
 
 
-def ask(bench, name, *numbers):
-    print(f"{line(name, *numbers)} = {getattr(bench, name)(*numbers)}")
+def store(rmm, address, content, line):
+    print(f"{line} = {'done' if rmm.store(address, content) else 'fault'}")
 
 
 def main():
-    print("machine 16 4 1")
-    with Bench(16, 4, 1) as bench:
-        for granule in range(7):
-            ask(bench, "granule_delegate", granule)
-        ask(bench, "granule_delegate", 0)
-        ask(bench, "realm_create", 0, 1, 1, 39)
-        realm = bench.realm(0)
-        print(f"realm 0 = {realm.state} vmid {realm.vmid} root {realm.root} width {realm.width} next {realm.next}")
-        ask(bench, "host_fill", 9, 7)
-        # With this set, a command that is refused is an exception.
-        bench.raises = True
-        try:
-            bench.data_create(0, 6, 0, 9)
-        except Refused as refused:
-            print(f"data_create 0 6 0 9 = {refused.word}")
-        bench.raises = False
-        ask(bench, "rtt_create", 0, 4, 0, 2)
-        ask(bench, "rtt_create", 0, 5, 0, 3)
-        ask(bench, "rtt_init_ripas", 0, 0, 1)
-        ask(bench, "data_create", 0, 6, 0, 9)
-        print("state 6 =", bench.state(6))
-        word, number = bench.rec_create(0, 2, [3])
-        print(f"rec_create 0 2 3 = {word} {number}")
-        ask(bench, "rec_enter", 2)
-        ask(bench, "realm_activate", 0)
-        ask(bench, "rec_enter", 2)
-        rec = bench.rec(2)
-        print(line(f"rec 2 = number {rec.number} {rec.state} aux", *rec.auxiliaries))
-        ask(bench, "guest_write", 2, 0, 0, 255)
-        ask(bench, "rec_exit", 2)
-        ask(bench, "realm_destroy", 0)
-        ask(bench, "rec_destroy", 2)
-        ask(bench, "data_destroy", 0, 0)
-        ask(bench, "rtt_destroy", 0, 0, 3)
-        ask(bench, "rtt_destroy", 0, 0, 2)
-        ask(bench, "realm_destroy", 0)
-        ask(bench, "granule_undelegate", 6)
-        word, byte = bench.host_peek(6, 0)
-        print(f"host_peek 6 0 = {word} {byte}")
+    print("platform 0x40000000 8")
+    delegated = [granule for granule in range(RD, END, 0x1000) if granule != PARAMS]
+    with Rmm(base=RD, granules=8) as rmm:
+        for granule in delegated:
+            ask(rmm, "granule_delegate", granule)
+        realm = RealmParams(s2sz=32, vmid=1, rtt_base=ROOT, rtt_level_start=2, rtt_num_start=4)
+        fields = "s2sz 32 vmid 1 rtt_base 0x40004000 rtt_level_start 2 rtt_num_start 4"
+        store(rmm, PARAMS, realm, f"realm_params {PARAMS:#x} {fields}")
+        ask(rmm, "realm_create", RD, PARAMS)
+        # A page needs a table of level 3: without one the walk ends at level 2.
+        store(rmm, PARAMS, (7).to_bytes(8, "little"), f"store {PARAMS:#x} 0x7")
+        ask(rmm, "data_create", RD, DATA, 0, PARAMS, 1)
+        ask(rmm, "rtt_create", RD, TABLE, 0, 3)
+        ask(rmm, "rtt_init_ripas", RD, 0, 0x1000)
+        ask(rmm, "data_create", RD, DATA, 0, PARAMS, 1)
+        ask(rmm, "realm_destroy", RD)
+        ask(rmm, "data_destroy", RD, 0)
+        ask(rmm, "rtt_destroy", RD, 0, 3)
+        ask(rmm, "realm_destroy", RD)
+        for granule in delegated:
+            ask(rmm, "granule_undelegate", granule)
 
 
 main()

@@ -1,0 +1,51 @@
+/* The RMM that a table is run on: the simulated one. For firmware these functions are an SMC and accesses to memory. */
+#include "table.h"
+
+#include <rmm_commands.h>
+
+static rmm_handle rmm = RMM_CLOSED;
+
+bool table_platform(const struct table_row *row)
+{
+    rmm_settings settings = RMM_DEFAULTS;
+    settings.base = row->in[0];
+    settings.granules = row->in[1];
+    settings.aux = row->in[2];
+    settings.vmid_bits = row->in[3];
+    settings.s2sz = row->in[4];
+    settings.max_recs_order = row->in[5];
+    rmm_close(&rmm);
+    return row->in[6] == 0 && rmm_open(&rmm, &settings) == RMM_OPENED;
+}
+
+void table_smc(uint64_t x[7])
+{
+    rmm_registers it = {x[0], x[1], x[2], x[3], x[4], x[5], x[6]};
+    rmm_smc(&rmm, &it);
+    x[0] = it.x0;
+    x[1] = it.x1;
+    x[2] = it.x2;
+    x[3] = it.x3;
+    x[4] = it.x4;
+}
+
+void table_store(uint64_t address, uint64_t word) { (void)rmm_store(&rmm, address, &word, sizeof word); }
+
+uint64_t table_load(uint64_t address)
+{
+    uint64_t word = 0;
+    (void)rmm_load(&rmm, address, &word, sizeof word);
+    return word;
+}
+
+uint64_t table_guest(const struct table_row *row)
+{
+    rmm_step step = {row->in[1], row->in[2], row->in[3], row->in[4], row->in[5]};
+    return rmm_guest(&rmm, row->in[0], &step);
+}
+
+uint64_t table_interrupt(uint64_t rec)
+{
+    uint64_t word = 0;
+    return rmm_interrupt(&rmm, rec, &word) ? word : UINT64_MAX;
+}
