@@ -1,121 +1,163 @@
 //! A session: the lines of a trace, one after another.
-ghost use Rattle.std.specs.Prelude.{◌≡◌, ◌++◌, List, ℕ, None, IfOk, OnOk, OnErr};
-ghost use Rattle.trace_program.specs.Session.{IsOpening, IsRequestPerformed, IsTraceAnswer, IsLineReported, written_with};
-ghost use Rattle.rmi_bench.specs.Machine.{is_machine};
+ghost use Rattle.std.specs.Prelude.{◌≡◌, ◌×◌};
 
-use crate::{perform, read};
-use rmi_bench::{Bench, OpenError};
-use rmi_trace::{
-    Request, TraceAnswer, TraceLine, TraceOpening, cut_answer, parse, push_answered, push_line,
-};
+use crate::judging::{is_no_command, line_verdict};
+use crate::line_text::{push_answered, push_line};
+use crate::naming::push_named;
+use crate::reasons::{checks_text, heading, here, hint};
+use crate::{Counts, LineVerdict, TraceError};
+use command_line::rmitrace::{Comparison, TraceSubcommand};
+use rmm_answers::{Reply, TraceMachine};
+use rmm_trace::{RmmTraceLine, parse};
 use std::alloc::{AllocError, Global};
 
-/// Appends the output for a line with this answer: a remark as it is, and else the request, and the answer.
-pub(crate) fn push_told(
-    text: &mut Vec<u8>,
-    bytes: &[u8],
-    line: &TraceLine,
-    given: &Option<TraceAnswer>,
-) -> Result<(), AllocError>
-    ensures ok { OnOk result (text.new.items ≡ text.old.items ++ written_with bytes.now line.now given.now) }
-    ensures err { OnErr result (text.new.items ≡ text.old.items) }
-{
-    let asked = match line {
-        TraceLine::Remark => bytes,
-        _ => cut_answer(bytes).0,
-    };
-    match given {
-        Some(answer) => push_answered(text, asked, answer),
-        None => push_line(text, asked),
-    }
-}
-
-/// The state of a session, after some lines of a trace.
+/// The state of a trace after some lines.
 #[derive(Drop)]
 pub struct Session {
-    /// The simulated RMM of the last `machine` line, if there was one.
-    pub bench: Option<Bench>,
+    /// The RMM of the last `platform`, if there was one.
+    pub machine: TraceMachine,
+    /// The counts of the lines.
+    pub counts: Counts,
+    // The answer to the last line.
+    reply: Reply,
 }
 
 impl Session {
     /// A session that has had no line.
-    pub fn new() -> Session
-        ensures { result.bench ≡ None }
-    {
-        Session { bench: None }
-    }
-
-    // Opens a fresh machine.
-    fn open(
-        &mut self,
-        alloc: Global,
-        opening: &TraceOpening,
-    ) -> Result<Option<TraceAnswer>, AllocError>
-        ensures ok { IfOk result (λ given. IsOpening (is_machine opening.now.pages opening.now.vmids opening.now.auxiliaries)
-            opening.now self.old.bench given self.new.bench) }
-        ensures err { OnErr result (self.new.bench ≡ self.old.bench) }
-    {
-        match Bench::open(alloc, opening.pages, opening.vmids, opening.auxiliaries) {
-            Ok(bench) => {
-                self.bench = Some(bench);
-                Ok(None)
-            }
-            Err(OpenError::NoMachine) => Ok(Some(TraceAnswer::NoCommand)),
-            Err(OpenError::Memory(error)) => Err(error),
+    pub fn new() -> Session {
+        Session {
+            machine: TraceMachine::new(),
+            counts: Counts::NONE,
+            reply: Reply::new(),
         }
     }
 
-    // Performs the request.
-    fn perform(
-        &mut self,
-        alloc: Global,
-        request: &Request,
-    ) -> Result<Option<TraceAnswer>, AllocError>
-        ensures ok { IfOk result (λ given. IsRequestPerformed request.now self.old.bench given self.new.bench) }
-        ensures err { OnErr result (self.new.bench ≡ self.old.bench) }
-    {
-        match request {
-            Request::Opening(opening) => self.open(alloc, opening),
-            Request::Command(command) => match &mut self.bench {
-                Some(bench) => Ok(Some(perform(bench, command))),
-                None => Ok(Some(TraceAnswer::NoCommand)),
-            },
-            Request::Reading(reading) => match &self.bench {
-                Some(bench) => Ok(Some(read(bench, reading))),
-                None => Ok(Some(TraceAnswer::NoCommand)),
-            },
-        }
-    }
-
-    /// The answer to a line, if it gets one. Memory is taken for a fresh machine alone; if there is none, nothing
-    /// changes.
-    pub fn answer(
-        &mut self,
-        alloc: Global,
-        line: &TraceLine,
-    ) -> Result<Option<TraceAnswer>, AllocError>
-        ensures ok { IfOk result (λ given. IsTraceAnswer line.now self.old.bench given self.new.bench) }
-        ensures err { OnErr result (self.new.bench ≡ self.old.bench) }
-    {
+    // Performs a line. A remark has no answer.
+    fn perform(&mut self, alloc: Global, line: &RmmTraceLine) -> Result<(), AllocError> {
         match line {
-            TraceLine::Remark => Ok(None),
-            TraceLine::Request(request) => self.perform(alloc, request),
-            TraceLine::Neither => Ok(Some(TraceAnswer::NoCommand)),
+            RmmTraceLine::Remark => Ok(()),
+            RmmTraceLine::Question(question) => {
+                self.machine
+                    .answer(alloc, question.as_slice(), &mut self.reply)
+            }
+            RmmTraceLine::Neither => {
+                self.reply.no_command();
+                Ok(())
+            }
         }
     }
 
-    /// Takes a line, and appends it with its answer to the text. An answer that it already has is dropped.
-    pub(crate) fn take_line(
+    // Appends the checks of a refused call, and the word that was probably meant by a line that is no command.
+    fn push_reasons(
+        &self,
+        alloc: Global,
+        bytes: &[u8],
+        line: &RmmTraceLine,
+        text: &mut Vec<u8>,
+    ) -> Result<(), AllocError> {
+        let words = match line {
+            RmmTraceLine::Question(question) if !is_no_command(&self.reply) => {
+                match self.machine.checks(question.as_slice(), &self.reply) {
+                    Some(checks) => checks_text(alloc, question.as_slice(), &checks)?,
+                    None => return Ok(()),
+                }
+            }
+            RmmTraceLine::Remark => return Ok(()),
+            _ => hint(alloc, bytes, "    ")?,
+        };
+        text.extend_from_slice(words.as_bytes())
+    }
+
+    // Appends the lines on one that is allowed or wrong.
+    fn push_difference(
+        &self,
+        alloc: Global,
+        source: &str,
+        verdict: &str,
+        bytes: &[u8],
+        text: &mut Vec<u8>,
+    ) -> Result<(), AllocError> {
+        let heading = heading(alloc, source, self.counts.lines, verdict)?;
+        text.extend_from_slice(heading.as_bytes())?;
+        push_line(text, bytes)?;
+        text.extend_from_slice(here(alloc, &self.reply)?.as_bytes())?;
+        if is_no_command(&self.reply) {
+            text.extend_from_slice(hint(alloc, bytes, "")?.as_bytes())?;
+        }
+        Ok(())
+    }
+
+    // Compares a line, and appends what differs.
+    fn check(
+        &mut self,
+        alloc: Global,
+        asked: &Comparison,
+        source: &str,
+        bytes: &[u8],
+        text: &mut Vec<u8>,
+    ) -> Result<(), TraceError> {
+        let line = parse(bytes);
+        self.perform(alloc, &line)?;
+        let verdict = line_verdict(asked, &self.machine, bytes, &line, &self.reply);
+        self.counts = self.counts.with(verdict)?;
+        match verdict {
+            LineVerdict::NotCompared | LineVerdict::Same => Ok(()),
+            LineVerdict::Allowed => {
+                Ok(self.push_difference(alloc, source, "allowed", bytes, text)?)
+            }
+            LineVerdict::Wrong => Ok(self.push_difference(alloc, source, "wrong", bytes, text)?),
+        }
+    }
+
+    // Answers a line.
+    fn answer(
         &mut self,
         alloc: Global,
         bytes: &[u8],
         text: &mut Vec<u8>,
-    ) -> Result<(), AllocError>
-        ensures ok { OnOk result ((told : List ℕ) × (text.new.items ≡ text.old.items ++ told) × IsLineReported self.old.bench bytes.now told self.new.bench) }
-        ensures err { OnErr result (text.new.items ≡ text.old.items) }
-    {
+    ) -> Result<(), AllocError> {
         let line = parse(bytes);
-        let given = self.answer(alloc, &line)?;
-        push_told(text, bytes, &line, &given)
+        self.perform(alloc, &line)?;
+        push_answered(alloc, text, bytes, &line, &self.reply)
+    }
+
+    // Answers a line, and explains its refusal.
+    fn explain(
+        &mut self,
+        alloc: Global,
+        bytes: &[u8],
+        text: &mut Vec<u8>,
+    ) -> Result<(), AllocError> {
+        let line = parse(bytes);
+        self.perform(alloc, &line)?;
+        push_answered(alloc, text, bytes, &line, &self.reply)?;
+        self.push_reasons(alloc, bytes, &line, text)
+    }
+
+    /// Takes a line, and appends its text.
+    pub(crate) fn take_line(
+        &mut self,
+        alloc: Global,
+        asked: &TraceSubcommand,
+        source: &str,
+        bytes: &[u8],
+        text: &mut Vec<u8>,
+    ) -> Result<(), TraceError> {
+        match asked {
+            TraceSubcommand::Answer => Ok(self.answer(alloc, bytes, text)?),
+            TraceSubcommand::Names => Ok(push_named(alloc, text, bytes, &parse(bytes))?),
+            TraceSubcommand::Why => Ok(self.explain(alloc, bytes, text)?),
+            TraceSubcommand::Check(comparison) => {
+                self.check(alloc, comparison, source, bytes, text)
+            }
+        }
+    }
+
+    /// Whether no further line is taken: a line is wrong, and the check is to stop there.
+    pub(crate) fn is_done(&self, asked: &TraceSubcommand) -> bool {
+        match asked {
+            TraceSubcommand::Check(comparison) => comparison.stops && self.counts.wrong > 0,
+            _ => false,
+        }
     }
 }
