@@ -4,5 +4,4 @@ pub mod Subcommands
 mod OptionTexts
 mod Pieces
 mod HostWords
-mod TraceWords
 mod ViewWords

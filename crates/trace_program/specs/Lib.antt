@@ -1,1 +1,6 @@
+pub mod LineText
+pub mod Judged
+pub mod Counting
+pub mod Session
+pub mod Reading
 pub mod Stop

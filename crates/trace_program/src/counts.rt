@@ -1,8 +1,10 @@
 //! The counts of the lines of a trace, and the verdict on it.
-ghost use Rattle.std.specs.Prelude.{◌≡◌, ◌+◌, ◌<◌, ◌^◌, Ok, IfOk};
-ghost use Rattle.trace_program.specs.Counting.{counted, trace_verdict};
+ghost use Rattle.std.specs.Prelude.{◌≡◌, ◌+◌, IfErr, IfOk, string_bytes};
+ghost use Rattle.trace_program.specs.declared.fault.TraceError.TheVariants.{TooLong};
+ghost use Rattle.trace_program.specs.Counting.{counted, summary_text, trace_verdict};
 
 use crate::TraceError;
+use std::alloc::{AllocError, Global};
 
 /// How a line counts.
 #[derive(Clone, Copy)]
@@ -36,7 +38,8 @@ pub struct Counts {
 
 // One more; 2^64 lines are too many.
 fn one_more(count: u64) -> Result<u64, TraceError>
-    ensures { IfOk result (λ more. more ≡ count + 1) }
+    ensures ok { IfOk result (λ more. more ≡ count + 1) }
+    ensures err { IfErr result (λ e. e ≡ TooLong) }
 {
     count.checked_add(1).ok_or(TraceError::TooLong)
 }
@@ -52,7 +55,8 @@ impl Counts {
 
     /// The counts with a line more.
     pub fn with(self, verdict: LineVerdict) -> Result<Counts, TraceError>
-        ensures { IfOk result (λ counts. counts ≡ counted self verdict) }
+        ensures ok { IfOk result (λ counts. counts ≡ counted self verdict) }
+        ensures err { IfErr result (λ e. e ≡ TooLong) }
     {
         let lines = one_more(self.lines)?;
         match verdict {
@@ -73,6 +77,13 @@ impl Counts {
                 ..self
             }),
         }
+    }
+
+    /// The line of the counts.
+    pub fn summary(self, alloc: Global) -> Result<String, AllocError>
+        ensures { IfOk result (λ text. string_bytes text ≡ summary_text self) }
+    {
+        format!(in alloc; "{} same, {} allowed, {} wrong\n", self.same, self.allowed, self.wrong)
     }
 
     /// The verdict on a trace with these counts.

@@ -6,7 +6,7 @@ ghost use Rattle.trace_program.specs.Judged as specs;
 use crate::LineVerdict;
 use command_line::rmitrace::{Comparison, NameSet};
 use rmm_answers::place::{COMMAND, NO};
-use rmm_answers::{Reply, TraceMachine, Verdict, verdict};
+use rmm_answers::{Reply, TraceMachine, Verdict, verdict_on};
 use rmm_trace::place::{DASH, FIRST_CHECK, REPEAT, SMC};
 use rmm_trace::{Atom, FUNCTIONS, RmmTraceLine, TraceWord, cut_line, operand, read_words};
 
@@ -34,7 +34,7 @@ pub(crate) fn is_no_command(reply: &Reply) -> bool
 
 // Whether a word is a check of a set.
 fn is_check_in(set: &NameSet, word: &TraceWord) -> bool
-    ensures { result ≡ specs.is_check_in set.now word.now }
+    ensures { result ≡ specs.is_check_in set.now word.now.value }
 {
     match word.value {
         Atom::Name(place) => FIRST_CHECK <= place && set.has(place),
@@ -146,7 +146,7 @@ fn answer_verdict(
     if !is_compared(asked, question, written, reply) {
         return LineVerdict::NotCompared;
     }
-    match verdict(machine, question, written, reply) {
+    match verdict_on(machine, question, written, reply) {
         Verdict::Same => LineVerdict::Same,
         Verdict::Allowed => LineVerdict::Allowed,
         Verdict::Wrong => LineVerdict::Wrong,

@@ -1,6 +1,6 @@
 //! The texts of lines with their answers.
-ghost use Rattle.std.specs.Prelude.{◌≡◌, ◌++◌, OnOk};
-ghost use Rattle.trace_program.specs.LineText.{answered_text, tail_of, question_text};
+ghost use Rattle.std.specs.Prelude.{◌≡◌, ◌++◌, [], ◌∷◌, OnOk};
+ghost use Rattle.trace_program.specs.LineText.{answered_text, sign_and_answer, tail_of};
 
 use rmm_answers::Reply;
 use rmm_trace::{RmmTraceLine, cut_line};
@@ -20,7 +20,7 @@ pub(crate) fn tail(bytes: &[u8]) -> &[u8]
 
 // Appends a line, and the feed that ends it.
 pub(crate) fn push_line(text: &mut Vec<u8>, bytes: &[u8]) -> Result<(), AllocError>
-    ensures { OnOk result (text.new.items ≡ text.old.items ++ bytes.now ++ 10 ∷ []) }
+    ensures { OnOk result (text.new.items ≡ text.old.items ++ (bytes.now ++ 10 ∷ [])) }
 {
     text.extend_from_slice(bytes)?;
     text.extend_from_slice(b"\n")

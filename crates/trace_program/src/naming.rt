@@ -1,6 +1,7 @@
 //! Raw lines by names.
 ghost use Rattle.std.specs.Prelude.{◌≡◌, ◌++◌, OnOk};
-ghost use Rattle.trace_program.specs.LineText.{named_text};
+ghost use Rattle.rmm_trace.specs.Sentences.{sentence_text};
+ghost use Rattle.trace_program.specs.LineText.{answer_named, named_text, question_named};
 
 use crate::line_text::{push_line, tail};
 use rmm_answers::{named_answer, named_question};

@@ -1,4 +1,11 @@
 //! The reading of a trace: its lines are read, and their texts are written.
+ghost use Rattle.std.specs.Prelude.{◌≡◌, ◌++◌, ◌⊎◌, ◌↔◌, ℕ, List, [], Option, true, false, Err, IfOk, OnOk, OnErr};
+ghost use Rattle.std.specs.Io.KnownBytes.{Appends};
+ghost use Rattle.checked_io.specs.Whole.{AppendsFront};
+ghost use Rattle.trace_program.specs.declared.fault.TraceError.TheVariants.{Device};
+ghost use Rattle.trace_program.specs.Session.{TakesLine, is_done};
+ghost use Rattle.trace_program.specs.Reading as specs;
+
 use crate::{Session, TraceError, TraceSubcommand, TraceVerdict};
 use checked_io::Told;
 use rmm_trace::{MOST_LINE, cut_at};
@@ -9,7 +16,9 @@ use std::io::{Read, Write};
 const KEPT: usize = MOST_LINE + 1;
 
 // Keeps a part of a line, unless enough of it is kept.
-fn keep(line: &mut Vec<u8>, part: &[u8]) -> Result<(), AllocError> {
+fn keep(line: &mut Vec<u8>, part: &[u8]) -> Result<(), AllocError>
+    ensures { OnOk result ((rest : List ℕ) → line.old.items ≡ specs.kept_of_line rest → line.new.items ≡ specs.kept_of_line (rest ++ part.now)) }
+{
     let room = KEPT.saturating_sub(line.len());
     line.extend_from_slice(&part[..part.len().min(room)])
 }
@@ -22,8 +31,8 @@ struct Request<'a> {
     source: &'a str,
 }
 
-// A trace that is being read: the session of its lines, the kept bytes of the next line, and the text for the lines of
-// a part.
+// A trace that is being read: the session of its lines, the kept bytes of the next line, and the text for lines that is
+// not written yet.
 #[derive(Drop)]
 struct Reading {
     session: Session,
@@ -33,7 +42,11 @@ struct Reading {
 
 impl Reading {
     // Ends the line, and appends its text.
-    fn end_line(&mut self, request: Request<'_>) -> Result<(), TraceError> {
+    fn end_line(&mut self, request: Request<'_>) -> Result<(), TraceError>
+        ensures ok { OnOk result (TakesLine request.entry.asked.now self.old.line.items self.old.session self.new.session self.old.text.items self.new.text.items) }
+        ensures empty { OnOk result (self.new.line.items ≡ []) }
+        ensures err { ¬ (result ≡ Err Device) }
+    {
         self.session.take_line(
             request.alloc,
             request.asked,
@@ -46,7 +59,12 @@ impl Reading {
     }
 
     // Takes bytes of the input, up to the line that ends the run.
-    fn take_part(&mut self, request: Request<'_>, part: &[u8]) -> Result<(), TraceError> {
+    fn take_part(&mut self, request: Request<'_>, part: &[u8]) -> Result<(), TraceError>
+        requires { is_done request.entry.asked.now self.old.session ≡ false }
+        ensures ok { OnOk result ((read written : List ℕ) → specs.IsTaken request.entry.asked.now read written self.old.session self.old.line.items self.old.text.items
+            → specs.IsTaken request.entry.asked.now (read ++ part.now) written self.new.session self.new.line.items self.new.text.items) }
+        ensures err { ¬ (result ≡ Err Device) }
+    {
         let mut rest = part;
         'lines: while let (front, Some(after)) = cut_at(rest, b'\n') {
             keep(&mut self.line, front)?;
@@ -61,7 +79,12 @@ impl Reading {
     }
 
     // Ends the last line, which has no line feed, unless it is empty.
-    fn end(&mut self, request: Request<'_>) -> Result<(), TraceError> {
+    fn end(&mut self, request: Request<'_>) -> Result<(), TraceError>
+        requires { is_done request.entry.asked.now self.old.session ≡ false }
+        ensures ok { OnOk result ((read written : List ℕ) → specs.IsTaken request.entry.asked.now read written self.old.session self.old.line.items self.old.text.items
+            → specs.AreAllTaken request.entry.asked.now read written self.new.session self.new.text.items) }
+        ensures err { ¬ (result ≡ Err Device) }
+    {
         if self.line.is_empty() {
             return Ok(());
         }
@@ -69,7 +92,16 @@ impl Reading {
     }
 
     // Writes the text.
-    fn write<W: Write>(&mut self, output: &mut Told<W>) -> Result<(), TraceError> {
+    fn write<W: Write>(&mut self, output: &mut Told<W>) -> Result<(), TraceError>
+        requires { output.old.failed ≡ false }
+        ensures session { self.new.session ≡ self.old.session }
+        ensures line { self.new.line ≡ self.old.line }
+        ensures ok { OnOk result (Appends (W.contents output.old.device) (W.contents output.new.device) self.old.text.items) }
+        ensures empty { OnOk result (self.new.text.items ≡ []) }
+        ensures err { OnErr result (AppendsFront (W.contents output.old.device) (W.contents output.new.device) self.old.text.items) }
+        ensures told { (output.new.failed ≡ true) ↔ (result ≡ Err Device) }
+        ensures fine { OnOk result (output.new.failed ≡ false) }
+    {
         if self.text.is_empty() {
             return Ok(());
         }
@@ -85,7 +117,19 @@ impl Reading {
         input: &mut Told<R>,
         buf: &mut [u8; 4096],
         output: &mut Told<W>,
-    ) -> Result<bool, TraceError> {
+    ) -> Result<bool, TraceError>
+        requires readable { input.old.failed ≡ false }
+        requires writable { output.old.failed ≡ false }
+        requires empty { self.old.text.items ≡ [] }
+        requires open { is_done request.entry.asked.now self.old.session ≡ false }
+        ensures ok { (begin start : Option (List ℕ)) → specs.IsUnderway request.entry.asked.now begin (R.remaining input.old.device) start (W.contents output.old.device) self.old.session self.old.line.items
+            → IfOk result (λ more. specs.GoesOn more request.entry.asked.now begin (R.remaining input.new.device) start (W.contents output.new.device) self.new.session self.new.line.items) }
+        ensures empty { OnOk result (self.new.text.items ≡ []) }
+        ensures err { (begin start : Option (List ℕ)) → specs.IsUnderway request.entry.asked.now begin (R.remaining input.old.device) start (W.contents output.old.device) self.old.session self.old.line.items
+            → OnErr result (specs.IsCutShort request.entry.asked.now begin (R.remaining input.new.device) start (W.contents output.new.device)) }
+        ensures told { ((input.new.failed ≡ true) ⊎ (output.new.failed ≡ true)) ↔ (result ≡ Err Device) }
+        ensures fine { OnOk result ((input.new.failed ≡ false) × (output.new.failed ≡ false)) }
+    {
         let n = input.read(buf)?;
         if n == 0 {
             self.end(request)?;
@@ -97,12 +141,18 @@ impl Reading {
         Ok(!self.session.is_done(request.asked))
     }
 
-    // Writes the counts, and returns the verdict.
+    // Writes the counts of a check, and returns the verdict.
     fn finish<W: Write>(
-        &mut self,
+        &self,
         request: Request<'_>,
         output: &mut Told<W>,
-    ) -> Result<TraceVerdict, TraceError> {
+    ) -> Result<TraceVerdict, TraceError>
+        requires { output.old.failed ≡ false }
+        ensures verdict { IfOk result (λ it. it ≡ specs.verdict_asked request.entry.asked.now self.now.session) }
+        ensures ok { OnOk result (Appends (W.contents output.old.device) (W.contents output.new.device) (specs.last_text request.entry.asked.now self.now.session)) }
+        ensures err { OnErr result (AppendsFront (W.contents output.old.device) (W.contents output.new.device) (specs.last_text request.entry.asked.now self.now.session)) }
+        ensures told { (output.new.failed ≡ true) ↔ (result ≡ Err Device) }
+    {
         let TraceSubcommand::Check(_) = request.asked else {
             return Ok(TraceVerdict::Agrees);
         };
@@ -113,7 +163,11 @@ impl Reading {
     }
 }
 
-/// Reads the lines of a trace, and writes the text for each before it reads on.
+/// Reads the lines of a trace, and writes the text for each before it reads on; at the end of a check, its counts.
+///
+/// Memory is taken for a fresh machine, for a line, of which no more than 65,537 bytes are kept, and for the texts of
+/// the lines of one read. Errors. `Memory`: allocation failed. `Device`: a read or a write failed. `TooLong`: the trace
+/// took 2^64 - 1 reads, or has as many lines. In each case a prefix of the texts was written.
 pub fn run<R: Read, W: Write>(
     alloc: Global,
     asked: &TraceSubcommand,
@@ -123,6 +177,11 @@ pub fn run<R: Read, W: Write>(
 ) -> Result<TraceVerdict, TraceError>
     requires readable { input.old.failed ≡ false }
     requires writable { output.old.failed ≡ false }
+    ensures ok { IfOk result (specs.IsRun asked.now (R.remaining input.old.device) (R.remaining input.new.device)
+        (W.contents output.old.device) (W.contents output.new.device)) }
+    ensures err { OnErr result (specs.IsCutShort asked.now (R.remaining input.old.device) (R.remaining input.new.device)
+        (W.contents output.old.device) (W.contents output.new.device)) }
+    ensures device { ((input.new.failed ≡ true) ⊎ (output.new.failed ≡ true)) ↔ (result ≡ Err Device) }
 {
     let request = Request {
         alloc,

@@ -1,5 +1,6 @@
 //! The words for wrong lines and for refused calls. They are tested, not proved.
-use crate::judging::command_place;
+use crate::judging::{command_place, is_no_command};
+use crate::line_text::push_line;
 use crate::nearest::nearest_word;
 use crate::phrases::requirement;
 use rmi_abi::Word;
@@ -102,13 +103,24 @@ pub(crate) fn heading(
     format!(in alloc; "{source}:{number}: {verdict}\n")
 }
 
-/// The line with our answer.
-pub(crate) fn here(alloc: Global, reply: &Reply) -> Result<String, AllocError> {
-    let mut text = String::from_str(alloc, "here: ")?;
+/// The lines on one that is allowed or wrong, after their heading: the line, our answer, and for a line that is no
+/// command the word that was probably meant.
+pub(crate) fn difference(
+    alloc: Global,
+    heading: &str,
+    bytes: &[u8],
+    reply: &Reply,
+) -> Result<Vec<u8>, AllocError> {
+    let mut text = Vec::from_slice(alloc, heading.as_bytes())?;
+    push_line(&mut text, bytes)?;
+    let mut here = String::from_str(alloc, "here: ")?;
     if reply.is_empty() {
-        text.push_str("no answer")?;
+        here.push_str("no answer")?;
     }
-    reply.push_text(alloc, &mut text)?;
-    text.push_str("\n")?;
+    reply.push_text(alloc, &mut here)?;
+    push_line(&mut text, here.as_bytes())?;
+    if is_no_command(reply) {
+        text.extend_from_slice(hint(alloc, bytes, "")?.as_bytes())?;
+    }
     Ok(text)
 }

@@ -1,10 +1,13 @@
 //! A session: the lines of a trace, one after another.
-ghost use Rattle.std.specs.Prelude.{◌≡◌, ◌×◌};
+ghost use Rattle.std.specs.Prelude.{◌≡◌, ◌++◌, ℕ, List, Err, IfOk, OnOk, string_bytes};
+ghost use Rattle.trace_program.specs.declared.fault.TraceError.TheVariants.{Device};
+ghost use Rattle.trace_program.specs.LineText.{answered_text, line_of};
+ghost use Rattle.trace_program.specs.Session as specs;
 
 use crate::judging::{is_no_command, line_verdict};
-use crate::line_text::{push_answered, push_line};
+use crate::line_text::push_answered;
 use crate::naming::push_named;
-use crate::reasons::{checks_text, heading, here, hint};
+use crate::reasons::{checks_text, difference, heading, hint};
 use crate::{Counts, LineVerdict, TraceError};
 use command_line::rmitrace::{Comparison, TraceSubcommand};
 use rmm_answers::{Reply, TraceMachine};
@@ -18,13 +21,15 @@ pub struct Session {
     pub machine: TraceMachine,
     /// The counts of the lines.
     pub counts: Counts,
-    // The answer to the last line.
-    reply: Reply,
+    /// The answer to the last line that is no remark.
+    pub reply: Reply,
 }
 
 impl Session {
     /// A session that has had no line.
-    pub fn new() -> Session {
+    pub fn new() -> Session
+        ensures { result ≡ specs.fresh }
+    {
         Session {
             machine: TraceMachine::new(),
             counts: Counts::NONE,
@@ -33,7 +38,9 @@ impl Session {
     }
 
     // Performs a line. A remark has no answer.
-    fn perform(&mut self, alloc: Global, line: &RmmTraceLine) -> Result<(), AllocError> {
+    fn perform(&mut self, alloc: Global, line: &RmmTraceLine) -> Result<(), AllocError>
+        ensures { OnOk result (self.new ≡ specs.performed self.old line.now) }
+    {
         match line {
             RmmTraceLine::Remark => Ok(()),
             RmmTraceLine::Question(question) => {
@@ -47,66 +54,43 @@ impl Session {
         }
     }
 
-    // Appends the checks of a refused call, and the word that was probably meant by a line that is no command.
-    fn push_reasons(
+    // The lines below an answer: the checks of a refused call, or the word that was probably meant.
+    fn reasons(
         &self,
         alloc: Global,
         bytes: &[u8],
         line: &RmmTraceLine,
-        text: &mut Vec<u8>,
-    ) -> Result<(), AllocError> {
-        let words = match line {
-            RmmTraceLine::Question(question) if !is_no_command(&self.reply) => {
-                match self.machine.checks(question.as_slice(), &self.reply) {
-                    Some(checks) => checks_text(alloc, question.as_slice(), &checks)?,
-                    None => return Ok(()),
-                }
-            }
-            RmmTraceLine::Remark => return Ok(()),
-            _ => hint(alloc, bytes, "    ")?,
+    ) -> Result<String, AllocError>
+        ensures { IfOk result (λ text. specs.AreReasons line.now self.now.reply (string_bytes text)) }
+    {
+        let question = match line {
+            RmmTraceLine::Remark => return Ok(String::new(alloc)),
+            RmmTraceLine::Question(question) if !is_no_command(&self.reply) => question.as_slice(),
+            _ => return hint(alloc, bytes, "    "),
         };
-        text.extend_from_slice(words.as_bytes())
+        match self.machine.checks(question, &self.reply) {
+            Some(checks) => checks_text(alloc, question, &checks),
+            None => Ok(String::new(alloc)),
+        }
     }
 
-    // Appends the lines on one that is allowed or wrong.
-    fn push_difference(
+    // The text on a line that is judged.
+    fn note(
         &self,
         alloc: Global,
         source: &str,
-        verdict: &str,
         bytes: &[u8],
-        text: &mut Vec<u8>,
-    ) -> Result<(), AllocError> {
-        let heading = heading(alloc, source, self.counts.lines, verdict)?;
-        text.extend_from_slice(heading.as_bytes())?;
-        push_line(text, bytes)?;
-        text.extend_from_slice(here(alloc, &self.reply)?.as_bytes())?;
-        if is_no_command(&self.reply) {
-            text.extend_from_slice(hint(alloc, bytes, "")?.as_bytes())?;
-        }
-        Ok(())
-    }
-
-    // Compares a line, and appends what differs.
-    fn check(
-        &mut self,
-        alloc: Global,
-        asked: &Comparison,
-        source: &str,
-        bytes: &[u8],
-        text: &mut Vec<u8>,
-    ) -> Result<(), TraceError> {
-        let line = parse(bytes);
-        self.perform(alloc, &line)?;
-        let verdict = line_verdict(asked, &self.machine, bytes, &line, &self.reply);
-        self.counts = self.counts.with(verdict)?;
-        match verdict {
-            LineVerdict::NotCompared | LineVerdict::Same => Ok(()),
-            LineVerdict::Allowed => {
-                Ok(self.push_difference(alloc, source, "allowed", bytes, text)?)
-            }
-            LineVerdict::Wrong => Ok(self.push_difference(alloc, source, "wrong", bytes, text)?),
-        }
+        verdict: LineVerdict,
+    ) -> Result<Vec<u8>, AllocError>
+        ensures { IfOk result (λ text. specs.IsNote verdict text.items) }
+    {
+        let word = match verdict {
+            LineVerdict::NotCompared | LineVerdict::Same => return Ok(Vec::new(alloc)),
+            LineVerdict::Allowed => "allowed",
+            LineVerdict::Wrong => "wrong",
+        };
+        let heading = heading(alloc, source, self.counts.lines, word)?;
+        difference(alloc, &heading, bytes, &self.reply)
     }
 
     // Answers a line.
@@ -115,7 +99,10 @@ impl Session {
         alloc: Global,
         bytes: &[u8],
         text: &mut Vec<u8>,
-    ) -> Result<(), AllocError> {
+    ) -> Result<(), AllocError>
+        ensures session { OnOk result (self.new ≡ specs.performed self.old (line_of bytes.now)) }
+        ensures text { OnOk result (text.new.items ≡ text.old.items ++ answered_text bytes.now (line_of bytes.now) self.new.reply) }
+    {
         let line = parse(bytes);
         self.perform(alloc, &line)?;
         push_answered(alloc, text, bytes, &line, &self.reply)
@@ -127,34 +114,84 @@ impl Session {
         alloc: Global,
         bytes: &[u8],
         text: &mut Vec<u8>,
-    ) -> Result<(), AllocError> {
+    ) -> Result<(), AllocError>
+        ensures session { OnOk result (self.new ≡ specs.performed self.old (line_of bytes.now)) }
+        ensures text { OnOk result ((more : List ℕ) × specs.IsExplained bytes.now self.new.reply more × (text.new.items ≡ text.old.items ++ more)) }
+    {
         let line = parse(bytes);
         self.perform(alloc, &line)?;
         push_answered(alloc, text, bytes, &line, &self.reply)?;
-        self.push_reasons(alloc, bytes, &line, text)
+        let reasons = self.reasons(alloc, bytes, &line)?;
+        text.extend_from_slice(reasons.as_bytes())
+    }
+
+    // Performs a line, and judges its answer.
+    fn judge(
+        &mut self,
+        alloc: Global,
+        asked: &Comparison,
+        bytes: &[u8],
+    ) -> Result<LineVerdict, TraceError>
+        ensures verdict { IfOk result (λ it. it ≡ specs.verdict_on asked.now bytes.now (specs.performed self.old (line_of bytes.now))) }
+        ensures session { OnOk result (self.new ≡ specs.judged asked.now bytes.now (specs.performed self.old (line_of bytes.now))) }
+        ensures err { ¬ (result ≡ Err Device) }
+    {
+        let line = parse(bytes);
+        self.perform(alloc, &line)?;
+        let verdict = line_verdict(asked, &self.machine, bytes, &line, &self.reply);
+        self.counts = self.counts.with(verdict)?;
+        Ok(verdict)
+    }
+
+    // Compares a line, and appends what differs.
+    fn check(
+        &mut self,
+        alloc: Global,
+        asked: &Comparison,
+        source: &str,
+        bytes: &[u8],
+        text: &mut Vec<u8>,
+    ) -> Result<(), TraceError>
+        ensures session { OnOk result (self.new ≡ specs.judged asked.now bytes.now (specs.performed self.old (line_of bytes.now))) }
+        ensures text { OnOk result ((more : List ℕ) × specs.IsNote (specs.verdict_on asked.now bytes.now (specs.performed self.old (line_of bytes.now))) more
+            × (text.new.items ≡ text.old.items ++ more)) }
+        ensures err { ¬ (result ≡ Err Device) }
+    {
+        let verdict = self.judge(alloc, asked, bytes)?;
+        let note = self.note(alloc, source, bytes, verdict)?;
+        text.extend_from_slice(&note)?;
+        Ok(())
     }
 
     /// Takes a line, and appends its text.
-    pub(crate) fn take_line(
+    ///
+    /// Errors: `Memory`, if allocation failed; `TooLong`, after 2^64 - 1 lines.
+    pub fn take_line(
         &mut self,
         alloc: Global,
         asked: &TraceSubcommand,
         source: &str,
         bytes: &[u8],
         text: &mut Vec<u8>,
-    ) -> Result<(), TraceError> {
+    ) -> Result<(), TraceError>
+        ensures ok { OnOk result (specs.TakesLine asked.now bytes.now self.old self.new text.old.items text.new.items) }
+        ensures err { ¬ (result ≡ Err Device) }
+    {
         match asked {
-            TraceSubcommand::Answer => Ok(self.answer(alloc, bytes, text)?),
-            TraceSubcommand::Names => Ok(push_named(alloc, text, bytes, &parse(bytes))?),
-            TraceSubcommand::Why => Ok(self.explain(alloc, bytes, text)?),
+            TraceSubcommand::Answer => self.answer(alloc, bytes, text)?,
+            TraceSubcommand::Names => push_named(alloc, text, bytes, &parse(bytes))?,
+            TraceSubcommand::Why => self.explain(alloc, bytes, text)?,
             TraceSubcommand::Check(comparison) => {
-                self.check(alloc, comparison, source, bytes, text)
+                self.check(alloc, comparison, source, bytes, text)?
             }
         }
+        Ok(())
     }
 
     /// Whether no further line is taken: a line is wrong, and the check is to stop there.
-    pub(crate) fn is_done(&self, asked: &TraceSubcommand) -> bool {
+    pub fn is_done(&self, asked: &TraceSubcommand) -> bool
+        ensures { result ≡ specs.is_done asked.now self.now }
+    {
         match asked {
             TraceSubcommand::Check(comparison) => comparison.stops && self.counts.wrong > 0,
             _ => false,
