@@ -1,7 +1,5 @@
 pub mod Passed
-mod NoHelp
 pub mod Subcommands
 mod OptionTexts
 mod Pieces
 mod HostWords
-mod ViewWords

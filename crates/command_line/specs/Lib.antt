@@ -3,5 +3,5 @@ pub mod Ended
 pub mod Painted
 pub mod Options
 pub mod Realmhost
-pub mod Rmitrace
 pub mod Realmview
+pub mod Rmitrace

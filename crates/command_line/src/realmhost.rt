@@ -1,6 +1,6 @@
 //! The command line of `realmhost`.
 ghost use Rattle.std.specs.Prelude.{◌≡◌, IfOk, false, true, map, string_bytes};
-ghost use Rattle.clap.specs.Words.{FailsBy, app_of, fault_of, is_simple_and_free, subcommand_of};
+ghost use Rattle.clap.specs.Words.{FailsBy, app_of, fault_of, subcommand_of};
 ghost use Rattle.clap.specs.declared.builder.command.Command.TheViews.{out-Command as fields_of};
 ghost use Rattle.command_line.specs.Realmhost.{replay_subcommand, realmhost, IsHostSubcommand};
 
