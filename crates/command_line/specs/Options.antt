@@ -29,7 +29,7 @@ IsErase None erase = erase ≡ None
 IsErase (Some text) None = ⊥
 IsErase (Some text) (Some build) = ParsesUnsigned {E = Unit {0}} 3 10 text (Ok build)
 
--- the file that a text names: `-` names none, and stands for standard input
+-- the file that a text names: `-` names none, and means standard input
 abbrev pub named_file : Text → Option Text
 named_file text = if bytes_eq text (codes "-") then None else Some text
 

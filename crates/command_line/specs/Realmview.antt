@@ -4,12 +4,12 @@ use Rattle.command_line.specs.declared.realmview.Schedules.{Schedules}
 use Rattle.command_line.specs.declared.realmview.Schedules.TheVariants.{First, Drawn}
 use Rattle.command_line.specs.declared.realmview.SampleAboveMost.{SampleAboveMost}
 
--- `sample` orders, drawn by the seed, where they are not more than `most`
+-- `sample` schedules, drawn by the seed, if they are not more than `most`
 abbrev pub schedules_drawn : ℕ → ℕ → ℕ → Result Schedules SampleAboveMost
 schedules_drawn sample most seed = if nat_lt most sample then Err (record { sample = sample; most = most }) else Ok (Drawn sample seed)
 
--- The first `most` orders, a million where that is not given. Where `sample` or `seed` is given, orders are drawn
--- instead: a thousand where only the seed is given, or `most` where that is less, and by the seed 0 where none is given.
+-- The first `most` schedules, a million if that is not given. If `sample` or `seed` is given, schedules are drawn. If
+-- only the seed is given, a thousand are drawn, or `most` if that is less. If no seed is given, it is 0.
 abbrev pub schedules_asked : Option ℕ → Option ℕ → Option ℕ → Result Schedules SampleAboveMost
 schedules_asked most None None = Ok (First (unwrap_or most 1000000))
 schedules_asked most None (Some seed) = Ok (Drawn (min 1000 (unwrap_or most 1000000)) seed)

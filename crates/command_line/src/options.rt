@@ -64,7 +64,7 @@ pub(crate) fn erased(matches: &ArgMatches) -> Option<BuildId>
     build_of(matches.get_one("erase"))
 }
 
-/// The file that a text names. `-` names none, and stands for standard input.
+/// The file that a text names. `-` names none, and means standard input.
 pub(crate) fn named_file(text: &str) -> Option<&str>
     ensures { option_map (λ s. s.now) result ≡ named_file text.now }
 {

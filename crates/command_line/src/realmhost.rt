@@ -35,7 +35,7 @@ fn replay<'a>(alloc: Global) -> Result<Command<'a>, AllocError>
     subcommand(alloc, "replay", REPLAY).arg(erase(alloc, ERASE))
 }
 
-// What the command line's reader is told of the program.
+// The program as it is declared to `clap`.
 fn command<'a>(alloc: Global) -> Result<Command<'a>, AllocError>
     ensures { IfOk result (λ c. app_of c ≡ realmhost) }
 {

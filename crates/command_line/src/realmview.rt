@@ -25,22 +25,22 @@ pub enum ViewSubcommand {
     Check,
     /// Write the run of a plan, with the check that fails below each turn that is refused; or with all its checks.
     Why { all: bool },
-    /// Write what orders of a plan's turns come to.
+    /// Write the outcomes of schedules of a plan.
     Explore(Schedules),
     /// Write a plan with an order that gives each build all the turns that it needs.
     Order(SchedulingPolicy),
 }
 
-/// Which orders of a plan's turns are run.
+/// The schedules of a plan that are run.
 #[derive(Clone, Copy, Drop)]
 pub enum Schedules {
-    /// That many orders at most, from the lowest on.
+    /// That many schedules at most, from the lowest on.
     First(u32),
-    /// That many orders, drawn by the random numbers of the seed.
+    /// That many schedules, drawn by the random numbers of the seed.
     Drawn(u32, u32),
 }
 
-/// More orders are to be drawn than may be run.
+/// More schedules are to be drawn than may be run.
 #[derive(Clone, Copy, Drop)]
 pub struct SampleAboveMost {
     pub sample: u32,
@@ -56,13 +56,13 @@ pub enum SchedulingPolicy {
     OneByOne,
 }
 
-// How many orders are run at most, where no option says so.
+// The most schedules that are run, if no option says so.
 const MOST: u32 = 1000000;
 
-// How many orders are drawn, where only a seed is given.
+// The number of schedules that are drawn, if only a seed is given.
 const SAMPLE: u32 = 1000;
 
-// The `sample` orders that are drawn by the seed, where they are not more than `most`.
+// The `sample` schedules that are drawn by the seed, if they are not more than `most`.
 fn schedules_drawn(sample: u32, most: u32, seed: u32) -> Result<Schedules, SampleAboveMost>
     ensures { result ≡ schedules_drawn sample most seed }
 {
@@ -73,7 +73,7 @@ fn schedules_drawn(sample: u32, most: u32, seed: u32) -> Result<Schedules, Sampl
     }
 }
 
-// The orders that options ask for. They are drawn where a sample or a seed is given.
+// The schedules that options ask for. They are drawn if a sample or a seed is given.
 fn schedules_asked(
     most: Option<u32>,
     sample: Option<u32>,

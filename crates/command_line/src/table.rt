@@ -91,7 +91,7 @@ impl Program {
     }
 }
 
-/// The file that the subcommand is given. `-` is none, and stands for standard input.
+/// The file that the subcommand is given. `-` is none, and means standard input.
 pub(crate) fn given_file<'a>(matches: &ArgMatches<'a>) -> Option<&'a str> {
     let (_, subcommand) = matches.subcommand()?;
     named_file(subcommand.get_str("file")?)
