@@ -136,11 +136,7 @@ fn push(out: &mut Vec<u8>, colour: Option<Colour>, piece: &[u8]) -> Result<(), A
 }
 
 // Appends a line without its line feed.
-fn push_line(
-    out: &mut Vec<u8>,
-    painting: Painting,
-    line: &[u8],
-) -> Result<(), AllocError>
+fn push_line(out: &mut Vec<u8>, painting: Painting, line: &[u8]) -> Result<(), AllocError>
     ensures { OnOk result (AddsPainted out.old.items line.now out.new.items) }
 {
     let whole = colour_of_line(painting, line);
