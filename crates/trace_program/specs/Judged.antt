@@ -18,8 +18,8 @@ use Rattle.rmm_trace.specs.Compare.{place_of}
 use Rattle.rmm_answers.specs.declared.judging.Verdict.{Verdict}
 use Rattle.rmm_answers.specs.declared.judging.Verdict.TheVariants as answer
 use Rattle.rmm_answers.specs.declared.place.TheConstants.{NO, COMMAND}
-use Rattle.rmm_answers.specs.declared.reply.Reply.{Reply}
-use Rattle.rmm_answers.specs.Judging.{verdict_on}
+use Rattle.rmm_answers.specs.declared.reply.TraceReply.{TraceReply}
+use Rattle.rmm_answers.specs.Judging.{judged}
 use Rattle.trace_program.specs.declared.counts.LineVerdict.{LineVerdict}
 use Rattle.trace_program.specs.declared.counts.LineVerdict.TheVariants.{NotCompared, Same, Allowed, Wrong}
 use Rattle.trace_program.specs.LineText.{read, written_in}
@@ -40,7 +40,7 @@ are_no_command (no ∷ command ∷ []) = is_name no NO && is_name command COMMAN
 are_no_command (a ∷ b ∷ c ∷ ws) = false
 
 -- the answer to a line that is no command
-unfoldable pub is_no_command : Reply → Bool
+unfoldable pub is_no_command : TraceReply → Bool
 is_no_command reply = are_no_command reply.words.items
 
 -- ---- names of lines
@@ -79,22 +79,22 @@ unfoldable pub command_place : List TraceWord → ℕ
 command_place question = call_place (repeated question)
 
 -- A line has the names of its question and of its command, and those of the checks in its answers.
-unfoldable pub is_named : NameSet → List TraceWord → List ℕ → Reply → Bool
+unfoldable pub is_named : NameSet → List TraceWord → List ℕ → TraceReply → Bool
 is_named set question written reply =
     is_in set (name_place question) || is_in set (command_place question) || has_check set reply.words.items || has_check_written set (read written)
 
 -- ---- lines that are compared
 
-abbrev pub is_asked_for : Option NameSet → List TraceWord → List ℕ → Reply → Bool
+abbrev pub is_asked_for : Option NameSet → List TraceWord → List ℕ → TraceReply → Bool
 is_asked_for None question written reply = true
 is_asked_for (Some only) question written reply = is_named only question written reply
 
-abbrev pub is_left_out : Option NameSet → List TraceWord → List ℕ → Reply → Bool
+abbrev pub is_left_out : Option NameSet → List TraceWord → List ℕ → TraceReply → Bool
 is_left_out None question written reply = false
 is_left_out (Some skip) question written reply = is_named skip question written reply
 
 -- A line is compared if it has one of the names that are asked for, if any are, and none of those that are left out.
-unfoldable pub is_compared : Comparison → List TraceWord → List ℕ → Reply → Bool
+unfoldable pub is_compared : Comparison → List TraceWord → List ℕ → TraceReply → Bool
 is_compared asked question written reply =
     is_asked_for asked.only question written reply && not (is_left_out asked.skip question written reply)
 
@@ -105,9 +105,9 @@ as_line_verdict answer.Same = Same
 as_line_verdict answer.Allowed = Allowed
 as_line_verdict answer.Wrong = Wrong
 
-abbrev pub answer_verdict : Comparison → Option Machine → List TraceWord → List ℕ → Reply → LineVerdict
+abbrev pub answer_verdict : Comparison → Option Machine → List TraceWord → List ℕ → TraceReply → LineVerdict
 answer_verdict asked m question written reply =
-    if is_compared asked question written reply then as_line_verdict (verdict_on m question written reply) else NotCompared
+    if is_compared asked question written reply then as_line_verdict (judged m question written reply) else NotCompared
 
 -- a line that is no command has to say so
 abbrev pub no_command_verdict : Option (List ℕ) → LineVerdict
@@ -115,15 +115,15 @@ no_command_verdict (Some written) = if bytes_eq written (codes "no command") the
 no_command_verdict None = Wrong
 
 -- what is not written is not compared
-abbrev pub question_verdict : Comparison → Option Machine → RmmTraceLine → Option (List ℕ) → Reply → LineVerdict
+abbrev pub question_verdict : Comparison → Option Machine → RmmTraceLine → Option (List ℕ) → TraceReply → LineVerdict
 question_verdict asked m (Question q) (Some written) reply = answer_verdict asked m q.items written reply
 question_verdict asked m line written reply = NotCompared
 
-abbrev pub verdict_by : Bool → Comparison → Option Machine → RmmTraceLine → Option (List ℕ) → Reply → LineVerdict
+abbrev pub verdict_by : Bool → Comparison → Option Machine → RmmTraceLine → Option (List ℕ) → TraceReply → LineVerdict
 verdict_by true asked m line written reply = no_command_verdict written
 verdict_by false asked m line written reply = question_verdict asked m line written reply
 
 -- The verdict on a line, by our answer to it and the machine after it.
-unfoldable pub line_verdict : Comparison → Option Machine → List ℕ → RmmTraceLine → Reply → LineVerdict
+unfoldable pub line_verdict : Comparison → Option Machine → List ℕ → RmmTraceLine → TraceReply → LineVerdict
 line_verdict asked m bytes Remark reply = NotCompared
 line_verdict asked m bytes line reply = verdict_by (is_no_command reply) asked m line (written_in bytes) reply

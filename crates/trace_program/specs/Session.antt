@@ -5,7 +5,7 @@ use Rattle.command_line.specs.declared.rmitrace.TraceSubcommand.{TraceSubcommand
 use Rattle.command_line.specs.declared.rmitrace.TraceSubcommand.TheVariants as asks
 use Rattle.rmm_trace.specs.declared.line.RmmTraceLine.{RmmTraceLine}
 use Rattle.rmm_trace.specs.declared.line.RmmTraceLine.TheVariants.{Remark, Question, Neither}
-use Rattle.rmm_answers.specs.declared.reply.Reply.{Reply}
+use Rattle.rmm_answers.specs.declared.reply.TraceReply.{TraceReply}
 use Rattle.rmm_answers.specs.Answering.{answered}
 use Rattle.rmm_answers.specs.Replies.{no_answer, no_command}
 use Rattle.trace_program.specs.declared.counts.Counts.{Counts}
@@ -46,12 +46,12 @@ after_line asks.Why s bytes = performed s (line_of bytes)
 -- ---- texts
 
 -- the lines below an answer: there are none below a remark, and below a command that is not refused
-abbrev pub AreReasons : RmmTraceLine → Reply → List ℕ → Type 0
+abbrev pub AreReasons : RmmTraceLine → TraceReply → List ℕ → Type 0
 AreReasons Remark reply text = text ≡ []
 AreReasons line reply text = reply.refused ≡ None → is_no_command reply ≡ false → text ≡ []
 
 -- a line with its answer, and reasons below it
-pub record IsExplained (bytes : List ℕ) (reply : Reply) (text : List ℕ) : Type 0 where
+pub record IsExplained (bytes : List ℕ) (reply : TraceReply) (text : List ℕ) : Type 0 where
   pub reasons : List ℕ
   pub are_reasons : AreReasons (line_of bytes) reply reasons
   pub whole : text ≡ answered_text bytes (line_of bytes) reply ++ reasons

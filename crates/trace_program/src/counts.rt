@@ -83,7 +83,10 @@ impl Counts {
     pub fn summary(self, alloc: Global) -> Result<String, AllocError>
         ensures { IfOk result (λ text. string_bytes text ≡ summary_text self) }
     {
-        format!(in alloc; "{} same, {} allowed, {} wrong\n", self.same, self.allowed, self.wrong)
+        format!(in alloc;
+            "{} same, {} allowed, {} wrong\n",
+            self.same, self.allowed, self.wrong
+        )
     }
 
     /// The verdict on a trace with these counts.

@@ -6,7 +6,7 @@ ghost use Rattle.trace_program.specs.Judged as specs;
 use crate::LineVerdict;
 use command_line::rmitrace::{Comparison, NameSet};
 use rmm_answers::place::{COMMAND, NO};
-use rmm_answers::{Reply, TraceMachine, Verdict, verdict_on};
+use rmm_answers::{TraceMachine, TraceReply, Verdict, judge};
 use rmm_trace::place::{DASH, FIRST_CHECK, REPEAT, SMC};
 use rmm_trace::{Atom, FUNCTIONS, RmmTraceLine, TraceWord, cut_line, operand, read_words};
 
@@ -21,7 +21,7 @@ fn is_name(word: &TraceWord, name: usize) -> bool
 }
 
 // Whether an answer is that to a line that is no command.
-pub(crate) fn is_no_command(reply: &Reply) -> bool
+pub(crate) fn is_no_command(reply: &TraceReply) -> bool
     ensures { result ≡ specs.is_no_command reply.now }
 {
     match reply.words.as_slice() {
@@ -96,7 +96,7 @@ pub(crate) fn command_place(question: &[TraceWord]) -> usize
 }
 
 // Whether a line has a name of a set: that of its question, or that of a check in one of its answers.
-fn is_named(set: &NameSet, question: &[TraceWord], written: &[u8], reply: &Reply) -> bool
+fn is_named(set: &NameSet, question: &[TraceWord], written: &[u8], reply: &TraceReply) -> bool
     ensures { result ≡ specs.is_named set.now question.now written.now reply.now }
 {
     if set.has(name_place(question)) || set.has(command_place(question)) {
@@ -116,7 +116,7 @@ fn is_compared(
     asked: &Comparison,
     question: &[TraceWord],
     written: &[u8],
-    reply: &Reply,
+    reply: &TraceReply,
 ) -> bool
     ensures { result ≡ specs.is_compared asked.now question.now written.now reply.now }
 {
@@ -139,14 +139,14 @@ fn answer_verdict(
     machine: &TraceMachine,
     question: &[TraceWord],
     written: &[u8],
-    reply: &Reply,
+    reply: &TraceReply,
 ) -> LineVerdict
     ensures { result ≡ specs.answer_verdict asked.now machine.now question.now written.now reply.now }
 {
     if !is_compared(asked, question, written, reply) {
         return LineVerdict::NotCompared;
     }
-    match verdict_on(machine, question, written, reply) {
+    match judge(machine, question, written, reply) {
         Verdict::Same => LineVerdict::Same,
         Verdict::Allowed => LineVerdict::Allowed,
         Verdict::Wrong => LineVerdict::Wrong,
@@ -169,7 +169,7 @@ pub fn line_verdict(
     machine: &TraceMachine,
     bytes: &[u8],
     line: &RmmTraceLine,
-    reply: &Reply,
+    reply: &TraceReply,
 ) -> LineVerdict
     ensures { result ≡ specs.line_verdict asked.now machine.now bytes.now line.now reply.now }
 {

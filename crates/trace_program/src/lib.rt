@@ -21,5 +21,6 @@ pub use command_line::rmitrace::{Comparison, NameSet, TraceSubcommand};
 pub use counts::{Counts, LineVerdict, TraceVerdict};
 pub use fault::TraceError;
 pub use judging::line_verdict;
+pub use line_text::LineTexts;
 pub use reading::run;
 pub use session::Session;

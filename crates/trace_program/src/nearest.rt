@@ -18,10 +18,7 @@ fn first_word(text: &str) -> &str {
 }
 
 /// The first word of a question that is the nearest to the first word of the line, if one is near and differs from it.
-pub(crate) fn nearest_word(
-    alloc: Global,
-    line: &[u8],
-) -> Result<Option<&'static str>, AllocError> {
+pub(crate) fn nearest_word(alloc: Global, line: &[u8]) -> Result<Option<&'static str>, AllocError> {
     let Ok(text) = str::from_utf8(line) else {
         return Ok(None);
     };

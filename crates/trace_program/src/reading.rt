@@ -6,6 +6,7 @@ ghost use Rattle.trace_program.specs.declared.fault.TraceError.TheVariants.{Devi
 ghost use Rattle.trace_program.specs.Session.{TakesLine, is_done};
 ghost use Rattle.trace_program.specs.Reading as specs;
 
+use crate::line_text::LineTexts;
 use crate::{Session, TraceError, TraceSubcommand, TraceVerdict};
 use checked_io::Told;
 use rmm_trace::{MOST_LINE, cut_at};
@@ -37,13 +38,13 @@ struct Request<'a> {
 struct Reading {
     session: Session,
     line: Vec<u8>,
-    text: Vec<u8>,
+    text: LineTexts,
 }
 
 impl Reading {
     // Ends the line, and appends its text.
     fn end_line(&mut self, request: Request<'_>) -> Result<(), TraceError>
-        ensures ok { OnOk result (TakesLine request.entry.asked.now self.old.line.items self.old.session self.new.session self.old.text.items self.new.text.items) }
+        ensures ok { OnOk result (TakesLine request.entry.asked.now self.old.line.items self.old.session self.new.session self.old.text self.new.text) }
         ensures empty { OnOk result (self.new.line.items ≡ []) }
         ensures err { ¬ (result ≡ Err Device) }
     {
@@ -61,8 +62,8 @@ impl Reading {
     // Takes bytes of the input, up to the line that ends the run.
     fn take_part(&mut self, request: Request<'_>, part: &[u8]) -> Result<(), TraceError>
         requires { is_done request.entry.asked.now self.old.session ≡ false }
-        ensures ok { OnOk result ((read written : List ℕ) → specs.IsTaken request.entry.asked.now read written self.old.session self.old.line.items self.old.text.items
-            → specs.IsTaken request.entry.asked.now (read ++ part.now) written self.new.session self.new.line.items self.new.text.items) }
+        ensures ok { OnOk result ((read written : List ℕ) → specs.IsTaken request.entry.asked.now read written self.old.session self.old.line.items self.old.text
+            → specs.IsTaken request.entry.asked.now (read ++ part.now) written self.new.session self.new.line.items self.new.text) }
         ensures err { ¬ (result ≡ Err Device) }
     {
         let mut rest = part;
@@ -81,8 +82,8 @@ impl Reading {
     // Ends the last line, which has no line feed, unless it is empty.
     fn end(&mut self, request: Request<'_>) -> Result<(), TraceError>
         requires { is_done request.entry.asked.now self.old.session ≡ false }
-        ensures ok { OnOk result ((read written : List ℕ) → specs.IsTaken request.entry.asked.now read written self.old.session self.old.line.items self.old.text.items
-            → specs.AreAllTaken request.entry.asked.now read written self.new.session self.new.text.items) }
+        ensures ok { OnOk result ((read written : List ℕ) → specs.IsTaken request.entry.asked.now read written self.old.session self.old.line.items self.old.text
+            → specs.AreAllTaken request.entry.asked.now read written self.new.session self.new.text) }
         ensures err { ¬ (result ≡ Err Device) }
     {
         if self.line.is_empty() {
@@ -96,16 +97,17 @@ impl Reading {
         requires { output.old.failed ≡ false }
         ensures session { self.new.session ≡ self.old.session }
         ensures line { self.new.line ≡ self.old.line }
-        ensures ok { OnOk result (Appends (W.contents output.old.device) (W.contents output.new.device) self.old.text.items) }
-        ensures empty { OnOk result (self.new.text.items ≡ []) }
-        ensures err { OnErr result (AppendsFront (W.contents output.old.device) (W.contents output.new.device) self.old.text.items) }
+        ensures ok { OnOk result (Appends (W.contents output.old.device) (W.contents output.new.device) self.old.text) }
+        ensures empty { OnOk result (self.new.text ≡ []) }
+        ensures err { OnErr result (AppendsFront (W.contents output.old.device) (W.contents output.new.device) self.old.text) }
         ensures told { (output.new.failed ≡ true) ↔ (result ≡ Err Device) }
         ensures fine { OnOk result (output.new.failed ≡ false) }
     {
-        if self.text.is_empty() {
+        let text = self.text.as_slice();
+        if text.is_empty() {
             return Ok(());
         }
-        output.write_whole(&self.text)?;
+        output.write_whole(text)?;
         self.text.clear();
         Ok(())
     }
@@ -120,11 +122,11 @@ impl Reading {
     ) -> Result<bool, TraceError>
         requires readable { input.old.failed ≡ false }
         requires writable { output.old.failed ≡ false }
-        requires empty { self.old.text.items ≡ [] }
+        requires empty { self.old.text ≡ [] }
         requires open { is_done request.entry.asked.now self.old.session ≡ false }
         ensures ok { (begin start : Option (List ℕ)) → specs.IsUnderway request.entry.asked.now begin (R.remaining input.old.device) start (W.contents output.old.device) self.old.session self.old.line.items
             → IfOk result (λ more. specs.GoesOn more request.entry.asked.now begin (R.remaining input.new.device) start (W.contents output.new.device) self.new.session self.new.line.items) }
-        ensures empty { OnOk result (self.new.text.items ≡ []) }
+        ensures empty { OnOk result (self.new.text ≡ []) }
         ensures err { (begin start : Option (List ℕ)) → specs.IsUnderway request.entry.asked.now begin (R.remaining input.old.device) start (W.contents output.old.device) self.old.session self.old.line.items
             → OnErr result (specs.IsCutShort request.entry.asked.now begin (R.remaining input.new.device) start (W.contents output.new.device)) }
         ensures told { ((input.new.failed ≡ true) ⊎ (output.new.failed ≡ true)) ↔ (result ≡ Err Device) }
@@ -191,7 +193,7 @@ pub fn run<R: Read, W: Write>(
     let mut reading = Reading {
         session: Session::new(),
         line: Vec::new(alloc),
-        text: Vec::new(alloc),
+        text: LineTexts::new(alloc),
     };
     let mut buf = [0u8; 4096];
     'reads: for _ in 0..u64::MAX {

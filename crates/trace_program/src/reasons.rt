@@ -1,10 +1,9 @@
 //! The words for wrong lines and for refused calls. They are tested, not proved.
 use crate::judging::{command_place, is_no_command};
-use crate::line_text::push_line;
 use crate::nearest::nearest_word;
 use crate::phrases::requirement;
 use rmi_abi::Word;
-use rmm_answers::Reply;
+use rmm_answers::TraceReply;
 use rmm_checks::{CheckOutcome, EvaluatedCheck, EvaluatedChecks, condition_name};
 use rmm_trace::TraceWord;
 use std::alloc::{AllocError, Global};
@@ -109,18 +108,19 @@ pub(crate) fn difference(
     alloc: Global,
     heading: &str,
     bytes: &[u8],
-    reply: &Reply,
+    reply: &TraceReply,
 ) -> Result<Vec<u8>, AllocError> {
     let mut text = Vec::from_slice(alloc, heading.as_bytes())?;
-    push_line(&mut text, bytes)?;
-    let mut here = String::from_str(alloc, "here: ")?;
+    text.extend_from_slice(bytes)?;
+    let mut here = String::from_str(alloc, "\nhere: ")?;
     if reply.is_empty() {
         here.push_str("no answer")?;
     }
     reply.push_text(alloc, &mut here)?;
-    push_line(&mut text, here.as_bytes())?;
+    here.push_str("\n")?;
     if is_no_command(reply) {
-        text.extend_from_slice(hint(alloc, bytes, "")?.as_bytes())?;
+        here.push_str(hint(alloc, bytes, "")?.as_str())?;
     }
+    text.extend_from_slice(here.as_bytes())?;
     Ok(text)
 }

@@ -5,12 +5,12 @@ ghost use Rattle.trace_program.specs.LineText.{answered_text, line_of};
 ghost use Rattle.trace_program.specs.Session as specs;
 
 use crate::judging::{is_no_command, line_verdict};
-use crate::line_text::push_answered;
+use crate::line_text::LineTexts;
 use crate::naming::push_named;
 use crate::reasons::{checks_text, difference, heading, hint};
 use crate::{Counts, LineVerdict, TraceError};
 use command_line::rmitrace::{Comparison, TraceSubcommand};
-use rmm_answers::{Reply, TraceMachine};
+use rmm_answers::{TraceMachine, TraceReply};
 use rmm_trace::{RmmTraceLine, parse};
 use std::alloc::{AllocError, Global};
 
@@ -22,7 +22,7 @@ pub struct Session {
     /// The counts of the lines.
     pub counts: Counts,
     /// The answer to the last line that is no remark.
-    pub reply: Reply,
+    pub reply: TraceReply,
 }
 
 impl Session {
@@ -33,7 +33,7 @@ impl Session {
         Session {
             machine: TraceMachine::new(),
             counts: Counts::NONE,
-            reply: Reply::new(),
+            reply: TraceReply::new(),
         }
     }
 
@@ -94,35 +94,25 @@ impl Session {
     }
 
     // Answers a line.
-    fn answer(
-        &mut self,
-        alloc: Global,
-        bytes: &[u8],
-        text: &mut Vec<u8>,
-    ) -> Result<(), AllocError>
+    fn answer(&mut self, alloc: Global, bytes: &[u8], text: &mut Vec<u8>) -> Result<(), AllocError>
         ensures session { OnOk result (self.new ≡ specs.performed self.old (line_of bytes.now)) }
-        ensures text { OnOk result (text.new.items ≡ text.old.items ++ answered_text bytes.now (line_of bytes.now) self.new.reply) }
+        ensures text { OnOk result (text.new ≡ text.old ++ answered_text bytes.now (line_of bytes.now) self.new.reply) }
     {
         let line = parse(bytes);
         self.perform(alloc, &line)?;
-        push_answered(alloc, text, bytes, &line, &self.reply)
+        text.push_answered(bytes, &line, &self.reply)
     }
 
     // Answers a line, and explains its refusal.
-    fn explain(
-        &mut self,
-        alloc: Global,
-        bytes: &[u8],
-        text: &mut Vec<u8>,
-    ) -> Result<(), AllocError>
+    fn explain(&mut self, alloc: Global, bytes: &[u8], text: &mut Vec<u8>) -> Result<(), AllocError>
         ensures session { OnOk result (self.new ≡ specs.performed self.old (line_of bytes.now)) }
-        ensures text { OnOk result ((more : List ℕ) × specs.IsExplained bytes.now self.new.reply more × (text.new.items ≡ text.old.items ++ more)) }
+        ensures text { OnOk result ((more : List ℕ) × specs.IsExplained bytes.now self.new.reply more × (text.new ≡ text.old ++ more)) }
     {
         let line = parse(bytes);
         self.perform(alloc, &line)?;
-        push_answered(alloc, text, bytes, &line, &self.reply)?;
+        text.push_answered(bytes, &line, &self.reply)?;
         let reasons = self.reasons(alloc, bytes, &line)?;
-        text.extend_from_slice(reasons.as_bytes())
+        text.push(reasons.as_bytes())
     }
 
     // Performs a line, and judges its answer.
@@ -150,16 +140,16 @@ impl Session {
         asked: &Comparison,
         source: &str,
         bytes: &[u8],
-        text: &mut Vec<u8>,
+        text: &mut LineTexts,
     ) -> Result<(), TraceError>
         ensures session { OnOk result (self.new ≡ specs.judged asked.now bytes.now (specs.performed self.old (line_of bytes.now))) }
         ensures text { OnOk result ((more : List ℕ) × specs.IsNote (specs.verdict_on asked.now bytes.now (specs.performed self.old (line_of bytes.now))) more
-            × (text.new.items ≡ text.old.items ++ more)) }
+            × (text.new ≡ text.old ++ more)) }
         ensures err { ¬ (result ≡ Err Device) }
     {
         let verdict = self.judge(alloc, asked, bytes)?;
         let note = self.note(alloc, source, bytes, verdict)?;
-        text.extend_from_slice(&note)?;
+        text.push(&note)?;
         Ok(())
     }
 
@@ -172,14 +162,14 @@ impl Session {
         asked: &TraceSubcommand,
         source: &str,
         bytes: &[u8],
-        text: &mut Vec<u8>,
+        text: &mut LineTexts,
     ) -> Result<(), TraceError>
-        ensures ok { OnOk result (specs.TakesLine asked.now bytes.now self.old self.new text.old.items text.new.items) }
+        ensures ok { OnOk result (specs.TakesLine asked.now bytes.now self.old self.new text.old text.new) }
         ensures err { ¬ (result ≡ Err Device) }
     {
         match asked {
             TraceSubcommand::Answer => self.answer(alloc, bytes, text)?,
-            TraceSubcommand::Names => push_named(alloc, text, bytes, &parse(bytes))?,
+            TraceSubcommand::Names => push_named(text, bytes, &parse(bytes))?,
             TraceSubcommand::Why => self.explain(alloc, bytes, text)?,
             TraceSubcommand::Check(comparison) => {
                 self.check(alloc, comparison, source, bytes, text)?

@@ -1,0 +1,7 @@
+mod Tails
+mod Parts
+mod Kept
+mod Sessions
+mod Taken
+mod Fronts
+mod Underway

@@ -1,0 +1,179 @@
+-- An input that is being read, and its end.
+use Rattle.std.proofs.Common.{◌≡◌, ℕ, Bool, true, false, List, [], ◌∷◌, ◌++◌, map, Option, Some, None, refl, sym, ap, ◌∙◌, subst, append_assoc, append-nil, ◌⊎◌, inl, inr}
+use Rattle.std.proofs.lemmas.List.{map-append}
+use Rattle.std.specs.Io.KnownBytes.{Appends, Consumes, IsAtEnd, Keeps}
+use Rattle.checked_io.specs.Lines.{without_empty_last}
+use Rattle.checked_io.specs.Whole.{AppendsFront}
+use Rattle.checked_io.proofs.Written.{appends_none, appends_more, appends_keeps}
+use Rattle.checked_io.proofs.Read.{consumes_none, consumes_more}
+use Rattle.command_line.specs.declared.rmitrace.TraceSubcommand.{TraceSubcommand}
+use Rattle.trace_program.specs.declared.counts.TraceVerdict.{TraceVerdict}
+use Rattle.trace_program.specs.declared.session.Session.{Session}
+use Rattle.trace_program.specs.Session.{IsSession, fresh, is_done}
+use Rattle.trace_program.specs.Reading.{AreAllTaken, IsCutShort, IsOver, IsRun, IsTaken, IsUnderway, kept_of_line, last_text, taken_lines, verdict_asked}
+use Rattle.trace_program.proofs.Parts.{grows_more, lines_are}
+use Rattle.trace_program.proofs.Taken.{taken_none, lines_split, done_all}
+
+-- ---- bytes that are read and written
+
+consumes_keeps : (a b c : Option (List ℕ)) (front : List ℕ) → Consumes a b front → Keeps b c → Consumes a c front
+consumes_keeps None b c front h k = tt
+consumes_keeps (Some xs) None c front h k = absurd h
+consumes_keeps (Some xs) (Some ys) None front h k = absurd k
+consumes_keeps (Some xs) (Some ys) (Some zs) front h k = h ∙ ap (λ t. front ++ t) (sym k)
+
+-- a read that gives nothing
+consumes_nothing : (left after : Option (List ℕ)) (part : List ℕ) → part ≡ [] → Consumes left after part → Keeps left after
+consumes_nothing None after part none h = tt
+consumes_nothing (Some xs) None part none h = absurd h
+consumes_nothing (Some xs) (Some ys) part none h = sym (h ∙ ap (λ t. t ++ ys) none)
+
+front_more : (old new after : Option (List ℕ)) (text told : List ℕ) → Appends old new text → AppendsFront new after told → AppendsFront old after (text ++ told)
+front_more old new after text told written w = record {
+  front = text ++ w.front;
+  rest = w.rest;
+  split = ap (λ t. text ++ t) w.split ∙ sym (append_assoc text w.front w.rest);
+  grows = appends_more old new after text w.front written w.grows;
+}
+
+-- a prefix of a text is one of a longer text
+front_longer : (old new : Option (List ℕ)) (text more : List ℕ) → AppendsFront old new text → AppendsFront old new (text ++ more)
+front_longer old new text more w = record {
+  front = w.front;
+  rest = w.rest ++ more;
+  split = ap (λ t. t ++ more) w.split ∙ append_assoc w.front w.rest more;
+  grows = w.grows;
+}
+
+whole_front : (old new : Option (List ℕ)) (text : List ℕ) → Appends old new text → AppendsFront old new text
+whole_front old new text written = record { front = text; rest = []; split = sym (append-nil text); grows = written }
+
+module _ (asked : TraceSubcommand) (input left old new : Option (List ℕ)) where
+  pub underway_none : is_done asked fresh ≡ false → Keeps input left → Keeps old new → IsUnderway asked input left old new fresh []
+  underway_none open unread unwritten = record {
+    read = [];
+    consumed = consumes_keeps input input left [] (consumes_none input) unread;
+    written = [];
+    taken = taken_none asked open;
+    appended = appends_keeps old old new [] (appends_none old) unwritten;
+  }
+
+  module _ (s : Session) (line : List ℕ) (u : IsUnderway asked input left old new s line) where
+    pub underway_more : (left_after newer : Option (List ℕ)) (after : Session) (line_after part told : List ℕ) → Consumes left left_after part
+        → ((read written : List ℕ) → IsTaken asked read written s line [] → IsTaken asked (read ++ part) written after line_after told) → Appends new newer told
+        → IsUnderway asked input left_after old newer after line_after
+    underway_more left_after newer after line_after part told consumed takes appended = let t = takes u.read u.written u.taken in record {
+      read = u.read ++ part;
+      consumed = consumes_more input left left_after u.read part u.consumed consumed;
+      written = u.written ++ told;
+      taken = record {
+        lines = t.lines;
+        left = t.left;
+        cut = t.cut;
+        some = t.some;
+        begun = t.begun;
+        session = subst (λ (x : List ℕ). IsSession asked fresh (map kept_of_line t.lines) x after) (sym (append-nil (u.written ++ told))) t.session;
+      };
+      appended = appends_more old new newer u.written told u.appended appended;
+    }
+
+    -- ---- ends
+
+    pub over_at_end : (left_after newer : Option (List ℕ)) (after : Session) (part told : List ℕ) → Consumes left left_after part → part ≡ [] → IsAtEnd left_after
+        → ((read written : List ℕ) → IsTaken asked read written s line [] → AreAllTaken asked read written after told) → Appends new newer told
+        → IsOver asked input left_after old newer after
+    over_at_end left_after newer after part told consumed none end takes appended = record {
+      read = u.read;
+      consumed = consumes_keeps input left left_after u.read u.consumed (consumes_nothing left left_after part none consumed);
+      ended = inl end;
+      text = u.written ++ told;
+      session = takes u.read u.written u.taken;
+      written = appends_more old new newer u.written told u.appended appended;
+    }
+
+    pub over_when_done : is_done asked s ≡ true → IsOver asked input left old new s
+    over_when_done done = record {
+      read = u.read;
+      consumed = u.consumed;
+      ended = inr done;
+      text = u.written ++ [];
+      session = done_all asked u.read u.written s line [] u.taken done;
+      written = subst (λ (x : List ℕ). Appends old new x) (sym (append-nil u.written)) u.appended;
+    }
+
+    -- ---- errors
+
+    pub cut_after : (left_after newer : Option (List ℕ)) (part : List ℕ) → Consumes left left_after part → Keeps new newer → IsCutShort asked input left_after old newer
+    cut_after left_after newer part consumed unwritten =
+        let t = u.taken in
+        let g = grows_more u.read part t.lines (record { left = t.left; cut = t.cut; some = t.some }) in record {
+          read = u.read ++ part;
+          consumed = consumes_more input left left_after u.read part u.consumed consumed;
+          lines = map kept_of_line t.lines;
+          more = map kept_of_line (without_empty_last g.left);
+          split = ap (map kept_of_line) (lines_are (u.read ++ part) t.lines g.left g.cut g.some) ∙ map-append kept_of_line t.lines (without_empty_last g.left);
+          last = s;
+          text = u.written ++ [];
+          session = t.session;
+          written = front_longer old newer (u.written ++ []) (last_text asked s)
+              (whole_front old newer (u.written ++ []) (subst (λ (x : List ℕ). Appends old newer x) (sym (append-nil u.written)) (appends_keeps old new newer u.written u.appended unwritten)));
+        }
+
+    pub cut_in_write : (left_after newer : Option (List ℕ)) (after : Session) (line_after part told : List ℕ) → Consumes left left_after part
+        → ((read written : List ℕ) → IsTaken asked read written s line [] → IsTaken asked (read ++ part) written after line_after told) → AppendsFront new newer told
+        → IsCutShort asked input left_after old newer
+    cut_in_write left_after newer after line_after part told consumed takes w = let t = takes u.read u.written u.taken in record {
+      read = u.read ++ part;
+      consumed = consumes_more input left left_after u.read part u.consumed consumed;
+      lines = map kept_of_line t.lines;
+      more = map kept_of_line (without_empty_last t.left);
+      split = lines_split asked (u.read ++ part) u.written after line_after told t;
+      last = after;
+      text = u.written ++ told;
+      session = t.session;
+      written = front_longer old newer (u.written ++ told) (last_text asked after) (front_more old new newer u.written told u.appended w);
+    }
+
+    pub cut_at_end : (left_after newer : Option (List ℕ)) (after : Session) (part told : List ℕ) → Consumes left left_after part → part ≡ []
+        → ((read written : List ℕ) → IsTaken asked read written s line [] → AreAllTaken asked read written after told) → AppendsFront new newer told
+        → IsCutShort asked input left_after old newer
+    cut_at_end left_after newer after part told consumed none takes w = record {
+      read = u.read;
+      consumed = consumes_keeps input left left_after u.read u.consumed (consumes_nothing left left_after part none consumed);
+      lines = taken_lines u.read;
+      more = [];
+      split = sym (append-nil (taken_lines u.read));
+      last = after;
+      text = u.written ++ told;
+      session = takes u.read u.written u.taken;
+      written = front_longer old newer (u.written ++ told) (last_text asked after) (front_more old new newer u.written told u.appended w);
+    }
+
+  -- ---- the whole run
+
+  module _ (s : Session) (o : IsOver asked input left old new s) where
+    pub run_over : (newer : Option (List ℕ)) (verdict : TraceVerdict) → verdict ≡ verdict_asked asked s → Appends new newer (last_text asked s)
+        → IsRun asked input left old newer verdict
+    run_over newer verdict is written = record {
+      read = o.read;
+      consumed = o.consumed;
+      last = s;
+      ended = o.ended;
+      text = o.text;
+      session = o.session;
+      is_verdict = is;
+      written = appends_more old new newer o.text (last_text asked s) o.written written;
+    }
+
+    pub cut_in_counts : (newer : Option (List ℕ)) → AppendsFront new newer (last_text asked s) → IsCutShort asked input left old newer
+    cut_in_counts newer w = record {
+      read = o.read;
+      consumed = o.consumed;
+      lines = taken_lines o.read;
+      more = [];
+      split = sym (append-nil (taken_lines o.read));
+      last = s;
+      text = o.text;
+      session = o.session;
+      written = front_more old new newer o.text (last_text asked s) o.written w;
+    }
