@@ -24,6 +24,12 @@ def paths() -> list[Path]:
     return sorted(found, key=lambda path: path.stem.startswith("mixed-") or path.parent.name == "random")
 
 
+def without_answers(text: str) -> str:
+    """A trace as a question."""
+    parts = map(parts_of, text.splitlines())
+    return "".join(f"{it.question}{it.comment}\n" for it in parts)
+
+
 def with_settings(lines: Iterable[str], settings: str) -> Iterator[str]:
     """The lines with other settings on each platform; those that a platform has stay."""
     pairs = list(zip(*[iter(settings.split(" "))] * 2))
