@@ -7,13 +7,16 @@ from __future__ import annotations
 
 import re
 from collections.abc import Iterable, Iterator
+from dataclasses import replace
 from pathlib import Path
 
 from second_rmm.bench import Bench
 from second_rmm.command import COMMANDS
+from second_rmm.printing import PSCI_RESULTS, outcome_text
 from second_rmm.reading import NoCommand, parts_of
 
 TRACES = Path(__file__).resolve().parent.parent / "traces"
+FIDS = {it.fid: name for name, it in COMMANDS.items()}
 NAME_OF_A_CHECK = re.compile(r" \(\w+\)")
 
 
@@ -51,6 +54,13 @@ def raw_questions(bench: Bench, kind: str, words: list[str]) -> Iterator[str]:
         yield " ".join(["smc", hex(COMMANDS[name].fid), *values])
 
 
+def plain(operand: str, value: int) -> str:
+    """An operand of a named call."""
+    if operand == "status" and value in PSCI_RESULTS:
+        return PSCI_RESULTS[value]
+    return str(value) if operand in ("level", "index") else hex(value)
+
+
 def raw_lines(bench: Bench, kind: str, words: list[str]) -> Iterator[str]:
     """The calls of a line with their answers, up to the first that is refused. What is no call has none."""
     try:
@@ -60,6 +70,20 @@ def raw_lines(bench: Bench, kind: str, words: list[str]) -> Iterator[str]:
                 break
     except NoCommand:
         return
+
+
+def raw_calls(lines: Iterable[str], bench: Bench) -> Iterator[str]:
+    """The log of a trace whose calls are by name, one for each raw line. It has no exits: no register has them."""
+    for line in log_of(lines, bench, is_raw=True):
+        outcome, (question, _, _) = bench.outcome, parts_of(line)
+        kind, *words = question.split(" ")
+        name = FIDS.get(int(words[0], 0)) if kind == "smc" else None
+        if name is None or outcome is None:
+            yield line
+            continue
+        operands = [plain(of, int(it, 0)) for of, it in zip(COMMANDS[name].operands, words[1:])]
+        answer = outcome_text(replace(outcome, check="", exit=None))
+        yield f"{' '.join([name, *operands])} = {answer}"
 
 
 def log_of(lines: Iterable[str], bench: Bench, is_raw: bool = False) -> Iterator[str]:
