@@ -59,6 +59,9 @@ install: ## copies what `make build` and `make c-library` have built, man pages,
 	install -m 644 plans/*.* $(SHARE)/realmhost/plans
 	install -m 644 plans/guide/* $(SHARE)/realmhost/plans/guide
 	install -m 644 traces/*.trace $(SHARE)/realmhost/traces
+	install -d $(SHARE)/realmhost/traces/rmm/random
+	install -m 644 traces/rmm/*.* $(SHARE)/realmhost/traces/rmm
+	install -m 644 traces/rmm/random/*.trace $(SHARE)/realmhost/traces/rmm/random
 	install -m 644 examples/*.py $(SHARE)/realmhost/examples
 	@if test -f build/librmm.a; then $(MAKE) --no-print-directory install-c-library; \
 	  else echo "install: there is no build/librmm.a, and the library for C is left out: make c-library"; fi
@@ -77,7 +80,7 @@ test: ## the whole gate from nothing: proofs, tests, what the built programs pri
 	@mkdir -p bin
 	@for it in $(PROGRAMS) test_memory; do install -m 755 crates/$$it/out/$$it bin/$$it || exit 1; done
 	@! command -v $(CC) > /dev/null || { tools/c-library && tools/rmm-library; }
-	@tools/at_once tests/commands tests/program tests/traces tests/rules tests/rmm_traces tests/rmm_rules tests/rmm_program tests/view tests/terminal tests/orders tests/json tests/page tests/allocations tests/c-library tests/rmm-c tests/examples tests/documents tests/prose tests/believed tests/names tests/pages tests/schema "tools/pictures --check" "tools/calls --check" "tools/commands_index --check" "tools/page_template --check"
+	@tools/at_once tests/commands tests/program tests/traces tests/rules tests/rmm_traces tests/rmm_rules tests/planted_rmm tests/rmm_freedoms tests/view tests/terminal tests/orders tests/json tests/page tests/allocations tests/c-library tests/rmm-c tests/examples tests/documents tests/prose tests/believed tests/names tests/pages tests/schema "tools/pictures --check" "tools/calls --check" "tools/commands_index --check" "tools/page_template --check"
 
 mutants: ## tries the mutants of CRATE or all: the prover has to refuse each
 	@tests/mutants $(if $(JOBS),--jobs $(JOBS)) $(if $(SINCE),--since $(SINCE)) $(CRATE)
@@ -94,7 +97,6 @@ memcheck: build ## runs the programs under valgrind's memcheck
 
 fuzz: build ## runs COUNT plans and traces of each kind of random change, long inputs, and COUNT histories by registers
 	@tests/fuzz $(COUNT)
-	@tools/build test_rmm_lines
 	@tests/fuzz_rmm $(COUNT)
 
 bench: build ## CPU time and peak memory of the program over plans of several shapes, and how they grow, and CPU time of each command of the RMM by registers, beside plain Rust (needs cargo)

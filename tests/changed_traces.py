@@ -1,39 +1,36 @@
 """Traces of the repository with random changes, for `tests/fuzz`, and what has to hold whatever they have become.
 
-A trace of the same number is changed alike at each run. No answers are known for it, so `findings` compares those of the program
-with one another.
+A trace of the same number is changed alike at each run. Each answer of the program has to be that of the second model.
 """
 import random
 import re
-from pathlib import Path
+import sys
 
-TOP = Path(__file__).resolve().parent.parent
+sys.dont_write_bytecode = True
+from rmm_logs import paths, without_answers
+from second_rmm.bench import Bench
+from second_rmm.command import LOST
+from second_rmm.judge import report
+from second_rmm.reading import parts_of
+
 # Only short traces are changed: in a long one, most changes would meet one line of many that are alike.
-MOST_BYTES = 8000
-# Beside the granules of small machines: both sides of limits.
+MOST_BYTES = 9000
+# Beside numbers of the trace: both sides of limits.
 NUMBERS = (
-    15, 16, 17, 38, 39, 40, 43, 44, 255, 256, 511, 512, 513, 1024, 4095, 4096, 4097, 65535, 65536, 262143, 262144, 67108863,
-    67108864, 134217728, 4294967295, 4294967296,
+    "0", "1", "2", "3", "4", "15", "16", "17", "255", "256", "512", "513", "4096", "0x800", "0xfff", "0x1000", "0x1001", "0x200000",
+    "0x40000000", "0x4000000000", "0x7fffffffffff", "0x800000000000", "0xffffffffffffffff", "0x10000000000000000", "00", "0x01", "0xA",
 )
-
-
-def is_comment(line):
-    """Whether a line is a comment: what is not UTF-8 is none."""
-    return line[:1] == b"#" and "\ufffd" not in line.decode(errors="replace")
-
-
-def asked(line):
-    """A line without its answer."""
-    return line if is_comment(line) else line.split(b" = ")[0]
+NUMBER = re.compile(r"0x[0-9a-f]+|\b\d+\b")
 
 
 def with_a_number(lines, dice):
-    """Another number in a line, which is not that of a machine."""
+    """Another number in a line, which is not that of a platform."""
     at = dice.randrange(1, len(lines))
-    places = list(re.finditer(rb"\d+", lines[at]))
+    places = list(NUMBER.finditer(lines[at]))
     if places:
-        place, number = dice.choice(places), dice.choice((dice.randrange(12), dice.choice(NUMBERS)))
-        lines[at] = lines[at][: place.start()] + b"%d" % number + lines[at][place.end() :]
+        place, others = dice.choice(places), NUMBER.findall(dice.choice(lines)) or NUMBERS
+        number = dice.choice(others if dice.random() < 0.6 else NUMBERS)
+        lines[at] = lines[at][: place.start()] + number + lines[at][place.end() :]
 
 
 def with_a_line(lines, dice):
@@ -53,8 +50,10 @@ def with_two_lines_turned(lines, dice):
 def with_a_byte(lines, dice):
     """Any byte in the place of one, or between two."""
     at = dice.randrange(len(lines))
-    place = dice.randrange(len(lines[at]) + 1)
-    lines[at] = lines[at][:place] + bytes([dice.randrange(256)]) + lines[at][place + dice.randrange(2) :]
+    line = lines[at].encode(errors="surrogateescape")
+    place = dice.randrange(len(line) + 1)
+    changed = line[:place] + bytes([dice.choice([it for it in range(256) if it != 10])]) + line[place + dice.randrange(2) :]
+    lines[at] = changed.decode(errors="surrogateescape")
 
 
 CHANGES = (with_a_number, with_a_line, without_a_line, with_two_lines_turned, with_a_byte)
@@ -62,36 +61,41 @@ SHARES = (12, 6, 6, 12, 1)
 
 
 def changed_traces(numbers):
-    """For each number a changed trace, without answers."""
-    texts = [path.read_bytes() for path in sorted(TOP.glob("traces/*.trace")) if path.stat().st_size < MOST_BYTES]
+    """For each number the lines of a changed trace, without answers."""
+    texts = [path.read_text() for path in paths() if path.stat().st_size < MOST_BYTES]
     for number in numbers:
         dice = random.Random(number)
-        lines = [asked(line) for line in texts[number % len(texts)].splitlines()]
+        lines = without_answers(texts[number % len(texts)]).splitlines()
         for change in dice.choices(CHANGES, SHARES, k=dice.randint(1, 8)):
             change(lines, dice)
-        yield number, b"\n".join(lines) + b"\n"
+        yield number, lines
 
 
-def is_refused(line):
-    """Whether a line of a trace changed nothing by its answer: it was refused, or is no command."""
-    answer = line[len(asked(line)) :]
-    return answer == b" = no command" or re.fullmatch(rb" = [1-9]\d*", answer) is not None and not line.startswith((b"sum ", b"word "))
+def text_of(lines):
+    return "".join(f"{it}\n" for it in lines).encode(errors="surrogateescape")
 
 
-def findings(ask, trace):
+def findings(ask, lines):
     """Which answers to a trace are wrong. `ask(words, trace)` answers status, standard output and standard error."""
-    status, answered, err = first = ask((b"answer",), trace)
-    lines = answered.split(b"\n")[:-1]
-    if (status, err) != (0, b"") or len(lines) != trace.count(b"\n"):
-        yield "answer", first
+    bench = Bench()
+    try:
+        answered = [bench.line(it) for it in lines]
+    except LOST as error:
+        yield "the second model", repr(error)
         return
-    if ask((b"answer",), answered) != first:
-        yield "answer of what was answered", ask((b"answer",), answered)
-    count = sum(asked(line) != line for line in lines)
-    agreed = int(count == 0), b"%d answers agree, 0 lines performed\n" % count, b""
-    if ask((b"check",), answered) != agreed:
-        yield "check of what was answered", ask((b"check",), answered)
-    # What was refused has changed nothing.
-    kept = b"".join(line + b"\n" for line in lines if not is_refused(line))
-    if ask((b"answer",), kept) != (0, kept, b""):
-        yield "answer without the lines that were refused", ask((b"answer",), kept)
+    for given, name in (lines, "answer"), (answered, "answer of what was answered"):
+        came = ask((b"answer",), text_of(given))
+        if came != (0, text_of(answered), b""):
+            yield name, came
+    # One answer is another's.
+    dice = random.Random(len(lines))
+    places = [k for k, it in enumerate(answered) if parts_of(it).answer is not None]
+    if places:
+        at, other = dice.choice(places), dice.choice(places)
+        question, _, comment = parts_of(answered[at])
+        answered[at] = f"{question} = {parts_of(answered[other]).answer}{comment}"
+    said, status = report(answered)
+    out = ask((b"check",), text_of(answered))
+    hints = re.sub(rb"help: did you mean \S+\n", b"", out[1])
+    if (out[0], hints, out[2]) != (status, text_of(said), b""):
+        yield "check of an answer that is another", out

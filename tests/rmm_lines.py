@@ -124,7 +124,7 @@ class Raw:
         while outputs and outputs[-1] == NOT_COMPARED:
             outputs.pop()
         yield line(*registers, answer=" ".join([word(answer), *outputs]))
-        if name == ENTER:
+        if name == ENTER and not answer.word[0].startswith("RMI_ERROR"):
             self.runs[values[0]] = values[1]
             yield from self.exit_fields(values[1], answer)
 
@@ -156,7 +156,7 @@ class Raw:
 
     def smc(self, words: list[str], answer: str | None) -> Iterator[str]:
         registers = [int(it, 0) for it in words] + [0] * (7 - len(words))
-        if registers[0] == COMMANDS[ENTER].fid:
+        if registers[0] == COMMANDS[ENTER].fid and (answer or "0x0").split(" ")[0] in ("0x0", hex(RUNNING)):
             self.runs[registers[1]] = registers[RUN_OPERAND]
         came = None if answer is None else " ".join(value(it) for it in answer.split(" "))
         yield line("smc", *map(digits, registers), answer=came)

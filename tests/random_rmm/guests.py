@@ -1,8 +1,7 @@
 """Steps of guests."""
 from __future__ import annotations
 
-from rmm_lines import KINDS
-from second_rmm.facts import PAGE
+from second_rmm.facts import PAGE, RIPAS
 from second_rmm.machine import MAPPINGS, Realm
 
 from .operands import mpidr_of
@@ -16,8 +15,10 @@ class Guests(Tables):
     def guest(self, rec: int) -> None:
         """Gives a guest a step."""
         kind, operands = self.step_of(self.here.rec(rec).realm)
-        result = self.do("guest", rec, KINDS.index(kind), *operands)
-        self.met[f"guest {result}"] += 1
+        words: list[int | str] = list(operands)
+        if kind == "set_ripas":
+            words[2:] = [RIPAS[operands[2]], *["destroyed"] * operands[3]]
+        self.met[f"guest {self.ask('guest', rec, kind, *words)}"] += 1
 
     def step_of(self, realm: Realm) -> Step:
         draws = (
@@ -29,8 +30,10 @@ class Guests(Tables):
     # ---- accesses
 
     def access(self, realm: Realm) -> Step:
-        kind, ipa = self.dice.choice(("write", "write", "read", "read", "fetch")), self.accessed(realm)
-        return kind, {"write": (ipa, self.dice.randrange(256), 1), "read": (ipa, 1)}.get(kind, (ipa,))
+        dice = self.dice
+        kind, width = dice.choice(("write", "write", "read", "read", "fetch")), dice.choice((1, 1, 1, 2, 4, 8))
+        ipa = self.accessed(realm) // width * width
+        return kind, {"write": (ipa, dice.randrange(256**width), width), "read": (ipa, width)}.get(kind, (ipa,))
 
     def accessed(self, realm: Realm) -> int:
         """An address that a guest accesses: mostly in a page or block that is mapped."""

@@ -3,14 +3,17 @@ from __future__ import annotations
 
 from collections.abc import Callable
 
-from rmm_lines import SETTINGS
-from second_rmm.facts import ENTRIES, PAGE, UNDELEGATED, size
+from second_rmm.facts import ENTRIES, PAGE, UNDELEGATED, VALUES, Settings, size
 from second_rmm.machine import Realm
 
 from .performing import Nothing
 from .recs import Recs
 
-GIC_IS_CHECKED = 1 << SETTINGS.index(("gic", "checked"))
+# The other value of each setting that has two; VMIDs are drawn apart.
+OTHERS = {
+    name: next(it for it in values if it != getattr(Settings(), name))
+    for name, values in VALUES.items() if not isinstance(values, range) and name != "vmid_bits"
+}
 BASES, BASES_WITH_BLOCKS = (0x80000000, 0x80000000, 0, 0x10000, 2**46, 2**47 - 0x200000), (0x80000000, 2**40)
 # Of so many histories each some begin with these; MANY RECs reach the second affinity.
 CYCLE, WITH_PAGES, WITH_BLOCKS, WITH_TABLE, WITH_RECS, MANY = 100, range(3, 100, 10), range(5, 100, 5), (7,), (11,), 40
@@ -39,13 +42,17 @@ class History(Recs):
 
     def platform(self, count: int, base: int) -> None:
         dice = self.dice
-        flags = sum(1 << k for k in range(len(SETTINGS)) if self.is_drawn(0.2)) & ~GIC_IS_CHECKED
-        first = base + PAGE * dice.randrange(max(0, count - LAST), count)
-        secure = (first, dice.randrange(1, 3)) if self.is_drawn(0.3) else (0, 0)
-        aux, s2sz = dice.choice((0, 0, 0, 1, 1, 2, 2, 3, 16)), dice.choice((48, 48, 48, 40, 34))
-        fields = (dice.choice((0, 1, 15)), dice.choice((0, 1, 15)), dice.choice((0, 3, 15)))
-        order = dice.choice((0, 1, 2, 4, 4, 15))
-        self.do("platform", base, count, aux, dice.choice((8, 16)), s2sz, order, flags, *fields, *secure)
+        numbers = {
+            "aux": dice.choice((0, 0, 0, 1, 1, 2, 2, 3, 16)), "vmid_bits": dice.choice((8, 16)), "s2sz": dice.choice((48, 48, 48, 40, 34)),
+            "max_recs_order": dice.choice((0, 1, 2, 4, 4, 15)), "bps": dice.choice((0, 1, 15)), "wps": dice.choice((0, 1, 15)),
+            "lrs": dice.choice((0, 3, 15)),
+        }
+        words = [word for name, it in numbers.items() for word in (name, str(it))]
+        words += [str(word) for name, it in OTHERS.items() if self.is_drawn(0.2) for word in (name, it)]
+        if self.is_drawn(0.3):
+            first = dice.randrange(max(0, count - LAST), count)
+            words += ["secure", hex(base + PAGE * first), str(dice.randrange(1, 1 + min(2, count - first)))]
+        self.ask("platform", base, str(count), *words)
         self.kept = {self.address(count - 1 - k) for k in range(4)}
 
     def begun(self, first: int) -> None:
@@ -124,7 +131,7 @@ class History(Recs):
     def teardown(self) -> None:
         """Ends the runs, destroys the RECs, and steps through the addresses by `top`."""
         for rec in self.recs():
-            self.do("interrupt", rec)
+            self.ask("interrupt", rec)
             self.exactly("rmi_rec_destroy", rec)
         for realm in self.realms():
             at = 0
@@ -156,12 +163,13 @@ class History(Recs):
         """Reads each granule, REC and realm, and entries of each table."""
         for address in self.all_of(lambda _: True):
             it = self.here.granule(address)
-            self.do("state", address)
-            self.do("sum", address)
+            self.ask("state", address)
+            self.ask("sum", address)
             if it.state == UNDELEGATED and any(it.page):
-                self.do("load", address, PAGE)
+                for word in self.dice.sample(range(0, PAGE, 8), 4):
+                    self.ask("load", address + word)
             for kind in ("rec", "saw") if it.rec is not None else ("realm", "rim") if it.realm is not None else ():
-                self.do(kind, address)
+                self.ask(kind, address)
             if it.realm is not None:
                 self.read_tables(it.realm)
 

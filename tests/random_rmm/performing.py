@@ -1,4 +1,4 @@
-"""A history: its operations, each with the second model's result, and what was met."""
+"""A history: its lines, each with the second model's answer, and what was met."""
 from __future__ import annotations
 
 from collections import Counter
@@ -6,15 +6,16 @@ from collections.abc import Sequence
 from random import Random
 from typing import TypeVar
 
-from rmm_lines import RawBench, digits
-from second_rmm.command import COMMANDS, Outcome, smc
-from second_rmm.facts import NOT_SUPPORTED, PAGE, RTT, RUNNING, STATUSES, SUCCESS
+from second_rmm.bench import Bench
+from second_rmm.command import COMMANDS, Outcome
+from second_rmm.facts import PAGE, RTT, RUNNING, STATUSES, SUCCESS
 from second_rmm.machine import Machine
-from second_rmm.pages import EXIT_BEGINS, Layout
+from second_rmm.pages import REC_EXIT, Layout
+from second_rmm.printing import PSCI_RESULTS
 
 T = TypeVar("T")
-# Registers: X1 to X4 of an answer, and X1 to X6 of a call.
-OUTPUTS, OPERANDS, HIGHEST = 4, 6, 2**64
+# X1 to X6 of a call.
+OPERANDS, HIGHEST, WORD = 6, 2**64, 8
 # The bits of an ESR below its class, and the class of a write of a system register.
 ISS, OF_A_REGISTER = 2**25, 0x60000000 // 2**25
 
@@ -23,34 +24,21 @@ class Nothing(Exception):
     """A step finds nothing to be done with."""
 
 
-class Bench(RawBench):
-    """The second model, with the outcome of the last call. It answers all registers up to X4."""
-
-    outcome: Outcome
-
-    def smc(self, *words: str) -> str:
-        given = [int(it, 16) for it in words]
-        registers, self.outcome = smc(self.here, given, frozenset())
-        is_unknown = registers[0] == NOT_SUPPORTED
-        rest = given[1 : 1 + OUTPUTS] if is_unknown else [0] * (1 + OUTPUTS - len(registers))
-        return " ".join(map(digits, [*registers, *rest]))
-
-
 class Performing:
     """A history of a number, which has nothing yet."""
 
     def __init__(self, number: int) -> None:
         self.dice = Random(number)
         self.bench = Bench()
-        self.operations: list[str] = []
-        self.results: list[str] = []
+        # The lines, each with its answer.
+        self.lines: list[str] = []
         self.met: Counter[str] = Counter()
         # How likely it is that an operand is replaced.
         self.spoils = self.dice.choice((0.0, 0.04, 0.1, 0.1, 0.2, 0.35))
 
     @property
     def here(self) -> Machine:
-        return self.bench.here
+        return self.bench.machine
 
     def is_drawn(self, chance: float) -> bool:
         return self.dice.random() < chance
@@ -64,15 +52,14 @@ class Performing:
         """One of the right items, and now and then any."""
         return self.one(items if self.is_drawn(self.spoils / 2) else right)
 
-    # ---- operations
+    # ---- lines
 
-    def do(self, kind: str, *words: int | str) -> str:
-        """Performs an operation, and returns its result."""
-        texts = [it if isinstance(it, str) else digits(it) for it in words]
-        result = getattr(self.bench, kind)(*texts) or ""
-        self.operations.append(" ".join([kind, *texts]))
-        self.results.append(result)
-        return result
+    def ask(self, *words: int | str) -> str:
+        """Asks a question, and returns its answer."""
+        question = " ".join(it if isinstance(it, str) else hex(it) for it in words)
+        answer = self.bench.ask(question)
+        self.lines.append(question if answer is None else f"{question} = {answer}")
+        return answer or ""
 
     def other(self, operand: str, value: int, values: list[int]) -> int:
         """Another value of an operand."""
@@ -87,10 +74,12 @@ class Performing:
         return self.exactly(name, *spoiled)
 
     def exactly(self, name: str, *values: int) -> Outcome:
-        """A call with these operands. What is in the other registers does not matter."""
-        rest = range(OPERANDS - len(values))
-        padding = [0 for _ in rest] if self.is_drawn(0.9) else [self.dice.randrange(HIGHEST) for _ in rest]
-        self.do("smc", COMMANDS[name].fid, *values, *padding)
+        """A call with these operands, by name or by registers. What is in the other registers does not matter."""
+        if self.is_drawn(0.9):
+            self.ask(name, *(PSCI_RESULTS.get(it, it) if of == "status" else it for of, it in zip(COMMANDS[name].operands, values)))
+        else:
+            rest = [self.dice.randrange(HIGHEST) for _ in range(OPERANDS - len(values))]
+            self.ask("smc", COMMANDS[name].fid, *values, *rest)
         outcome = self.bench.outcome
         self.count(name, outcome)
         if outcome.exit is not None:
@@ -108,9 +97,11 @@ class Performing:
 
     def read_exit(self, rec: int, run: int) -> None:
         """Reads what an exit has written, and what the guest saw."""
-        self.do("load", run + EXIT_BEGINS, PAGE - EXIT_BEGINS)
-        self.do("saw", rec)
-        self.do("rec", rec)
+        self.ask("sum", run)
+        for it in REC_EXIT.values():
+            self.ask("load", run + it.offset // WORD * WORD)
+        self.ask("saw", rec)
+        self.ask("rec", rec)
         last = self.here.rec(rec).last
         if last is not None:
             esr = last.esr - last.esr % ISS if last.esr // ISS == OF_A_REGISTER else last.esr
@@ -121,13 +112,17 @@ class Performing:
 
     def write_page(self, address: int, layout: Layout, fields: dict[str, tuple[int, ...]]) -> None:
         """Writes the fields of a page; one that is not there is 0. What is in no field can be anything."""
-        self.do("fill", address, 0 if self.is_drawn(0.8) else self.dice.randrange(256))
+        byte = 0 if self.is_drawn(0.8) else self.dice.randrange(256)
+        page = bytearray([byte]) * PAGE
         for name, it in layout.items():
-            values = (fields.get(name, ()) + (0,) * it.most)[: it.most]
-            is_within = address % PAGE + it.offset + it.size * it.most <= PAGE
-            if is_within and it.size <= 8:
-                content = b"".join((value % 256**it.size).to_bytes(it.size, "little") for value in values)
-                self.do("store", address + it.offset, content.hex())
+            values = (fields.get(name, ()) + (0,) * it.most)[: it.most] if it.size <= WORD else ()
+            content = b"".join((value % 256**it.size).to_bytes(it.size, "little") for value in values)
+            page[it.offset : it.offset + len(content)] = content
+        self.ask("fill", address, byte)
+        for place in range(0, PAGE, WORD):
+            word = bytes(page[place : place + WORD])
+            if word != bytes([byte]) * WORD:
+                self.ask("store", address + place, int.from_bytes(word, "little"))
 
     def spoil_fields(self, fields: dict[str, tuple[int, ...]], others: dict[str, Sequence[int]]) -> None:
         """Replaces fields of a page."""

@@ -45,7 +45,7 @@ class Recs(Guests):
         params = self.host_page()
         self.write_page(params, REC_PARAMS, fields)
         self.call("rmi_rec_create", realm.rd, rec, params)
-        self.do("rim", realm.rd)
+        self.ask("rim", realm.rd)
 
     def rec_destroy(self) -> None:
         self.call("rmi_rec_destroy", self.one(self.recs()))
@@ -63,11 +63,16 @@ class Recs(Guests):
         flags |= self.is_drawn(self.spoils / 2)
         if self.is_drawn(0.9):
             gprs = tuple(dice.randrange(HIGHEST) for _ in range(31))
-            layout = {name: REC_ENTER[name] for name in ("flags", "gprs")}
-            self.write_page(run, layout, {"flags": (flags,), "gprs": gprs})
+            fields = {"flags": (flags,), "gprs": gprs}
+            if self.here.settings.gic == "checked":
+                lrs = tuple(dice.randrange(2**61) for _ in range(dice.randrange(self.here.settings.lrs + 2)))
+                fields |= {"gicv3_hcr": (dice.choice((0, 0x2, 0x40FE, 0x1)),), "gicv3_lrs": lrs}
+                self.spoil_fields(fields, {"gicv3_hcr": (1, 1 << 63), "gicv3_lrs": (1 << 61,)})
+            layout = {name: it for name, it in REC_ENTER.items() if name in fields}
+            self.write_page(run, layout, fields)
         outcome = self.call("rmi_rec_enter", rec, run)
         if outcome.word == RUNNING:
-            self.do("saw", rec)
+            self.ask("saw", rec)
         if outcome.exit is not None and self.is_drawn(0.7):
             self.serve(rec, outcome.exit)
 
@@ -76,9 +81,9 @@ class Recs(Guests):
         run = self.here.rec(rec).run
         if run and self.is_drawn(0.1):
             self.exactly("rmi_granule_delegate", run)
-        result = self.do("interrupt", rec)
+        result = self.ask("interrupt", rec)
         self.met[f"interrupt {result}"] += 1
-        if result == "0":
+        if result.startswith("RMI_SUCCESS"):
             self.read_exit(rec, run)
 
     # ---- after an exit
@@ -123,4 +128,4 @@ class Recs(Guests):
         target = self.one_of(self.recs(named), self.recs())
         is_denied = it.pending is not None and it.pending.function == CPU_ON and self.is_drawn(0.3)
         self.call("rmi_psci_complete", calling, target, PSCI_DENIED if is_denied else 0)
-        self.do("rec", target)
+        self.ask("rec", target)

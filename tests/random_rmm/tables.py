@@ -20,7 +20,7 @@ class Tables(Operands):
 
     def interface(self) -> None:
         if self.is_drawn(0.3):
-            self.do("smc", self.dice.choice(NO_COMMANDS), *[self.dice.randrange(HIGHEST) for _ in range(6)])
+            self.ask("smc", self.dice.choice(NO_COMMANDS), *[self.dice.randrange(HIGHEST) for _ in range(6)])
             self.met["unknown function"] += 1
         elif self.is_drawn(0.5):
             self.call("rmi_version", 0x10000)
@@ -41,15 +41,15 @@ class Tables(Operands):
             address = self.other_granule(address, [address]) // PAGE * PAGE % HIGHEST
         place = address + 8 * dice.randrange(511)
         kind, *words = dice.choice((
-            ("load", place, 16), ("store", place, dice.randbytes(8).hex()), ("fill", address, dice.randrange(256)),
+            ("load", place), ("store", place, dice.randrange(HIGHEST)), ("fill", address, dice.randrange(256)),
         ))
-        result = self.do(kind, *words)
+        result = self.ask(kind, *words)
         self.met[f"{kind} {'fault' if result == 'fault' else 'done'}"] += 1
 
     def reading(self) -> None:
         address = self.address(self.dice.randrange(len(self.here.granules)))
         kind = self.dice.choice(("state", "sum", "realm", "rim", "rec", "saw"))
-        self.do(kind, address + 8 * self.is_drawn(0.02))
+        self.ask(kind, address + 8 * self.is_drawn(0.02))
 
     # ---- realms
 
@@ -89,8 +89,8 @@ class Tables(Operands):
         self.write_page(params, REALM_PARAMS, fields)
         if self.call("rmi_realm_create", rd, params).word == SUCCESS:
             self.regions.pop(rd, None)
-            self.do("realm", rd)
-            self.do("rim", rd)
+            self.ask("realm", rd)
+            self.ask("rim", rd)
 
     def realm_activate(self) -> None:
         self.call("rmi_realm_activate", self.one_of([it.rd for it in self.realms("NEW")], self.of_state(RD)))
@@ -170,10 +170,10 @@ class Tables(Operands):
         realm, ipa = self.page_place(self.realms("NEW"))
         src = self.host_page()
         if self.is_drawn(0.7):
-            self.do("fill", src, self.dice.randrange(256))
-            self.do("store", src + 8 * self.dice.randrange(512), self.dice.randbytes(8).hex())
+            self.ask("fill", src, self.dice.randrange(256))
+            self.ask("store", src + 8 * self.dice.randrange(512), self.dice.randrange(HIGHEST))
         self.call("rmi_data_create", realm.rd, self.spare(), ipa, src, self.dice.randrange(2))
-        self.do("rim", realm.rd)
+        self.ask("rim", realm.rd)
 
     def data_create_unknown(self) -> None:
         realm, ipa = self.page_place(self.realms())
@@ -203,4 +203,4 @@ class Tables(Operands):
         base = self.range_begin(realm)
         top = self.range_end(realm, base) + PAGE * self.is_drawn(0.1)
         if self.call("rmi_rtt_init_ripas", realm.rd, base, top).word == SUCCESS:
-            self.do("rim", realm.rd)
+            self.ask("rim", realm.rd)

@@ -1,4 +1,4 @@
-"""A second model of RMM 1.0 by registers, in which each check can be left out.
+"""A second model of RMM 1.0 by registers, in which each check can be left out, and made in another sequence.
 
 It was written from a description of the standard's 23 commands, and has no code in common with the proved RMM.
 

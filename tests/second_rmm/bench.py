@@ -5,7 +5,7 @@ import re
 from collections.abc import Callable, Set
 
 from . import realms, recs, tables  # noqa: F401  (they define the commands)
-from .command import COMMANDS, Outcome, call, smc
+from .command import COMMANDS, LISTED, Outcome, call, smc
 from .facts import INPUT, PAGE, SUCCESS
 from .guest import MOST_STEPS, interrupt
 from .machine import Granule, Machine, Realm, Rec
@@ -22,8 +22,8 @@ NOT_UTF_8 = re.compile("[\ud800-\udfff]")
 class Bench:
     """A machine that answers lines. `without` has the checks that are left out, each with its command."""
 
-    def __init__(self, without: Set[tuple[str, str]] = frozenset()) -> None:
-        self.without = without
+    def __init__(self, without: Set[tuple[str, str]] = frozenset(), sequence: str = LISTED) -> None:
+        self.without, self.sequence = without, sequence
         self.here: Machine | None = None
         # The outcome of the last call.
         self.outcome: Outcome | None = None
@@ -73,7 +73,7 @@ class Bench:
         return [named(word, PSCI_NAMES if of == "status" else {}) for word, of in zip(words, of_command)]
 
     def call(self, name: str, values: list[int]) -> Outcome:
-        self.outcome = call(self.machine, name, values, self.without)
+        self.outcome = call(self.machine, name, values, self.without, self.sequence)
         return self.outcome
 
     def repeat(self, words: list[str]) -> str:
@@ -94,7 +94,8 @@ class Bench:
 
     def smc(self, words: list[str]) -> str:
         given = numbers(words, 1, REGISTERS)
-        registers, self.outcome = smc(self.machine, given + [0] * (REGISTERS - len(given)), self.without)
+        padded = given + [0] * (REGISTERS - len(given))
+        registers, self.outcome = smc(self.machine, padded, self.without, self.sequence)
         return " ".join(hex(it) for it in registers)
 
     # ---- the host's memory

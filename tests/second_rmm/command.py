@@ -7,15 +7,22 @@ from __future__ import annotations
 
 from collections.abc import Callable, Iterator, Mapping, Set
 from dataclasses import dataclass, field
-from functools import cached_property
+from functools import cache, cached_property
 from typing import ClassVar, NamedTuple, TypeVar
 
-from .facts import INPUT, NOT_SUPPORTED, PAGE, RD, REC_STATE, RTT, SUCCESS, UNDELEGATED, size, word_of
+from .facts import INPUT, NOT_SUPPORTED, PAGE, RD, REC_STATE, RTT, SUCCESS, UNDELEGATED, Settings, size, word_of
 from .machine import Entry, Exit, Machine, Realm, Rec, Walk
 
 # A command or a step that cannot go on without a check that was left out ends with one of these.
 LOST = (ArithmeticError, AssertionError, AttributeError, IndexError, KeyError, LookupError, TypeError, ValueError)
 FIRST_FID = 0xC4000000
+
+
+# Sequences of checks that the standard leaves open: that of the lists here, that of TF-RMM as far as it is known, and
+# one in which the last of several checks that fail decides. None makes a check before those that it comes after.
+LISTED, TF, LAST = SEQUENCES = ("listed", "tf", "last")
+# In TF-RMM the state of the realm comes before this check of a command. No firmware was asked.
+REALM_STATE_BEFORE = {"rmi_data_create": "ipa_bound", "rmi_rtt_init_ripas": "base_bound", "rmi_rec_create": "num_aux"}
 
 
 class Check(NamedTuple):
@@ -93,11 +100,11 @@ class Command:
                 raise
             return False
 
-    def perform(self, without: Set[tuple[str, str]] = frozenset()) -> Outcome:
+    def perform(self, without: Set[tuple[str, str]] = frozenset(), sequence: str = LISTED) -> Outcome:
         """Makes the checks, but for those of `without`, and the effect if none fails."""
         failed = self.failed(without)
         if failed:
-            name, word = failed[0]
+            name, word = deciding(self.name, failed, sequence)
             return Outcome(word, self.refused(word), name, frozenset(it for _, it in failed))
         try:
             return self.effect()
@@ -177,6 +184,25 @@ class WithTop(Command):
         return {"top": self.next_live()} if word & 0xFF == RTT else {}
 
 
+@cache
+def names_of_checks(command: str) -> list[str]:
+    """The names of a command's checks, in their sequence. None is made."""
+    nowhere = Machine(0, 1, Settings())
+    return [it.name for it in COMMANDS[command](nowhere, *[0] * len(COMMANDS[command].operands)).checks()]
+
+
+def deciding(command: str, failed: list[tuple[str, int]], sequence: str) -> tuple[str, int]:
+    """The check that decides, of those that were made and failed, by the sequence in which they are made."""
+    if sequence == LAST:
+        return failed[-1]
+    realm_state = next((it for it in failed if it[0] == "realm_state"), None)
+    if sequence == TF and realm_state and command in REALM_STATE_BEFORE:
+        names = names_of_checks(command)
+        place = names.index(REALM_STATE_BEFORE[command])
+        return realm_state if names.index(failed[0][0]) >= place else failed[0]
+    return failed[0]
+
+
 COMMANDS: dict[str, type[Command]] = {}
 C = TypeVar("C", bound=type[Command])
 
@@ -197,14 +223,18 @@ def done(**outputs: int) -> Outcome:
     return Outcome(SUCCESS, outputs)
 
 
-def call(machine: Machine, name: str, values: list[int], without: Set[tuple[str, str]]) -> Outcome:
-    return COMMANDS[name](machine, *values).perform(without)
+def call(
+    machine: Machine, name: str, values: list[int], without: Set[tuple[str, str]] = frozenset(), sequence: str = LISTED
+) -> Outcome:
+    return COMMANDS[name](machine, *values).perform(without, sequence)
 
 
-def smc(machine: Machine, registers: list[int], without: Set[tuple[str, str]]) -> tuple[list[int], Outcome]:
+def smc(
+    machine: Machine, registers: list[int], without: Set[tuple[str, str]] = frozenset(), sequence: str = LISTED
+) -> tuple[list[int], Outcome]:
     """Performs a call by registers, X0 to X6. Returns X0 and the outputs, each 0 if there is none."""
     it = next((it for it in COMMANDS.values() if it.fid == registers[0]), None)
     if it is None:
         return [NOT_SUPPORTED], Outcome(NOT_SUPPORTED)
-    outcome = call(machine, it.name, registers[1 : 1 + len(it.operands)], without)
+    outcome = call(machine, it.name, registers[1 : 1 + len(it.operands)], without, sequence)
     return [outcome.word, *(outcome.outputs.get(name, 0) for name in it.outputs)], outcome

@@ -16,6 +16,7 @@ from .printing import NAMES
 from .reading import parts_of
 
 SAME, ALLOWED, WRONG = "same", "allowed", "wrong"
+NO_COMMAND = "no command"
 # Checks whose names are not the standard's, or are unsure: their names are not compared.
 UNSURE_NAMES = {
     ("rmi_version", "version"), ("rmi_data_create", "flags_valid"), ("rmi_data_create", "rtte_ripas"),
@@ -125,10 +126,12 @@ def is_allowed(written: str, bench: Bench, question: str) -> bool:
     return word_of(STATUSES.index(status), number(index[0]) or 0 if index else 0) in others
 
 
-def judged(bench: Bench, question: str, written: str) -> tuple[str, str]:
+def judged(bench: Bench, question: str, written: str | None) -> tuple[str, str]:
     """Performs a question. Returns how the answer that is written compares, and the model's."""
     here = bench.ask(question) or ""
-    if is_same(written, here, question):
+    if here == NO_COMMAND or written == NO_COMMAND:
+        return SAME if here == written else WRONG, here
+    if written is None or is_same(written, here, question):
         return SAME, here
     return ALLOWED if is_allowed(written, bench, question) else WRONG, here
 
@@ -143,23 +146,24 @@ class Judged(NamedTuple):
 
 
 def judge(lines: Iterable[str], bench: Bench | None = None) -> Iterator[Judged]:
-    """Each line that has an answer, compared. The model goes on from its own state."""
+    """Each line that has an answer or is no command, compared. The model goes on from its own state."""
     bench = bench or Bench()
     for place, line in enumerate(lines, 1):
         question, answer, _ = parts_of(line)
-        if answer is not None:
-            yield Judged(place, line, *judged(bench, question, answer))
-        elif question:
-            bench.ask(question)
+        if not question and answer is None:
+            continue
+        verdict, here = judged(bench, question, answer)
+        if answer is not None or here == NO_COMMAND:
+            yield Judged(place, line, verdict, here)
 
 
-def report(lines: Iterable[str], is_stopped: bool = False) -> tuple[list[str], int]:
+def report(lines: Iterable[str], is_stopped: bool = False, name: str = "trace") -> tuple[list[str], int]:
     """The report on a trace, and its status: 0 if something is the same, and nothing wrong."""
     counts, findings = {SAME: 0, ALLOWED: 0, WRONG: 0}, []
     for it in judge(lines):
         counts[it.verdict] += 1
         if it.verdict != SAME:
-            findings += [f"line {it.number}: {it.verdict}", it.line, f"here: {it.here}"]
+            findings += [f"{name}:{it.number}: {it.verdict}", it.line, f"here: {it.here or 'no answer'}"]
         if is_stopped and it.verdict == WRONG:
             break
     same, allowed, wrong = counts.values()

@@ -107,11 +107,11 @@ class RealmCreate(Command):
             self.rd, self.field("s2sz"), signed(self.field("rtt_level_start")), self.tables(),
             self.field("vmid"), self.field("hash_algo"), first_rim(self.page),
         )
-        span = size(realm.level)
+        protected = 2 ** (realm.s2sz - 1) // size(realm.level)
         self.machine.become(self.rd, RD).realm = realm
         for number, table in enumerate(realm.tables):
-            begins = (number * ENTRIES * span + k * span for k in range(ENTRIES))
-            entries = [Entry() if realm.is_protected(it) else UNASSIGNED_NS for it in begins]
+            here = min(max(protected - number * ENTRIES, 0), ENTRIES)
+            entries = [Entry()] * here + [UNASSIGNED_NS] * (ENTRIES - here)
             self.machine.become(table, RTT_STATE).table = entries
         return done()
 

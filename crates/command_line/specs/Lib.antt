@@ -4,3 +4,4 @@ pub mod Painted
 pub mod Options
 pub mod Realmhost
 pub mod Realmview
+pub mod Rmitrace

@@ -17,6 +17,7 @@ pub mod rmitrace;
 mod stop;
 mod table;
 mod terminal;
+mod waiting;
 
 pub use ended::Ended;
 pub use invocation::Invocation;
@@ -24,3 +25,4 @@ pub use paint::{Colour, Painting, painted};
 pub use process::arguments;
 pub use stop::{Reason, Stop};
 pub use terminal::{Input, Output};
+pub use waiting::Waiting;

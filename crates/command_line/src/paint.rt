@@ -100,13 +100,26 @@ fn is_of_carets(line: &[u8]) -> bool {
     line.iter().all(|byte| matches!(*byte, b' ' | b'^')) && line.iter().any(|byte| *byte == b'^')
 }
 
-// The colour of a whole line. Lines are counted from 0.
-fn colour_of_line(painting: Painting, number: usize, line: &[u8]) -> Option<Colour> {
-    match (painting, number) {
-        (Painting::Messages, _) if is_refused_turn(line) || is_of_carets(line) => Some(Colour::Red),
-        (Painting::Difference, 1) => Some(Colour::Red),
-        (Painting::Difference, 2) => Some(Colour::Green),
-        _ => None,
+// The colour of a line on one that differs: its heading has the verdict, and another line has our answer.
+fn colour_of_difference(line: &[u8]) -> Option<Colour> {
+    if line.ends_with(b": wrong") {
+        return Some(Colour::Red);
+    }
+    if line.ends_with(b": allowed") {
+        return Some(Colour::Yellow);
+    }
+    if line.starts_with(b"here: ") {
+        return Some(Colour::Green);
+    }
+    None
+}
+
+// The colour of a whole line.
+fn colour_of_line(painting: Painting, line: &[u8]) -> Option<Colour> {
+    match painting {
+        Painting::Messages if is_refused_turn(line) || is_of_carets(line) => Some(Colour::Red),
+        Painting::Messages => None,
+        Painting::Difference => colour_of_difference(line),
     }
 }
 
@@ -123,15 +136,10 @@ fn push(out: &mut Vec<u8>, colour: Option<Colour>, piece: &[u8]) -> Result<(), A
 }
 
 // Appends a line without its line feed.
-fn push_line(
-    out: &mut Vec<u8>,
-    painting: Painting,
-    number: usize,
-    line: &[u8],
-) -> Result<(), AllocError>
+fn push_line(out: &mut Vec<u8>, painting: Painting, line: &[u8]) -> Result<(), AllocError>
     ensures { OnOk result (AddsPainted out.old.items line.now out.new.items) }
 {
-    let whole = colour_of_line(painting, number, line);
+    let whole = colour_of_line(painting, line);
     let label = match whole {
         None => label_in(line),
         Some(_) => None,
@@ -161,12 +169,12 @@ pub fn painted(alloc: Global, text: &[u8], painting: Painting) -> Result<Vec<u8>
 {
     let mut out = Vec::new(alloc);
     let mut rest = text;
-    'lines: for number in 0..text.len() {
+    'lines: for _ in 0..text.len() {
         if rest.is_empty() {
             return Ok(out);
         }
         let (line, more) = rest.split_at(line_len(rest));
-        push_line(&mut out, painting, number, line)?;
+        push_line(&mut out, painting, line)?;
         let (feed, after) = more.split_at(more.len().min(1));
         push(&mut out, None, feed)?;
         rest = after;

@@ -1,36 +1,82 @@
 //! The command line of `rmitrace`.
+ghost use Rattle.std.specs.Prelude.{◌≡◌};
+ghost use Rattle.command_line.specs.Rmitrace.{is_in};
+
 use crate::Invocation;
-use crate::table::{Program, Subcommand, given_file};
+use crate::table::{Opt, Program, Subcommand, given_file};
+use clap::error::ErrorKind;
 use clap::{ArgMatches, Error};
-use std::alloc::Global;
+use rmm_trace::place::{FIRST_CHECK, WRITE};
+use rmm_trace::{find_name, name_text};
+use std::alloc::{AllocError, Global};
+use strsim::osa_distance;
+
+/// A set of names of lines, by their places in `rmm_trace`.
+#[derive(Clone, Copy)]
+pub struct NameSet {
+    pub places: [bool; 256],
+}
+
+/// The lines that a check compares, and whether it stops at the first that is wrong.
+#[derive(Clone, Copy)]
+pub struct Comparison {
+    pub stops: bool,
+    /// The names of which a line has to have one, if any are given.
+    pub only: Option<NameSet>,
+    /// The names of which a line may have none.
+    pub skip: Option<NameSet>,
+}
 
 /// The request to the program.
 #[derive(Clone, Copy)]
 pub enum TraceSubcommand {
     /// Answer each line of a trace.
     Answer,
-    /// Check the answers of a trace.
-    Check,
+    /// Compare the answers of a trace.
+    Check(Comparison),
+    /// Name the raw calls of a trace.
+    Names,
+    /// Answer each line of a trace, and explain each refusal.
+    Why,
 }
 
 const ABOUT: &str =
-    "Answers and checks traces of RMI commands, as a simulated Realm Management Monitor (RMM 1.0).";
+    "Answers and checks traces of RMI calls, as a Realm Management Monitor (RMM 1.0).";
 
 const EXAMPLES: &str = "Examples:
-  rmitrace check traces/granules.trace
-  echo 'machine 8 8 0' | rmitrace answer";
+  rmitrace check traces/rmm/a-kvm-boot.trace
+  printf 'platform 0x80000000 64\\nrmi_features 0\\n' | rmitrace answer
+  rmitrace names firmware.log | rmitrace check --skip rtte_ripas";
 
 const ANSWER: &str = "Print each line of a trace with its answer, as soon as it is read";
 
 const ANSWER_EXAMPLES: &str = "Examples:
-  rmitrace answer traces/granules.trace
-  printf 'machine 8 8 0\\ngranule_delegate 0\\n' | rmitrace answer";
+  rmitrace answer traces/rmm/a-kvm-boot.trace
+  printf 'platform 0x80000000 64\\nrmi_features 0\\n' | rmitrace answer";
 
-const CHECK: &str = "Check the answers of a trace, up to the first line that is wrong";
+const CHECK: &str = "Compare the answers of a trace, and print each that is not the same";
 
 const CHECK_EXAMPLES: &str = "Examples:
-  rmitrace check traces/granules.trace
-  rmitrace answer traces/granules.trace | rmitrace check";
+  rmitrace check traces/rmm/a-kvm-boot.trace
+  rmitrace check --stop --skip rmi_rec_enter firmware.trace
+  rmitrace answer traces/rmm/a-kvm-boot.trace | rmitrace check";
+
+const STOP_HELP: &str = "Stop at the first line that is wrong";
+
+const ONLY_HELP: &str = "Compare lines of the command or check NAME alone; may be repeated";
+
+const SKIP_HELP: &str = "Compare no line of the command or check NAME; may be repeated";
+
+const NAMES: &str = "Print a trace with its raw calls by names";
+
+const NAMES_EXAMPLES: &str = "Examples:
+  echo 'smc 0xc4000151 0x80000000 = 0x0' | rmitrace names
+  rmitrace names firmware.log | rmitrace check";
+
+const WHY: &str = "Print a trace with its answers, and explain each refusal";
+
+const WHY_EXAMPLES: &str = "Examples:
+  rmitrace why traces/rmm/b-refusals.trace | less";
 
 const FILE: &str = "The trace; without FILE, or with -, read standard input";
 
@@ -51,16 +97,127 @@ const RMITRACE: Program = Program {
             about: CHECK,
             examples: CHECK_EXAMPLES,
             file: FILE,
+            options: &[
+                Opt::Flag("stop", STOP_HELP),
+                Opt::Names("only", ONLY_HELP),
+                Opt::Names("skip", SKIP_HELP),
+            ],
+        },
+        Subcommand {
+            name: "names",
+            about: NAMES,
+            examples: NAMES_EXAMPLES,
+            file: FILE,
+            options: &[],
+        },
+        Subcommand {
+            name: "why",
+            about: WHY,
+            examples: WHY_EXAMPLES,
+            file: FILE,
             options: &[],
         },
     ],
 };
 
+// ---- names
+
+impl NameSet {
+    /// Whether a name is in the set.
+    pub fn has(&self, place: usize) -> bool
+        ensures { result ≡ is_in self.now place }
+    {
+        match self.places.get(place) {
+            Some(is_in) => *is_in,
+            None => false,
+        }
+    }
+}
+
+// Whether a line can have the name at a place: that of a question, or of a check.
+fn is_of_line(place: usize) -> bool {
+    place < WRITE || FIRST_CHECK <= place
+}
+
+// The place of a name of lines. In a trace the name of a check is in brackets.
+fn place_of(alloc: Global, name: &str) -> Result<Option<usize>, AllocError> {
+    let check = format!(in alloc; "({name})")?;
+    let place = find_name(name.as_bytes()).or(find_name(check.as_bytes()));
+    Ok(place.filter(|place| is_of_line(*place)))
+}
+
+// A name of lines as an option has it.
+fn bare_name(place: usize) -> &'static str {
+    name_text(place).trim_matches(['(', ')'])
+}
+
+// The name of lines that is the nearest to a text, if one is near: a third of the text differs at most.
+fn nearest(alloc: Global, text: &str) -> Result<Option<&'static str>, AllocError> {
+    let mut found = None;
+    let mut least = text.len() / 3 + 1;
+    for place in 0..256 {
+        let edits = osa_distance(alloc, text, bare_name(place))?;
+        if edits < least && is_of_line(place) {
+            found = Some(bare_name(place));
+            least = edits;
+        }
+    }
+    Ok(found)
+}
+
+// The error for a name that no line has.
+fn unknown(alloc: Global, name: &str) -> Result<Error, AllocError> {
+    let message = match nearest(alloc, name)? {
+        Some(near) => {
+            format!(in alloc; "no command or check is named '{name}'; did you mean '{near}'?")?
+        }
+        None => format!(in alloc; "no command or check is named '{name}'")?,
+    };
+    RMITRACE
+        .command(alloc)?
+        .error(ErrorKind::ValueValidation, &message)
+}
+
+// The set of names; a name that no line has is an error.
+fn set_of(alloc: Global, names: &[&str]) -> Result<NameSet, Error> {
+    let mut set = NameSet {
+        places: [false; 256],
+    };
+    for name in names {
+        match place_of(alloc, name)? {
+            Some(place) if place < 256 => set.places[place] = true,
+            _ => return Err(unknown(alloc, name)?),
+        }
+    }
+    Ok(set)
+}
+
+// ---- words
+
+// The set of the names of an option, if it is given.
+fn names_by(alloc: Global, check: &ArgMatches, option: &str) -> Result<Option<NameSet>, Error> {
+    match check.get_strs(option) {
+        Some(names) => Ok(Some(set_of(alloc, names)?)),
+        None => Ok(None),
+    }
+}
+
+// The lines that a check is to compare, by the words that were matched.
+fn compared_by(alloc: Global, check: &ArgMatches) -> Result<Comparison, Error> {
+    Ok(Comparison {
+        stops: check.get_flag("stop"),
+        only: names_by(alloc, check, "only")?,
+        skip: names_by(alloc, check, "skip")?,
+    })
+}
+
 // The request of the words that were matched.
-fn asked_by(matches: &ArgMatches) -> TraceSubcommand {
-    match matches.subcommand_name() {
-        Some("answer") => TraceSubcommand::Answer,
-        _ => TraceSubcommand::Check,
+fn asked_by(alloc: Global, matches: &ArgMatches) -> Result<TraceSubcommand, Error> {
+    match matches.subcommand() {
+        Some(("check", check)) => Ok(TraceSubcommand::Check(compared_by(alloc, check)?)),
+        Some(("names", _)) => Ok(TraceSubcommand::Names),
+        Some(("why", _)) => Ok(TraceSubcommand::Why),
+        _ => Ok(TraceSubcommand::Answer),
     }
 }
 
@@ -72,7 +229,7 @@ impl TraceSubcommand {
     ) -> Result<Invocation<'a, TraceSubcommand>, Error> {
         let matches = RMITRACE.matched(alloc, words)?;
         Ok(Invocation {
-            asked: asked_by(&matches),
+            asked: asked_by(alloc, &matches)?,
             file: given_file(&matches),
         })
     }

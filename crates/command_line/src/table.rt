@@ -12,6 +12,10 @@ pub(crate) enum Opt {
     Number(&'static str, &'static str, &'static str),
     /// A flag.
     Flag(&'static str, &'static str),
+    /// An option with a name, which may be repeated.
+    Names(&'static str, &'static str),
+    /// A text: the option's name, and that of its value.
+    Text(&'static str, &'static str, &'static str),
 }
 
 /// A subcommand: its name and what it does, examples, its FILE, and its options.
@@ -51,12 +55,24 @@ fn flag<'a>(alloc: Global, name: &'a str, help: &'a str) -> Arg<'a> {
         .action(ArgAction::SetTrue)
 }
 
+// An option with a text.
+fn text<'a>(alloc: Global, name: &'a str, value: &'a str, help: &'a str) -> Arg<'a> {
+    Arg::new(alloc, name)
+        .long(name)
+        .value_name(value)
+        .help(help)
+}
+
 impl Opt {
     fn argument<'a>(self, alloc: Global) -> Arg<'a> {
         match self {
             Opt::Erase(help) => erase(alloc, help),
             Opt::Number(name, value, help) => number(alloc, name, value, help),
             Opt::Flag(name, help) => flag(alloc, name, help),
+            Opt::Names(name, help) => text(alloc, name, "NAME", help).action(ArgAction::Append),
+            Opt::Text(name, value, help) => {
+                text(alloc, name, value, help).action(ArgAction::Set)
+            }
         }
     }
 }

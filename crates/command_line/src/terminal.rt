@@ -6,6 +6,7 @@ ghost use Rattle.command_line.specs.declared.stop.Stop.TheVariants.{Run};
 
 use crate::paint::{Painting, painted};
 use crate::stop::{Reason, Stop};
+use crate::waiting::Waiting;
 use std::alloc::Global;
 use std::env::VarError;
 use std::fs::File;
@@ -15,9 +16,9 @@ use std::{env, io};
 
 /// The input of a program: standard input, or the file of its command line.
 #[derive(Drop)]
-pub enum Input {
+pub enum Input<'a> {
     /// Standard input.
-    Standard(Stdin),
+    Standard(Waiting<'a, Stdin>),
     /// A file.
     File(File),
 }
@@ -48,16 +49,16 @@ fn opened(rt: &HostRuntime, name: &str) -> io::Result<File> {
     Ok(file)
 }
 
-impl Input {
+impl<'a> Input<'a> {
     /// Opens the file of the command line, or standard input if there is none.
     ///
     /// If standard input is a terminal, a line on standard error says what the program awaits.
     pub fn open<F: Reason>(
-        rt: &HostRuntime,
+        rt: &'a HostRuntime,
         program: &str,
         file: Option<&str>,
         awaited: &str,
-    ) -> Result<Input, Stop<F>>
+    ) -> Result<Input<'a>, Stop<F>>
         ensures { IfErr result (λ stop. (status_of_stop F.status_of stop ≡ 5) ⊎ (stop ≡ Run F.memory)) }
     {
         let Some(name) = file else {
@@ -67,7 +68,7 @@ impl Input {
                     "{program}: reading {awaited} from the terminal; end it with Ctrl-D"
                 );
             }
-            return Ok(Input::Standard(stdin));
+            return Ok(Input::Standard(Waiting::new(rt, stdin)));
         };
         match opened(rt, name) {
             Ok(file) => Ok(Input::File(file)),
@@ -76,7 +77,7 @@ impl Input {
     }
 }
 
-impl Read for Input {
+impl Read for Input<'_> {
     fn read(&mut self, buf: &mut [u8]) -> io::Result<usize> {
         match self {
             Input::Standard(stdin) => stdin.read(buf),
@@ -96,44 +97,38 @@ fn allows_colours(rt: &HostRuntime) -> bool {
 
 /// Standard output. On a terminal it is painted, if the program asks for that.
 #[derive(Drop)]
-pub enum Output {
-    /// Text as it is.
-    Plain(Stdout),
-    /// Text whose lines are painted.
-    Painted(Stdout, Global, Painting),
+pub struct Output<'a> {
+    stdout: Waiting<'a, Stdout>,
+    alloc: Global,
+    painting: Option<Painting>,
 }
 
-impl Output {
+impl<'a> Output<'a> {
     /// Standard output, painted if it is a terminal and colours are allowed.
-    pub fn open(rt: &HostRuntime, painting: Option<Painting>) -> Output {
-        match painting {
-            Some(painting) if rt.stdout().is_terminal() && allows_colours(rt) => {
-                Output::Painted(rt.stdout(), rt.alloc(), painting)
-            }
-            _ => Output::Plain(rt.stdout()),
+    pub fn open(rt: &'a HostRuntime, painting: Option<Painting>) -> Output<'a> {
+        let is_painted = rt.stdout().is_terminal() && allows_colours(rt);
+        Output {
+            stdout: Waiting::new(rt, rt.stdout()),
+            alloc: rt.alloc(),
+            painting: if is_painted { painting } else { None },
         }
     }
 }
 
-impl Write for Output {
+impl Write for Output<'_> {
     fn write(&mut self, buf: &[u8]) -> io::Result<usize> {
-        match self {
-            Output::Plain(stdout) => stdout.write(buf),
-            Output::Painted(stdout, alloc, painting) => {
-                let Ok(text) = painted(*alloc, buf, *painting) else {
-                    return stdout.write(buf);
-                };
-                stdout.write_all(text.as_slice())?;
-                Ok(buf.len())
-            }
-        }
+        let Some(painting) = self.painting else {
+            return self.stdout.write(buf);
+        };
+        let Ok(text) = painted(self.alloc, buf, painting) else {
+            return self.stdout.write(buf);
+        };
+        self.stdout.write_all(text.as_slice())?;
+        Ok(buf.len())
     }
 
     fn flush(&mut self) -> io::Result<()> {
-        match self {
-            Output::Plain(stdout) => stdout.flush(),
-            Output::Painted(stdout, ..) => stdout.flush(),
-        }
+        self.stdout.flush()
     }
 }
 

@@ -1,5 +1,5 @@
-//! The program that answers or checks traces. The lines of a trace come from a file or from standard input, and go to
-//! standard output with their answers, or are checked.
+//! The program for traces of an RMM. The lines of a trace come from a file or from standard input, and go to standard
+//! output with their answers, by names, or with the reasons of refusals; or they are compared.
 #![tactic(auto)]
 
 ghost use Rattle.std.specs.Prelude.{◌≡◌, IfErr};
@@ -9,18 +9,19 @@ ghost use Rattle.trace_program.specs.Stop.{trace_exit_status, IsTraceStatus};
 use checked_io::Told;
 use command_line::{Ended, Input, Output, Painting, Stop, arguments};
 use std::process::ExitCode;
-use trace_program::{TraceError, TraceSubcommand, Verdict, run};
+use trace_program::{TraceError, TraceSubcommand, TraceVerdict, run};
 
 /// The lines of the output that are painted on a terminal.
-fn painting(asked: TraceSubcommand) -> Option<Painting> {
+fn painting(asked: &TraceSubcommand) -> Option<Painting> {
     match asked {
-        TraceSubcommand::Answer => None,
-        TraceSubcommand::Check => Some(Painting::Difference),
+        TraceSubcommand::Answer | TraceSubcommand::Names => None,
+        TraceSubcommand::Why => Some(Painting::Messages),
+        TraceSubcommand::Check(_) => Some(Painting::Difference),
     }
 }
 
 /// Performs what the command line asks for.
-fn serve(rt: &HostRuntime) -> Result<Ended<Verdict>, Stop<TraceError>> {
+fn serve(rt: &HostRuntime) -> Result<Ended<TraceVerdict>, Stop<TraceError>> {
     let alloc = rt.alloc();
     let words = arguments::<_, TraceError>(rt)?;
     let line = match TraceSubcommand::of(alloc, &words) {
@@ -28,19 +29,20 @@ fn serve(rt: &HostRuntime) -> Result<Ended<Verdict>, Stop<TraceError>> {
         Err(error) => return Ended::shown(alloc, error, &mut Told::new(rt.stdout())),
     };
     let mut input = Told::new(Input::open(rt, "rmitrace", line.file, "a trace")?);
-    let mut output = Told::new(Output::open(rt, painting(line.asked)));
-    let outcome = run(alloc, line.asked, &mut input, &mut output);
+    let mut output = Told::new(Output::open(rt, painting(&line.asked)));
+    let source = line.file.unwrap_or("trace");
+    let outcome = run(alloc, &line.asked, source, &mut input, &mut output);
     Ended::of_run(outcome, output.is_closed())
 }
 
 /// The exit status. If the program stops, standard error has the reason. A wrong line is on standard output.
-fn end(rt: &HostRuntime, outcome: Result<Ended<Verdict>, Stop<TraceError>>) -> ExitCode
+fn end(rt: &HostRuntime, outcome: Result<Ended<TraceVerdict>, Stop<TraceError>>) -> ExitCode
     ensures value { exit_status result ≡ trace_exit_status outcome }
     ensures stops { IfErr outcome (λ _. IsTraceStatus (exit_status result)) }
 {
     match outcome {
-        Ok(Ended::Done(Verdict::Agree) | Ended::Shown) => ExitCode::SUCCESS,
-        Ok(Ended::Done(Verdict::NoAnswers | Verdict::Differ)) => ExitCode::FAILURE,
+        Ok(Ended::Done(TraceVerdict::Agrees) | Ended::Shown) => ExitCode::SUCCESS,
+        Ok(Ended::Done(TraceVerdict::NothingSame | TraceVerdict::Differs)) => ExitCode::FAILURE,
         Ok(Ended::Closed) => ExitCode::from(141),
         Err(stop) => stop.end_in_colour(rt),
     }

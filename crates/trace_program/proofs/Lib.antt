@@ -1,12 +1,7 @@
-pub mod Values
-pub mod Kept
-pub mod Parts
-pub mod LinesRead
-pub mod ReadParts
-pub mod Sessions
-pub mod SoFar
-pub mod Underway
-pub mod Found
-pub mod Agreed
-pub mod Judged
-pub mod Stated
+mod Tails
+mod Parts
+mod Kept
+mod Sessions
+mod Taken
+mod Fronts
+mod Underway

@@ -1,19 +1,44 @@
--- A session with one line more.
-use Rattle.std.proofs.Common.{◌≡◌, ℕ, List, [], ◌∷◌, ◌++◌, map, refl, sym, ap, ◌∙◌, subst, append_assoc}
-use mathlib.Core.List.{append-nil}
-use Rattle.std.proofs.lemmas.List.{map-append}
-use Rattle.trace_program.specs.Session.{Now, IsLineReported, IsSession}
-use Rattle.trace_program.specs.Input.{kept_of_line}
+-- Sessions with a line more, and those that are done.
+use Rattle.std.proofs.Common.{◌≡◌, ℕ, Bool, true, false, List, [], ◌∷◌, ◌++◌, refl, sym, ap, ◌∙◌, subst, append_assoc, append-nil, inl, inr}
+use Rattle.command_line.specs.declared.rmitrace.TraceSubcommand.{TraceSubcommand}
+use Rattle.trace_program.specs.declared.session.Session.{Session}
+use Rattle.trace_program.specs.Session.{IsLineText, IsSession, after_line, is_done}
 
-session_more : (old : Now) (lines : List (List ℕ)) (line text told : List ℕ) (mid new : Now) → IsSession old lines text mid → IsLineReported mid line told new
-    → IsSession old (lines ++ line ∷ []) (text ++ told) new
-session_more old [] line text told mid new is k =
-    (new, told, [], subst (λ (m : Now). IsLineReported m line told new) is.1 k, (refl, refl), ap (λ t. t ++ told) is.0 ∙ sym (append-nil told))
-session_more old (l ∷ ls) line text told mid new (m, first, rest, t, s, e) k =
-    (m, first, rest ++ told, t, session_more m ls line rest told mid new s k, ap (λ x. x ++ told) e ∙ append_assoc first rest told)
+-- a session that was done stays so
+not_both : (b : Bool) → b ≡ true → b ≡ false → ⊥
+not_both true e f = absurd (cc)
+not_both false e f = absurd (cc)
 
-pub kept_session_more : (old : Now) (lines : List (List ℕ)) (rest line text told : List ℕ) (mid new : Now) → IsSession old (map kept_of_line lines) text mid → line ≡ kept_of_line rest
-    → IsLineReported mid line told new → IsSession old (map kept_of_line (lines ++ rest ∷ [])) (text ++ told) new
-kept_session_more old lines rest line text told mid new is kept k =
-    subst (λ (ls : List (List ℕ)). IsSession old ls (text ++ told) new) (ap (λ (l : List ℕ). map kept_of_line lines ++ l ∷ []) kept ∙ sym (map-append kept_of_line lines (rest ∷ [])))
-    (session_more old (map kept_of_line lines) line text told mid new is k)
+module _ (asked : TraceSubcommand) where
+  pub session_more : (old : Session) (lines : List (List ℕ)) (line text told : List ℕ) (mid : Session) → IsSession asked old lines text mid → is_done asked mid ≡ false
+      → IsLineText asked line mid (after_line asked mid line) told → IsSession asked old (lines ++ line ∷ []) (text ++ told) (after_line asked mid line)
+  session_more old [] line text told mid is open k =
+      let same = is.1 in
+      inr (subst (λ (s : Session). is_done asked s ≡ false) same open,
+      (told, [], subst (λ (s : Session). IsLineText asked line s (after_line asked s line) told) same k, (refl, ap (λ (s : Session). after_line asked s line) same),
+      ap (λ t. t ++ told) is.0 ∙ sym (append-nil told)))
+  session_more old (l ∷ ls) line text told mid is open k =
+      elim is [
+        | inl done ↦ absurd (not_both (is_done asked old) done.0 (subst (λ (s : Session). is_done asked s ≡ false) done.2 open))
+        | inr goes ↦
+            let it = goes.1 in
+            inr (goes.0, (it.0, it.1 ++ told, it.2, session_more (after_line asked old l) ls line it.1 told mid it.3 open k,
+            ap (λ t. t ++ told) it.4 ∙ append_assoc it.0 it.1 told))
+      ]
+
+  done_more : (old : Session) (more : List (List ℕ)) → is_done asked old ≡ true → IsSession asked old more [] old
+  done_more old [] done = (refl, refl)
+  done_more old (line ∷ more) done = inl (done, refl, refl)
+
+  -- lines after it is done change nothing
+  pub session_done : (old : Session) (lines more : List (List ℕ)) (text : List ℕ) (last : Session) → IsSession asked old lines text last → is_done asked last ≡ true
+      → IsSession asked old (lines ++ more) text last
+  session_done old [] more text last is done =
+      rw (is.0) (subst (λ (s : Session). IsSession asked old more [] s) (sym is.1) (done_more old more (subst (λ (s : Session). is_done asked s ≡ true) is.1 done)))
+  session_done old (l ∷ ls) more text last is done =
+      elim is [
+        | inl over ↦ inl over
+        | inr goes ↦
+            let it = goes.1 in
+            inr (goes.0, (it.0, it.1, it.2, session_done (after_line asked old l) ls more it.1 last it.3 done, it.4))
+      ]

@@ -1,112 +1,179 @@
 -- An input that is being read, and its end.
-use Rattle.std.proofs.Common.{◌≡◌, ℕ, ◌<◌, List, [], ◌∷◌, ◌++◌, length, map, Option, Some, None, sym, ap, ◌∙◌, subst, ◌⊎◌, inl, inr}
-use mathlib.Core.List.{append-nil}
-use Rattle.std.specs.Io.KnownBytes.{Keeps, Consumes, IsAtEnd}
-use Rattle.checked_io.proofs.Written.{appends_more}
-use Rattle.checked_io.proofs.Read.{consumes_none, consumes_more, keeps_same}
-use Rattle.trace_program.specs.Session.{Now, IsSession}
-use Rattle.trace_program.specs.Input.{kept_of_line, AreLinesAnswered, IsCutShort, AreAnswersCutShort}
-use Rattle.trace_program.specs.Answering.{IsSoFar, IsUnderway, Writes, WritesFront}
-use Rattle.trace_program.proofs.LinesRead.{lines_are_all, rest_is_last}
-use Rattle.trace_program.proofs.SoFar.{so_far_none, session_more, stopped, front_more}
+use Rattle.std.proofs.Common.{◌≡◌, ℕ, Bool, true, false, List, [], ◌∷◌, ◌++◌, map, Option, Some, None, refl, sym, ap, ◌∙◌, subst, append_assoc, append-nil, ◌⊎◌, inl, inr}
+use Rattle.std.proofs.lemmas.List.{map-append}
+use Rattle.std.specs.Io.KnownBytes.{Appends, Consumes, IsAtEnd, Keeps}
+use Rattle.checked_io.specs.Lines.{without_empty_last}
+use Rattle.checked_io.specs.Whole.{AppendsFront}
+use Rattle.checked_io.proofs.Written.{appends_none, appends_more, appends_keeps}
+use Rattle.checked_io.proofs.Read.{consumes_none, consumes_more}
+use Rattle.command_line.specs.declared.rmitrace.TraceSubcommand.{TraceSubcommand}
+use Rattle.trace_program.specs.declared.counts.TraceVerdict.{TraceVerdict}
+use Rattle.trace_program.specs.declared.session.Session.{Session}
+use Rattle.trace_program.specs.Session.{IsSession, fresh, is_done}
+use Rattle.trace_program.specs.Reading.{AreAllTaken, IsCutShort, IsOver, IsRun, IsTaken, IsUnderway, kept_of_line, last_text, taken_lines, verdict_asked}
+use Rattle.trace_program.proofs.Parts.{grows_more, lines_are}
+use Rattle.trace_program.proofs.Taken.{taken_none, lines_split, done_all}
 
--- ---- reads
+-- ---- bytes that are read and written
 
-pub consumes_keeps : (a b c : Option (List ℕ)) (front : List ℕ) → Consumes a b front → Keeps b c → Consumes a c front
+consumes_keeps : (a b c : Option (List ℕ)) (front : List ℕ) → Consumes a b front → Keeps b c → Consumes a c front
 consumes_keeps None b c front h k = tt
 consumes_keeps (Some xs) None c front h k = absurd h
 consumes_keeps (Some xs) (Some ys) None front h k = absurd k
 consumes_keeps (Some xs) (Some ys) (Some zs) front h k = h ∙ ap (λ t. front ++ t) (sym k)
 
 -- a read that gives nothing
-pub consumes_nothing : (left after : Option (List ℕ)) (part : List ℕ) → part ≡ [] → Consumes left after part → Keeps left after
+consumes_nothing : (left after : Option (List ℕ)) (part : List ℕ) → part ≡ [] → Consumes left after part → Keeps left after
 consumes_nothing None after part none h = tt
 consumes_nothing (Some xs) None part none h = absurd h
 consumes_nothing (Some xs) (Some ys) part none h = sym (h ∙ ap (λ t. t ++ ys) none)
 
-pub underway_at_end : (input left after old new : Option (List ℕ)) (bench : Now) (line part : List ℕ) → IsUnderway input left old new bench line → part ≡ [] → Consumes left after part
-    → IsUnderway input after old new bench line
-underway_at_end input left after old new bench line part u none consumed = record {
-  read = u.read;
-  consumed = consumes_keeps input left after u.read u.consumed (consumes_nothing left after part none consumed);
-  so_far = u.so_far;
+front_more : (old new after : Option (List ℕ)) (text told : List ℕ) → Appends old new text → AppendsFront new after told → AppendsFront old after (text ++ told)
+front_more old new after text told written w = record {
+  front = text ++ w.front;
+  rest = w.rest;
+  split = ap (λ t. text ++ t) w.split ∙ sym (append_assoc text w.front w.rest);
+  grows = appends_more old new after text w.front written w.grows;
 }
 
-pub underway_none : (input old : Option (List ℕ)) → IsUnderway input input old old None []
-underway_none input old = record { read = []; consumed = consumes_none input; so_far = so_far_none old }
-
-pub underway_more : (input left after old new newer : Option (List ℕ)) (bench bench_after : Now) (line line_after part : List ℕ) → IsUnderway input left old new bench line → Consumes left after part
-    → ((start : Option (List ℕ)) (read : List ℕ) → IsSoFar start new read bench line → IsSoFar start newer (read ++ part) bench_after line_after)
-    → IsUnderway input after old newer bench_after line_after
-underway_more input left after old new newer bench bench_after line line_after part u consumed more = record {
-  read = u.read ++ part;
-  consumed = consumes_more input left after u.read part u.consumed consumed;
-  so_far = more old u.read u.so_far;
+-- a prefix of a text is one of a longer text
+front_longer : (old new : Option (List ℕ)) (text more : List ℕ) → AppendsFront old new text → AppendsFront old new (text ++ more)
+front_longer old new text more w = record {
+  front = w.front;
+  rest = w.rest ++ more;
+  split = ap (λ t. t ++ more) w.split ∙ append_assoc w.front w.rest more;
+  grows = w.grows;
 }
 
-pub stopped_in_part : (input left after old new newer : Option (List ℕ)) (bench : Now) (line part : List ℕ) → IsUnderway input left old new bench line → Consumes left after part
-    → ((start : Option (List ℕ)) (read : List ℕ) → IsSoFar start new read bench line → IsCutShort start newer (read ++ part)) → AreAnswersCutShort input after old newer
-stopped_in_part input left after old new newer bench line part u consumed stops = record {
-  read = u.read ++ part;
-  consumed = consumes_more input left after u.read part u.consumed consumed;
-  cut_short = stops old u.read u.so_far;
-}
+whole_front : (old new : Option (List ℕ)) (text : List ℕ) → Appends old new text → AppendsFront old new text
+whole_front old new text written = record { front = text; rest = []; split = sym (append-nil text); grows = written }
 
--- ---- at the end of the input
-
-module _ (input left old new : Option (List ℕ)) (bench : Now) (line : List ℕ) where
-  pub answered_all : IsUnderway input left old new bench line → IsAtEnd left → length line ≡ 0 → AreLinesAnswered input left old new
-  answered_all u end none = let s = u.so_far in record {
-    bytes = u.read;
-    consumed = u.consumed;
-    at_end = end;
-    text = s.text;
-    last = bench;
-    session = subst (λ (ls : List (List ℕ)). IsSession None (map kept_of_line ls) s.text bench) (sym (lines_are_all u.read line s.parts none)) s.session;
-    written = s.written;
+module _ (asked : TraceSubcommand) (input left old new : Option (List ℕ)) where
+  pub underway_none : is_done asked fresh ≡ false → Keeps input left → Keeps old new → IsUnderway asked input left old new fresh []
+  underway_none open unread unwritten = record {
+    read = [];
+    consumed = consumes_keeps input input left [] (consumes_none input) unread;
+    written = [];
+    taken = taken_none asked open;
+    appended = appends_keeps old old new [] (appends_none old) unwritten;
   }
 
-  pub answered_last : (after : Option (List ℕ)) (bench_after : Now) → IsUnderway input left old new bench line → IsAtEnd left → 0 < length line
-      → Writes new after bench line bench_after → AreLinesAnswered input left old after
-  answered_last after bench_after u end some w = let s = u.so_far in record {
-    bytes = u.read;
-    consumed = u.consumed;
-    at_end = end;
-    text = s.text ++ w.told;
-    last = bench_after;
-    session = subst (λ (ls : List (List ℕ)). IsSession None (map kept_of_line ls) (s.text ++ w.told) bench_after) (sym (rest_is_last u.read line s.parts some))
-        (session_more old new u.read bench line s w.told bench_after w.is_told);
-    written = appends_more old new after s.text w.told s.written w.written;
-  }
+  module _ (s : Session) (line : List ℕ) (u : IsUnderway asked input left old new s line) where
+    pub underway_more : (left_after newer : Option (List ℕ)) (after : Session) (line_after part told : List ℕ) → Consumes left left_after part
+        → ((read written : List ℕ) → IsTaken asked read written s line [] → IsTaken asked (read ++ part) written after line_after told) → Appends new newer told
+        → IsUnderway asked input left_after old newer after line_after
+    underway_more left_after newer after line_after part told consumed takes appended = let t = takes u.read u.written u.taken in record {
+      read = u.read ++ part;
+      consumed = consumes_more input left left_after u.read part u.consumed consumed;
+      written = u.written ++ told;
+      taken = record {
+        lines = t.lines;
+        left = t.left;
+        cut = t.cut;
+        some = t.some;
+        begun = t.begun;
+        session = subst (λ (x : List ℕ). IsSession asked fresh (map kept_of_line t.lines) x after) (sym (append-nil (u.written ++ told))) t.session;
+      };
+      appended = appends_more old new newer u.written told u.appended appended;
+    }
 
-  -- ---- where it stops
+    -- ---- ends
 
-  pub stopped_here : (left_after after : Option (List ℕ)) → IsUnderway input left old new bench line → Keeps left left_after → Keeps new after → AreAnswersCutShort input left_after old after
-  stopped_here left_after after u unread unwritten = record {
-    read = u.read;
-    consumed = consumes_keeps input left left_after u.read u.consumed unread;
-    cut_short = subst (IsCutShort old after) (append-nil u.read) (stopped old new u.read bench line after [] u.so_far unwritten);
-  }
+    pub over_at_end : (left_after newer : Option (List ℕ)) (after : Session) (part told : List ℕ) → Consumes left left_after part → part ≡ [] → IsAtEnd left_after
+        → ((read written : List ℕ) → IsTaken asked read written s line [] → AreAllTaken asked read written after told) → Appends new newer told
+        → IsOver asked input left_after old newer after
+    over_at_end left_after newer after part told consumed none end takes appended = record {
+      read = u.read;
+      consumed = consumes_keeps input left left_after u.read u.consumed (consumes_nothing left left_after part none consumed);
+      ended = inl end;
+      text = u.written ++ told;
+      session = takes u.read u.written u.taken;
+      written = appends_more old new newer u.written told u.appended appended;
+    }
 
-  stopped_in_last : (after : Option (List ℕ)) → IsUnderway input left old new bench line → 0 < length line → WritesFront new after bench line → AreAnswersCutShort input left old after
-  stopped_in_last after u some w = let s = u.so_far in record {
-    read = u.read;
-    consumed = u.consumed;
-    cut_short = record {
-      front = u.read;
-      ahead = [];
-      split = sym (append-nil u.read);
-      answered = s.parts.lines ++ s.parts.rest ∷ [];
+    pub over_when_done : is_done asked s ≡ true → IsOver asked input left old new s
+    over_when_done done = record {
+      read = u.read;
+      consumed = u.consumed;
+      ended = inr done;
+      text = u.written ++ [];
+      session = done_all asked u.read u.written s line [] u.taken done;
+      written = subst (λ (x : List ℕ). Appends old new x) (sym (append-nil u.written)) u.appended;
+    }
+
+    -- ---- errors
+
+    pub cut_after : (left_after newer : Option (List ℕ)) (part : List ℕ) → Consumes left left_after part → Keeps new newer → IsCutShort asked input left_after old newer
+    cut_after left_after newer part consumed unwritten =
+        let t = u.taken in
+        let g = grows_more u.read part t.lines (record { left = t.left; cut = t.cut; some = t.some }) in record {
+          read = u.read ++ part;
+          consumed = consumes_more input left left_after u.read part u.consumed consumed;
+          lines = map kept_of_line t.lines;
+          more = map kept_of_line (without_empty_last g.left);
+          split = ap (map kept_of_line) (lines_are (u.read ++ part) t.lines g.left g.cut g.some) ∙ map-append kept_of_line t.lines (without_empty_last g.left);
+          last = s;
+          text = u.written ++ [];
+          session = t.session;
+          written = front_longer old newer (u.written ++ []) (last_text asked s)
+              (whole_front old newer (u.written ++ []) (subst (λ (x : List ℕ). Appends old newer x) (sym (append-nil u.written)) (appends_keeps old new newer u.written u.appended unwritten)));
+        }
+
+    pub cut_in_write : (left_after newer : Option (List ℕ)) (after : Session) (line_after part told : List ℕ) → Consumes left left_after part
+        → ((read written : List ℕ) → IsTaken asked read written s line [] → IsTaken asked (read ++ part) written after line_after told) → AppendsFront new newer told
+        → IsCutShort asked input left_after old newer
+    cut_in_write left_after newer after line_after part told consumed takes w = let t = takes u.read u.written u.taken in record {
+      read = u.read ++ part;
+      consumed = consumes_more input left left_after u.read part u.consumed consumed;
+      lines = map kept_of_line t.lines;
+      more = map kept_of_line (without_empty_last t.left);
+      split = lines_split asked (u.read ++ part) u.written after line_after told t;
+      last = after;
+      text = u.written ++ told;
+      session = t.session;
+      written = front_longer old newer (u.written ++ told) (last_text asked after) (front_more old new newer u.written told u.appended w);
+    }
+
+    pub cut_at_end : (left_after newer : Option (List ℕ)) (after : Session) (part told : List ℕ) → Consumes left left_after part → part ≡ []
+        → ((read written : List ℕ) → IsTaken asked read written s line [] → AreAllTaken asked read written after told) → AppendsFront new newer told
+        → IsCutShort asked input left_after old newer
+    cut_at_end left_after newer after part told consumed none takes w = record {
+      read = u.read;
+      consumed = consumes_keeps input left left_after u.read u.consumed (consumes_nothing left left_after part none consumed);
+      lines = taken_lines u.read;
       more = [];
-      lines = rest_is_last u.read line s.parts some ∙ sym (append-nil (s.parts.lines ++ s.parts.rest ∷ []));
-      text = s.text ++ w.told;
-      last = w.after;
-      session = session_more old new u.read bench line s w.told w.after w.is_told;
-      written = front_more old new u.read bench line after s.text w.told s.written w.written;
-    };
-  }
+      split = sym (append-nil (taken_lines u.read));
+      last = after;
+      text = u.written ++ told;
+      session = takes u.read u.written u.taken;
+      written = front_longer old newer (u.written ++ told) (last_text asked after) (front_more old new newer u.written told u.appended w);
+    }
 
-  pub last_stopped : (after : Option (List ℕ)) → IsUnderway input left old new bench line → 0 < length line → (Keeps new after ⊎ WritesFront new after bench line)
-      → AreAnswersCutShort input left old after
-  last_stopped after u some (inl keeps) = stopped_here left after u (keeps_same left) keeps
-  last_stopped after u some (inr writes) = stopped_in_last after u some writes
+  -- ---- the whole run
+
+  module _ (s : Session) (o : IsOver asked input left old new s) where
+    pub run_over : (newer : Option (List ℕ)) (verdict : TraceVerdict) → verdict ≡ verdict_asked asked s → Appends new newer (last_text asked s)
+        → IsRun asked input left old newer verdict
+    run_over newer verdict is written = record {
+      read = o.read;
+      consumed = o.consumed;
+      last = s;
+      ended = o.ended;
+      text = o.text;
+      session = o.session;
+      is_verdict = is;
+      written = appends_more old new newer o.text (last_text asked s) o.written written;
+    }
+
+    pub cut_in_counts : (newer : Option (List ℕ)) → AppendsFront new newer (last_text asked s) → IsCutShort asked input left old newer
+    cut_in_counts newer w = record {
+      read = o.read;
+      consumed = o.consumed;
+      lines = taken_lines o.read;
+      more = [];
+      split = sym (append-nil (taken_lines o.read));
+      last = s;
+      text = o.text;
+      session = o.session;
+      written = front_more old new newer o.text (last_text asked s) o.written w;
+    }

@@ -1,8 +1,6 @@
-pub mod Commands
-pub mod Readings
+pub mod LineText
+pub mod Judged
+pub mod Counting
 pub mod Session
-pub mod Input
-pub mod Answering
-pub mod Verdict
-pub mod Checking
+pub mod Reading
 pub mod Stop

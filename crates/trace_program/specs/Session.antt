@@ -1,67 +1,93 @@
--- A session: the answers to the lines of a trace, one after another.
-use Rattle.std.specs.Prelude.{◌≡◌, ℕ, Bool, true, false, List, [], ◌∷◌, ◌++◌, Option, Some, None}
-use Rattle.rmi_monitor.specs.View.{MonitorView, after_command}
-use Rattle.rmi_bench.specs.Machine.{is_machine, opened}
-use Rattle.rmi_trace.specs.Answers.{repeated_line, answered_line}
-use Rattle.rmi_trace.specs.Lines.{text_of, before_answer, line_of_trace}
-use Rattle.rmi_trace.specs.declared.answer.TraceAnswer.{TraceAnswer}
-use Rattle.rmi_trace.specs.declared.answer.TraceAnswer.TheVariants.{NoCommand}
-use Rattle.rmi_trace.specs.declared.line.TraceLine.{TraceLine}
-use Rattle.rmi_trace.specs.declared.line.TraceLine.TheVariants as line
-use Rattle.rmi_trace.specs.declared.request.TraceOpening.{TraceOpening}
-use Rattle.rmi_trace.specs.declared.request.Request.{Request}
-use Rattle.rmi_trace.specs.declared.request.Request.TheVariants.{Opening as Opens, Command, Reading}
-use Rattle.trace_program.specs.Commands.{command_outcome, answer_to}
-use Rattle.trace_program.specs.Readings.{IsReading}
+-- A session: the lines of a trace, one after another.
+use Rattle.std.specs.Prelude.{◌≡◌, ℕ, nat_lt, ◌&&◌, Bool, true, false, List, [], ◌∷◌, ◌++◌, Option, Some, None, ◌⊎◌}
+use Rattle.command_line.specs.declared.rmitrace.Comparison.{Comparison}
+use Rattle.command_line.specs.declared.rmitrace.TraceSubcommand.{TraceSubcommand}
+use Rattle.command_line.specs.declared.rmitrace.TraceSubcommand.TheVariants as asks
+use Rattle.rmm_trace.specs.declared.line.RmmTraceLine.{RmmTraceLine}
+use Rattle.rmm_trace.specs.declared.line.RmmTraceLine.TheVariants.{Remark, Question, Neither}
+use Rattle.rmm_answers.specs.declared.reply.TraceReply.{TraceReply}
+use Rattle.rmm_answers.specs.Answering.{answered}
+use Rattle.rmm_answers.specs.Replies.{no_answer, no_command}
+use Rattle.trace_program.specs.declared.counts.Counts.{Counts}
+use Rattle.trace_program.specs.declared.counts.LineVerdict.{LineVerdict}
+use Rattle.trace_program.specs.declared.counts.LineVerdict.TheVariants.{NotCompared, Same, Allowed, Wrong}
+use Rattle.trace_program.specs.declared.session.Session.{Session}
+use Rattle.trace_program.specs.Counting.{counted}
+use Rattle.trace_program.specs.Judged.{is_no_command, line_verdict}
+use Rattle.trace_program.specs.LineText.{answered_text, line_of, named_text}
 
--- the RMM of the last `machine` line, if there was one
-abbrev pub Now : Type 0
-Now = Option MonitorView
+-- a session that has had no line
+abbrev pub fresh : Session
+fresh = record { machine = None; counts = record { lines = 0; same = 0; allowed = 0; wrong = 0 }; reply = no_answer }
 
 -- ---- one line
 
--- it is no command, and nothing changes
-abbrev pub IsNoCommand : Now → Option TraceAnswer → Now → Type 0
-IsNoCommand old given new = (given ≡ Some NoCommand) × (new ≡ old)
+-- The session after a line is performed: our answer to it, and the machine after it. A remark changes nothing.
+abbrev pub performed : Session → RmmTraceLine → Session
+performed s Remark = s
+performed s (Question q) = record s { machine = (answered q.items s.machine).1; reply = (answered q.items s.machine).0 }
+performed s Neither = record s { reply = no_command }
 
--- a fresh machine, with no answer; a line with numbers that no machine has is no command
-abbrev pub IsOpening : Bool → TraceOpening → Now → Option TraceAnswer → Now → Type 0
-IsOpening true o old given new = (given ≡ None) × (new ≡ Some (opened o.pages o.vmids o.auxiliaries))
-IsOpening false o old given new = IsNoCommand old given new
+-- the verdict on a line that was performed
+abbrev pub verdict_on : Comparison → List ℕ → Session → LineVerdict
+verdict_on asked bytes s = line_verdict asked s.machine bytes (line_of bytes) s.reply
 
--- Before a machine is opened, nothing else is a command.
-abbrev pub IsRequestPerformed : Request → Now → Option TraceAnswer → Now → Type 0
-IsRequestPerformed (Opens o) old given new = IsOpening (is_machine o.pages o.vmids o.auxiliaries) o old given new
-IsRequestPerformed request None given new = IsNoCommand None given new
-IsRequestPerformed (Command c) (Some m) given new = (given ≡ Some (answer_to c m)) × (new ≡ Some (after_command (command_outcome c m) m))
-IsRequestPerformed (Reading r) (Some m) given new = (a : TraceAnswer) × IsReading r m a × (given ≡ Some a) × (new ≡ Some m)
+-- the session after a line that was performed is judged
+abbrev pub judged : Comparison → List ℕ → Session → Session
+judged asked bytes s = record s { counts = counted s.counts (verdict_on asked bytes s) }
 
--- The answer to a line, if it gets one, and its effect.
-abbrev pub IsTraceAnswer : TraceLine → Now → Option TraceAnswer → Now → Type 0
-IsTraceAnswer line.Remark old given new = (given ≡ None) × (new ≡ old)
-IsTraceAnswer line.Neither old given new = IsNoCommand old given new
-IsTraceAnswer (line.Request request) old given new = IsRequestPerformed request old given new
+-- The session after a line. Names of calls require no RMM.
+unfoldable pub after_line : TraceSubcommand → Session → List ℕ → Session
+after_line asks.Answer s bytes = performed s (line_of bytes)
+after_line (asks.Check asked) s bytes = judged asked bytes (performed s (line_of bytes))
+after_line asks.Names s bytes = s
+after_line asks.Why s bytes = performed s (line_of bytes)
 
--- the request in a line: all of a remark, and else the text before the answer
-abbrev pub asked_with : List ℕ → TraceLine → List ℕ
-asked_with bytes line.Remark = bytes
-asked_with bytes _ = before_answer (text_of bytes)
+-- ---- texts
 
--- a line as it is written: the request, and the answer if there is one
-abbrev pub written_with : List ℕ → TraceLine → Option TraceAnswer → List ℕ
-written_with bytes line (Some a) = answered_line (asked_with bytes line) a
-written_with bytes line None = repeated_line (asked_with bytes line)
+-- the lines below an answer: there are none below a remark, and below a command that is not refused
+abbrev pub AreReasons : RmmTraceLine → TraceReply → List ℕ → Type 0
+AreReasons Remark reply text = text ≡ []
+AreReasons line reply text = reply.refused ≡ None → is_no_command reply ≡ false → text ≡ []
 
--- the text that is written for a line
-pub record IsLineReported (old : Now) (bytes text : List ℕ) (new : Now) : Type 0 where
-  pub given : Option TraceAnswer
-  pub answer : IsTraceAnswer (line_of_trace bytes) old given new
-  pub written : text ≡ written_with bytes (line_of_trace bytes) given
+-- a line with its answer, and reasons below it
+pub record IsExplained (bytes : List ℕ) (reply : TraceReply) (text : List ℕ) : Type 0 where
+  pub reasons : List ℕ
+  pub are_reasons : AreReasons (line_of bytes) reply reasons
+  pub whole : text ≡ answered_text bytes (line_of bytes) reply ++ reasons
+
+-- the text on a line that is judged: there is none if it is the same, or not compared
+abbrev pub IsNote : LineVerdict → List ℕ → Type 0
+IsNote NotCompared text = text ≡ []
+IsNote Same text = text ≡ []
+IsNote Allowed text = Unit {0}
+IsNote Wrong text = Unit {0}
+
+-- The text for a line, by the session after it, and the verdict on it.
+abbrev pub IsLineText : TraceSubcommand → List ℕ → Session → Session → List ℕ → Type 0
+IsLineText asks.Answer bytes before after text = text ≡ answered_text bytes (line_of bytes) after.reply
+IsLineText (asks.Check asked) bytes before after text = IsNote (verdict_on asked bytes (performed before (line_of bytes))) text
+IsLineText asks.Names bytes before after text = text ≡ named_text bytes (line_of bytes)
+IsLineText asks.Why bytes before after text = IsExplained bytes after.reply text
+
+-- the session and the text after a line
+pub record TakesLine (asked : TraceSubcommand) (bytes : List ℕ) (before after : Session) (old new : List ℕ) : Type 0 where
+  pub session : after ≡ after_line asked before bytes
+  pub text : List ℕ
+  pub is_text : IsLineText asked bytes before after text
+  pub appended : new ≡ old ++ text
 
 -- ---- lines in sequence
 
--- The text that is written for lines, one after another.
-abbrev pub IsSession : Now → List (List ℕ) → List ℕ → Now → Type 0
-IsSession old [] text new = (text ≡ []) × (new ≡ old)
-IsSession old (bytes ∷ more) text new =
-    (mid : Now) × (first : List ℕ) × (rest : List ℕ) × IsLineReported old bytes first mid × IsSession mid more rest new × (text ≡ first ++ rest)
+-- No further line is taken: one is wrong, and the check stops there.
+abbrev pub is_done : TraceSubcommand → Session → Bool
+is_done (asks.Check asked) s = asked.stops && nat_lt 0 s.counts.wrong
+is_done _ s = false
+
+-- The session and the text after lines, one after another, until it is done.
+abbrev pub IsSession : TraceSubcommand → Session → List (List ℕ) → List ℕ → Session → Type 0
+IsSession asked s [] text new = (text ≡ []) × (new ≡ s)
+IsSession asked s (bytes ∷ more) text new =
+    ((is_done asked s ≡ true) × (text ≡ []) × (new ≡ s))
+    ⊎ ((is_done asked s ≡ false) × ((first : List ℕ) × (rest : List ℕ) × IsLineText asked bytes s (after_line asked s bytes) first
+    × IsSession asked (after_line asked s bytes) more rest new × (text ≡ first ++ rest)))

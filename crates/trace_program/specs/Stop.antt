@@ -3,22 +3,23 @@ use Rattle.std.specs.Prelude.{◌≡◌, ◌⊎◌, ℕ, Result}
 use Rattle.command_line.specs.Ended.{status_of_end}
 use Rattle.command_line.specs.declared.ended.Ended.{Ended}
 use Rattle.command_line.specs.declared.stop.Stop.{Stop}
-use Rattle.trace_program.specs.declared.checking.Verdict.{Verdict}
-use Rattle.trace_program.specs.declared.checking.Verdict.TheVariants.{Agree, NoAnswers, Differ}
+use Rattle.trace_program.specs.declared.counts.TraceVerdict.{TraceVerdict}
+use Rattle.trace_program.specs.declared.counts.TraceVerdict.TheVariants.{Agrees, NothingSame, Differs}
 use Rattle.trace_program.specs.declared.fault.TraceError.{TraceError}
-use Rattle.trace_program.specs.declared.fault.TraceError.TheVariants.{Memory, Device}
+use Rattle.trace_program.specs.declared.fault.TraceError.TheVariants.{Memory, Device, TooLong}
 
 abbrev pub trace_status_of : TraceError → ℕ
 trace_status_of Memory = 3
 trace_status_of Device = 5
+trace_status_of TooLong = 5
 
--- a verdict ends the program with 0, unless a line of the trace is wrong, or no answer of it was compared
-abbrev pub trace_verdict_status : Verdict → ℕ
-trace_verdict_status Agree = 0
-trace_verdict_status NoAnswers = 1
-trace_verdict_status Differ = 1
+-- a verdict ends the program with 0 if a line is the same and none is wrong
+abbrev pub trace_verdict_status : TraceVerdict → ℕ
+trace_verdict_status Agrees = 0
+trace_verdict_status NothingSame = 1
+trace_verdict_status Differs = 1
 
-abbrev pub trace_exit_status : Result (Ended Verdict) (Stop TraceError) → ℕ
+abbrev pub trace_exit_status : Result (Ended TraceVerdict) (Stop TraceError) → ℕ
 trace_exit_status outcome = status_of_end trace_verdict_status trace_status_of outcome
 
 -- the statuses of a program that stops

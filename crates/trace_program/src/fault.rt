@@ -16,6 +16,9 @@ pub enum TraceError {
     /// A read or a write failed.
     #[error("device")]
     Device,
+    /// The trace has 2^64 lines, or took 2^64 reads.
+    #[error("the trace is too long")]
+    TooLong,
 }
 
 impl Reason for TraceError {
@@ -28,7 +31,7 @@ impl Reason for TraceError {
     fn status(&self) -> u8 {
         match self {
             TraceError::Memory => 3,
-            TraceError::Device => 5,
+            TraceError::Device | TraceError::TooLong => 5,
         }
     }
 

@@ -1,25 +1,26 @@
-//! The parts of the program for traces: the answer to each line, the check of a trace, its command line, and the ends
-//! of a run.
+//! The parts of the program for traces: the text for each line, the check of a trace, and the ends of a run.
 //!
-//! `perform` and `read` answer one command and one reading of a simulated RMM. A `Session` takes the lines of a trace
-//! one after another. It has no RMM before the first `machine` line, and a new one from each of these on. `answer` and
-//! `check` take a trace from a reader. Nothing here depends on the process that it runs in: a caller hands in the words
-//! and the devices.
+//! A `Session` takes the lines of a trace one after another. It has no RMM before the first `platform`, and a new one
+//! from each of these on. `run` reads the lines and writes their texts. What a line gets is proved, and so are the
+//! counts of a check; the words below a refused call and below a wrong line are tested. Nothing here depends on the
+//! process that it runs in: a caller hands in the request and the devices.
 #![tactic(auto)]
 
-mod answering;
-mod checking;
-mod command;
+mod counts;
 mod fault;
+mod judging;
+mod line_text;
+mod naming;
+mod nearest;
+mod phrases;
 mod reading;
-mod running;
+mod reasons;
 mod session;
 
-pub use answering::answer;
-pub use checking::{Verdict, check};
-pub use command::perform;
-pub use command_line::rmitrace::TraceSubcommand;
+pub use command_line::rmitrace::{Comparison, NameSet, TraceSubcommand};
+pub use counts::{Counts, LineVerdict, TraceVerdict};
 pub use fault::TraceError;
-pub use reading::read;
-pub use running::run;
+pub use judging::line_verdict;
+pub use line_text::LineTexts;
+pub use reading::run;
 pub use session::Session;

@@ -1,105 +1,205 @@
-//! The answers to readings.
-ghost use Rattle.std.specs.Prelude.{◌≡◌};
-ghost use Rattle.trace_program.specs.Readings.{granule_state_of, realm_state_of, rec_state_of, realm_answer, rec_answer, IsReading};
+//! The reading of a trace: its lines are read, and their texts are written.
+ghost use Rattle.std.specs.Prelude.{◌≡◌, ◌++◌, ◌⊎◌, ◌↔◌, ℕ, List, [], Option, true, false, Err, IfOk, OnOk, OnErr};
+ghost use Rattle.std.specs.Io.KnownBytes.{Appends};
+ghost use Rattle.checked_io.specs.Whole.{AppendsFront};
+ghost use Rattle.trace_program.specs.declared.fault.TraceError.TheVariants.{Device};
+ghost use Rattle.trace_program.specs.Session.{TakesLine, is_done};
+ghost use Rattle.trace_program.specs.Reading as specs;
 
-use arrayvec::ArrayVec;
-use realm_model::{GranuleState, RealmState, RecState};
-use realm_objects::{RealmDesc, Rec};
-use rmi_bench::Bench;
-use rmi_trace::{Reading, TraceAnswer, TraceGranuleState};
+use crate::line_text::LineTexts;
+use crate::{Session, TraceError, TraceSubcommand, TraceVerdict};
+use checked_io::Told;
+use rmm_trace::{MOST_LINE, cut_at};
+use std::alloc::{AllocError, Global};
+use std::io::{Read, Write};
 
-// The state of a granule, as a trace names it.
-fn granule_state(state: GranuleState) -> TraceGranuleState
-    ensures { result ≡ granule_state_of state }
+// The number of bytes that are kept of a line: one more than a question may have.
+const KEPT: usize = MOST_LINE + 1;
+
+// Keeps a part of a line, unless enough of it is kept.
+fn keep(line: &mut Vec<u8>, part: &[u8]) -> Result<(), AllocError>
+    ensures { OnOk result ((rest : List ℕ) → line.old.items ≡ specs.kept_of_line rest → line.new.items ≡ specs.kept_of_line (rest ++ part.now)) }
 {
-    match state {
-        GranuleState::Undelegated => TraceGranuleState::Undelegated,
-        GranuleState::Delegated => TraceGranuleState::Delegated,
-        GranuleState::Rd => TraceGranuleState::Rd,
-        GranuleState::Rec => TraceGranuleState::Rec,
-        GranuleState::RecAux => TraceGranuleState::RecAux,
-        GranuleState::Data => TraceGranuleState::Data,
-        GranuleState::Rtt => TraceGranuleState::Rtt,
+    let room = KEPT.saturating_sub(line.len());
+    line.extend_from_slice(&part[..part.len().min(room)])
+}
+
+// The request of a run, and the name of its trace.
+#[derive(Clone, Copy)]
+struct Request<'a> {
+    alloc: Global,
+    asked: &'a TraceSubcommand,
+    source: &'a str,
+}
+
+// A trace that is being read: the session of its lines, the kept bytes of the next line, and the text for lines that is
+// not written yet.
+#[derive(Drop)]
+struct Reading {
+    session: Session,
+    line: Vec<u8>,
+    text: LineTexts,
+}
+
+impl Reading {
+    // Ends the line, and appends its text.
+    fn end_line(&mut self, request: Request<'_>) -> Result<(), TraceError>
+        ensures ok { OnOk result (TakesLine request.entry.asked.now self.old.line.items self.old.session self.new.session self.old.text self.new.text) }
+        ensures empty { OnOk result (self.new.line.items ≡ []) }
+        ensures err { ¬ (result ≡ Err Device) }
+    {
+        self.session.take_line(
+            request.alloc,
+            request.asked,
+            request.source,
+            &self.line,
+            &mut self.text,
+        )?;
+        self.line.clear();
+        Ok(())
+    }
+
+    // Takes bytes of the input, up to the line that ends the run.
+    fn take_part(&mut self, request: Request<'_>, part: &[u8]) -> Result<(), TraceError>
+        requires { is_done request.entry.asked.now self.old.session ≡ false }
+        ensures ok { OnOk result ((read written : List ℕ) → specs.IsTaken request.entry.asked.now read written self.old.session self.old.line.items self.old.text
+            → specs.IsTaken request.entry.asked.now (read ++ part.now) written self.new.session self.new.line.items self.new.text) }
+        ensures err { ¬ (result ≡ Err Device) }
+    {
+        let mut rest = part;
+        'lines: while let (front, Some(after)) = cut_at(rest, b'\n') {
+            keep(&mut self.line, front)?;
+            self.end_line(request)?;
+            if self.session.is_done(request.asked) {
+                return Ok(());
+            }
+            rest = after;
+        }
+        keep(&mut self.line, rest)?;
+        Ok(())
+    }
+
+    // Ends the last line, which has no line feed, unless it is empty.
+    fn end(&mut self, request: Request<'_>) -> Result<(), TraceError>
+        requires { is_done request.entry.asked.now self.old.session ≡ false }
+        ensures ok { OnOk result ((read written : List ℕ) → specs.IsTaken request.entry.asked.now read written self.old.session self.old.line.items self.old.text
+            → specs.AreAllTaken request.entry.asked.now read written self.new.session self.new.text) }
+        ensures err { ¬ (result ≡ Err Device) }
+    {
+        if self.line.is_empty() {
+            return Ok(());
+        }
+        self.end_line(request)
+    }
+
+    // Writes the text.
+    fn write<W: Write>(&mut self, output: &mut Told<W>) -> Result<(), TraceError>
+        requires { output.old.failed ≡ false }
+        ensures session { self.new.session ≡ self.old.session }
+        ensures line { self.new.line ≡ self.old.line }
+        ensures ok { OnOk result (Appends (W.contents output.old.device) (W.contents output.new.device) self.old.text) }
+        ensures empty { OnOk result (self.new.text ≡ []) }
+        ensures err { OnErr result (AppendsFront (W.contents output.old.device) (W.contents output.new.device) self.old.text) }
+        ensures told { (output.new.failed ≡ true) ↔ (result ≡ Err Device) }
+        ensures fine { OnOk result (output.new.failed ≡ false) }
+    {
+        let text = self.text.as_slice();
+        if text.is_empty() {
+            return Ok(());
+        }
+        output.write_whole(text)?;
+        self.text.clear();
+        Ok(())
+    }
+
+    // Reads once, and writes the text for the lines that were read. Returns whether there may be more.
+    fn read_on<R: Read, W: Write>(
+        &mut self,
+        request: Request<'_>,
+        input: &mut Told<R>,
+        buf: &mut [u8; 4096],
+        output: &mut Told<W>,
+    ) -> Result<bool, TraceError>
+        requires readable { input.old.failed ≡ false }
+        requires writable { output.old.failed ≡ false }
+        requires empty { self.old.text ≡ [] }
+        requires open { is_done request.entry.asked.now self.old.session ≡ false }
+        ensures ok { (begin start : Option (List ℕ)) → specs.IsUnderway request.entry.asked.now begin (R.remaining input.old.device) start (W.contents output.old.device) self.old.session self.old.line.items
+            → IfOk result (λ more. specs.GoesOn more request.entry.asked.now begin (R.remaining input.new.device) start (W.contents output.new.device) self.new.session self.new.line.items) }
+        ensures empty { OnOk result (self.new.text ≡ []) }
+        ensures err { (begin start : Option (List ℕ)) → specs.IsUnderway request.entry.asked.now begin (R.remaining input.old.device) start (W.contents output.old.device) self.old.session self.old.line.items
+            → OnErr result (specs.IsCutShort request.entry.asked.now begin (R.remaining input.new.device) start (W.contents output.new.device)) }
+        ensures told { ((input.new.failed ≡ true) ⊎ (output.new.failed ≡ true)) ↔ (result ≡ Err Device) }
+        ensures fine { OnOk result ((input.new.failed ≡ false) × (output.new.failed ≡ false)) }
+    {
+        let n = input.read(buf)?;
+        if n == 0 {
+            self.end(request)?;
+            self.write(output)?;
+            return Ok(false);
+        }
+        self.take_part(request, &buf[..n])?;
+        self.write(output)?;
+        Ok(!self.session.is_done(request.asked))
+    }
+
+    // Writes the counts of a check, and returns the verdict.
+    fn finish<W: Write>(
+        &self,
+        request: Request<'_>,
+        output: &mut Told<W>,
+    ) -> Result<TraceVerdict, TraceError>
+        requires { output.old.failed ≡ false }
+        ensures verdict { IfOk result (λ it. it ≡ specs.verdict_asked request.entry.asked.now self.now.session) }
+        ensures ok { OnOk result (Appends (W.contents output.old.device) (W.contents output.new.device) (specs.last_text request.entry.asked.now self.now.session)) }
+        ensures err { OnErr result (AppendsFront (W.contents output.old.device) (W.contents output.new.device) (specs.last_text request.entry.asked.now self.now.session)) }
+        ensures told { (output.new.failed ≡ true) ↔ (result ≡ Err Device) }
+    {
+        let TraceSubcommand::Check(_) = request.asked else {
+            return Ok(TraceVerdict::Agrees);
+        };
+        let counts = self.session.counts;
+        let summary = counts.summary(request.alloc)?;
+        output.write_whole(summary.as_bytes())?;
+        Ok(counts.verdict())
     }
 }
 
-// The state of a realm, as a trace names it.
-fn realm_state(state: RealmState) -> rmi_trace::TraceRealmState
-    ensures { result ≡ realm_state_of state }
+/// Reads the lines of a trace, and writes the text for each before it reads on; at the end of a check, its counts.
+///
+/// Memory is taken for a fresh machine, for a line, of which no more than 65,537 bytes are kept, and for the texts of
+/// the lines of one read. Errors. `Memory`: allocation failed. `Device`: a read or a write failed. `TooLong`: the trace
+/// took 2^64 - 1 reads, or has as many lines. In each case a prefix of the texts was written.
+pub fn run<R: Read, W: Write>(
+    alloc: Global,
+    asked: &TraceSubcommand,
+    source: &str,
+    input: &mut Told<R>,
+    output: &mut Told<W>,
+) -> Result<TraceVerdict, TraceError>
+    requires readable { input.old.failed ≡ false }
+    requires writable { output.old.failed ≡ false }
+    ensures ok { IfOk result (specs.IsRun asked.now (R.remaining input.old.device) (R.remaining input.new.device)
+        (W.contents output.old.device) (W.contents output.new.device)) }
+    ensures err { OnErr result (specs.IsCutShort asked.now (R.remaining input.old.device) (R.remaining input.new.device)
+        (W.contents output.old.device) (W.contents output.new.device)) }
+    ensures device { ((input.new.failed ≡ true) ⊎ (output.new.failed ≡ true)) ↔ (result ≡ Err Device) }
 {
-    match state {
-        RealmState::New => rmi_trace::TraceRealmState::New,
-        RealmState::Active => rmi_trace::TraceRealmState::Active,
+    let request = Request {
+        alloc,
+        asked,
+        source,
+    };
+    let mut reading = Reading {
+        session: Session::new(),
+        line: Vec::new(alloc),
+        text: LineTexts::new(alloc),
+    };
+    let mut buf = [0u8; 4096];
+    'reads: for _ in 0..u64::MAX {
+        if !reading.read_on(request, input, &mut buf, output)? {
+            return reading.finish(request, output);
+        }
     }
-}
-
-// The state of a REC, as a trace names it.
-fn rec_state(state: RecState) -> rmi_trace::TraceRecState
-    ensures { result ≡ rec_state_of state }
-{
-    match state {
-        RecState::Ready => rmi_trace::TraceRecState::Ready,
-        RecState::Running => rmi_trace::TraceRecState::Running,
-    }
-}
-
-// The attributes of a realm, as an answer.
-fn realm_answer(realm: &RealmDesc) -> TraceAnswer
-    ensures { result ≡ realm_answer realm.now }
-{
-    let root = realm.root();
-    TraceAnswer::Realm {
-        state: realm_state(realm.state()),
-        vmid: realm.vmid().number(),
-        root: root.first.number(),
-        width: root.width.number(),
-        next: realm.next_number().number(),
-    }
-}
-
-// The attributes of a REC, as an answer.
-fn rec_answer(rec: &Rec) -> TraceAnswer
-    ensures { result ≡ rec_answer rec.now }
-{
-    let mut auxiliaries = ArrayVec::new();
-    'granules: for granule in rec.auxiliaries() {
-        auxiliaries.push(granule.number());
-    }
-    TraceAnswer::Rec {
-        number: rec.number().number(),
-        state: rec_state(rec.state()),
-        auxiliaries,
-    }
-}
-
-/// The answer of the simulated RMM to a reading.
-pub fn read(bench: &Bench, reading: &Reading) -> TraceAnswer
-    ensures { IsReading reading.now bench.now result }
-{
-    match reading {
-        Reading::State { granule } => match bench.state(*granule) {
-            Some(state) => TraceAnswer::State(granule_state(state)),
-            None => TraceAnswer::Nothing,
-        },
-        Reading::Sum { granule } => match bench.sum(*granule) {
-            Some(sum) => TraceAnswer::Sum(sum),
-            None => TraceAnswer::Nothing,
-        },
-        Reading::Word { granule, index } => match bench.word(*granule, *index) {
-            Some(word) => TraceAnswer::Word(word),
-            None => TraceAnswer::Nothing,
-        },
-        Reading::Realm { granule } => match bench.realm(*granule) {
-            Some(realm) => realm_answer(realm),
-            None => TraceAnswer::Nothing,
-        },
-        Reading::Measurement { granule } => match bench.realm(*granule) {
-            Some(realm) => TraceAnswer::Measurement(*realm.measurement()),
-            None => TraceAnswer::Nothing,
-        },
-        Reading::Rec { granule } => match bench.rec(*granule) {
-            Some(rec) => rec_answer(rec),
-            None => TraceAnswer::Nothing,
-        },
-    }
+    Err(TraceError::TooLong)
 }

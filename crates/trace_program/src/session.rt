@@ -1,121 +1,190 @@
 //! A session: the lines of a trace, one after another.
-ghost use Rattle.std.specs.Prelude.{◌≡◌, ◌++◌, List, ℕ, None, IfOk, OnOk, OnErr};
-ghost use Rattle.trace_program.specs.Session.{IsOpening, IsRequestPerformed, IsTraceAnswer, IsLineReported, written_with};
-ghost use Rattle.rmi_bench.specs.Machine.{is_machine};
+ghost use Rattle.std.specs.Prelude.{◌≡◌, ◌++◌, ℕ, List, Err, IfOk, OnOk, string_bytes};
+ghost use Rattle.trace_program.specs.declared.fault.TraceError.TheVariants.{Device};
+ghost use Rattle.trace_program.specs.LineText.{answered_text, line_of};
+ghost use Rattle.trace_program.specs.Session as specs;
 
-use crate::{perform, read};
-use rmi_bench::{Bench, OpenError};
-use rmi_trace::{
-    Request, TraceAnswer, TraceLine, TraceOpening, cut_answer, parse, push_answered, push_line,
-};
+use crate::judging::{is_no_command, line_verdict};
+use crate::line_text::LineTexts;
+use crate::naming::push_named;
+use crate::reasons::{checks_text, difference, heading, hint};
+use crate::{Counts, LineVerdict, TraceError};
+use command_line::rmitrace::{Comparison, TraceSubcommand};
+use rmm_answers::{TraceMachine, TraceReply};
+use rmm_trace::{RmmTraceLine, parse};
 use std::alloc::{AllocError, Global};
 
-/// Appends the output for a line with this answer: a remark as it is, and else the request, and the answer.
-pub(crate) fn push_told(
-    text: &mut Vec<u8>,
-    bytes: &[u8],
-    line: &TraceLine,
-    given: &Option<TraceAnswer>,
-) -> Result<(), AllocError>
-    ensures ok { OnOk result (text.new.items ≡ text.old.items ++ written_with bytes.now line.now given.now) }
-    ensures err { OnErr result (text.new.items ≡ text.old.items) }
-{
-    let asked = match line {
-        TraceLine::Remark => bytes,
-        _ => cut_answer(bytes).0,
-    };
-    match given {
-        Some(answer) => push_answered(text, asked, answer),
-        None => push_line(text, asked),
-    }
-}
-
-/// The state of a session, after some lines of a trace.
+/// The state of a trace after some lines.
 #[derive(Drop)]
 pub struct Session {
-    /// The simulated RMM of the last `machine` line, if there was one.
-    pub bench: Option<Bench>,
+    /// The RMM of the last `platform`, if there was one.
+    pub machine: TraceMachine,
+    /// The counts of the lines.
+    pub counts: Counts,
+    /// The answer to the last line that is no remark.
+    pub reply: TraceReply,
 }
 
 impl Session {
     /// A session that has had no line.
     pub fn new() -> Session
-        ensures { result.bench ≡ None }
+        ensures { result ≡ specs.fresh }
     {
-        Session { bench: None }
-    }
-
-    // Opens a fresh machine.
-    fn open(
-        &mut self,
-        alloc: Global,
-        opening: &TraceOpening,
-    ) -> Result<Option<TraceAnswer>, AllocError>
-        ensures ok { IfOk result (λ given. IsOpening (is_machine opening.now.pages opening.now.vmids opening.now.auxiliaries)
-            opening.now self.old.bench given self.new.bench) }
-        ensures err { OnErr result (self.new.bench ≡ self.old.bench) }
-    {
-        match Bench::open(alloc, opening.pages, opening.vmids, opening.auxiliaries) {
-            Ok(bench) => {
-                self.bench = Some(bench);
-                Ok(None)
-            }
-            Err(OpenError::NoMachine) => Ok(Some(TraceAnswer::NoCommand)),
-            Err(OpenError::Memory(error)) => Err(error),
+        Session {
+            machine: TraceMachine::new(),
+            counts: Counts::NONE,
+            reply: TraceReply::new(),
         }
     }
 
-    // Performs the request.
-    fn perform(
-        &mut self,
-        alloc: Global,
-        request: &Request,
-    ) -> Result<Option<TraceAnswer>, AllocError>
-        ensures ok { IfOk result (λ given. IsRequestPerformed request.now self.old.bench given self.new.bench) }
-        ensures err { OnErr result (self.new.bench ≡ self.old.bench) }
-    {
-        match request {
-            Request::Opening(opening) => self.open(alloc, opening),
-            Request::Command(command) => match &mut self.bench {
-                Some(bench) => Ok(Some(perform(bench, command))),
-                None => Ok(Some(TraceAnswer::NoCommand)),
-            },
-            Request::Reading(reading) => match &self.bench {
-                Some(bench) => Ok(Some(read(bench, reading))),
-                None => Ok(Some(TraceAnswer::NoCommand)),
-            },
-        }
-    }
-
-    /// The answer to a line, if it gets one. Memory is taken for a fresh machine alone; if there is none, nothing
-    /// changes.
-    pub fn answer(
-        &mut self,
-        alloc: Global,
-        line: &TraceLine,
-    ) -> Result<Option<TraceAnswer>, AllocError>
-        ensures ok { IfOk result (λ given. IsTraceAnswer line.now self.old.bench given self.new.bench) }
-        ensures err { OnErr result (self.new.bench ≡ self.old.bench) }
+    // Performs a line. A remark has no answer.
+    fn perform(&mut self, alloc: Global, line: &RmmTraceLine) -> Result<(), AllocError>
+        ensures { OnOk result (self.new ≡ specs.performed self.old line.now) }
     {
         match line {
-            TraceLine::Remark => Ok(None),
-            TraceLine::Request(request) => self.perform(alloc, request),
-            TraceLine::Neither => Ok(Some(TraceAnswer::NoCommand)),
+            RmmTraceLine::Remark => Ok(()),
+            RmmTraceLine::Question(question) => {
+                self.machine
+                    .answer(alloc, question.as_slice(), &mut self.reply)
+            }
+            RmmTraceLine::Neither => {
+                self.reply.no_command();
+                Ok(())
+            }
         }
     }
 
-    /// Takes a line, and appends it with its answer to the text. An answer that it already has is dropped.
-    pub(crate) fn take_line(
-        &mut self,
+    // The lines below an answer: the checks of a refused call, or the word that was probably meant.
+    fn reasons(
+        &self,
         alloc: Global,
         bytes: &[u8],
-        text: &mut Vec<u8>,
-    ) -> Result<(), AllocError>
-        ensures ok { OnOk result ((told : List ℕ) × (text.new.items ≡ text.old.items ++ told) × IsLineReported self.old.bench bytes.now told self.new.bench) }
-        ensures err { OnErr result (text.new.items ≡ text.old.items) }
+        line: &RmmTraceLine,
+    ) -> Result<String, AllocError>
+        ensures { IfOk result (λ text. specs.AreReasons line.now self.now.reply (string_bytes text)) }
+    {
+        let question = match line {
+            RmmTraceLine::Remark => return Ok(String::new(alloc)),
+            RmmTraceLine::Question(question) if !is_no_command(&self.reply) => question.as_slice(),
+            _ => return hint(alloc, bytes, "    "),
+        };
+        match self.machine.checks(question, &self.reply) {
+            Some(checks) => checks_text(alloc, question, &checks),
+            None => Ok(String::new(alloc)),
+        }
+    }
+
+    // The text on a line that is judged.
+    fn note(
+        &self,
+        alloc: Global,
+        source: &str,
+        bytes: &[u8],
+        verdict: LineVerdict,
+    ) -> Result<Vec<u8>, AllocError>
+        ensures { IfOk result (λ text. specs.IsNote verdict text.items) }
+    {
+        let word = match verdict {
+            LineVerdict::NotCompared | LineVerdict::Same => return Ok(Vec::new(alloc)),
+            LineVerdict::Allowed => "allowed",
+            LineVerdict::Wrong => "wrong",
+        };
+        let heading = heading(alloc, source, self.counts.lines, word)?;
+        difference(alloc, &heading, bytes, &self.reply)
+    }
+
+    // Answers a line.
+    fn answer(&mut self, alloc: Global, bytes: &[u8], text: &mut Vec<u8>) -> Result<(), AllocError>
+        ensures session { OnOk result (self.new ≡ specs.performed self.old (line_of bytes.now)) }
+        ensures text { OnOk result (text.new ≡ text.old ++ answered_text bytes.now (line_of bytes.now) self.new.reply) }
     {
         let line = parse(bytes);
-        let given = self.answer(alloc, &line)?;
-        push_told(text, bytes, &line, &given)
+        self.perform(alloc, &line)?;
+        text.push_answered(bytes, &line, &self.reply)
+    }
+
+    // Answers a line, and explains its refusal.
+    fn explain(&mut self, alloc: Global, bytes: &[u8], text: &mut Vec<u8>) -> Result<(), AllocError>
+        ensures session { OnOk result (self.new ≡ specs.performed self.old (line_of bytes.now)) }
+        ensures text { OnOk result ((more : List ℕ) × specs.IsExplained bytes.now self.new.reply more × (text.new ≡ text.old ++ more)) }
+    {
+        let line = parse(bytes);
+        self.perform(alloc, &line)?;
+        text.push_answered(bytes, &line, &self.reply)?;
+        let reasons = self.reasons(alloc, bytes, &line)?;
+        text.push(reasons.as_bytes())
+    }
+
+    // Performs a line, and judges its answer.
+    fn judge(
+        &mut self,
+        alloc: Global,
+        asked: &Comparison,
+        bytes: &[u8],
+    ) -> Result<LineVerdict, TraceError>
+        ensures verdict { IfOk result (λ it. it ≡ specs.verdict_on asked.now bytes.now (specs.performed self.old (line_of bytes.now))) }
+        ensures session { OnOk result (self.new ≡ specs.judged asked.now bytes.now (specs.performed self.old (line_of bytes.now))) }
+        ensures err { ¬ (result ≡ Err Device) }
+    {
+        let line = parse(bytes);
+        self.perform(alloc, &line)?;
+        let verdict = line_verdict(asked, &self.machine, bytes, &line, &self.reply);
+        self.counts = self.counts.with(verdict)?;
+        Ok(verdict)
+    }
+
+    // Compares a line, and appends what differs.
+    fn check(
+        &mut self,
+        alloc: Global,
+        asked: &Comparison,
+        source: &str,
+        bytes: &[u8],
+        text: &mut LineTexts,
+    ) -> Result<(), TraceError>
+        ensures session { OnOk result (self.new ≡ specs.judged asked.now bytes.now (specs.performed self.old (line_of bytes.now))) }
+        ensures text { OnOk result ((more : List ℕ) × specs.IsNote (specs.verdict_on asked.now bytes.now (specs.performed self.old (line_of bytes.now))) more
+            × (text.new ≡ text.old ++ more)) }
+        ensures err { ¬ (result ≡ Err Device) }
+    {
+        let verdict = self.judge(alloc, asked, bytes)?;
+        let note = self.note(alloc, source, bytes, verdict)?;
+        text.push(&note)?;
+        Ok(())
+    }
+
+    /// Takes a line, and appends its text.
+    ///
+    /// Errors: `Memory`, if allocation failed; `TooLong`, after 2^64 - 1 lines.
+    pub fn take_line(
+        &mut self,
+        alloc: Global,
+        asked: &TraceSubcommand,
+        source: &str,
+        bytes: &[u8],
+        text: &mut LineTexts,
+    ) -> Result<(), TraceError>
+        ensures ok { OnOk result (specs.TakesLine asked.now bytes.now self.old self.new text.old text.new) }
+        ensures err { ¬ (result ≡ Err Device) }
+    {
+        match asked {
+            TraceSubcommand::Answer => self.answer(alloc, bytes, text)?,
+            TraceSubcommand::Names => push_named(text, bytes, &parse(bytes))?,
+            TraceSubcommand::Why => self.explain(alloc, bytes, text)?,
+            TraceSubcommand::Check(comparison) => {
+                self.check(alloc, comparison, source, bytes, text)?
+            }
+        }
+        Ok(())
+    }
+
+    /// Whether no further line is taken: a line is wrong, and the check is to stop there.
+    pub fn is_done(&self, asked: &TraceSubcommand) -> bool
+        ensures { result ≡ specs.is_done asked.now self.now }
+    {
+        match asked {
+            TraceSubcommand::Check(comparison) => comparison.stops && self.counts.wrong > 0,
+            _ => false,
+        }
     }
 }

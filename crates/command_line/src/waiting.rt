@@ -1,0 +1,57 @@
+//! Streams that wait where a pipe does not.
+use std::io;
+use std::io::{ErrorKind, Read, Write};
+use std::thread::sleep;
+use std::time::Duration;
+
+// The pause before a call is tried again, in milliseconds.
+const PAUSE: u64 = 2;
+
+/// A stream of the process, and the clock of its pauses. A call that would wait in a pipe which does not block is tried
+/// again after a pause.
+#[derive(Drop)]
+pub struct Waiting<'a, D> {
+    rt: &'a HostRuntime,
+    stream: D,
+}
+
+impl<'a, D> Waiting<'a, D> {
+    /// A stream that waits.
+    pub fn new(rt: &'a HostRuntime, stream: D) -> Waiting<'a, D> {
+        Waiting { rt, stream }
+    }
+}
+
+impl<R: Read> Read for Waiting<'_, R> {
+    fn read(&mut self, buf: &mut [u8]) -> io::Result<usize> {
+        for _ in 0..u64::MAX {
+            match self.stream.read(buf) {
+                Err(error) if error.kind() == ErrorKind::WouldBlock => sleep(
+                    self.rt,
+                    Duration::from_millis(PAUSE),
+                ),
+                outcome => return outcome,
+            }
+        }
+        Err(io::Error::from(ErrorKind::WouldBlock))
+    }
+}
+
+impl<W: Write> Write for Waiting<'_, W> {
+    fn write(&mut self, buf: &[u8]) -> io::Result<usize> {
+        for _ in 0..u64::MAX {
+            match self.stream.write(buf) {
+                Err(error) if error.kind() == ErrorKind::WouldBlock => sleep(
+                    self.rt,
+                    Duration::from_millis(PAUSE),
+                ),
+                outcome => return outcome,
+            }
+        }
+        Err(io::Error::from(ErrorKind::WouldBlock))
+    }
+
+    fn flush(&mut self) -> io::Result<()> {
+        self.stream.flush()
+    }
+}

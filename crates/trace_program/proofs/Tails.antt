@@ -1,0 +1,56 @@
+-- The lengths of the parts of a line.
+use Rattle.std.proofs.Common.{◌≡◌, ℕ, ◌+◌, ◌≤◌, ◌==◌, Bool, true, false, cond, List, [], ◌∷◌, length, drop, codes, refl, arith, length-drop}
+use Rattle.std.specs.Prelude.{nat_eq, Option, Some, None}
+use Rattle.std.specs.List.{starts_with}
+use Rattle.std.proofs.lemmas.Bool.{true≢false}
+use Rattle.rmm_trace.specs.Cuts.{before_mark}
+use Rattle.rmm_trace.specs.Lines.{is_blank, trimmed, before_trimmed, bare_text, before_answer, answer_in}
+
+before_short : (b : ℕ) (t : List ℕ) → length (before_trimmed b t) ≤ 1 + length t
+before_short b [] = elim (is_blank b) as (λ v. length (cond v [] (b ∷ [])) ≤ 1) [ true ↦ omega arith | false ↦ omega arith ]
+before_short b (c ∷ bs) = omega arith
+
+trimmed_short : (bs : List ℕ) → length (trimmed bs) ≤ length bs
+trimmed_short [] = omega arith
+trimmed_short (b ∷ bs) = omega (arith, before_short b (trimmed bs), trimmed_short bs)
+
+mark_short : (mark : ℕ) (bs : List ℕ) → length (before_mark mark bs) ≤ length bs
+mark_short mark [] = omega arith
+mark_short mark (b ∷ bs) =
+    elim (b == mark) as (λ v. length (cond v [] (b ∷ before_mark mark bs)) ≤ length (b ∷ bs)) [
+      | true ↦ omega arith
+      | false ↦ omega (arith, mark_short mark bs)
+    ]
+
+pub bare_short : (line : List ℕ) → length (bare_text line) ≤ length line
+bare_short line = omega (arith, trimmed_short (before_mark 35 line), mark_short 35 line)
+
+-- the answer of a line, with the sign before it
+abbrev pub answer_length : Option (List ℕ) → ℕ
+answer_length (Some answer) = 3 + length answer
+answer_length None = 0
+
+sign_length : (bs : List ℕ) → starts_with nat_eq bs (codes " = ") ≡ true → 3 ≤ length bs
+sign_length [] is = absurd (cc)
+sign_length (a ∷ []) is = absurd (none (nat_eq a 32) is)
+  where
+    none : (v : Bool) → cond v false false ≡ true → ⊥
+    none true e = absurd (cc)
+    none false e = absurd (cc)
+sign_length (a ∷ b ∷ []) is = absurd (none (nat_eq a 32) (nat_eq b 61) is)
+  where
+    none : (v w : Bool) → cond v (cond w false false) false ≡ true → ⊥
+    none true true e = absurd (cc)
+    none true false e = absurd (cc)
+    none false w e = absurd (cc)
+sign_length (a ∷ b ∷ c ∷ bs) is = omega arith
+
+-- the question of a text, and its answer, are all of it
+pub cut_length : (t : List ℕ) → length (before_answer t) + answer_length (answer_in t) ≡ length t
+cut_length [] = refl
+cut_length (b ∷ bs) =
+    elim (starts_with nat_eq (b ∷ bs) (codes " = ")) as (λ v. starts_with nat_eq (b ∷ bs) (codes " = ") ≡ v
+    → length (cond v [] (b ∷ before_answer bs)) + answer_length (cond v (Some (drop 3 (b ∷ bs))) (answer_in bs)) ≡ length (b ∷ bs)) [
+      | true ↦ λ is. omega (arith, sign_length (b ∷ bs) is, length-drop 3 (b ∷ bs))
+      | false ↦ λ is. omega (arith, cut_length bs)
+    ] refl

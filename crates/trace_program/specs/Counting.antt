@@ -1,0 +1,22 @@
+-- The counts of the lines of a trace, and the verdict on it.
+use Rattle.std.specs.Prelude.{ℕ, ◌+◌, nat_lt, if◌then◌else◌, List, ◌++◌, codes, decimal}
+use Rattle.trace_program.specs.declared.counts.Counts.{Counts}
+use Rattle.trace_program.specs.declared.counts.LineVerdict.{LineVerdict}
+use Rattle.trace_program.specs.declared.counts.LineVerdict.TheVariants.{NotCompared, Same, Allowed, Wrong}
+use Rattle.trace_program.specs.declared.counts.TraceVerdict.{TraceVerdict}
+use Rattle.trace_program.specs.declared.counts.TraceVerdict.TheVariants.{Agrees, NothingSame, Differs}
+
+-- the counts with a line more
+abbrev pub counted : Counts → LineVerdict → Counts
+counted c NotCompared = record c { lines = c.lines + 1 }
+counted c Same = record c { lines = c.lines + 1; same = c.same + 1 }
+counted c Allowed = record c { lines = c.lines + 1; allowed = c.allowed + 1 }
+counted c Wrong = record c { lines = c.lines + 1; wrong = c.wrong + 1 }
+
+-- A trace agrees if a line is the same, and none is wrong.
+abbrev pub trace_verdict : Counts → TraceVerdict
+trace_verdict c = if nat_lt 0 c.wrong then Differs else (if nat_lt 0 c.same then Agrees else NothingSame)
+
+-- the line of the counts
+abbrev pub summary_text : Counts → List ℕ
+summary_text c = decimal c.same ++ codes " same, " ++ decimal c.allowed ++ codes " allowed, " ++ decimal c.wrong ++ codes " wrong\n"

@@ -1,0 +1,129 @@
+-- The verdict on a line.
+use Rattle.std.specs.Prelude.{ℕ, ◌==◌, nat_le, Bool, true, false, not, ◌&&◌, ◌||◌, if◌then◌else◌, List, [], ◌∷◌, codes, Option, Some, None, unwrap_or}
+use Rattle.std.specs.List.{list_any, position_from}
+use Rattle.std.specs.Str.{bytes_eq}
+use Rattle.command_line.specs.declared.rmitrace.Comparison.{Comparison}
+use Rattle.command_line.specs.declared.rmitrace.NameSet.{NameSet}
+use Rattle.command_line.specs.Rmitrace.{is_in}
+use Rattle.rmm_model.specs.Machine.{Machine}
+use Rattle.rmm_trace.specs.declared.access.TheConstants.{FUNCTIONS}
+use Rattle.rmm_trace.specs.declared.line.RmmTraceLine.{RmmTraceLine}
+use Rattle.rmm_trace.specs.declared.line.RmmTraceLine.TheVariants.{Remark, Question, Neither}
+use Rattle.rmm_trace.specs.declared.place.TheConstants.{DASH, FIRST_CHECK, REPEAT, SMC}
+use Rattle.rmm_trace.specs.declared.word.Atom.{Atom}
+use Rattle.rmm_trace.specs.declared.word.Atom.TheVariants.{Name}
+use Rattle.rmm_trace.specs.declared.word.TraceWord.{TraceWord}
+use Rattle.rmm_trace.specs.Access.{operand_at}
+use Rattle.rmm_trace.specs.Compare.{place_of}
+use Rattle.rmm_answers.specs.declared.judging.Verdict.{Verdict}
+use Rattle.rmm_answers.specs.declared.judging.Verdict.TheVariants as answer
+use Rattle.rmm_answers.specs.declared.place.TheConstants.{NO, COMMAND}
+use Rattle.rmm_answers.specs.declared.reply.TraceReply.{TraceReply}
+use Rattle.rmm_answers.specs.Judging.{judged}
+use Rattle.trace_program.specs.declared.counts.LineVerdict.{LineVerdict}
+use Rattle.trace_program.specs.declared.counts.LineVerdict.TheVariants.{NotCompared, Same, Allowed, Wrong}
+use Rattle.trace_program.specs.LineText.{read, written_in}
+
+-- ---- lines that are no command
+
+abbrev pub is_name : TraceWord → ℕ → Bool
+is_name w name = is_place w.value name
+
+abbrev pub is_place : Atom → ℕ → Bool
+is_place (Name place) name = place == name
+is_place _ name = false
+
+abbrev pub are_no_command : List TraceWord → Bool
+are_no_command [] = false
+are_no_command (w ∷ []) = false
+are_no_command (no ∷ command ∷ []) = is_name no NO && is_name command COMMAND
+are_no_command (a ∷ b ∷ c ∷ ws) = false
+
+-- the answer to a line that is no command
+unfoldable pub is_no_command : TraceReply → Bool
+is_no_command reply = are_no_command reply.words.items
+
+-- ---- names of lines
+
+-- a check of a set
+abbrev pub is_check_in : NameSet → Atom → Bool
+is_check_in set (Name place) = nat_le FIRST_CHECK place && is_in set place
+is_check_in set _ = false
+
+abbrev pub has_check : NameSet → List TraceWord → Bool
+has_check set words = list_any (λ w. is_check_in set w.value) words
+
+abbrev pub has_check_written : NameSet → Option (List TraceWord) → Bool
+has_check_written set (Some words) = has_check set words
+has_check_written set None = false
+
+-- the call or the fill that a question repeats, or the question itself
+abbrev pub repeated : List TraceWord → List TraceWord
+repeated [] = []
+repeated (w ∷ []) = w ∷ []
+repeated (w ∷ times ∷ ws) = if is_name w REPEAT then ws else w ∷ times ∷ ws
+
+-- the command with a function identifier; a raw call, if there is none
+abbrev pub function_place : ℕ → ℕ
+function_place function = unwrap_or (position_from (λ it. it == function) 0 FUNCTIONS) SMC
+
+abbrev pub name_place : List TraceWord → ℕ
+name_place [] = DASH
+name_place (w ∷ ws) = place_of w.value
+
+abbrev pub call_place : List TraceWord → ℕ
+call_place call = if name_place call == SMC then function_place (operand_at call 1 0) else name_place call
+
+-- the name of a question, or of its command if it is a repeated or a raw call
+unfoldable pub command_place : List TraceWord → ℕ
+command_place question = call_place (repeated question)
+
+-- A line has the names of its question and of its command, and those of the checks in its answers.
+unfoldable pub is_named : NameSet → List TraceWord → List ℕ → TraceReply → Bool
+is_named set question written reply =
+    is_in set (name_place question) || is_in set (command_place question) || has_check set reply.words.items || has_check_written set (read written)
+
+-- ---- lines that are compared
+
+abbrev pub is_asked_for : Option NameSet → List TraceWord → List ℕ → TraceReply → Bool
+is_asked_for None question written reply = true
+is_asked_for (Some only) question written reply = is_named only question written reply
+
+abbrev pub is_left_out : Option NameSet → List TraceWord → List ℕ → TraceReply → Bool
+is_left_out None question written reply = false
+is_left_out (Some skip) question written reply = is_named skip question written reply
+
+-- A line is compared if it has one of the names that are asked for, if any are, and none of those that are left out.
+unfoldable pub is_compared : Comparison → List TraceWord → List ℕ → TraceReply → Bool
+is_compared asked question written reply =
+    is_asked_for asked.only question written reply && not (is_left_out asked.skip question written reply)
+
+-- ---- verdicts
+
+abbrev pub as_line_verdict : Verdict → LineVerdict
+as_line_verdict answer.Same = Same
+as_line_verdict answer.Allowed = Allowed
+as_line_verdict answer.Wrong = Wrong
+
+abbrev pub answer_verdict : Comparison → Option Machine → List TraceWord → List ℕ → TraceReply → LineVerdict
+answer_verdict asked m question written reply =
+    if is_compared asked question written reply then as_line_verdict (judged m question written reply) else NotCompared
+
+-- a line that is no command has to say so
+abbrev pub no_command_verdict : Option (List ℕ) → LineVerdict
+no_command_verdict (Some written) = if bytes_eq written (codes "no command") then Same else Wrong
+no_command_verdict None = Wrong
+
+-- what is not written is not compared
+abbrev pub question_verdict : Comparison → Option Machine → RmmTraceLine → Option (List ℕ) → TraceReply → LineVerdict
+question_verdict asked m (Question q) (Some written) reply = answer_verdict asked m q.items written reply
+question_verdict asked m line written reply = NotCompared
+
+abbrev pub verdict_by : Bool → Comparison → Option Machine → RmmTraceLine → Option (List ℕ) → TraceReply → LineVerdict
+verdict_by true asked m line written reply = no_command_verdict written
+verdict_by false asked m line written reply = question_verdict asked m line written reply
+
+-- The verdict on a line, by our answer to it and the machine after it.
+unfoldable pub line_verdict : Comparison → Option Machine → List ℕ → RmmTraceLine → TraceReply → LineVerdict
+line_verdict asked m bytes Remark reply = NotCompared
+line_verdict asked m bytes line reply = verdict_by (is_no_command reply) asked m line (written_in bytes) reply

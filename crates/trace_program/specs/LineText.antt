@@ -1,0 +1,70 @@
+-- The texts of lines with their answers.
+use Rattle.std.specs.Prelude.{ℕ, ◌==◌, Bool, true, false, List, [], ◌∷◌, ◌++◌, codes, drop, length, Option, Some, None, option_and_then}
+use Rattle.std.specs.List.{slice_split}
+use Rattle.rmm_trace.specs.declared.line.RmmTraceLine.{RmmTraceLine}
+use Rattle.rmm_trace.specs.declared.line.RmmTraceLine.TheVariants.{Remark, Question, Neither}
+use Rattle.rmm_trace.specs.declared.table.TheConstants.{GROUPS, START}
+use Rattle.rmm_trace.specs.declared.word.TraceWord.{TraceWord}
+use Rattle.rmm_trace.specs.Lines.{bare_text, before_answer, answer_in, line_in}
+use Rattle.rmm_trace.specs.Sentences.{sentence_text, words_in}
+use Rattle.rmm_answers.specs.declared.reply.TraceReply.{TraceReply}
+use Rattle.rmm_answers.specs.Replies.{reply_text, is_unanswered}
+use Rattle.rmm_answers.specs.Naming.{named_question, named_answer}
+
+abbrev pub line_of : List ℕ → RmmTraceLine
+line_of bytes = line_in GROUPS START bytes
+
+abbrev pub question_of : List ℕ → List ℕ
+question_of bytes = before_answer (bare_text bytes)
+
+-- the answer that a line has
+abbrev pub written_in : List ℕ → Option (List ℕ)
+written_in bytes = answer_in (bare_text bytes)
+
+-- the words that a text is
+abbrev pub read : List ℕ → Option (List TraceWord)
+read text = words_in 64 (slice_split (λ b. b == 32) text)
+
+-- what a line has after its question and its answer: a comment, and the blanks before it
+unfoldable pub tail_of : List ℕ → List ℕ
+tail_of bytes = drop (length (bare_text bytes)) bytes
+
+-- ---- answers
+
+-- the answer after its sign; nothing if there is none
+abbrev pub sign_and_answer : TraceReply → List ℕ
+sign_and_answer reply = if is_unanswered reply then [] else codes " = " ++ reply_text reply
+
+-- A line with an answer: the answer that it had is replaced. A remark is as it was.
+unfoldable pub answered_text : List ℕ → RmmTraceLine → TraceReply → List ℕ
+answered_text bytes Remark reply = bytes ++ 10 ∷ []
+answered_text bytes line reply = question_of bytes ++ sign_and_answer reply ++ (tail_of bytes ++ 10 ∷ [])
+
+-- ---- names
+
+-- the question of a raw line by names, if it is one
+abbrev pub question_named : RmmTraceLine → Option (List TraceWord)
+question_named (Question q) = named_question q.items
+question_named _ = None
+
+-- the answer of a raw line by names, if it can be named
+abbrev pub answer_named : RmmTraceLine → List ℕ → Option (List TraceWord)
+answer_named (Question q) written = option_and_then (named_answer q.items) (read written)
+answer_named _ written = None
+
+-- an answer that cannot be named is as it was
+abbrev pub named_or_written : Option (List TraceWord) → List ℕ → List ℕ
+named_or_written (Some answer) written = sentence_text answer
+named_or_written None written = written
+
+abbrev pub sign_and_named : RmmTraceLine → Option (List ℕ) → List ℕ
+sign_and_named line (Some written) = codes " = " ++ named_or_written (answer_named line written) written
+sign_and_named line None = []
+
+abbrev pub named_by : List ℕ → RmmTraceLine → Option (List TraceWord) → List ℕ
+named_by bytes line (Some question) = sentence_text question ++ sign_and_named line (written_in bytes) ++ (tail_of bytes ++ 10 ∷ [])
+named_by bytes line None = bytes ++ 10 ∷ []
+
+-- A raw line by the names of its command and its outputs; any other line is as it was.
+unfoldable pub named_text : List ℕ → RmmTraceLine → List ℕ
+named_text bytes line = named_by bytes line (question_named line)

@@ -1,0 +1,105 @@
+//! The counts of the lines of a trace, and the verdict on it.
+ghost use Rattle.std.specs.Prelude.{◌≡◌, ◌+◌, IfErr, IfOk, string_bytes};
+ghost use Rattle.trace_program.specs.declared.fault.TraceError.TheVariants.{TooLong};
+ghost use Rattle.trace_program.specs.Counting.{counted, summary_text, trace_verdict};
+
+use crate::TraceError;
+use std::alloc::{AllocError, Global};
+
+/// How a line counts.
+#[derive(Clone, Copy)]
+pub enum LineVerdict {
+    /// A remark, a line with no answer, or one that is not asked for.
+    NotCompared,
+    Same,
+    Allowed,
+    Wrong,
+}
+
+/// The verdict on a trace.
+#[derive(Clone, Copy)]
+pub enum TraceVerdict {
+    /// A line is the same, and none is wrong.
+    Agrees,
+    /// No line is the same, and none is wrong.
+    NothingSame,
+    /// A line is wrong.
+    Differs,
+}
+
+/// The numbers of lines: of all, and of those that are the same, allowed and wrong.
+#[derive(Clone, Copy)]
+pub struct Counts {
+    pub lines: u64,
+    pub same: u64,
+    pub allowed: u64,
+    pub wrong: u64,
+}
+
+// One more; 2^64 lines are too many.
+fn one_more(count: u64) -> Result<u64, TraceError>
+    ensures ok { IfOk result (λ more. more ≡ count + 1) }
+    ensures err { IfErr result (λ e. e ≡ TooLong) }
+{
+    count.checked_add(1).ok_or(TraceError::TooLong)
+}
+
+impl Counts {
+    /// The counts of no lines.
+    pub const NONE: Counts = Counts {
+        lines: 0,
+        same: 0,
+        allowed: 0,
+        wrong: 0,
+    };
+
+    /// The counts with a line more.
+    pub fn with(self, verdict: LineVerdict) -> Result<Counts, TraceError>
+        ensures ok { IfOk result (λ counts. counts ≡ counted self verdict) }
+        ensures err { IfErr result (λ e. e ≡ TooLong) }
+    {
+        let lines = one_more(self.lines)?;
+        match verdict {
+            LineVerdict::NotCompared => Ok(Counts { lines, ..self }),
+            LineVerdict::Same => Ok(Counts {
+                lines,
+                same: one_more(self.same)?,
+                ..self
+            }),
+            LineVerdict::Allowed => Ok(Counts {
+                lines,
+                allowed: one_more(self.allowed)?,
+                ..self
+            }),
+            LineVerdict::Wrong => Ok(Counts {
+                lines,
+                wrong: one_more(self.wrong)?,
+                ..self
+            }),
+        }
+    }
+
+    /// The line of the counts.
+    pub fn summary(self, alloc: Global) -> Result<String, AllocError>
+        ensures { IfOk result (λ text. string_bytes text ≡ summary_text self) }
+    {
+        format!(in alloc;
+            "{} same, {} allowed, {} wrong\n",
+            self.same, self.allowed, self.wrong
+        )
+    }
+
+    /// The verdict on a trace with these counts.
+    pub fn verdict(self) -> TraceVerdict
+        ensures { result ≡ trace_verdict self }
+    {
+        if self.wrong > 0 {
+            return TraceVerdict::Differs;
+        }
+        if self.same > 0 {
+            TraceVerdict::Agrees
+        } else {
+            TraceVerdict::NothingSame
+        }
+    }
+}

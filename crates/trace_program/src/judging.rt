@@ -1,0 +1,193 @@
+//! The verdict on a line whose answer is written.
+ghost use Rattle.std.specs.Prelude.{◌≡◌};
+ghost use Rattle.std.specs.Option.{option_copied};
+ghost use Rattle.trace_program.specs.Judged as specs;
+
+use crate::LineVerdict;
+use command_line::rmitrace::{Comparison, NameSet};
+use rmm_answers::place::{COMMAND, NO};
+use rmm_answers::{TraceMachine, TraceReply, Verdict, judge};
+use rmm_trace::place::{DASH, FIRST_CHECK, REPEAT, SMC};
+use rmm_trace::{Atom, FUNCTIONS, RmmTraceLine, TraceWord, cut_line, operand, read_words};
+
+// Whether a word is a name.
+fn is_name(word: &TraceWord, name: usize) -> bool
+    ensures { result ≡ specs.is_name word.now name }
+{
+    match word.value {
+        Atom::Name(place) => place == name,
+        _ => false,
+    }
+}
+
+// Whether an answer is that to a line that is no command.
+pub(crate) fn is_no_command(reply: &TraceReply) -> bool
+    ensures { result ≡ specs.is_no_command reply.now }
+{
+    match reply.words.as_slice() {
+        [no, command] => is_name(no, NO) && is_name(command, COMMAND),
+        _ => false,
+    }
+}
+
+// ---- names
+
+// Whether a word is a check of a set.
+fn is_check_in(set: &NameSet, word: &TraceWord) -> bool
+    ensures { result ≡ specs.is_check_in set.now word.now.value }
+{
+    match word.value {
+        Atom::Name(place) => FIRST_CHECK <= place && set.has(place),
+        _ => false,
+    }
+}
+
+// Whether an answer has a check of a set.
+fn has_check(set: &NameSet, words: &[TraceWord]) -> bool
+    ensures { result ≡ specs.has_check set.now words.now }
+{
+    words.iter().any(|word| is_check_in(set, word))
+}
+
+// The call or the fill that a question repeats, or the question itself.
+fn repeated(question: &[TraceWord]) -> &[TraceWord]
+    ensures { result.now ≡ specs.repeated question.now }
+{
+    match question {
+        [first, _, rest @ ..] if is_name(first, REPEAT) => rest,
+        _ => question,
+    }
+}
+
+// The place of the command with a function identifier; that of raw calls if there is none.
+fn function_place(function: u64) -> usize
+    ensures { result ≡ specs.function_place function }
+{
+    FUNCTIONS
+        .iter()
+        .position(|it| *it == function)
+        .unwrap_or(SMC)
+}
+
+// The place of the first word's name.
+fn name_place(question: &[TraceWord]) -> usize
+    ensures { result ≡ specs.name_place question.now }
+{
+    match question {
+        [first, ..] => match first.value {
+            Atom::Name(place) => place,
+            _ => DASH,
+        },
+        [] => DASH,
+    }
+}
+
+/// The place of the name of a question, or of its command if it is a repeated or a raw call.
+pub(crate) fn command_place(question: &[TraceWord]) -> usize
+    ensures { result ≡ specs.command_place question.now }
+{
+    let call = repeated(question);
+    let place = name_place(call);
+    if place == SMC {
+        function_place(operand(call, 1, 0))
+    } else {
+        place
+    }
+}
+
+// Whether a line has a name of a set: that of its question, or that of a check in one of its answers.
+fn is_named(set: &NameSet, question: &[TraceWord], written: &[u8], reply: &TraceReply) -> bool
+    ensures { result ≡ specs.is_named set.now question.now written.now reply.now }
+{
+    if set.has(name_place(question)) || set.has(command_place(question)) {
+        return true;
+    }
+    if has_check(set, reply.words.as_slice()) {
+        return true;
+    }
+    match read_words(written) {
+        Some(words) => has_check(set, words.as_slice()),
+        None => false,
+    }
+}
+
+// Whether a line with an answer is compared.
+fn is_compared(
+    asked: &Comparison,
+    question: &[TraceWord],
+    written: &[u8],
+    reply: &TraceReply,
+) -> bool
+    ensures { result ≡ specs.is_compared asked.now question.now written.now reply.now }
+{
+    let is_asked = match &asked.only {
+        Some(only) => is_named(only, question, written, reply),
+        None => true,
+    };
+    let is_skipped = match &asked.skip {
+        Some(skip) => is_named(skip, question, written, reply),
+        None => false,
+    };
+    is_asked && !is_skipped
+}
+
+// ---- verdicts
+
+// The verdict on the answer that is written to a question.
+fn answer_verdict(
+    asked: &Comparison,
+    machine: &TraceMachine,
+    question: &[TraceWord],
+    written: &[u8],
+    reply: &TraceReply,
+) -> LineVerdict
+    ensures { result ≡ specs.answer_verdict asked.now machine.now question.now written.now reply.now }
+{
+    if !is_compared(asked, question, written, reply) {
+        return LineVerdict::NotCompared;
+    }
+    match judge(machine, question, written, reply) {
+        Verdict::Same => LineVerdict::Same,
+        Verdict::Allowed => LineVerdict::Allowed,
+        Verdict::Wrong => LineVerdict::Wrong,
+    }
+}
+
+// The verdict on a line that is no command: it has to say so.
+fn no_command_verdict(written: Option<&[u8]>) -> LineVerdict
+    ensures { result ≡ specs.no_command_verdict (option_copied written.entry) }
+{
+    match written {
+        Some(b"no command") => LineVerdict::Same,
+        _ => LineVerdict::Wrong,
+    }
+}
+
+/// The verdict on a line, after it was answered: the machine and the answer are those after it.
+pub fn line_verdict(
+    asked: &Comparison,
+    machine: &TraceMachine,
+    bytes: &[u8],
+    line: &RmmTraceLine,
+    reply: &TraceReply,
+) -> LineVerdict
+    ensures { result ≡ specs.line_verdict asked.now machine.now bytes.now line.now reply.now }
+{
+    if let RmmTraceLine::Remark = line {
+        return LineVerdict::NotCompared;
+    }
+    let written = cut_line(bytes).1;
+    if is_no_command(reply) {
+        return no_command_verdict(written);
+    }
+    match (line, written) {
+        (RmmTraceLine::Question(question), Some(written)) => answer_verdict(
+            asked,
+            machine,
+            question.as_slice(),
+            written,
+            reply,
+        ),
+        _ => LineVerdict::NotCompared,
+    }
+}

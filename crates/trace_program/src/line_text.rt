@@ -1,0 +1,120 @@
+//! The texts of lines with their answers.
+ghost use Rattle.std.specs.Prelude.{◌≡◌, ◌++◌, [], ◌∷◌, OnOk};
+ghost use Rattle.trace_program.specs.LineText.{answered_text, sign_and_answer, tail_of};
+ghost use Rattle.rmm_trace.specs.Sentences.{sentence_text};
+
+use rmm_answers::TraceReply;
+use rmm_trace::{RmmTraceLine, SentenceText, TraceWord, cut_line};
+use std::alloc::{AllocError, Global};
+use std::fmt::Write;
+use std::marker::Model;
+
+/// The texts of lines that are not written yet. It is seen as its bytes.
+#[derive(Drop)]
+pub struct LineTexts {
+    alloc: Global,
+    bytes: Vec<u8>,
+    // The text of an answer, on its way to the others.
+    answer: String,
+}
+
+impl Model for LineTexts {
+    ghost use Rattle.std.specs.Prelude.{List, ℕ};
+
+    ghost Value = { List ℕ };
+
+    ghost view = { λ t. t.bytes.items };
+}
+
+impl LineTexts {
+    /// No texts.
+    pub fn new(alloc: Global) -> LineTexts
+        ensures { result ≡ [] }
+    {
+        LineTexts {
+            alloc,
+            bytes: Vec::new(alloc),
+            answer: String::new(alloc),
+        }
+    }
+
+    /// The bytes of the texts.
+    pub fn as_slice(&self) -> &[u8]
+        ensures { result.now ≡ self.now }
+    {
+        &self.bytes
+    }
+
+    /// Removes the texts.
+    pub fn clear(&mut self)
+        ensures { self.new ≡ [] }
+    {
+        self.bytes.clear();
+    }
+
+    /// Appends bytes.
+    pub fn push(&mut self, bytes: &[u8]) -> Result<(), AllocError>
+        ensures { OnOk result (self.new ≡ self.old ++ bytes.now) }
+    {
+        self.bytes.extend_from_slice(bytes)
+    }
+
+    /// Appends the text of words.
+    pub fn push_words(&mut self, words: &[TraceWord]) -> Result<(), AllocError>
+        ensures { OnOk result (self.new ≡ self.old ++ sentence_text words.now) }
+    {
+        self.answer.clear();
+        write!(self.answer, "{}", SentenceText(words))?;
+        self.bytes.extend_from_slice(self.answer.as_bytes())
+    }
+
+    // Appends the sign before an answer, and the answer; nothing if there is none.
+    fn push_reply(&mut self, reply: &TraceReply) -> Result<(), AllocError>
+        ensures { OnOk result (self.new ≡ self.old ++ sign_and_answer reply.now) }
+    {
+        if reply.is_empty() {
+            return Ok(());
+        }
+        self.answer.clear();
+        reply.push_text(self.alloc, &mut self.answer)?;
+        self.bytes.extend_from_slice(b" = ")?;
+        self.bytes.extend_from_slice(self.answer.as_bytes())
+    }
+
+    /// Appends a line, and the feed that ends it.
+    pub fn push_line(&mut self, bytes: &[u8]) -> Result<(), AllocError>
+        ensures { OnOk result (self.new ≡ self.old ++ (bytes.now ++ 10 ∷ [])) }
+    {
+        self.bytes.extend_from_slice(bytes)?;
+        self.bytes.extend_from_slice(b"\n")
+    }
+
+    /// Appends a line with our answer. A remark is appended as it is.
+    pub fn push_answered(
+        &mut self,
+        bytes: &[u8],
+        line: &RmmTraceLine,
+        reply: &TraceReply,
+    ) -> Result<(), AllocError>
+        ensures { OnOk result (self.new ≡ self.old ++ answered_text bytes.now line.now reply.now) }
+    {
+        if let RmmTraceLine::Remark = line {
+            return self.push_line(bytes);
+        }
+        self.push(cut_line(bytes).0)?;
+        self.push_reply(reply)?;
+        self.push_line(tail(bytes))
+    }
+}
+
+/// The end of a line after its question and its answer: the comment, and the blanks before it.
+pub(crate) fn tail(bytes: &[u8]) -> &[u8]
+    ensures { result.now ≡ tail_of bytes.now }
+{
+    let (question, written) = cut_line(bytes);
+    let end = match written {
+        Some(answer) => question.len() + 3 + answer.len(),
+        None => question.len(),
+    };
+    &bytes[end..]
+}

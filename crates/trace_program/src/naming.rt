@@ -1,0 +1,53 @@
+//! Raw lines by names.
+ghost use Rattle.std.specs.Prelude.{◌≡◌, ◌++◌, OnOk, option_map};
+ghost use Rattle.trace_program.specs.LineText.{answer_named, named_text, question_named};
+
+use crate::line_text::{LineTexts, tail};
+use rmm_answers::{named_answer, named_question};
+use rmm_trace::{RmmTraceLine, Sentence, cut_line, read_words};
+use std::alloc::AllocError;
+
+// The question of a raw line by names, if the line is one.
+fn question_of(line: &RmmTraceLine) -> Option<Sentence>
+    ensures { option_map (λ v. v.items) result ≡ question_named line.now }
+{
+    match line {
+        RmmTraceLine::Question(question) => named_question(question.as_slice()),
+        _ => None,
+    }
+}
+
+// The answer of a raw line by names; none comes if it cannot be named.
+fn answer_of(line: &RmmTraceLine, written: &[u8]) -> Option<Sentence>
+    ensures { option_map (λ v. v.items) result ≡ answer_named line.now written.now }
+{
+    match line {
+        RmmTraceLine::Question(question) => named_answer(
+            question.as_slice(),
+            read_words(written)?.as_slice(),
+        ),
+        _ => None,
+    }
+}
+
+/// Appends a raw line by the names of its command and of its outputs, and any other line as it is.
+pub(crate) fn push_named(
+    text: &mut LineTexts,
+    bytes: &[u8],
+    line: &RmmTraceLine,
+) -> Result<(), AllocError>
+    ensures { OnOk result (text.new ≡ text.old ++ named_text bytes.now line.now) }
+{
+    let Some(question) = question_of(line) else {
+        return text.push_line(bytes);
+    };
+    text.push_words(question.as_slice())?;
+    if let Some(written) = cut_line(bytes).1 {
+        text.push(b" = ")?;
+        match answer_of(line, written) {
+            Some(answer) => text.push_words(answer.as_slice())?,
+            None => text.push(written)?,
+        }
+    }
+    text.push_line(tail(bytes))
+}

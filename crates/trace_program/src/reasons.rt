@@ -1,0 +1,126 @@
+//! The words for wrong lines and for refused calls. They are tested, not proved.
+use crate::judging::{command_place, is_no_command};
+use crate::nearest::nearest_word;
+use crate::phrases::requirement;
+use rmi_abi::Word;
+use rmm_answers::TraceReply;
+use rmm_checks::{CheckOutcome, EvaluatedCheck, EvaluatedChecks, condition_name};
+use rmm_trace::TraceWord;
+use std::alloc::{AllocError, Global};
+use std::fmt::Write;
+
+// The name of a result word, and its index if it has one.
+fn word_text(word: Word) -> (&'static str, u8) {
+    match word {
+        Word::Success => ("RMI_SUCCESS", 0),
+        Word::ErrorInput => ("RMI_ERROR_INPUT", 0),
+        Word::ErrorRealm(index) => ("RMI_ERROR_REALM", index),
+        Word::ErrorRec => ("RMI_ERROR_REC", 0),
+        Word::ErrorRtt(index) => ("RMI_ERROR_RTT", index),
+        Word::Running => ("RUNNING", 0),
+    }
+}
+
+// Appends a check with a label: its name, its requirement, and in brackets its word.
+fn push_failed(
+    text: &mut String,
+    label: &str,
+    command: usize,
+    row: &EvaluatedCheck,
+    word: Word,
+) -> Result<(), AllocError> {
+    let name = condition_name(row.condition);
+    let words = requirement(command, row.condition);
+    let (status, index) = word_text(word);
+    write!(text, "    {label}: {name}: {words} ({status}")?;
+    if index > 0 || matches!(word, Word::ErrorRtt(_)) {
+        write!(text, " {index}")?;
+    }
+    text.push_str(")\n")
+}
+
+// Appends each check that failed: the first decides, and the words of the others are allowed.
+fn push_all_failed(
+    text: &mut String,
+    command: usize,
+    rows: &[EvaluatedCheck],
+) -> Result<(), AllocError> {
+    let mut label = "error";
+    for row in rows {
+        if let CheckOutcome::Failed(answer) = row.outcome {
+            push_failed(text, label, command, row, answer.word)?;
+            label = "also";
+        }
+    }
+    Ok(())
+}
+
+// Appends each check that passed.
+fn push_passed(
+    text: &mut String,
+    command: usize,
+    rows: &[EvaluatedCheck],
+) -> Result<(), AllocError> {
+    for row in rows {
+        if row.outcome.is_pass() {
+            let name = condition_name(row.condition);
+            let words = requirement(command, row.condition);
+            write!(text, "    ok: {name}: {words}\n")?;
+        }
+    }
+    Ok(())
+}
+
+/// The lines below a refused call: the check that decides, each other check that failed, and those that passed.
+pub(crate) fn checks_text(
+    alloc: Global,
+    question: &[TraceWord],
+    checks: &EvaluatedChecks,
+) -> Result<String, AllocError> {
+    let mut text = String::new(alloc);
+    let command = command_place(question);
+    push_all_failed(&mut text, command, checks.rows())?;
+    push_passed(&mut text, command, checks.rows())?;
+    Ok(text)
+}
+
+/// The line that names the word which was probably meant; empty if no word is near.
+pub(crate) fn hint(alloc: Global, bytes: &[u8], indent: &str) -> Result<String, AllocError> {
+    match nearest_word(alloc, bytes)? {
+        Some(word) => format!(in alloc; "{indent}help: did you mean {word}?\n"),
+        None => Ok(String::new(alloc)),
+    }
+}
+
+/// The first line on a line that is allowed or wrong: its source, its number, and the verdict.
+pub(crate) fn heading(
+    alloc: Global,
+    source: &str,
+    number: u64,
+    verdict: &str,
+) -> Result<String, AllocError> {
+    format!(in alloc; "{source}:{number}: {verdict}\n")
+}
+
+/// The lines on one that is allowed or wrong, after their heading: the line, our answer, and for a line that is no
+/// command the word that was probably meant.
+pub(crate) fn difference(
+    alloc: Global,
+    heading: &str,
+    bytes: &[u8],
+    reply: &TraceReply,
+) -> Result<Vec<u8>, AllocError> {
+    let mut text = Vec::from_slice(alloc, heading.as_bytes())?;
+    text.extend_from_slice(bytes)?;
+    let mut here = String::from_str(alloc, "\nhere: ")?;
+    if reply.is_empty() {
+        here.push_str("no answer")?;
+    }
+    reply.push_text(alloc, &mut here)?;
+    here.push_str("\n")?;
+    if is_no_command(reply) {
+        here.push_str(hint(alloc, bytes, "")?.as_str())?;
+    }
+    text.extend_from_slice(here.as_bytes())?;
+    Ok(text)
+}
