@@ -1,8 +1,5 @@
 pub mod Passed
-mod NoHelp
 pub mod Subcommands
 mod OptionTexts
 mod Pieces
 mod HostWords
-mod TraceWords
-mod ViewWords

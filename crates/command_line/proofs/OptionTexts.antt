@@ -8,7 +8,7 @@ use Rattle.clap.specs.Values.{IsSignedIn}
 use Rattle.clap.specs.Words.{ReadsOne, Row, Text, one_of}
 use Rattle.clap.specs.declared.builder.value_parser.ValueParser.TheVariants as parser
 use Rattle.clap.proofs.CallerReads.{signed_reads}
-use Rattle.command_line.specs.Options.{Each, IsPassed, IsErase, IsNumber, built_erase, built_number}
+use Rattle.command_line.specs.Options.{Each, IsPassed, IsErase, built_erase}
 use Rattle.command_line.proofs.Passed.{accepted, text_passed}
 
 -- ---- the build that is left out
@@ -37,23 +37,3 @@ erase_from {E} rows (Some t) b gives parses passed is none value =
     let reads = value t refl in
     let number = signed_reads E gives 8 0 7 range.0 b (subst (λ (u : Text). ReadsOne gives u b) range.1 reads) parses (omega arith) range.2 in
     rw number.1 (read_below t number.0 (omega (arith, number.3)) (parses t (Ok number.0) (rw number.1 at reads)))
-
--- ---- numbers
-
--- a text of such rows is read as a number of 32 bits
-number_in_range : (name : Text) (rows : List Row) (text : Text) → Each (IsPassed (built_number name)) rows → one_of name rows ≡ Some text
-    → (t : Text) × (text ≡ without_minus t) × IsSignedIn (pos 0) (pos 4294967295) t
-number_in_range name rows text passed is =
-    let p = text_passed (built_number name) rows text passed is in
-    (p.0, p.1, accepted false (parser.Signed (pos 0) (pos 4294967295)) p.0 p.2)
-
-pub number_from : {E : Type 0} (name : Text) (rows : List Row) (o : Option Text) (n : Option ℕ) (gives : List ℕ → Result ℕ E → Type 0)
-    → ((t : List ℕ) (r : Result ℕ E) → gives t r → ParsesUnsigned 32 10 t r)
-    → Each (IsPassed (built_number name)) rows → one_of name rows ≡ o
-    → (o ≡ None → n ≡ None) → ((t : Text) → o ≡ Some t → ReadsOne gives t n) → IsNumber o n
-number_from name rows None n gives parses passed is none value = none refl
-number_from {E} name rows (Some t) n gives parses passed is none value =
-    let range = number_in_range name rows t passed is in
-    let reads = value t refl in
-    let number = signed_reads E gives 32 0 4294967295 range.0 n (subst (λ (u : Text). ReadsOne gives u n) range.1 reads) parses (omega arith) range.2 in
-    rw number.1 (parses t (Ok number.0) (rw number.1 at reads))

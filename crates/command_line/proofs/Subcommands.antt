@@ -1,22 +1,20 @@
 -- What clap's definition says of the subcommand of a program that requires one, whatever the words.
 use Rattle.std.proofs.Common.{◌≡◌, ◌∙◌, List, [], ◌∷◌, ◌++◌, map, Bool, true, false, refl, sym, ap, ap₂, subst, ◌⊎◌, inl, inr}
-use Rattle.std.specs.Prelude.{not, ◌&&◌, codes, find, Option, Some, None, option_and_then, option_map, is_some, Box}
+use Rattle.std.specs.Prelude.{not, ◌&&◌, find, Option, Some, None, option_map, is_some, Box}
 use Rattle.std.specs.Box.{box_value}
 use Rattle.std.proofs.lemmas.Bool.{false≢true, cases_Bool}
 use Rattle.std.proofs.lemmas.Option.{same_Some}
 use Rattle.clap.specs.Kinds.{or_else, check_kinds}
 use Rattle.clap.specs.Simple.{rows_at, entered, built, argument_words, names_of, label_of}
-use Rattle.clap.specs.Walk.{Held, Names, first_of, Rule, action_of, walk, walk_from, nothing_held, finished, settled, stop_after, answers_to}
+use Rattle.clap.specs.Walk.{Held, Names, Rule, action_of, walk, walk_from, nothing_held, finished, settled, stop_after, answers_to}
 use Rattle.clap.specs.Faults.{level_fault, check_fault, defaults_fault, settle_fault, walk_fault, entered_fault}
 use Rattle.clap.specs.Words.{App, Kinds, Row, Shape, Text, fault_of, is_simple_and_free, subcommand_name_of, subcommand_of, subcommand_rows, subcommand_rows_of}
 use Rattle.clap.specs.declared.builder.action.ArgAction.TheVariants as action
 use Rattle.clap.specs.declared.parser.matches.ArgMatches.{ArgMatches}
 use Rattle.clap.specs.declared.parser.matches.ArgMatches.TheViews.{out-ArgMatches, out-SubCommand}
 use Rattle.clap.specs.declared.parser.matches.SubCommand.{SubCommand}
-use Rattle.command_line.specs.Options.{Each, IsPassed, file_in, named_file}
-use Rattle.std.proofs.lemmas.Slice.Eq.{bytes_eq-Decides}
+use Rattle.command_line.specs.Options.{Each, IsPassed}
 use Rattle.command_line.proofs.Passed.{AllAreOrAsk, none_of_both, entered_passed}
-use Rattle.command_line.proofs.NoHelp.{has_no_aliases, help, no_help}
 
 -- ---- a level that has no fault
 
@@ -120,24 +118,10 @@ pub record IsKnown (a : App) (names : List Text) : Type 0 where
   pub required : (built a).top.subcommand_required ≡ true
   pub named : (words : List Text) → fault_of a words ≡ [] → (r : Text × List Row) → subcommand_of a words ≡ Some r → IsOneOf r.0 names
 
--- the names of a program without the subcommand `help`
+-- the names of the subcommands
 pub named_by : (a : App) (names : List Text) → names_of_all (built a).subs ≡ names → (words : List Text) → fault_of a words ≡ []
     → (r : Text × List Row) → subcommand_of a words ≡ Some r → IsOneOf r.0 names
 named_by a names named words e r is = subst (IsOneOf r.0) named (is_one a words r is)
-
-but_last : (names : List Text) (last t : Text) → ¬ (t ≡ last) → IsOneOf t (names ++ last ∷ []) → IsOneOf t names
-but_last [] last t other (inl is) = absurd (other is)
-but_last [] last t other (inr none) = absurd none
-but_last (n ∷ ns) last t other (inl is) = inl is
-but_last (n ∷ ns) last t other (inr more) = inr (but_last ns last t other more)
-
--- the names of a program with it
-pub named_beside_help : (a : App) (names : List Text) → names_of_all (built a).subs ≡ names ++ help ∷ [] → (built a).top.disable_help_subcommand ≡ false
-    → has_no_aliases (built a).subs ≡ true → (words : List Text) → fault_of a words ≡ [] → (r : Text × List Row) → subcommand_of a words ≡ Some r → IsOneOf r.0 names
-named_beside_help a names named has_help none words e r is =
-    let other = no_help a words has_help none e r is in
-    but_last names help r.0 (λ same. false≢true (sym other ∙ (bytes_eq-Decides r.0 help).1 same))
-    (subst (IsOneOf r.0) named (is_one a words r is))
 
 -- the name is none of these
 abbrev IsNoneOf : Option Text → List Text → Type 0
@@ -160,11 +144,3 @@ pub last_is_asked : (a : App) (others : List Text) (last : Text) → IsKnown a (
     → IsNoneOf (name_in (subcommand_of a words)) others → name_in (subcommand_of a words) ≡ Some last
 last_is_asked a others last known words e none =
     last_from others last (subcommand_of a words) (is_entered a words e known.required) (known.named words e) none
-
--- ---- its file
-
--- the file that is given in the rows of the subcommand
-pub file_of_rows : (sub : Option (Text × List Row)) (rows : Option (List Row)) → rows ≡ option_map (λ p. p.1) sub
-    → file_in sub ≡ option_and_then (λ r. option_and_then named_file (first_of (codes "file") r)) rows
-file_of_rows None rows e = rw e refl
-file_of_rows (Some r) rows e = rw e refl

@@ -3,5 +3,4 @@ pub mod Ended
 pub mod Painted
 pub mod Options
 pub mod Realmhost
-pub mod Rmitrace
 pub mod Realmview

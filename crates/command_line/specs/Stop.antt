@@ -1,4 +1,4 @@
--- Why a program stops, and its exit status then. Each program says which status its own faults have, and which of them is
+-- The reasons why a program stops before it has done what it was asked for, and their exit statuses.
 -- too little memory.
 use Rattle.std.specs.Prelude.{ℕ}
 use Rattle.clap.specs.Values.{kind_of}

@@ -1,8 +1,9 @@
-//! What programs with a command line have in common: the words that they are called with, why they stop, and how they end; and
-//! the command line of each.
+//! The common part of programs with a command line: their words, the reasons why they stop, and how they end; and the
+//! command line of each.
 //!
-//! A program has its own faults, each a `Reason` with its exit status and its line; `Stop` adds that the words are not
-//! taken. What `clap`'s definition says of a program with subcommands, whatever the words, stands in `proofs`.
+//! A program has its own faults, each a `Reason` with its exit status and its line; `Stop` adds that the words are
+//! refused. The command line of `realmhost` is proved to be what `clap`'s definition says of it. Those of `realmview`
+//! and `rmitrace` are tables, and tests compare what they ask for.
 #![tactic(auto)]
 
 mod ended;
@@ -14,6 +15,7 @@ pub mod realmhost;
 pub mod realmview;
 pub mod rmitrace;
 mod stop;
+mod table;
 mod terminal;
 
 pub use ended::Ended;

@@ -1,4 +1,4 @@
-//! What a program takes from its process, and leaves to it: the words that it is called with, and how it ends.
+//! The words that a program is called with, and its end.
 ghost use Rattle.std.specs.Prelude.{◌≡◌, ◌⊎◌, IfErr};
 ghost use Rattle.std.specs.Process.{exit_status};
 ghost use Rattle.command_line.specs.Stop.{status_of_stop};
@@ -30,7 +30,7 @@ impl<F: Reason> Stop<F> {
     pub fn end<R: Eprint>(&self, rt: &R) -> ExitCode
         ensures { exit_status result ≡ status_of_stop F.status_of self.now }
     {
-        // Where this write fails too, the status is what remains.
+        // If this write fails too, the status is what remains.
         let _told = eprint!(rt; "{self}");
         ExitCode::from(self.status())
     }

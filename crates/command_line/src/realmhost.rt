@@ -1,6 +1,6 @@
 //! The command line of `realmhost`.
 ghost use Rattle.std.specs.Prelude.{◌≡◌, IfOk, false, true, map, string_bytes};
-ghost use Rattle.clap.specs.Words.{FailsBy, app_of, fault_of, is_simple_and_free, subcommand_of};
+ghost use Rattle.clap.specs.Words.{FailsBy, app_of, fault_of, subcommand_of};
 ghost use Rattle.clap.specs.declared.builder.command.Command.TheViews.{out-Command as fields_of};
 ghost use Rattle.command_line.specs.Realmhost.{replay_subcommand, realmhost, IsHostSubcommand};
 
@@ -35,7 +35,7 @@ fn replay<'a>(alloc: Global) -> Result<Command<'a>, AllocError>
     subcommand(alloc, "replay", REPLAY).arg(erase(alloc, ERASE))
 }
 
-// What the command line's reader is told of the program.
+// The program as it is declared to `clap`.
 fn command<'a>(alloc: Global) -> Result<Command<'a>, AllocError>
     ensures { IfOk result (λ c. app_of c ≡ realmhost) }
 {

@@ -1,18 +1,12 @@
 //! The command line of `realmview`.
-ghost use Rattle.std.specs.Prelude.{◌≡◌, ◌⊎◌, [], IfErr, IfOk, OnOk, codes, false, true, map, option_map, string_bytes};
-ghost use Rattle.clap.specs.Words.{HasKind, app_of, fault_of, found_of, is_simple_and_free, rows_of, subcommand_of, subcommand_rows_of};
-ghost use Rattle.clap.specs.Values.{kind_of};
-ghost use Rattle.clap.specs.declared.builder.command.Command.TheViews.{out-Command as fields_of};
-ghost use Rattle.clap.specs.declared.error.kind.ErrorKind.TheVariants.{ValueValidation};
-ghost use Rattle.command_line.specs.Options.{IsOfWords, file_in, reading_subcommand};
-ghost use Rattle.command_line.specs.Realmview.{erasing_subcommand, explore_subcommand, order_subcommand, realmview, schedules_asked, schedules_drawn, why_subcommand, AreAsked, AreExplored, AreTurnsAsked, DrawsTooMany, IsViewSubcommand, SaysTooMany};
+ghost use Rattle.std.specs.Prelude.{◌≡◌};
+ghost use Rattle.command_line.specs.Realmview.{schedules_asked, schedules_drawn};
 
 use crate::Invocation;
-use crate::options::{
-    erase, erased, flag, given_file, is_given, matched, number, number_of, program, reading,
-};
+use crate::options::build_of;
+use crate::table::{Opt, Program, Subcommand, given_file};
 use clap::error::ErrorKind;
-use clap::{ArgMatches, Command, Error};
+use clap::{ArgMatches, Error};
 use granule_addr::BuildId;
 use std::alloc::{AllocError, Global};
 
@@ -31,22 +25,22 @@ pub enum ViewSubcommand {
     Check,
     /// Write the run of a plan, with the check that fails below each turn that is refused; or with all its checks.
     Why { all: bool },
-    /// Write what orders of a plan's turns come to.
+    /// Write the outcomes of schedules of a plan.
     Explore(Schedules),
     /// Write a plan with an order that gives each build all the turns that it needs.
     Order(SchedulingPolicy),
 }
 
-/// Which orders of a plan's turns are run.
+/// The schedules of a plan that are run.
 #[derive(Clone, Copy, Drop)]
 pub enum Schedules {
-    /// That many orders at most, from the lowest on.
+    /// That many schedules at most, from the lowest on.
     First(u32),
-    /// That many orders, drawn by the random numbers of the seed.
+    /// That many schedules, drawn by the random numbers of the seed.
     Drawn(u32, u32),
 }
 
-/// More orders are to be drawn than may be run.
+/// More schedules are to be drawn than may be run.
 #[derive(Clone, Copy, Drop)]
 pub struct SampleAboveMost {
     pub sample: u32,
@@ -62,13 +56,13 @@ pub enum SchedulingPolicy {
     OneByOne,
 }
 
-// How many orders are run at most, where no option says so.
+// The most schedules that are run, if no option says so.
 const MOST: u32 = 1000000;
 
-// How many orders are drawn, where only a seed is given.
+// The number of schedules that are drawn, if only a seed is given.
 const SAMPLE: u32 = 1000;
 
-// The `sample` orders that are drawn by the seed, where they are not more than `most`.
+// The `sample` schedules that are drawn by the seed, if they are not more than `most`.
 fn schedules_drawn(sample: u32, most: u32, seed: u32) -> Result<Schedules, SampleAboveMost>
     ensures { result ≡ schedules_drawn sample most seed }
 {
@@ -79,7 +73,7 @@ fn schedules_drawn(sample: u32, most: u32, seed: u32) -> Result<Schedules, Sampl
     }
 }
 
-// The orders that options ask for. They are drawn where a sample or a seed is given.
+// The schedules that options ask for. They are drawn if a sample or a seed is given.
 fn schedules_asked(
     most: Option<u32>,
     sample: Option<u32>,
@@ -168,133 +162,120 @@ const PLAN: &str = "The plan; without FILE, or with -, read standard input";
 
 const HISTORY_FILE: &str = "The history; without FILE, or with -, read standard input";
 
-// A subcommand that reads a plan.
-fn planned<'a>(
-    alloc: Global,
-    name: &'a str,
-    about: &'a str,
-    examples: &'a str,
-) -> Result<Command<'a>, AllocError>
-    ensures { IfOk result (λ c. (app_of c ≡ reading_subcommand name.now) × ((fields_of c).has_globals ≡ false)) }
-{
-    reading(alloc, name, about, examples, PLAN)
+const REALMVIEW: Program = Program {
+    name: "realmview",
+    about: ABOUT,
+    examples: EXAMPLES,
+    subcommands: &[
+        Subcommand {
+            name: "history",
+            about: HISTORY,
+            examples: HISTORY_EXAMPLES,
+            file: PLAN,
+            options: &[Opt::Erase(ERASE)],
+        },
+        Subcommand {
+            name: "apply",
+            about: APPLY,
+            examples: APPLY_EXAMPLES,
+            file: HISTORY_FILE,
+            options: &[Opt::Erase(ERASE)],
+        },
+        Subcommand {
+            name: "json",
+            about: JSON,
+            examples: JSON_EXAMPLES,
+            file: PLAN,
+            options: &[],
+        },
+        Subcommand {
+            name: "page",
+            about: PAGE,
+            examples: PAGE_EXAMPLES,
+            file: PLAN,
+            options: &[],
+        },
+        Subcommand {
+            name: "why",
+            about: WHY,
+            examples: WHY_EXAMPLES,
+            file: PLAN,
+            options: &[Opt::Flag("all", ALL_HELP)],
+        },
+        Subcommand {
+            name: "explore",
+            about: EXPLORE,
+            examples: EXPLORE_EXAMPLES,
+            file: PLAN,
+            options: &[
+                Opt::Number("most", "N", MOST_HELP),
+                Opt::Number("sample", "K", SAMPLE_HELP),
+                Opt::Number("seed", "S", SEED_HELP),
+            ],
+        },
+        Subcommand {
+            name: "order",
+            about: ORDER,
+            examples: ORDER_EXAMPLES,
+            file: PLAN,
+            options: &[Opt::Flag("one-by-one", ONE_BY_ONE_HELP)],
+        },
+        Subcommand {
+            name: "check",
+            about: CHECK,
+            examples: CHECK_EXAMPLES,
+            file: PLAN,
+            options: &[],
+        },
+    ],
+};
+
+// The build that is left out, by the words that were matched.
+fn erased(matches: &ArgMatches) -> Option<BuildId> {
+    build_of(matches.get_one("erase"))
 }
 
-fn history<'a>(alloc: Global) -> Result<Command<'a>, AllocError>
-    ensures { IfOk result (λ c. (app_of c ≡ erasing_subcommand (codes "history")) × ((fields_of c).has_globals ≡ false)) }
-{
-    let history = planned(alloc, "history", HISTORY, HISTORY_EXAMPLES)?;
-    history.arg(erase(alloc, ERASE))
-}
-
-fn apply<'a>(alloc: Global) -> Result<Command<'a>, AllocError>
-    ensures { IfOk result (λ c. (app_of c ≡ erasing_subcommand (codes "apply")) × ((fields_of c).has_globals ≡ false)) }
-{
-    let apply = reading(alloc, "apply", APPLY, APPLY_EXAMPLES, HISTORY_FILE)?;
-    apply.arg(erase(alloc, ERASE))
-}
-
-fn explore<'a>(alloc: Global) -> Result<Command<'a>, AllocError>
-    ensures { IfOk result (λ c. (app_of c ≡ explore_subcommand) × ((fields_of c).has_globals ≡ false)) }
-{
-    let explore = planned(alloc, "explore", EXPLORE, EXPLORE_EXAMPLES)?;
-    let bounded = explore.arg(number(alloc, "most", "N", MOST_HELP))?;
-    let sampled = bounded.arg(number(alloc, "sample", "K", SAMPLE_HELP))?;
-    sampled.arg(number(alloc, "seed", "S", SEED_HELP))
-}
-
-fn why<'a>(alloc: Global) -> Result<Command<'a>, AllocError>
-    ensures { IfOk result (λ c. (app_of c ≡ why_subcommand) × ((fields_of c).has_globals ≡ false)) }
-{
-    let why = planned(alloc, "why", WHY, WHY_EXAMPLES)?;
-    why.arg(flag(alloc, "all", ALL_HELP))
-}
-
-fn order<'a>(alloc: Global) -> Result<Command<'a>, AllocError>
-    ensures { IfOk result (λ c. (app_of c ≡ order_subcommand) × ((fields_of c).has_globals ≡ false)) }
-{
-    let order = planned(alloc, "order", ORDER, ORDER_EXAMPLES)?;
-    order.arg(flag(alloc, "one-by-one", ONE_BY_ONE_HELP))
-}
-
-// The definition of the command line.
-fn command<'a>(alloc: Global) -> Result<Command<'a>, AllocError>
-    ensures { IfOk result (λ c. app_of c ≡ realmview) }
-{
-    program(alloc, "realmview", ABOUT)
-        .after_help(EXAMPLES)
-        .subcommand(history(alloc)?)?
-        .subcommand(apply(alloc)?)?
-        .subcommand(planned(alloc, "json", JSON, JSON_EXAMPLES)?)?
-        .subcommand(planned(alloc, "page", PAGE, PAGE_EXAMPLES)?)?
-        .subcommand(why(alloc)?)?
-        .subcommand(explore(alloc)?)?
-        .subcommand(order(alloc)?)?
-        .subcommand(planned(alloc, "check", CHECK, CHECK_EXAMPLES)?)
-}
-
-// The orders that are asked for by the words that were matched.
-fn orders_by(explore: &ArgMatches) -> Result<Schedules, SampleAboveMost>
-    requires { AreExplored explore.now }
-    ensures { AreAsked (rows_of (found_of explore.now)) result }
-{
+// The schedules that are asked for by the words that were matched.
+fn schedules_by(explore: &ArgMatches) -> Result<Schedules, SampleAboveMost> {
     schedules_asked(
-        number_of(explore, "most"),
-        number_of(explore, "sample"),
-        number_of(explore, "seed"),
+        explore.get_one("most"),
+        explore.get_one("sample"),
+        explore.get_one("seed"),
     )
 }
 
 // How builds take turns, by the words that were matched.
-fn turns_by(order: &ArgMatches) -> SchedulingPolicy
-    ensures { AreTurnsAsked (rows_of (found_of order.now)) result }
-{
-    if is_given(order, "one-by-one") {
+fn turns_by(order: &ArgMatches) -> SchedulingPolicy {
+    if order.get_flag("one-by-one") {
         SchedulingPolicy::OneByOne
     } else {
         SchedulingPolicy::InRotation
     }
 }
 
-// What is asked for by the words that were matched.
-fn asked_by(matches: &ArgMatches) -> Result<ViewSubcommand, SampleAboveMost>
-    requires { IsOfWords realmview matches.now }
-    ensures ok { IfOk result (IsViewSubcommand (subcommand_rows_of matches.now)) }
-    ensures err { IfErr result (DrawsTooMany (subcommand_rows_of matches.now)) }
-{
-    if let Some(history) = matches.subcommand_matches("history") {
-        return Ok(ViewSubcommand::History(erased(history)));
+// The request of the subcommand of that name.
+fn asked_by(name: &str, matches: &ArgMatches) -> Result<ViewSubcommand, SampleAboveMost> {
+    match name {
+        "history" => Ok(ViewSubcommand::History(erased(matches))),
+        "apply" => Ok(ViewSubcommand::Apply(erased(matches))),
+        "json" => Ok(ViewSubcommand::Json),
+        "page" => Ok(ViewSubcommand::Page),
+        "why" => Ok(ViewSubcommand::Why {
+            all: matches.get_flag("all"),
+        }),
+        "explore" => Ok(ViewSubcommand::Explore(schedules_by(matches)?)),
+        "order" => Ok(ViewSubcommand::Order(turns_by(matches))),
+        _ => Ok(ViewSubcommand::Check),
     }
-    if let Some(apply) = matches.subcommand_matches("apply") {
-        return Ok(ViewSubcommand::Apply(erased(apply)));
-    }
-    if matches.subcommand_matches("json").is_some() {
-        return Ok(ViewSubcommand::Json);
-    }
-    if matches.subcommand_matches("page").is_some() {
-        return Ok(ViewSubcommand::Page);
-    }
-    if let Some(why) = matches.subcommand_matches("why") {
-        let all = is_given(why, "all");
-        return Ok(ViewSubcommand::Why { all });
-    }
-    if let Some(explore) = matches.subcommand_matches("explore") {
-        let orders = orders_by(explore)?;
-        return Ok(ViewSubcommand::Explore(orders));
-    }
-    if let Some(order) = matches.subcommand_matches("order") {
-        return Ok(ViewSubcommand::Order(turns_by(order)));
-    }
-    Ok(ViewSubcommand::Check)
 }
 
-// The error that says that more orders are to be drawn than may be run.
-fn too_many(alloc: Global, above: SampleAboveMost) -> Result<Error, AllocError>
-    ensures { IfOk result (λ e. kind_of e ≡ ValueValidation) }
-{
+// The error that says that more schedules are to be drawn than may be run.
+fn too_many(alloc: Global, above: SampleAboveMost) -> Result<Error, AllocError> {
     let SampleAboveMost { sample, most } = above;
     let message = format!(in alloc; "--sample {sample} is above --most {most}")?;
-    command(alloc)?.error(ErrorKind::ValueValidation, &message)
+    REALMVIEW
+        .command(alloc)?
+        .error(ErrorKind::ValueValidation, &message)
 }
 
 impl ViewSubcommand {
@@ -302,20 +283,13 @@ impl ViewSubcommand {
     pub fn of<'a>(
         alloc: Global,
         words: &'a [String],
-    ) -> Result<Invocation<'a, ViewSubcommand>, Error>
-        // The request that clap's definition of a simple command gives for the words.
-        ensures ok { IfOk result (λ it. IsViewSubcommand (subcommand_of realmview (map string_bytes words.now)) it.asked) }
-        // The file that it gives for them.
-        ensures file { IfOk result (λ it. option_map (λ s. s.now) it.file ≡ file_in (subcommand_of realmview (map string_bytes words.now))) }
-        // The kind of an error: one that the definition names, or that allocation failed; or more orders are to be drawn
-        // than may be run.
-        ensures kinds { IfErr result (λ e. HasKind (fault_of realmview (map string_bytes words.now)) e
-            ⊎ SaysTooMany (subcommand_of realmview (map string_bytes words.now)) e) }
-        // Words with a fault ask for nothing.
-        ensures faultless { OnOk result (fault_of realmview (map string_bytes words.now) ≡ []) }
-    {
-        let matches = matched(command(alloc)?, words)?;
-        match asked_by(&matches) {
+    ) -> Result<Invocation<'a, ViewSubcommand>, Error> {
+        let matches = REALMVIEW.matched(alloc, words)?;
+        let asked = match matches.subcommand() {
+            Some((name, found)) => asked_by(name, found),
+            None => Ok(ViewSubcommand::Check),
+        };
+        match asked {
             Ok(asked) => Ok(Invocation {
                 asked,
                 file: given_file(&matches),

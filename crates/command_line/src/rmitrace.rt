@@ -1,13 +1,8 @@
 //! The command line of `rmitrace`.
-ghost use Rattle.std.specs.Prelude.{◌≡◌, IfOk, true, map, option_map, string_bytes};
-ghost use Rattle.clap.specs.Words.{FailsBy, app_of, fault_of, is_simple_and_free, subcommand_of, subcommand_rows_of};
-ghost use Rattle.command_line.specs.Options.{IsOfWords, file_in};
-ghost use Rattle.command_line.specs.Rmitrace.{rmitrace, IsTraceSubcommand};
-
 use crate::Invocation;
-use crate::options::{given_file, matched, program, reading};
-use clap::{ArgMatches, Command, Error};
-use std::alloc::{AllocError, Global};
+use crate::table::{Program, Subcommand, given_file};
+use clap::{ArgMatches, Error};
+use std::alloc::Global;
 
 /// The request to the program.
 #[derive(Clone, Copy)]
@@ -39,27 +34,34 @@ const CHECK_EXAMPLES: &str = "Examples:
 
 const FILE: &str = "The trace; without FILE, or with -, read standard input";
 
-// The definition of the command line.
-fn command<'a>(alloc: Global) -> Result<Command<'a>, AllocError>
-    ensures { IfOk result (λ c. app_of c ≡ rmitrace) }
-{
-    let answer = reading(alloc, "answer", ANSWER, ANSWER_EXAMPLES, FILE)?;
-    let check = reading(alloc, "check", CHECK, CHECK_EXAMPLES, FILE)?;
-    program(alloc, "rmitrace", ABOUT)
-        .after_help(EXAMPLES)
-        .subcommand(answer)?
-        .subcommand(check)
-}
+const RMITRACE: Program = Program {
+    name: "rmitrace",
+    about: ABOUT,
+    examples: EXAMPLES,
+    subcommands: &[
+        Subcommand {
+            name: "answer",
+            about: ANSWER,
+            examples: ANSWER_EXAMPLES,
+            file: FILE,
+            options: &[],
+        },
+        Subcommand {
+            name: "check",
+            about: CHECK,
+            examples: CHECK_EXAMPLES,
+            file: FILE,
+            options: &[],
+        },
+    ],
+};
 
 // The request of the words that were matched.
-fn asked_by(matches: &ArgMatches) -> TraceSubcommand
-    requires { IsOfWords rmitrace matches.now }
-    ensures { IsTraceSubcommand (subcommand_rows_of matches.now) result }
-{
-    if matches.subcommand_matches("answer").is_some() {
-        return TraceSubcommand::Answer;
+fn asked_by(matches: &ArgMatches) -> TraceSubcommand {
+    match matches.subcommand_name() {
+        Some("answer") => TraceSubcommand::Answer,
+        _ => TraceSubcommand::Check,
     }
-    TraceSubcommand::Check
 }
 
 impl TraceSubcommand {
@@ -67,15 +69,8 @@ impl TraceSubcommand {
     pub fn of<'a>(
         alloc: Global,
         words: &'a [String],
-    ) -> Result<Invocation<'a, TraceSubcommand>, Error>
-        // The request that clap's definition of a simple command gives for the words.
-        ensures ok { IfOk result (λ it. IsTraceSubcommand (subcommand_of rmitrace (map string_bytes words.now)) it.asked) }
-        // The file that it gives for them.
-        ensures file { IfOk result (λ it. option_map (λ s. s.now) it.file ≡ file_in (subcommand_of rmitrace (map string_bytes words.now))) }
-        // The kind of an error: one that the definition names, or that allocation failed.
-        ensures kinds { FailsBy (fault_of rmitrace (map string_bytes words.now)) result }
-    {
-        let matches = matched(command(alloc)?, words)?;
+    ) -> Result<Invocation<'a, TraceSubcommand>, Error> {
+        let matches = RMITRACE.matched(alloc, words)?;
         Ok(Invocation {
             asked: asked_by(&matches),
             file: given_file(&matches),

@@ -1,4 +1,4 @@
-//! Why a program stops before it has done what it was asked for.
+//! The reasons why a program stops before it has done what it was asked for.
 ghost use Rattle.std.specs.Prelude.{◌≡◌, ℕ};
 ghost use Rattle.command_line.specs.Stop.{status_of_stop, stop_of_error};
 ghost use Rattle.command_line.specs.declared.stop.Stop.TheVariants.{Run};

@@ -94,7 +94,7 @@ fn allows_colours(rt: &HostRuntime) -> bool {
     }
 }
 
-/// Standard output. On a terminal it is painted, if the program wants that.
+/// Standard output. On a terminal it is painted, if the program asks for that.
 #[derive(Drop)]
 pub enum Output {
     /// Text as it is.

@@ -1,5 +1,8 @@
-//! An example of one build: commands, a refusal that is matched on, an undo, an abort, and the history.
+//! An example of one build: commands, a refusal that is matched on, an undo, an abort, and the history. Then it applies a
+//! history from standard input.
 #![tactic(auto)]
+
+mod history;
 
 use anyhow::Result;
 use history_text::EventText;
@@ -56,5 +59,5 @@ fn show(rt: &impl Print, host: &mut Host<PlainStore>) -> io::Result<()> {
 fn main(rt: HostRuntime) -> Result<()> {
     let mut host = booted(rt.alloc())?;
     show(&rt, &mut host)?;
-    Ok(())
+    history::run(&rt)
 }

@@ -1,5 +1,5 @@
 //! The progress of an exploration, on a terminal.
-use schedules::{Expected, Progress};
+use view_program::schedules::{Expected, Progress};
 use std::cell::Cell;
 use std::io::IsTerminal;
 use std::time::Instant;

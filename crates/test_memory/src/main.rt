@@ -1,4 +1,5 @@
-//! A test program: arguments come back if memory is refused, and no call after boot takes memory.
+//! A test program: arguments come back if memory is refused, and no call after boot takes memory. A plan on standard
+//! input is replayed over the plain store instead.
 //!
 //! `tests/allocations` refuses each allocation of this program in turn. A host is then booted or shared, or a worker
 //! built, at the second try, from what came back of the first. The test counts the allocations between a line `quiet`
@@ -8,6 +9,7 @@
 mod blocks;
 mod boot;
 mod calls;
+mod plain;
 mod recorded;
 mod seats;
 
@@ -63,10 +65,20 @@ fn use_stores(rt: &impl Print, alloc: Global) -> Result<(), Fault> {
     blocks::come_and_go(rt, alloc, 4096, true)
 }
 
-fn run<R: Print + AllocGlobal + Threads + Wait + Sync>(rt: &R) -> Result<(), Fault> {
+fn make_calls<R: Print + AllocGlobal + Threads + Wait + Sync>(rt: &R) -> Result<(), Fault> {
     use_hosts(rt, rt.alloc())?;
     seats::work(rt, rt.alloc())?;
     use_stores(rt, rt.alloc())
+}
+
+/// Replays the plan on standard input, or makes every call if there is none.
+fn run(rt: &HostRuntime) -> Result<(), Fault> {
+    let bytes = plain::input(rt)?;
+    if bytes.is_empty() {
+        return make_calls(rt);
+    }
+    plain::replay(rt, &bytes)?;
+    Ok(())
 }
 
 fn main(rt: HostRuntime) -> ExitCode {

@@ -8,11 +8,11 @@ use Rattle.realm_plan.specs.Plan.{Plan}
 use Rattle.realm_program.specs.Replay.{opening_host}
 use Rattle.realm_program.specs.declared.fault.Fault.{Fault}
 use Rattle.realm_program.specs.declared.fault.Fault.TheVariants.{Memory}
-use Rattle.schedules.specs.Drawn.{IsSampled}
-use Rattle.schedules.specs.Explored.{IsExplored}
-use Rattle.schedules.specs.declared.totals.Totals.{Totals}
-use Rattle.schedules.specs.Exploring.{IsNotExplored}
-use Rattle.schedules.specs.Lines.{schedules_text, drawn_text}
+use Rattle.view_program.specs.Drawn.{IsSampled}
+use Rattle.view_program.specs.Explored.{IsExplored}
+use Rattle.view_program.specs.declared.schedules.totals.Totals.{Totals}
+use Rattle.view_program.specs.Exploring.{IsNotExplored}
+use Rattle.view_program.specs.Lines.{schedules_text, drawn_text}
 use Rattle.command_line.specs.declared.realmview.Schedules.{Schedules}
 use Rattle.command_line.specs.declared.realmview.Schedules.TheVariants.{First, Drawn}
 

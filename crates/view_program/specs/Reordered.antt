@@ -7,8 +7,8 @@ use Rattle.realm_program.specs.Printed.{IsPlanOf}
 use Rattle.realm_program.specs.Replay.{opening_host}
 use Rattle.realm_program.specs.declared.fault.Fault.TheVariants as run_fault
 use Rattle.checked_io.specs.Whole.{AppendsFront}
-use Rattle.schedules.specs.Rotation.{AreInRotation, AreOneByOne, IsWholeSchedule}
-use Rattle.schedules.specs.declared.choice.Choice.{Choice}
+use Rattle.view_program.specs.Rotation.{AreInRotation, AreOneByOne, IsWholeSchedule}
+use Rattle.view_program.specs.declared.schedules.choice.Choice.{Choice}
 use Rattle.command_line.specs.declared.realmview.SchedulingPolicy.{SchedulingPolicy}
 use Rattle.command_line.specs.declared.realmview.SchedulingPolicy.TheVariants.{InRotation, OneByOne}
 use Rattle.view_program.specs.declared.fault.ViewError.{ViewError}

@@ -4,7 +4,7 @@
 //! `Histories`, `Reasons`, `Documents`, `Pages` and `Exploring` are the texts of plans that `print` writes. `apply`
 //! goes from the lines of a history to the map of its machine. `check` goes from bytes to the findings on them as a
 //! plan, and `reorder` from a plan to the same plan with another schedule. Each of them is for any reader and any
-//! writer, and `run` performs what the command line asks for.
+//! writer, and `run` performs what the command line asks for. `schedules` runs the schedules of a plan.
 //!
 //! All that they say of a run comes from a host. Nothing here depends on the process that it runs in: a caller hands in
 //! the words and the devices.
@@ -29,6 +29,7 @@ mod plan_text;
 mod plan_title;
 mod printing;
 mod running;
+pub mod schedules;
 
 pub use applying::apply;
 pub use checking::{ViewOutcome, check};

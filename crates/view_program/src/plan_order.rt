@@ -12,7 +12,7 @@ use checked_io::Told;
 use command_line::realmview::SchedulingPolicy;
 use realm_plan::{Plan, PlanError, PlanFault};
 use realm_program::read_whole;
-use schedules::{schedule_in_rotation, schedule_one_by_one};
+use crate::schedules::{schedule_in_rotation, schedule_one_by_one};
 use std::alloc::{AllocError, Global};
 use std::io::{Read, Write};
 use std::str::from_utf8;

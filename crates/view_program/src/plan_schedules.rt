@@ -1,8 +1,8 @@
 //! The outcomes of the schedules of plans.
 ghost use Rattle.std.specs.Prelude.{◌≡◌, IfOk, IfErr, string_bytes};
 ghost use Rattle.realm_plan.specs.PlanView.{plan_view};
-ghost use Rattle.schedules.specs.Exploring.{IsNotExplored};
-ghost use Rattle.schedules.specs.Lines.{schedules_text, drawn_text};
+ghost use Rattle.view_program.specs.Exploring.{IsNotExplored};
+ghost use Rattle.view_program.specs.Lines.{schedules_text, drawn_text};
 ghost use Rattle.view_program.specs.Orders.{IsFirstText, IsDrawnText, IsSchedulesText, IsWithoutSchedules};
 
 use crate::plan_text::ViewText;
@@ -11,7 +11,7 @@ use rand_core::SeedableRng;
 use rand_xoshiro::Xoshiro256PlusPlus;
 use realm_plan::Plan;
 use realm_program::{Fault, PlanText};
-use schedules::{
+use crate::schedules::{
     Expected, Explored, Progress, Totals, explore as run_first, push_drawn, push_schedules, sample,
     schedule_in_rotation,
 };

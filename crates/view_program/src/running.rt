@@ -9,7 +9,7 @@ use crate::{
     check, reorder,
 };
 use checked_io::Told;
-use schedules::Progress;
+use crate::schedules::Progress;
 use std::alloc::Global;
 use std::io::{Read, Write};
 

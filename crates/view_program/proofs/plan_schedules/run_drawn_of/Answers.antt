@@ -4,7 +4,7 @@ use Rattle.realm_plan.specs.PlanView.{plan_view}
 use Rattle.rand_core.specs.Steps.{stream_of, steps_u64_high}
 use Rattle.rand_xoshiro.specs.Xoshiro256.{plus_plus}
 use Rattle.realm_program.specs.Replay.{opening_host}
-use Rattle.schedules.specs.Drawn.{IsSampled}
+use Rattle.view_program.specs.Drawn.{IsSampled}
 use Rattle.view_program.proofs.plan_schedules.run_drawn_of.Goals as goal
 
 pub returns : goal.returns

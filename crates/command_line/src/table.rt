@@ -1,0 +1,91 @@
+//! Command lines as tables: a program with subcommands, each of which reads a FILE and has options.
+use crate::options::{erase, named_file, program, subcommand};
+use clap::{Arg, ArgAction, ArgMatches, Command, Error, value_parser};
+use std::alloc::{AllocError, Global};
+
+/// An option of a subcommand, with its help.
+#[derive(Clone, Copy)]
+pub(crate) enum Opt {
+    /// `--erase B`, the build that is left out.
+    Erase(&'static str),
+    /// A number of 32 bits: the option's name, and that of its value.
+    Number(&'static str, &'static str, &'static str),
+    /// A flag.
+    Flag(&'static str, &'static str),
+}
+
+/// A subcommand: its name and what it does, examples, its FILE, and its options.
+#[derive(Clone, Copy)]
+pub(crate) struct Subcommand {
+    pub name: &'static str,
+    pub about: &'static str,
+    pub examples: &'static str,
+    pub file: &'static str,
+    pub options: &'static [Opt],
+}
+
+/// A program: its name and what it does, examples, and its subcommands, of which one is required.
+#[derive(Clone, Copy)]
+pub(crate) struct Program {
+    pub name: &'static str,
+    pub about: &'static str,
+    pub examples: &'static str,
+    pub subcommands: &'static [Subcommand],
+}
+
+impl Opt {
+    fn argument<'a>(self, alloc: Global) -> Arg<'a> {
+        match self {
+            Opt::Erase(help) => erase(alloc, help),
+            Opt::Number(name, value, help) => Arg::new(alloc, name)
+                .long(name)
+                .value_name(value)
+                .help(help)
+                .action(ArgAction::Set)
+                .value_parser(value_parser!(u32)),
+            Opt::Flag(name, help) => Arg::new(alloc, name)
+                .long(name)
+                .help(help)
+                .action(ArgAction::SetTrue),
+        }
+    }
+}
+
+impl Subcommand {
+    fn command<'a>(&self, alloc: Global) -> Result<Command<'a>, AllocError> {
+        let file = Arg::new(alloc, "file").value_name("FILE").help(self.file);
+        let mut command = subcommand(alloc, self.name, self.about)
+            .after_help(self.examples)
+            .arg(file)?;
+        for option in self.options {
+            command = command.arg(option.argument(alloc))?;
+        }
+        Ok(command)
+    }
+}
+
+impl Program {
+    /// The program as it is declared to `clap`.
+    pub(crate) fn command<'a>(&self, alloc: Global) -> Result<Command<'a>, AllocError> {
+        let mut command = program(alloc, self.name, self.about).after_help(self.examples);
+        for row in self.subcommands {
+            command = command.subcommand(row.command(alloc)?)?;
+        }
+        Ok(command)
+    }
+
+    /// What the program finds in the words. The first word is the program's name.
+    pub(crate) fn matched<'a>(
+        &self,
+        alloc: Global,
+        words: &'a [String],
+    ) -> Result<ArgMatches<'a>, Error> {
+        self.command(alloc)?.try_get_matches_from(words)
+    }
+}
+
+/// The file that the subcommand is given. `-` is none, and means standard input.
+pub(crate) fn given_file<'a>(matches: &ArgMatches<'a>) -> Option<&'a str> {
+    let (_, subcommand) = matches.subcommand()?;
+    named_file(subcommand.get_str("file")?)
+}

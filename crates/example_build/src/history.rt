@@ -1,0 +1,59 @@
+//! A history from standard input: it is applied to a host event by event, up to the first that is refused. Then the map
+//! of the host is printed.
+use anyhow::{Context, Result};
+use history_text::{Opening, parse_event, parse_opening};
+use plan_replay::map_text;
+use realm_host::{Host, PlainStore, Settings};
+use std::alloc::Global;
+use std::io;
+
+// A host of the size in an opening.
+fn opened(alloc: Global, opening: &Opening) -> Result<Host<PlainStore>> {
+    let settings = Settings::new(
+        opening.vmids,
+        opening.aux,
+        opening.history,
+        opening.builds,
+    ).context("the opening has no settings")?;
+    let store = PlainStore::build(alloc, opening.pages)?;
+    Ok(Host::boot(alloc, settings, store).map_err(|(error, _store)| error)?)
+}
+
+// Applies the event that a line is.
+fn apply(host: &mut Host<PlainStore>, line: &str) -> Result<()> {
+    let event = parse_event(line.as_bytes()).context("it is no event")?;
+    if !host.apply_recorded(&event) {
+        return Err(host.why_not(&event).into());
+    }
+    Ok(())
+}
+
+// Applies the lines after the first, and prints each, up to one that cannot be applied.
+fn apply_all(rt: &impl Print, host: &mut Host<PlainStore>, text: &str) -> io::Result<()> {
+    for line in text.lines().skip(1) {
+        if let Err(error) = apply(host, line) {
+            return println!(rt; "{line}: {error}");
+        }
+        println!(rt; "{line}")?;
+    }
+    Ok(())
+}
+
+// Applies a history, and prints the map.
+fn show(rt: &impl Print, alloc: Global, host: &mut Host<PlainStore>, text: &str) -> Result<()> {
+    apply_all(rt, host, text)?;
+    print!(rt; "{}", map_text(alloc, host)?)?;
+    Ok(())
+}
+
+/// Applies the history on standard input, if there is one.
+pub(crate) fn run(rt: &HostRuntime) -> Result<()> {
+    let alloc = rt.alloc();
+    let text = io::read_to_string(alloc, rt.stdin())?;
+    let Some(first) = text.lines().next() else {
+        return Ok(());
+    };
+    let opening = parse_opening(first.as_bytes()).context("the first line is no opening")?;
+    let mut host = opened(alloc, &opening)?;
+    show(rt, alloc, &mut host, text.as_str())
+}

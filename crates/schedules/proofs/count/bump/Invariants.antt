@@ -1,9 +1,0 @@
-use Rattle.std.proofs.Common.{◌≡◌, take}
-use Rattle.schedules.proofs.Tallies.{AreBumped}
-use Rattle.schedules.specs.Tally.{is_known}
-use Rattle.schedules.proofs.count.bump.Given as goal
-
-abbrev pub invariant-loop-tally : goal.invariant-loop-tally
-invariant-loop-tally g l =
-    AreBumped g.K.PartialEq.eq l.thing l.initial.tallies l.tally-index l.tallies
-    × (l.is_known ≡ is_known g.K.PartialEq.eq l.thing (take l.tally-index l.initial.tallies))

@@ -1,8 +1,0 @@
-use Rattle.std.proofs.Common.{◌≡◌}
-use Rattle.std.specs.Prelude.{filter}
-use Rattle.std.specs.List.{range_with_len}
-use Rattle.schedules.specs.Next.{could}
-use Rattle.schedules.proofs.drawn_schedule.builds_with_steps.Given as goal
-
-abbrev pub invariant-loop-build : goal.invariant-loop-build
-invariant-loop-build l = l.builds.items ≡ filter (could l.left) (range_with_len 0 l.build)

@@ -1,5 +1,0 @@
-use Rattle.schedules.proofs.Runs.{run_of_plan}
-use Rattle.schedules.proofs.law.a_run_is_one_of_the_plan.Goals as goal
-
-pub returns : goal.returns
-returns c = run_of_plan

@@ -1,7 +1,0 @@
-use Rattle.std.proofs.Common.{◌≡◌, ◌++◌, take, string_bytes}
-use Rattle.std.specs.List.{flat_map}
-use Rattle.schedules.specs.Lines.{map_lines}
-use Rattle.schedules.proofs.text.push_maps.Given as goal
-
-abbrev pub invariant-loop-map : goal.invariant-loop-map
-invariant-loop-map l = string_bytes l.text ≡ string_bytes l.fn.text ++ flat_map (map_lines l.orders) (take l.map-index l.maps)

@@ -1,0 +1,5 @@
+use Rattle.builders.specs.Names.{names_of}
+use Rattle.test_host.proofs.threads.boot_and_work.Given as goal
+
+abbrev pub ghosts-work_together : goal.ghosts-work_together
+ghosts-work_together g a = record { opened = a.host; names = names_of a.blanks }

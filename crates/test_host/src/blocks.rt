@@ -1,0 +1,45 @@
+//! Free blocks of an arena.
+ghost use Rattle.std.specs.Prelude.{◌≡◌, IsTrue};
+ghost use Rattle.page_arena.specs.Block.{IsTakenBlock};
+
+use crate::expected::{built, holds};
+use crate::names::{granule, order};
+use buddy::BuddyArena;
+use granule_addr::{Gran, Order};
+use page_arena::PageStore;
+use std::process::Abort;
+
+// The free blocks that lie in no larger one are these, and no others.
+fn has_blocks(rt: &impl Abort, arena: &BuddyArena, wanted: &[(u8, u16)]) {
+    for number in 0..10 {
+        for first in 0..arena.pages() {
+            let is_there = arena.is_free_block(order(number), granule(first));
+            let is_wanted = wanted.contains(&(number, first));
+            assert_eq!(rt; is_there, is_wanted, "order {number} at {first}");
+        }
+    }
+}
+
+// That page is taken. It has been free.
+#[tactic(auto, using(page_arena::specs::Blocks::taken_block))]
+fn takes_the_page<S: PageStore>(rt: &impl Abort, store: &mut S, page: Gran, one: Order)
+    ensures { IsTakenBlock (S.free_flags store.new) one page }
+{
+    if !store.take_at(one, page) {
+        panic!(rt; "the page is not free");
+    }
+}
+
+// Blocks of 13 pages: the last page of the block at 8 makes two halves of it, and they merge when it comes back.
+#[test]
+fn thirteen_pages(rt: HostRuntime) {
+    let mut arena = built(&rt, BuddyArena::build(rt.alloc(), 13));
+    let (nine, one) = (granule(9), order(0));
+    has_blocks(&rt, &arena, &[(3, 0), (2, 8), (0, 12)]);
+    takes_the_page(&rt, &mut arena, nine, one);
+    has_blocks(&rt, &arena, &[(3, 0), (0, 8), (1, 10), (0, 12)]);
+    arena.give(nine, one);
+    has_blocks(&rt, &arena, &[(3, 0), (2, 8), (0, 12)]);
+    holds(&rt, "no block of 16", arena.take(order(4)).is_none());
+    holds(&rt, "the block of 8", arena.take(order(3)) == Some(granule(0)));
+}

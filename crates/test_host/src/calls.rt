@@ -1,0 +1,231 @@
+//! Scripts of a host: calls of its builds, what is read of it, and what each has to answer.
+use crate::expected::holds_at;
+use crate::hosts::{booted, over_arena};
+use crate::readings::is_read;
+use arrayvec::ArrayVec;
+use granule_addr::{BuildId, RecNo, Vmid};
+use page_arena::PageStore;
+use realm_host::{Cmd, GranuleState, Host, Kind, Mark, RealmState, Refusal, Reply, Undone};
+use std::alloc::Global;
+use std::process::Abort;
+
+/// A script: the number of a build, and a call of it, one after the other.
+pub(crate) type Script = &'static [(u8, Call)];
+
+/// A command of a build.
+pub(crate) enum Command {
+    /// A block of 2^order pages is leased.
+    Take(u8),
+    /// Every byte of a page gets the value.
+    Fill(u16, u8),
+    Delegate(u16),
+    /// Pages 0 and 1 become the RD and the starting table of a realm.
+    Realm,
+    /// Page 2 becomes a REC.
+    Rec,
+}
+
+/// What a command is answered.
+pub(crate) enum Said {
+    Done,
+    FirstPage(u16),
+    Vmid(u8),
+    Number(u16),
+}
+
+/// Why a call is refused.
+pub(crate) enum No {
+    Build,
+    Aborting,
+    /// The build has no such page.
+    Page(u16),
+    NothingToUndo,
+}
+
+/// Two marks of a script.
+pub(crate) enum Which {
+    Newest,
+    /// The mark before the newest one.
+    Older,
+}
+
+/// A call of a host, or what is read of it. The last field is the answer.
+pub(crate) enum Call {
+    Ask(Command, Result<Said, No>),
+    /// The kind of the operation that is undone, and how many are left open.
+    Undo(Result<(Kind, u16), No>),
+    BeginAbort(Result<u16, No>),
+    Abort(Result<u16, No>),
+    /// A mark, with so many operations open.
+    Mark(Result<u16, No>),
+    CheckBack(Which, Result<u16, No>),
+    /// A way back, first checked and then gone, with one answer.
+    GoBack(Which, Result<u16, No>),
+    /// How many pages are free, how many there are, and how many the build has.
+    Pages(u16, u16, u16),
+    /// The state of a page, and the sum of its bytes.
+    Page(u16, GranuleState, u32),
+    /// The state of the realm, and its VMID.
+    Realm(Option<(RealmState, u8)>),
+    Measurement(Option<[u8; 32]>),
+}
+
+impl Command {
+    fn of_host(&self) -> Cmd {
+        match *self {
+            Command::Take(order) => Cmd::Take { order },
+            Command::Fill(page, value) => Cmd::Fill { page, value },
+            Command::Delegate(page) => Cmd::Delegate { page },
+            Command::Realm => Cmd::Realm {
+                rd: 0,
+                root: 1,
+                width: 39,
+            },
+            Command::Rec => Cmd::Rec {
+                page: 2,
+                auxiliaries: ArrayVec::new(),
+            },
+        }
+    }
+}
+
+impl No {
+    fn of_host(&self) -> Refusal {
+        match *self {
+            No::Build => Refusal::NoBuild,
+            No::Aborting => Refusal::Aborting,
+            No::Page(page) => Refusal::NotLeased(page),
+            No::NothingToUndo => Refusal::NothingToUndo,
+        }
+    }
+}
+
+// The VMID of that number; 1 for 0.
+fn vmid(number: u8) -> Vmid {
+    Vmid::new(number.max(1)).unwrap()
+}
+
+fn reply(want: &Result<Said, No>) -> Result<Reply, Refusal> {
+    match want {
+        Ok(Said::Done) => Ok(Reply::Done),
+        Ok(Said::FirstPage(page)) => Ok(Reply::FirstPage(*page)),
+        Ok(Said::Vmid(number)) => Ok(Reply::Vmid(vmid(*number))),
+        Ok(Said::Number(number)) => Ok(Reply::Number(RecNo::new(*number))),
+        Err(no) => Err(no.of_host()),
+    }
+}
+
+fn undone(want: &Result<(Kind, u16), No>) -> Result<Undone, Refusal> {
+    match want {
+        Ok((kind, left)) => {
+            let (kind, left) = (*kind, *left);
+            Ok(Undone { kind, left })
+        }
+        Err(no) => Err(no.of_host()),
+    }
+}
+
+fn count(want: &Result<u16, No>) -> Result<u16, Refusal> {
+    match want {
+        Ok(count) => Ok(*count),
+        Err(no) => Err(no.of_host()),
+    }
+}
+
+// The last two marks of a script.
+#[derive(Drop)]
+struct Marks {
+    newest: Option<Mark>,
+    older: Option<Mark>,
+}
+
+impl Marks {
+    // Keeps a mark, and returns how many operations were open then.
+    fn keep(&mut self, mark: Result<Mark, Refusal>) -> Result<u16, Refusal> {
+        let mark = mark?;
+        self.older = self.newest;
+        self.newest = Some(mark);
+        Ok(mark.length())
+    }
+
+    fn get(&self, which: &Which) -> &Option<Mark> {
+        match which {
+            Which::Newest => &self.newest,
+            Which::Older => &self.older,
+        }
+    }
+}
+
+fn checks_back<S: PageStore>(
+    host: &Host<S>,
+    build: BuildId,
+    mark: &Option<Mark>,
+    want: &Result<u16, No>,
+) -> bool {
+    match mark {
+        Some(mark) => host.check_back(build, *mark) == count(want),
+        None => false,
+    }
+}
+
+fn goes_back<S: PageStore>(
+    host: &mut Host<S>,
+    build: BuildId,
+    mark: &Option<Mark>,
+    want: &Result<u16, No>,
+) -> bool {
+    match mark {
+        Some(mark) => host.rollback_to(build, *mark) == count(want),
+        None => false,
+    }
+}
+
+// Whether a call is answered as it has to be.
+fn is_answered<S: PageStore>(
+    host: &mut Host<S>,
+    marks: &mut Marks,
+    build: BuildId,
+    call: &Call,
+) -> bool {
+    match call {
+        Call::Ask(command, want) => host.command(build, command.of_host()) == reply(want),
+        Call::Undo(want) => host.undo(build) == undone(want),
+        Call::BeginAbort(want) => host.begin_abort(build) == count(want),
+        Call::Abort(want) => host.abort(build) == count(want),
+        Call::Mark(want) => marks.keep(host.mark(build)) == count(want),
+        Call::CheckBack(which, want) => checks_back(host, build, marks.get(which), want),
+        Call::GoBack(which, want) => {
+            let mark = marks.get(which);
+            checks_back(host, build, mark, want) && goes_back(host, build, mark, want)
+        }
+        _ => is_read(host, build, call),
+    }
+}
+
+// Runs a script on a host on which no build has done anything.
+fn run<S: PageStore + Drop>(rt: &impl Abort, name: &str, mut host: Host<S>, script: Script) {
+    let mut marks = Marks {
+        newest: None,
+        older: None,
+    };
+    let mut place = 0;
+    for (number, call) in script {
+        let build = BuildId::new(*number).expect(rt, "a build");
+        let is_so = is_answered(&mut host, &mut marks, build, call);
+        holds_at(rt, name, place, is_so);
+        place = place.saturating_add(1);
+    }
+}
+
+/// Runs a script on hosts of so many pages and builds, over either store.
+pub(crate) fn over_both(
+    rt: &impl Abort,
+    alloc: Global,
+    name: &str,
+    pages: u16,
+    builds: u8,
+    script: Script,
+) {
+    run(rt, name, booted(rt, alloc, pages, 0, builds), script);
+    run(rt, name, over_arena(rt, alloc, pages, builds), script);
+}

@@ -1,0 +1,232 @@
+//! Devices in memory that count what is asked of them, and fail at one call.
+ghost use Rattle.std.specs.Prelude.{◌≡◌, false};
+
+use checked_io::Told;
+use realm_program::Fault;
+use std::alloc::Global;
+use std::io;
+use std::io::{Read, Write};
+use std::process::Abort;
+
+// Errors after which a caller might ask again, in turn.
+fn failure(call: u64) -> io::Error {
+    if call % 2 == 0 {
+        io::Error::from(io::ErrorKind::Interrupted)
+    } else {
+        io::Error::from(io::ErrorKind::WouldBlock)
+    }
+}
+
+/// Gives up to `most` bytes a read, and fails at one of its reads, counted from 0.
+#[derive(Drop)]
+pub(crate) struct Source<'a> {
+    pub rest: &'a [u8],
+    most: usize,
+    reads: u64,
+    fails_at: Option<u64>,
+}
+
+impl Read for Source<'_> {
+    fn read(&mut self, buf: &mut [u8]) -> io::Result<usize> {
+        let read = self.reads;
+        self.reads = read.saturating_add(1);
+        if self.fails_at == Some(read) {
+            return Err(failure(read));
+        }
+        let n = self.most.min(buf.len()).min(self.rest.len());
+        buf[..n].copy_from_slice(&self.rest[..n]);
+        self.rest = &self.rest[n..];
+        Ok(n)
+    }
+}
+
+/// Takes up to `most` bytes a write, and fails at one of its writes, counted from 0, or at its flush.
+#[derive(Drop)]
+pub(crate) struct Sink {
+    got: Vec<u8>,
+    most: usize,
+    writes: u64,
+    flushes: u64,
+    fails_at: Option<u64>,
+    fails_to_flush: bool,
+}
+
+impl Sink {
+    /// Whether these are the bytes that were taken.
+    pub(crate) fn has(&self, bytes: &[u8]) -> bool {
+        self.got.as_slice() == bytes
+    }
+}
+
+impl Write for Sink {
+    fn write(&mut self, buf: &[u8]) -> io::Result<usize> {
+        let write = self.writes;
+        self.writes = write.saturating_add(1);
+        if self.fails_at == Some(write) {
+            return Err(failure(write));
+        }
+        let n = self.most.min(buf.len());
+        self.got.extend_from_slice(&buf[..n])?;
+        Ok(n)
+    }
+
+    fn flush(&mut self) -> io::Result<()> {
+        let flush = self.flushes;
+        self.flushes = flush.saturating_add(1);
+        if self.fails_to_flush {
+            return Err(failure(flush));
+        }
+        Ok(())
+    }
+}
+
+/// The devices of a program: how much a call takes at most, and which call fails. A failed test is named by the case,
+/// and by the number of the call.
+#[derive(Clone, Copy)]
+pub(crate) struct Devices<'a> {
+    pub case: &'a str,
+    pub call: usize,
+    pub input: &'a [u8],
+    pub most_read: usize,
+    pub read_fails: Option<u64>,
+    pub most_written: usize,
+    pub write_fails: Option<u64>,
+    pub flush_fails: bool,
+}
+
+impl<'a> Devices<'a> {
+    /// Devices that take much in a call, and do not fail.
+    pub(crate) fn working(case: &'a str, input: &'a [u8]) -> Devices<'a> {
+        Devices {
+            case,
+            call: 0,
+            input,
+            most_read: 1000,
+            read_fails: None,
+            most_written: 1000,
+            write_fails: None,
+            flush_fails: false,
+        }
+    }
+
+    /// Devices that fail at that read. Each other read gives 25 bytes.
+    pub(crate) fn read_fails(input: &'a [u8], read: usize) -> Devices<'a> {
+        Devices {
+            call: read,
+            most_read: 25,
+            read_fails: Some(read as u64),
+            ..Devices::working("a read fails", input)
+        }
+    }
+
+    /// Devices that fail at that write. Each other write takes one byte.
+    pub(crate) fn write_fails(input: &'a [u8], write: usize) -> Devices<'a> {
+        Devices {
+            call: write,
+            most_read: 25,
+            most_written: 1,
+            write_fails: Some(write as u64),
+            ..Devices::working("a write fails", input)
+        }
+    }
+
+    /// Devices that fail at the flush. Each write takes up to ten bytes.
+    pub(crate) fn flush_fails(input: &'a [u8]) -> Devices<'a> {
+        Devices {
+            most_read: 25,
+            most_written: 10,
+            flush_fails: true,
+            ..Devices::working("the flush fails", input)
+        }
+    }
+
+    pub(crate) fn source(&self) -> Told<Source<'a>>
+        ensures { result.failed ≡ false }
+    {
+        Told::new(Source {
+            rest: self.input,
+            most: self.most_read,
+            reads: 0,
+            fails_at: self.read_fails,
+        })
+    }
+
+    pub(crate) fn sink(&self, alloc: Global) -> Told<Sink>
+        ensures { result.failed ≡ false }
+    {
+        Told::new(Sink {
+            got: Vec::new(alloc),
+            most: self.most_written,
+            writes: 0,
+            flushes: 0,
+            fails_at: self.write_fails,
+            fails_to_flush: self.flush_fails,
+        })
+    }
+}
+
+/// What has come of a program: how it ended, how much of the input it left, and what it wrote, in how many calls.
+#[derive(Clone, Copy)]
+pub(crate) struct Outcome<'a> {
+    pub end: Result<(), Fault>,
+    pub left: usize,
+    pub text: &'a [u8],
+    pub writes: u64,
+    pub flushes: u64,
+}
+
+impl<'a> Outcome<'a> {
+    /// A text is written whole, in that many writes.
+    pub(crate) fn printed(text: &'a [u8], writes: u64) -> Outcome<'a> {
+        Outcome {
+            end: Ok(()),
+            left: 0,
+            text,
+            writes,
+            flushes: 1,
+        }
+    }
+
+    /// The program ends so, and writes nothing.
+    pub(crate) fn nothing(fault: Fault, left: usize) -> Outcome<'a> {
+        Outcome {
+            end: Err(fault),
+            left,
+            text: b"",
+            writes: 0,
+            flushes: 0,
+        }
+    }
+
+    /// A write fails after these bytes, each of them in a write of its own.
+    pub(crate) fn cut(text: &'a [u8]) -> Outcome<'a> {
+        Outcome {
+            end: Err(Fault::Device),
+            left: 0,
+            text,
+            writes: (text.len() as u64).saturating_add(1),
+            flushes: 0,
+        }
+    }
+
+    /// The end of a program is this one.
+    pub(crate) fn came(
+        &self,
+        rt: &impl Abort,
+        devices: &Devices<'_>,
+        end: Result<(), Fault>,
+        input: &Source<'_>,
+        output: &Sink,
+    ) {
+        let left = input.rest.len();
+        for (what, seen, want) in [
+            ("the end", u64::from(end == self.end), 1),
+            ("bytes left", left as u64, self.left as u64),
+            ("the text", u64::from(output.has(self.text)), 1),
+            ("writes", output.writes, self.writes),
+            ("flushes", output.flushes, self.flushes),
+        ] {
+            assert_eq!(rt; seen, want, "{} {}: {what}", devices.case, devices.call);
+        }
+    }
+}

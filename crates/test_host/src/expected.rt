@@ -1,0 +1,34 @@
+//! Comparisons of values with the expected ones.
+//!
+//! A test is proved before it runs, and each comparison in its body branches: written out there, a row of them costs
+//! far more than a row of these calls.
+use page_arena::BuildError;
+use std::process::Abort;
+
+/// A number is the expected one.
+pub(crate) fn equal(rt: &impl Abort, what: &str, seen: u64, want: u64) {
+    assert_eq!(rt; seen, want, "{what}");
+}
+
+/// A text is the expected one.
+pub(crate) fn same_text(rt: &impl Abort, seen: &str, want: &str) {
+    assert_eq!(rt; seen, want);
+}
+
+/// It holds: 1, and not 0.
+pub(crate) fn holds(rt: &impl Abort, what: &str, is_so: bool) {
+    equal(rt, what, u64::from(is_so), 1);
+}
+
+/// It holds at that place of a table.
+pub(crate) fn holds_at(rt: &impl Abort, what: &str, place: usize, is_so: bool) {
+    assert!(rt; is_so, "{what}, row {place}");
+}
+
+/// The store that was built.
+pub(crate) fn built<S>(rt: &impl Abort, store: Result<S, BuildError>) -> S {
+    match store {
+        Ok(store) => store,
+        Err(_) => panic!(rt; "there is no store"),
+    }
+}

@@ -1,0 +1,87 @@
+//! Hosts on which no build has done anything. If one is not made, the test is aborted, so nothing is dropped there.
+ghost use Rattle.std.specs.Prelude.{◌≡◌, [], true, length, replicate};
+ghost use Rattle.granule_addr.specs.Page.{zero_page};
+ghost use Rattle.builders.specs.Names.{AreNamed};
+
+use buddy::BuddyArena;
+use builders::{Blanks, Ledgers, Seat, Shared};
+use page_arena::{PageStore, PlainStore};
+use realm_host::{Host, Settings};
+use std::alloc::Global;
+use std::process::Abort;
+
+fn boot<S: PageStore + Drop>(
+    rt: &impl Abort,
+    alloc: Global,
+    store: S,
+    auxiliaries: u8,
+    builds: u8,
+) -> Host<S>
+    requires zero { S.page_bytes store ≡ replicate (length (S.page_bytes store)) zero_page }
+    requires free { S.free_flags store ≡ replicate (length (S.page_bytes store)) true }
+    ensures { result.history ≡ [] }
+{
+    let settings = Settings::new(8, auxiliaries, 1024, builds).expect(rt, "settings");
+    match Host::boot(alloc, settings, store) {
+        Ok(host) => host,
+        Err(_) => panic!(rt; "there is no memory for a host"),
+    }
+}
+
+/// A host of that many pages, auxiliaries of each REC, and builds, over a plain store.
+pub(crate) fn booted(
+    rt: &impl Abort,
+    alloc: Global,
+    pages: u16,
+    auxiliaries: u8,
+    builds: u8,
+) -> Host<PlainStore>
+    ensures { result.history ≡ [] }
+{
+    match PlainStore::build(alloc, pages) {
+        Ok(store) => boot(rt, alloc, store, auxiliaries, builds),
+        Err(_) => panic!(rt; "there is no store"),
+    }
+}
+
+/// A host of that many pages and builds, over an arena.
+pub(crate) fn over_arena(
+    rt: &impl Abort,
+    alloc: Global,
+    pages: u16,
+    builds: u8,
+) -> Host<BuddyArena> {
+    match BuddyArena::build(alloc, pages) {
+        Ok(store) => boot(rt, alloc, store, 0, builds),
+        Err(_) => panic!(rt; "there is no arena"),
+    }
+}
+
+/// The host is shared, with a seat for each of its builds.
+pub(crate) fn started<S: PageStore + Drop, L: Ledgers>(
+    rt: &impl Abort,
+    alloc: Global,
+    blanks: Blanks,
+    host: Host<S>,
+) -> (Shared<S, L>, Vec<Seat<L>>)
+    requires empty { host.history ≡ [] }
+    requires opened { host ≡ L.opened }
+    requires named { AreNamed L.names blanks }
+{
+    match Shared::start(alloc, blanks, host) {
+        Ok(started) => started,
+        Err(_) => panic!(rt; "there is no memory to share a host"),
+    }
+}
+
+/// The host, closed with all of its seats.
+pub(crate) fn closed<S: PageStore + Drop, L: Ledgers>(
+    rt: &impl Abort,
+    shared: Shared<S, L>,
+    seats: Vec<Seat<L>>,
+) -> Host<S> {
+    match shared.close(seats) {
+        Ok(host) => host,
+        Err(_) => panic!(rt; "a trail is not the history's"),
+    }
+}

@@ -1,0 +1,104 @@
+//! Numbers of a machine, and the words of results and of table entries, by rows that are worked out by hand.
+use crate::expected::{equal, holds_at};
+use crate::names::granule;
+use granule_addr::{IpaGran, IpaWidth, Level, index_at, is_protected, start_table};
+use realm_model::{Ripas, Rmi, Status};
+use rtt::Entry;
+
+// IPA granules and widths, and the entries of levels that cover each; of level 1, of the starting table that serves it.
+//
+// 788,999 is 3 * 2^18 + 5 * 2^9 + 7. The second starting table begins at 2^27.
+const ENTRIES: [(u32, u8, u16, u8, u16); 7] = [
+    (788_999, 39, 0, 1, 3),
+    (788_999, 39, 0, 2, 5),
+    (788_999, 39, 0, 3, 7),
+    (134_217_727, 43, 0, 1, 511),
+    (134_217_728, 43, 1, 1, 0),
+    (268_435_455, 43, 1, 1, 511),
+    (2_147_483_647, 43, 15, 1, 511),
+];
+
+fn is_covered(number: u32, width: u8, table: u16, level: u8, entry: u16) -> bool {
+    match (IpaGran::new(number, width), Level::new(level)) {
+        (Some(ipa), Some(level)) => start_table(ipa) == table && index_at(ipa, level) == entry,
+        _ => false,
+    }
+}
+
+#[test]
+fn entries_and_starting_tables(rt: HostRuntime) {
+    let mut place = 0;
+    for (number, width, table, level, entry) in ENTRIES {
+        let is_so = is_covered(number, width, table, level, entry);
+        holds_at(&rt, "an IPA granule", place, is_so);
+        place = place.saturating_add(1);
+    }
+}
+
+// A width, how many starting tables it has, and its first IPA granule that is not protected.
+const WIDTHS: [(u8, u16, u32); 5] = [
+    (39, 1, 67_108_864),
+    (40, 2, 134_217_728),
+    (41, 4, 268_435_456),
+    (42, 8, 536_870_912),
+    (43, 16, 1_073_741_824),
+];
+
+fn is_width(number: u8, tables: u16, unprotected: u32) -> bool {
+    let Some(width) = IpaWidth::new(number) else {
+        return false;
+    };
+    let last = IpaGran::new(unprotected.saturating_sub(1), number);
+    match (last, IpaGran::new(unprotected, number)) {
+        (Some(last), Some(first)) => {
+            width.start_count() == tables
+                && is_protected(last, width)
+                && !is_protected(first, width)
+        }
+        _ => false,
+    }
+}
+
+#[test]
+fn widths(rt: HostRuntime) {
+    for (number, tables, unprotected) in WIDTHS {
+        let is_so = is_width(number, tables, unprotected);
+        holds_at(&rt, "a width", number as usize, is_so);
+    }
+}
+
+// Bits 0 to 7 are the status, bits 8 to 15 the index.
+#[test]
+fn result_words(rt: HostRuntime) {
+    for (status, index, word) in [
+        (Status::Input, 0, 1),
+        (Status::Realm, 0, 2),
+        (Status::Rec, 0, 3),
+        (Status::Rtt, 0, 4),
+        (Status::Rtt, 3, 772),
+        (Status::Rtt, 255, 65_284),
+    ] {
+        equal(&rt, "a result", Rmi { status, index }.word(), word);
+    }
+}
+
+// An entry and its word name one another.
+fn is_word_of(entry: Entry, word: u64) -> bool {
+    entry.to_word() == word && Entry::from_word(word) == entry
+}
+
+// Bits 0 and 1 are the state of the entry, bits 2 and 3 the RIPAS, and from bit 12 on lies the granule.
+#[test]
+fn entry_words(rt: HostRuntime) {
+    let mut place = 0;
+    for (entry, word) in [
+        (Entry::unassigned(Ripas::Empty), 0),
+        (Entry::unassigned(Ripas::Destroyed), 8),
+        (Entry::assigned(Ripas::Ram, granule(5)), 20_485),
+        (Entry::table(granule(3)), 12_290),
+        (Entry::assigned(Ripas::Empty, granule(4095)), 16_773_121),
+    ] {
+        holds_at(&rt, "an entry", place, is_word_of(entry, word));
+        place = place.saturating_add(1);
+    }
+}

@@ -1,0 +1,390 @@
+-- The bound of turns, which each turn lowers.
+use Rattle.std.proofs.Common.{◌≡◌, ◌≢◌, ℕ, zero, suc, ◌+◌, ◌-◌, ◌*◌, ◌^◌, ◌<◌, ◌==◌, if◌then◌else◌, true, false, List, [], ◌∷◌, length, Option, Some, None, Result, Ok, Err, ◌⊎◌}
+use Rattle.std.proofs.Common.{inl, inr, slice_set, slice_index_or, replicate, ap, sym, subst, ◌∙◌, refl, arith}
+use Rattle.std.specs.Prelude.{slice_get, is_some, option_and_then}
+use Rattle.std.specs.Bool.{OnTrue, OnFalse}
+use Rattle.std.proofs.lemmas.Bool.Decides.{eqb_tells}
+use Rattle.std.proofs.lemmas.List.{get_or-set_same, get_or-set_other, length-set}
+use Rattle.std.proofs.lemmas.Option.{slice_get_within}
+use Rattle.host_ledger.specs.View.{HostView}
+use Rattle.host_commands.specs.declared.cmd.Step.TheVariants.{Ask, Undo, Abort, Mark, Back}
+use Rattle.host_commands.specs.declared.refusal.Refusal.{Refusal}
+use Rattle.host_commands.specs.declared.reply.Undone.{Undone}
+use Rattle.realm_plan.specs.Asked.{asked}
+use Rattle.realm_plan.specs.declared.step.PlanStep.{PlanStep}
+use Rattle.realm_plan.specs.declared.step.PlanStep.TheVariants.{Whole, WidthLeftOut}
+use Rattle.realm_plan.specs.Plan.{Plan}
+use Rattle.plan_replay.specs.Place.{first_place, moved_on}
+use Rattle.plan_replay.specs.Turn.{undoes_many}
+use Rattle.plan_replay.specs.Run.{Position, Turn, place_of, step_after, IsTurnOf, IsTurn}
+use Rattle.plan_replay.specs.Turn.{answer_of_one, left_after, to_go_back, above_mark, IsOneOfMany, IsTurnOfMany, IsToAbort, IsStepTurn}
+use Rattle.plan_replay.specs.declared.answer.TurnAnswer.{TurnAnswer}
+use Rattle.plan_replay.specs.declared.answer.TurnAnswer.TheVariants.{Nothing, Ended, Undone as Undid}
+use Rattle.plan_replay.specs.declared.place.PlanCursor.{PlanCursor}
+use Rattle.view_program.specs.Chosen.{refusal_in, refusal_of_turn}
+use Rattle.view_program.specs.TurnsLeft.{is_of_many, AreSteady, turns_of_place, turns_left}
+
+-- ---- a step's turn
+
+-- The step is the same; no undo of it is left, or it had none left before, or it has fewer.
+record IsLess (before after : PlanCursor) : Type 0 where
+  done : after.done ≡ before.done
+  less : (after.left ≡ 0) ⊎ ((before.left ≡ 0) ⊎ (after.left < before.left))
+
+less_same : (before after : PlanCursor) → before.left ≡ 0 → after ≡ before → IsLess before after
+less_same before after none same = record { done = ap (λ (p : PlanCursor). p.done) same; less = inl (ap (λ (p : PlanCursor). p.left) same ∙ none) }
+
+-- a number is 0, and then the test says so, or it is not
+zero_or_not : (n : ℕ) → ((n == 0) ≡ true) × (n ≡ 0) ⊎ ((n == 0) ≡ false) × (0 < n)
+zero_or_not n = elim (eqb_tells n 0) as (λ _. ((n == 0) ≡ true) × (n ≡ 0) ⊎ ((n == 0) ≡ false) × (0 < n)) [
+  | inl none ↦ inl none
+  | inr more ↦ inr (more.0, (let some : n ≢ 0 = more.1 in omega arith))
+]
+
+-- a step that is under way has as many undos to do as are left
+abbrev Counts : Result ℕ Refusal → PlanCursor → Type 0
+Counts count place = OnFalse (place.left == 0) (count ≡ Ok place.left)
+
+less_one :
+    (count : ℕ) (place : PlanCursor) (result : Result Undone Refusal) (after : PlanCursor)
+    → Counts (Ok count) place
+    → after ≡ record place { left = left_after (count - 1) result }
+    → 0 < count
+    → IsLess place after
+less_one count place (Err refusal) after known is some =
+    record { done = ap (λ (p : PlanCursor). p.done) is; less = inl (ap (λ (p : PlanCursor). p.left) is) }
+less_one count place (Ok it) after known is some =
+    record {
+      done = ap (λ (p : PlanCursor). p.done) is;
+      less = inr (elim (zero_or_not place.left) as (λ _. (place.left ≡ 0) ⊎ (after.left < place.left)) [
+        | inl none ↦ inl none.1
+        | inr more ↦ inr (let e : after.left ≡ count - 1 = ap (λ (p : PlanCursor). p.left) is in
+            let same = subst (λ b. OnFalse b (◌≡◌ {A = Result ℕ Refusal} (Ok count) (Ok place.left))) more.0 known in
+            let k : count ≡ place.left = cc in omega arith)
+      ]);
+    }
+
+less_none :
+    (count : ℕ) (host : HostView) (build : ℕ) (place : PlanCursor) (answer : TurnAnswer) (new : HostView) (after : PlanCursor)
+    → Counts (Ok count) place
+    → ((count == 0) ≡ true) × (count ≡ 0)
+    → IsTurnOfMany (Ok count) host build place answer new after
+    → IsLess place after
+less_none count host build place answer new after known none is =
+    let same = subst (λ b. OnTrue b ((answer ≡ Nothing) × (new ≡ host) × (after ≡ place))) none.0 is.0 in
+    elim (zero_or_not place.left) as (λ _. IsLess place after) [
+      | inl still ↦ less_same place after still.1 same.2
+      | inr more ↦ (let e = subst (λ b. OnFalse b (◌≡◌ {A = Result ℕ Refusal} (Ok count) (Ok place.left))) more.0 known in
+          let k : count ≡ place.left = cc in absurd (omega arith))
+    ]
+
+less_many :
+    (count : Result ℕ Refusal) (host : HostView) (build : ℕ) (place : PlanCursor) (answer : TurnAnswer) (new : HostView) (after : PlanCursor)
+    → Counts count place
+    → IsTurnOfMany count host build place answer new after
+    → IsLess place after
+less_many (Err refusal) host build place answer new after known is =
+    elim (zero_or_not place.left) as (λ _. IsLess place after) [
+      | inl none ↦ less_same place after none.1 is.2
+      | inr more ↦ (let e = subst (λ b. OnFalse b (◌≡◌ {A = Result ℕ Refusal} (Err refusal) (Ok place.left))) more.0 known in absurd cc)
+    ]
+less_many (Ok count) host build place answer new after known is =
+    elim (zero_or_not count) as (λ _. IsLess place after) [
+      | inl none ↦ less_none count host build place answer new after known none is
+      | inr more ↦ (let one : IsOneOfMany host build place (count - 1) answer new after = subst (λ b. OnFalse b (IsOneOfMany host build place (count - 1) answer new after)) more.0 is.1 in
+          less_one count place one.result after known one.place_is more.1)
+    ]
+
+abort_counts : (host : HostView) (build : ℕ) (place : PlanCursor) (count : Result ℕ Refusal) (begun : HostView) → IsToAbort host build place count begun → Counts count place
+abort_counts host build place count begun is =
+    elim (place.left == 0) as (λ b. OnFalse b ((count ≡ Ok place.left) × (begun ≡ host)) → OnFalse b (count ≡ Ok place.left)) [ true ↦ λ _. tt | false ↦ λ w. w.0 ] is.1
+
+back_counts : (host : HostView) (build : ℕ) (place : PlanCursor) → Counts (to_go_back host build place) place
+back_counts host build place =
+    elim (place.left == 0) as (λ b. OnFalse b ((if b then above_mark host build place.mark else Ok place.left) ≡ Ok place.left)) [ true ↦ tt | false ↦ refl ]
+
+abbrev IsLessOf : PlanStep → PlanCursor → PlanCursor → Type 0
+IsLessOf step before after = IsLess before after × (undoes_many step ≡ false → after.left ≡ 0)
+
+less_single : (step : PlanStep) (before after : PlanCursor) → before.left ≡ 0 → after.left ≡ before.left → after.done ≡ before.done → IsLessOf step before after
+less_single step before after none left done = (record { done = done; less = inl (left ∙ none) }, λ _. left ∙ none)
+
+less_step :
+    (host : HostView) (build : ℕ) (place : PlanCursor) (step : PlanStep) (answer : TurnAnswer) (new : HostView) (after : PlanCursor)
+    → (undoes_many step ≡ false → place.left ≡ 0)
+    → IsStepTurn host build place (asked step) answer new after
+    → IsLessOf step place after
+less_step host build place (Whole (Ask cmd)) answer new after steady is =
+    less_single (Whole (Ask cmd)) place after (steady refl) (ap (λ (p : PlanCursor). p.left) is.1) (ap (λ (p : PlanCursor). p.done) is.1)
+less_step host build place (Whole Undo) answer new after steady is =
+    less_single (Whole Undo) place after (steady refl) (ap (λ (p : PlanCursor). p.left) is.1) (ap (λ (p : PlanCursor). p.done) is.1)
+less_step host build place (Whole Abort) answer new after steady is =
+    (less_many is.count is.begun build place answer new after (abort_counts host build place is.count is.begun is.to_undo) is.is_turn, λ no. absurd cc)
+less_step host build place (Whole Mark) answer new after steady is =
+    less_single (Whole Mark) place after (steady refl) (ap (λ (p : PlanCursor). p.left) is.place_is) (ap (λ (p : PlanCursor). p.done) is.place_is)
+less_step host build place (Whole Back) answer new after steady is =
+    (less_many (to_go_back host build place) host build place answer new after (back_counts host build place) is, λ no. absurd cc)
+less_step host build place (WidthLeftOut rd root) answer new after steady is =
+    less_single (WidthLeftOut rd root) place after (steady refl) (ap (λ (p : PlanCursor). p.left) is.1) (ap (λ (p : PlanCursor). p.done) is.1)
+
+-- ---- fewer turns
+
+-- What is left of a build whose step is used up, or goes on.
+used_up : (steps : List PlanStep) (after : PlanCursor) → (after.left == 0) ≡ true → turns_of_place steps (moved_on after) ≡ (length steps - (after.done + 1)) * 2 ^ 16
+used_up steps after none = rw none (rw none refl)
+
+at_work : (steps : List PlanStep) (place : PlanCursor) → (place.left == 0) ≡ false → turns_of_place steps place ≡ (length steps - place.done - 1) * 2 ^ 16 + place.left
+at_work steps place some = rw some refl
+
+at_rest : (steps : List PlanStep) (place : PlanCursor) → (place.left == 0) ≡ true → turns_of_place steps place ≡ (length steps - place.done) * 2 ^ 16
+at_rest steps place none = rw none refl
+
+on_its_way : (after : PlanCursor) → (after.left == 0) ≡ false → moved_on after ≡ after
+on_its_way after some = rw some refl
+
+fewer_used :
+    (steps : List PlanStep) (before after : PlanCursor)
+    → IsLess before after → before.done < length steps → (after.left == 0) ≡ true
+    → turns_of_place steps (moved_on after) < turns_of_place steps before
+fewer_used steps before after less there none =
+    let used = used_up steps after none in
+    let done = less.done in
+    elim (zero_or_not before.left) as (λ _. turns_of_place steps (moved_on after) < turns_of_place steps before) [
+      | inl still ↦ (let old = at_rest steps before still.0 in omega arith)
+      | inr more ↦ (let old = at_work steps before more.0 in omega arith)
+    ]
+
+is_below : (before after : PlanCursor) → (after.left ≡ 0) ⊎ ((before.left ≡ 0) ⊎ (after.left < before.left)) → 0 < after.left → 0 < before.left → after.left < before.left
+is_below before after (inl none) some more = absurd (omega arith)
+is_below before after (inr (inl none)) some more = absurd (omega arith)
+is_below before after (inr (inr less)) some more = less
+
+fewer_under_way :
+    (steps : List PlanStep) (before after : PlanCursor)
+    → IsLess before after → before.done < length steps → (moved_on after).left < 2 ^ 16 → ((after.left == 0) ≡ false) × (0 < after.left)
+    → turns_of_place steps (moved_on after) < turns_of_place steps before
+fewer_under_way steps before after less there few some =
+    let on = on_its_way after some.0 in
+    let left : after.left < 2 ^ 16 = subst (λ (p : PlanCursor). p.left < 2 ^ 16) on few in
+    let new = ap (turns_of_place steps) on ∙ at_work steps after some.0 in
+    let done = less.done in
+    elim (zero_or_not before.left) as (λ _. turns_of_place steps (moved_on after) < turns_of_place steps before) [
+      | inl still ↦ (let old = at_rest steps before still.0 in omega arith)
+      | inr more ↦ (let old = at_work steps before more.0 in
+          let l = is_below before after less.less some.1 more.1 in omega arith)
+    ]
+
+-- of one build
+fewer_of_place :
+    (steps : List PlanStep) (before after : PlanCursor)
+    → IsLess before after → before.done < length steps → (moved_on after).left < 2 ^ 16
+    → turns_of_place steps (moved_on after) < turns_of_place steps before
+fewer_of_place steps before after less there few =
+    elim (zero_or_not after.left) as (λ _. turns_of_place steps (moved_on after) < turns_of_place steps before) [
+      | inl none ↦ fewer_used steps before after less there none.0
+      | inr more ↦ fewer_under_way steps before after less there few more
+    ]
+
+-- and so of all builds
+fewer_of_all :
+    (builds : List (List PlanStep)) (places : List PlanCursor) (build : ℕ) (steps : List PlanStep) (after : PlanCursor)
+    → slice_get builds build ≡ Some steps → build < length places
+    → turns_of_place steps after < turns_of_place steps (slice_index_or places build first_place)
+    → turns_left builds (slice_set places build after) < turns_left builds places
+unfolding turns_left
+fewer_of_all [] places build steps after there inside fewer = cc
+fewer_of_all (s ∷ builds) [] build steps after there inside fewer = absurd (omega arith)
+fewer_of_all (s ∷ builds) (p ∷ places) zero steps after there inside fewer =
+    let same : s ≡ steps = cc in let less = subst (λ ss. turns_of_place ss after < turns_of_place ss p) (sym same) fewer in omega (arith, less)
+fewer_of_all (s ∷ builds) (p ∷ places) (suc build) steps after there inside fewer =
+    let ih = fewer_of_all builds places build steps after there (omega arith) fewer in omega (arith, ih)
+
+-- ---- of a turn
+
+moved_left : (after : PlanCursor) → (moved_on after).left ≡ after.left
+moved_left after = elim (after.left == 0) as (λ b. (if b then record after { done = after.done + 1 } else after).left ≡ after.left) [ true ↦ refl | false ↦ refl ]
+
+-- The places behind a turn: that of its build, and those of others.
+module _ (places : List PlanCursor) (build : ℕ) (after : PlanCursor) (new : List PlanCursor) (inside : build < length places) (is_new : new ≡ slice_set places build after) where
+  place_of-same : place_of new build ≡ after
+  place_of-same = ap (λ ps. place_of ps build) is_new ∙ get_or-set_same places build after first_place inside
+
+  place_of-other : (other : ℕ) → other ≢ build → place_of new other ≡ place_of places other
+  place_of-other other apart = ap (λ ps. place_of ps other) is_new ∙ get_or-set_other places build other after first_place apart
+
+  all_new : length places ≡ 8 → length new ≡ 8
+  all_new all = ap length is_new ∙ length-set places build after ∙ all
+
+abbrev IsSteady : Plan → ℕ → PlanCursor → Type 0
+IsSteady plan build place = is_of_many (step_after plan build place.done) ≡ false → place.left ≡ 0
+
+steady_moved :
+    (plan : Plan) (build : ℕ) (before : PlanCursor) (step : PlanStep) (after : PlanCursor)
+    → step_after plan build before.done ≡ Some step
+    → IsLessOf step before after
+    → IsSteady plan build (moved_on after)
+steady_moved plan build before step after is less single =
+    moved_left after ∙ elim (zero_or_not after.left) as (λ _. after.left ≡ 0) [
+      | inl none ↦ none.1
+      | inr some ↦ less.1 (sym (ap is_of_many (ap (step_after plan build) (ap (λ (p : PlanCursor). p.done) (on_its_way after some.0) ∙ less.0.done) ∙ is)) ∙ single)
+    ]
+
+less_of_turn :
+    (plan : Plan) (from : Position) (turn : Turn) (to : Position) (step : PlanStep)
+    → AreSteady plan from.places → step_after plan turn.build (place_of from.places turn.build).done ≡ Some step
+    → (is : IsTurnOf (Some step) from turn to)
+    → IsLessOf step (place_of from.places turn.build) is.1
+less_of_turn plan from turn to step steady there is =
+    less_step from.host turn.build (place_of from.places turn.build) step is.0 to.host is.1
+    (λ single. steady.steady turn.build (ap is_of_many there ∙ single)) is.3
+
+steady_of :
+    (plan : Plan) (from : Position) (turn : Turn) (to : Position) (step : Option PlanStep)
+    → AreSteady plan from.places → turn.build < 8 → step_after plan turn.build (place_of from.places turn.build).done ≡ step
+    → IsTurnOf step from turn to
+    → AreSteady plan to.places
+steady_of plan from turn to None steady inside there is = subst (λ (p : Position). AreSteady plan p.places) (sym is.1) steady
+steady_of plan from turn to (Some step) steady inside there is =
+    let all = steady.all in
+    let within : turn.build < length from.places = omega arith in
+    let less = less_of_turn plan from turn to step steady there is in
+    record {
+      all = all_new from.places turn.build (moved_on is.1) to.places within is.4 all;
+      steady = λ build. elim (eqb_tells build turn.build) as (λ _. IsSteady plan build (place_of to.places build)) [
+        | inl same ↦ subst (λ b. IsSteady plan b (place_of to.places b)) (sym same.1)
+            (subst (λ p. IsSteady plan turn.build p) (sym (place_of-same from.places turn.build (moved_on is.1) to.places within is.4))
+            (steady_moved plan turn.build (place_of from.places turn.build) step is.1 there less))
+        | inr other ↦ subst (λ p. IsSteady plan build p) (sym (place_of-other from.places turn.build (moved_on is.1) to.places within is.4 build other.1)) (steady.steady build)
+      ];
+    }
+
+pub steady_after :
+    (plan : Plan) (from : Position) (turn : Turn) (to : Position)
+    → AreSteady plan from.places → turn.build < 8 → IsTurn plan from turn to
+    → AreSteady plan to.places
+steady_after plan from turn to steady inside is =
+    steady_of plan from turn to (step_after plan turn.build (place_of from.places turn.build).done) steady inside refl is
+
+-- the build of a step
+of_build :
+    (steps : Option (List PlanStep)) (done : ℕ) (step : PlanStep)
+    → option_and_then (λ ss. slice_get ss done) steps ≡ Some step
+    → (ss : List PlanStep) × (steps ≡ Some ss) × (done < length ss)
+of_build None done step is = absurd cc
+of_build (Some ss) done step is = (ss, refl, slice_get_within ss done step is)
+
+fewer_of :
+    (plan : Plan) (from : Position) (turn : Turn) (to : Position) (step : Option PlanStep)
+    → AreSteady plan from.places → turn.build < 8 → step_after plan turn.build (place_of from.places turn.build).done ≡ step
+    → is_some step ≡ true → (place_of to.places turn.build).left < 2 ^ 16 → IsTurnOf step from turn to
+    → turns_left plan.builds to.places < turns_left plan.builds from.places
+fewer_of plan from turn to None steady inside there some few is = absurd cc
+fewer_of plan from turn to (Some step) steady inside there some few is =
+    let all = steady.all in
+    let within : turn.build < length from.places = omega arith in
+    let less = less_of_turn plan from turn to step steady there is in
+    let of = of_build (slice_get plan.builds turn.build) (place_of from.places turn.build).done step there in
+    let left : (moved_on is.1).left < 2 ^ 16 = subst (λ (p : PlanCursor). p.left < 2 ^ 16) (place_of-same from.places turn.build (moved_on is.1) to.places within is.4) few in
+    subst (λ ps. turns_left plan.builds ps < turns_left plan.builds from.places) (sym is.4)
+    (fewer_of_all plan.builds from.places turn.build of.0 (moved_on is.1) of.1 within
+    (fewer_of_place of.0 (place_of from.places turn.build) is.1 less.0 of.2 left))
+
+pub fewer_after :
+    (plan : Plan) (from : Position) (turn : Turn) (to : Position)
+    → AreSteady plan from.places → turn.build < 8 → is_some (step_after plan turn.build (place_of from.places turn.build).done) ≡ true
+    → (place_of to.places turn.build).left < 2 ^ 16 → IsTurn plan from turn to
+    → turns_left plan.builds to.places < turns_left plan.builds from.places
+fewer_after plan from turn to steady inside some few is =
+    fewer_of plan from turn to (step_after plan turn.build (place_of from.places turn.build).done) steady inside refl some few is
+
+-- ---- a refused turn uses its step up
+
+-- The answer is no refusal, or nothing is left to undo.
+abbrev IsAcceptedOrAtRest : TurnAnswer → PlanCursor → Type 0
+IsAcceptedOrAtRest answer after = (refusal_in answer ≡ None) ⊎ (after.left ≡ 0)
+
+one_accepted : (left : ℕ) (it : Undone) → refusal_in (answer_of_one left (Ok it)) ≡ None
+one_accepted left it = elim (left == 0) as (λ b. refusal_in (if b then Ended it.kind else Undid it.kind) ≡ None) [ true ↦ refl | false ↦ refl ]
+
+one_of_many :
+    (left : ℕ) (place : PlanCursor) (result : Result Undone Refusal) (answer : TurnAnswer) (after : PlanCursor)
+    → answer ≡ answer_of_one left result → after ≡ record place { left = left_after left result }
+    → IsAcceptedOrAtRest answer after
+one_of_many left place (Ok it) answer after told is = inl (ap refusal_in told ∙ one_accepted left it)
+one_of_many left place (Err refusal) answer after told is = inr (ap (λ (p : PlanCursor). p.left) is)
+
+many :
+    (count : Result ℕ Refusal) (host : HostView) (build : ℕ) (place : PlanCursor) (answer : TurnAnswer) (new : HostView) (after : PlanCursor)
+    → Counts count place
+    → IsTurnOfMany count host build place answer new after
+    → IsAcceptedOrAtRest answer after
+many (Err refusal) host build place answer new after known is =
+    elim (zero_or_not place.left) as (λ _. IsAcceptedOrAtRest answer after) [
+      | inl none ↦ inr (ap (λ (p : PlanCursor). p.left) is.2 ∙ none.1)
+      | inr more ↦ (let e = subst (λ b. OnFalse b (◌≡◌ {A = Result ℕ Refusal} (Err refusal) (Ok place.left))) more.0 known in absurd cc)
+    ]
+many (Ok count) host build place answer new after known is =
+    elim (zero_or_not count) as (λ _. IsAcceptedOrAtRest answer after) [
+      | inl none ↦ (let same = subst (λ b. OnTrue b ((answer ≡ Nothing) × (new ≡ host) × (after ≡ place))) none.0 is.0 in inl (ap refusal_in same.0))
+      | inr more ↦ (let one : IsOneOfMany host build place (count - 1) answer new after = subst (λ b. OnFalse b (IsOneOfMany host build place (count - 1) answer new after)) more.0 is.1 in
+          one_of_many (count - 1) place one.result answer after one.told one.place_is)
+    ]
+
+accepted_or_at_rest :
+    (host : HostView) (build : ℕ) (place : PlanCursor) (step : PlanStep) (answer : TurnAnswer) (new : HostView) (after : PlanCursor)
+    → (undoes_many step ≡ false → place.left ≡ 0)
+    → IsStepTurn host build place (asked step) answer new after
+    → IsAcceptedOrAtRest answer after
+accepted_or_at_rest host build place (Whole (Ask cmd)) answer new after steady is = inr (ap (λ (p : PlanCursor). p.left) is.1 ∙ steady refl)
+accepted_or_at_rest host build place (Whole Undo) answer new after steady is = inr (ap (λ (p : PlanCursor). p.left) is.1 ∙ steady refl)
+accepted_or_at_rest host build place (Whole Abort) answer new after steady is =
+    many is.count is.begun build place answer new after (abort_counts host build place is.count is.begun is.to_undo) is.is_turn
+accepted_or_at_rest host build place (Whole Mark) answer new after steady is = inr (ap (λ (p : PlanCursor). p.left) is.place_is ∙ steady refl)
+accepted_or_at_rest host build place (Whole Back) answer new after steady is =
+    many (to_go_back host build place) host build place answer new after (back_counts host build place) is
+accepted_or_at_rest host build place (WidthLeftOut rd root) answer new after steady is = inr (ap (λ (p : PlanCursor). p.left) is.1 ∙ steady refl)
+
+moved_done : (after : PlanCursor) → after.left ≡ 0 → (moved_on after).done ≡ after.done + 1
+moved_done after none = rw none refl
+
+-- Where as many steps are done as before, the turn was not refused.
+accepted_of :
+    (plan : Plan) (from : Position) (turn : Turn) (to : Position) (step : Option PlanStep)
+    → AreSteady plan from.places → turn.build < 8 → step_after plan turn.build (place_of from.places turn.build).done ≡ step
+    → IsTurnOf step from turn to
+    → (place_of from.places turn.build).done ≡ (place_of to.places turn.build).done
+    → refusal_of_turn turn.told ≡ None
+accepted_of plan from turn to None steady inside there is stays = ap refusal_of_turn is.0
+accepted_of plan from turn to (Some step) steady inside there is stays =
+    let all = steady.all in
+    let within : turn.build < length from.places = omega arith in
+    let less = less_of_turn plan from turn to step steady there is in
+    let done = less.0.done in
+    let place = place_of-same from.places turn.build (moved_on is.1) to.places within is.4 in
+    elim (accepted_or_at_rest from.host turn.build (place_of from.places turn.build) step is.0 to.host is.1
+    (λ single. steady.steady turn.build (ap is_of_many there ∙ single)) is.3) as (λ _. refusal_of_turn turn.told ≡ None) [
+      | inl accepted ↦ ap refusal_of_turn is.2 ∙ accepted
+      | inr rest ↦ (let moved = ap (λ (p : PlanCursor). p.done) place ∙ moved_done is.1 rest in absurd (omega arith))
+    ]
+
+pub accepted_where_it_stays :
+    (plan : Plan) (from : Position) (turn : Turn) (to : Position)
+    → AreSteady plan from.places → turn.build < 8 → IsTurn plan from turn to
+    → ((place_of from.places turn.build).done == (place_of to.places turn.build).done) ≡ true
+    → refusal_of_turn turn.told ≡ None
+accepted_where_it_stays plan from turn to steady inside is stays =
+    accepted_of plan from turn to (step_after plan turn.build (place_of from.places turn.build).done) steady inside refl is
+    (elim (eqb_tells (place_of from.places turn.build).done (place_of to.places turn.build).done) as (λ _. (place_of from.places turn.build).done ≡ (place_of to.places turn.build).done) [
+      | inl same ↦ same.1
+      | inr other ↦ absurd (let o = other.0 in cc)
+    ])
+
+-- ---- where no step is done
+
+first_at : (count build : ℕ) → slice_index_or (replicate count first_place) build first_place ≡ first_place
+first_at zero build = refl
+first_at (suc count) zero = refl
+first_at (suc count) (suc build) = first_at count build
+
+pub first_steady : (plan : Plan) → AreSteady plan (replicate 8 first_place)
+first_steady plan = record { all = refl; steady = λ build _. ap (λ (p : PlanCursor). p.left) (first_at 8 build) }

@@ -1,0 +1,53 @@
+-- Schedules that are drawn: at each turn, a stream of random numbers says which of the builds that have a step left has
+-- it.
+use Rattle.std.specs.Prelude.{◌≡◌, ℕ, ◌%◌, Bool, List, [], ◌∷◌, length, filter, Option, Some, None, slice_get, string_bytes}
+use Rattle.std.specs.List.{range_with_len}
+use Rattle.rand_core.specs.Stream.{Stream, next_u32}
+use Rattle.host_ledger.specs.View.{HostView}
+use Rattle.realm_plan.specs.Plan.{Plan}
+use Rattle.plan_replay.specs.Run.{map_text}
+use Rattle.view_program.specs.Next.{could}
+use Rattle.view_program.specs.Chosen.{builds_left, lowest_of, Stage, AreChosen, IsChosenRun}
+use Rattle.view_program.specs.Totals.{Visit, AreTotals}
+use Rattle.view_program.specs.declared.schedules.choice.Choice.{Choice}
+use Rattle.view_program.specs.declared.schedules.totals.Totals.{Totals}
+
+-- the builds that have a step left
+unfoldable pub builds_with_steps : List Bool → List ℕ
+builds_with_steps left = filter (could left) (range_with_len 0 8)
+
+-- the one of these builds that the next number draws: its index is the number modulo the count of builds
+abbrev pub drawn : Stream → List Bool → Option ℕ
+drawn stream left = slice_get (builds_with_steps left) ((next_u32 stream).0 % length (builds_with_steps left))
+
+-- A number of the stream draws the build of each turn. `after` is the rest of the stream.
+abbrev pub AreDrawn : Stream → List Choice → Stream → Type 0
+AreDrawn stream [] after = after ≡ stream
+AreDrawn stream (choice ∷ choices) after = (drawn stream choice.left ≡ Some choice.build) × AreDrawn (next_u32 stream).1 choices after
+
+-- From this stage on builds are drawn, until none has a step left: these are `choices`, and the run leads to `to`.
+pub record IsDrawnTo (plan : Plan) (stream : Stream) (from : Stage) (choices : List Choice) (to : Stage) (after : Stream) : Type 0 where
+  pub are_drawn : AreDrawn stream choices after
+  pub chosen : AreChosen plan from choices to
+  pub whole : lowest_of (builds_left plan to.at.places) ≡ None
+
+-- The run of a schedule that is drawn, and its map.
+pub record IsDrawn (plan : Plan) (host : HostView) (stream : Stream) (visit : Visit) (after : Stream) : Type 0 where
+  pub are_drawn : AreDrawn stream visit.choices after
+  pub to : HostView
+  pub is_run : IsChosenRun plan host visit.choices to visit.ends
+  pub map : string_bytes visit.map ≡ map_text to
+
+-- The runs of schedules that are drawn one after the other.
+abbrev pub AreSamples : Plan → HostView → Stream → List Visit → Stream → Type 0
+AreSamples plan host stream [] after = after ≡ stream
+AreSamples plan host stream (visit ∷ visits) after =
+    (between : Stream) × IsDrawn plan host stream visit between × AreSamples plan host between visits after
+
+-- The totals of the runs of `count` schedules that the stream draws.
+pub record IsSampled (plan : Plan) (host : HostView) (stream : Stream) (count : ℕ) (totals : Totals) : Type 0 where
+  pub visits : List Visit
+  pub after : Stream
+  pub are_samples : AreSamples plan host stream visits after
+  pub are_totals : AreTotals (length plan.builds) visits totals
+  pub so_many : length visits ≡ count

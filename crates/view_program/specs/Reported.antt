@@ -1,0 +1,27 @@
+-- The ends of a run's steps, by the lines of the run.
+use Rattle.std.specs.Prelude.{◌≡◌, ◌⊎◌, ℕ, List, [], ◌∷◌, map, None}
+use Rattle.std.specs.List.{All, flat_map}
+use Rattle.host_ledger.specs.View.{HostView}
+use Rattle.realm_plan.specs.Plan.{Plan}
+use Rattle.plan_replay.specs.Run.{Turn, Position, AreTurns, start}
+use Rattle.view_program.specs.Chosen.{refusal_of_turn}
+use Rattle.view_program.specs.declared.schedules.step_end.StepEnd.{StepEnd}
+
+-- a turn, and the end of its step, if it has one
+pub record Line : Type 0 where
+  pub turn : Turn
+  pub noted : List StepEnd
+
+-- Either no end is noted of the turn, which is not refused; or one of its build is, with the refusal in its answer.
+abbrev pub IsEndOfTurn : Line → Type 0
+IsEndOfTurn line = ((line.noted ≡ []) × (refusal_of_turn line.turn.told ≡ None))
+    ⊎ ((step : ℕ) × (line.noted ≡ record { build = line.turn.build; step = step; refusal = refusal_of_turn line.turn.told } ∷ []))
+
+-- A run of the plan leads here, and these are the ends of its turns' steps.
+pub record AreTold (plan : Plan) (host to : HostView) (ends : List StepEnd) : Type 0 where
+  pub lines : List Line
+  pub last : Position
+  pub are_turns : AreTurns plan plan.order (start host) (map (λ (line : Line). line.turn) lines) last
+  pub host_is : last.host ≡ to
+  pub each : All IsEndOfTurn lines
+  pub ends_are : ends ≡ flat_map (λ (line : Line). line.noted) lines

@@ -1,0 +1,41 @@
+//! Schedules that give each build all the turns that it needs.
+ghost use Rattle.std.specs.Prelude.{IfOk};
+ghost use Rattle.realm_plan.specs.PlanView.{plan_view};
+ghost use Rattle.realm_program.specs.Replay.{opening_host};
+ghost use Rattle.view_program.specs.Rotation.{AreInRotation, AreOneByOne, IsWholeSchedule};
+
+use crate::schedules::count::builds_of;
+use crate::schedules::rotation::run_in_rotation;
+use crate::schedules::run::run_schedule;
+use buddy::BuddyArena;
+use realm_plan::Plan;
+use realm_program::boot;
+use std::alloc::{AllocError, Global};
+
+/// The builds of the turns of a run on a fresh host, in which the builds that have a step left take turns in rotation,
+/// until none has. The plan's own schedule is not used. At an `Err` allocation failed.
+pub fn schedule_in_rotation(alloc: Global, plan: &Plan) -> Result<Vec<usize>, AllocError>
+    ensures { IfOk result (λ order. IsWholeSchedule (AreInRotation 0) (plan_view plan.now)
+        (opening_host (plan_view plan.now)) order.items) }
+{
+    let mut host = boot::<BuddyArena>(alloc, plan)?;
+    let mut choices = Vec::new(alloc);
+    let mut ends = Vec::new(alloc);
+    run_in_rotation(&mut host, plan, &mut choices, &mut ends)?;
+    builds_of(alloc, &choices)
+}
+
+/// The builds of the turns of a run on a fresh host, in which one build after the other, from the lowest on, has all
+/// its turns. The plan's own schedule is not used. At an `Err` allocation failed.
+pub fn schedule_one_by_one(alloc: Global, plan: &Plan) -> Result<Vec<usize>, AllocError>
+    ensures { IfOk result (λ order. IsWholeSchedule AreOneByOne (plan_view plan.now)
+        (opening_host (plan_view plan.now)) order.items) }
+{
+    let mut host = boot::<BuddyArena>(alloc, plan)?;
+    let mut choices = Vec::new(alloc);
+    let mut ends = Vec::new(alloc);
+    if !run_schedule(&mut host, plan, &mut choices, &mut ends)? {
+        unreachable!()
+    }
+    builds_of(alloc, &choices)
+}
