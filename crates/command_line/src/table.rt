@@ -10,6 +10,8 @@ pub(crate) enum Opt {
     Erase(&'static str),
     /// A number of 32 bits: the option's name, and that of its value.
     Number(&'static str, &'static str, &'static str),
+    /// A text: the option's name, and that of its value.
+    Text(&'static str, &'static str, &'static str),
     /// A flag.
     Flag(&'static str, &'static str),
 }
@@ -43,6 +45,11 @@ impl Opt {
                 .help(help)
                 .action(ArgAction::Set)
                 .value_parser(value_parser!(u32)),
+            Opt::Text(name, value, help) => Arg::new(alloc, name)
+                .long(name)
+                .value_name(value)
+                .help(help)
+                .action(ArgAction::Set),
             Opt::Flag(name, help) => Arg::new(alloc, name)
                 .long(name)
                 .help(help)

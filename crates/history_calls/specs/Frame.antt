@@ -1,13 +1,10 @@
 -- The place of a history's machine in the address space of an RMM.
-use Rattle.std.specs.Prelude.{◌≡◌, ℕ, ◌<◌, ◌≤◌, ◌+◌, ◌*◌, ◌%◌, ◌^◌, Bool, true, ◌&&◌, ◌==◌, nat_lt, nat_le}
+use Rattle.std.specs.Prelude.{ℕ, ◌<◌, ◌≤◌, ◌+◌, ◌*◌, ◌^◌}
 
 -- the address of granule 0, and the number of granules of the history's machine
 pub record Place : Type 0 where
   pub base : ℕ
   pub pages : ℕ
-
-abbrev pub is_frame : ℕ → ℕ → Bool
-is_frame base pages = base % 4096 == 0 && nat_lt base (2 ^ 46) && nat_le pages 4096
 
 pub record IsFrame (base pages : ℕ) : Type 0 where
   pub low : base < 2 ^ 46

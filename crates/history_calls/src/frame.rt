@@ -1,8 +1,8 @@
 //! The place of a history's machine in the address space.
-ghost use Rattle.std.specs.Prelude.{◌≡◌, ◌<◌, ◌+◌, ◌^◌, Some, None, if◌then◌else◌};
+ghost use Rattle.std.specs.Prelude.{◌≡◌, ◌<◌, ◌≤◌, ◌+◌, ◌%◌, ◌^◌};
 ghost use Rattle.history_calls.specs.Frame as frames;
 
-use granule_addr::{Gran, MOST_PAGES};
+use granule_addr::Gran;
 use std::marker::Model;
 
 /// The pages for the exits of runs: so many RECs run at a time, each with a page of its own.
@@ -31,16 +31,14 @@ impl Model for Frame {
 }
 
 impl Frame {
-    /// The frame of a machine of `pages` pages whose granule 0 is at an address, in bytes; none if the address is no
-    /// multiple of 4,096, or the machine is too large or ends beyond 2^47.
-    pub fn new(base: u64, pages: u16) -> Option<Frame>
-        ensures { result ≡ (if frames.is_frame base pages then Some (record { base = base; pages = pages }) else None) }
+    /// The frame of a machine of `pages` pages, whose granule 0 is at an address in bytes.
+    pub fn new(base: u64, pages: u16) -> Frame
+        requires granule { base % 4096 ≡ 0 }
+        requires low { base < 2 ^ 46 }
+        requires few { pages ≤ 4096 }
+        ensures { result ≡ record { base = base; pages = pages } }
     {
-        if base % 4096 == 0 && base < (1 << 46) && pages <= MOST_PAGES {
-            Some(Frame { base, pages })
-        } else {
-            None
-        }
+        Frame { base, pages }
     }
 
     /// The address of granule 0, in bytes.

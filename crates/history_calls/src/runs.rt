@@ -10,6 +10,7 @@ use std::marker::Model;
 /// The pages for the exits of runs: one for each REC that runs, by the REC's granule.
 ///
 /// With `MOST_RUNS` RECs running, those entered later share the last page.
+#[derive(Drop)]
 pub struct RunPages {
     recs: [Option<Gran>; 64],
 }

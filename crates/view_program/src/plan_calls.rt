@@ -1,11 +1,11 @@
 //! The calls of a plan's run, as a trace by registers.
-ghost use Rattle.std.specs.Prelude.{◌≡◌, ◌<◌, ◌↔◌, IfErr, vec_len};
-ghost use Rattle.realm_plan.specs.PlanView.{plan_view};
-ghost use Rattle.realm_program.specs.declared.fault.Fault.TheVariants.{EraseNamesNoBuild};
-ghost use Rattle.view_program.specs.Calls.{IsCallsText, IsWithoutCalls};
+ghost use Rattle.std.specs.Prelude.{◌<◌, None, vec_len};
+ghost use Rattle.realm_program.specs.Replay.{IsWithoutText};
+ghost use Rattle.view_program.specs.Calls.{IsCallsText};
 
 use crate::plan_text::ViewText;
 use buddy::BuddyArena;
+use command_line::BaseAddress;
 use granule_addr::BuildId;
 use history_calls::{Frame, RunPages, actions_of, push_action, push_platform};
 use plan_replay::{PlanCursor, push_turn, take_turn};
@@ -69,7 +69,15 @@ fn calls_text(alloc: Global, plan: &Plan, frame: Frame) -> Result<String, AllocE
     let mut places = [PlanCursor::first(); 8];
     let mut runs = RunPages::new();
     for build in &plan.order {
-        push_one(&mut text, frame, &mut host, plan, &mut places, &mut runs, *build)?;
+        push_one(
+            &mut text,
+            frame,
+            &mut host,
+            plan,
+            &mut places,
+            &mut runs,
+            *build,
+        )?;
     }
     Ok(text)
 }
@@ -78,18 +86,16 @@ fn calls_text(alloc: Global, plan: &Plan, frame: Frame) -> Result<String, AllocE
 #[derive(Drop)]
 pub struct Calls {
     /// The address of granule 0, in bytes.
-    pub base: u64,
+    pub base: BaseAddress,
 }
 
 impl ViewText for Calls {
     ghost is_text = { λ asked. IsCallsText };
 
-    ghost is_without = { λ asked. IsWithoutCalls asked.base };
+    ghost is_without = { λ asked. IsWithoutText None };
 
     fn text_of(&self, alloc: Global, plan: &Plan, _source: &[u8]) -> Result<Vec<u8>, Fault> {
-        match Frame::new(self.base, plan.pages) {
-            Some(frame) => Ok(calls_text(alloc, plan, frame)?.into_bytes()),
-            None => Err(Fault::NoFrame),
-        }
+        let frame = Frame::new(self.base.address(), plan.pages);
+        Ok(calls_text(alloc, plan, frame)?.into_bytes())
     }
 }
