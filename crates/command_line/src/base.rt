@@ -8,7 +8,7 @@ use std::marker::Model;
 pub struct BaseAddress(u64);
 
 impl Model for BaseAddress {
-    ghost use Rattle.std.specs.Prelude.{ℕ, ◌≡◌, ◌<◌, ◌×◌, ◌%◌, ◌^◌};
+    ghost use Rattle.std.specs.Prelude.{ℕ, ◌≡◌, ◌<◌, ◌%◌, ◌^◌};
 
     ghost Value = { ℕ };
 
