@@ -6,6 +6,7 @@
 //! and `rmitrace` are tables, and tests compare what they ask for.
 #![tactic(auto)]
 
+mod base;
 mod ended;
 mod invocation;
 mod options;
@@ -19,6 +20,7 @@ mod table;
 mod terminal;
 mod waiting;
 
+pub use base::BaseAddress;
 pub use ended::Ended;
 pub use invocation::Invocation;
 pub use paint::{Colour, Painting, painted};

@@ -2,9 +2,9 @@
 ghost use Rattle.std.specs.Prelude.{◌≡◌};
 ghost use Rattle.command_line.specs.Realmview.{schedules_asked, schedules_drawn};
 
-use crate::Invocation;
 use crate::options::build_of;
 use crate::table::{Opt, Program, Subcommand, given_file};
+use crate::{BaseAddress, Invocation};
 use clap::error::ErrorKind;
 use clap::{ArgMatches, Error};
 use granule_addr::BuildId;
@@ -29,6 +29,8 @@ pub enum ViewSubcommand {
     Explore(Schedules),
     /// Write a plan with an order that gives each build all the turns that it needs.
     Order(SchedulingPolicy),
+    /// Write the run of a plan as calls on an RMM by registers, whose memory begins at an address.
+    Calls(BaseAddress),
 }
 
 /// The schedules of a plan that are run.
@@ -40,11 +42,13 @@ pub enum Schedules {
     Drawn(u32, u32),
 }
 
-/// More schedules are to be drawn than may be run.
+/// The reason why options ask for nothing.
 #[derive(Clone, Copy, Drop)]
-pub struct SampleAboveMost {
-    pub sample: u32,
-    pub most: u32,
+pub enum BadOption {
+    /// More schedules are to be drawn than may be run.
+    SampleAboveMost { sample: u32, most: u32 },
+    /// The address is none, no multiple of 4,096, or too high.
+    NoBase,
 }
 
 /// How the builds of a plan take turns.
@@ -63,11 +67,11 @@ const MOST: u32 = 1000000;
 const SAMPLE: u32 = 1000;
 
 // The `sample` schedules that are drawn by the seed, if they are not more than `most`.
-fn schedules_drawn(sample: u32, most: u32, seed: u32) -> Result<Schedules, SampleAboveMost>
+fn schedules_drawn(sample: u32, most: u32, seed: u32) -> Result<Schedules, BadOption>
     ensures { result ≡ schedules_drawn sample most seed }
 {
     if sample > most {
-        Err(SampleAboveMost { sample, most })
+        Err(BadOption::SampleAboveMost { sample, most })
     } else {
         Ok(Schedules::Drawn(sample, seed))
     }
@@ -78,7 +82,7 @@ fn schedules_asked(
     most: Option<u32>,
     sample: Option<u32>,
     seed: Option<u32>,
-) -> Result<Schedules, SampleAboveMost>
+) -> Result<Schedules, BadOption>
     ensures { result ≡ schedules_asked most sample seed }
 {
     let most = most.unwrap_or(MOST);
@@ -154,6 +158,18 @@ const ORDER_EXAMPLES: &str = "Examples:
   realmview order plans/first.toml > mine.toml
   realmview order --one-by-one plans/failed-build.toml | realmhost replay";
 
+const CALLS: &str = "Print a plan's run as calls on an RMM, a trace for rmitrace";
+
+const CALLS_EXAMPLES: &str = "Examples:
+  realmview calls plans/first.toml
+  realmview calls --base 0x88000000 plans/failed-build.toml | rmitrace check";
+
+const BASE_HELP: &str =
+    "Place granule 0 at this address, a multiple of 0x1000 [default: 0x80000000]";
+
+const NO_BASE: &str =
+    "--base is not an address as 0x80000000: a multiple of 0x1000 below 0x400000000000";
+
 const ONE_BY_ONE_HELP: &str = "Give a build all its turns before the next build has one";
 
 const ERASE: &str = "Leave out the events of build B";
@@ -221,6 +237,13 @@ const REALMVIEW: Program = Program {
             options: &[Opt::Flag("one-by-one", ONE_BY_ONE_HELP)],
         },
         Subcommand {
+            name: "calls",
+            about: CALLS,
+            examples: CALLS_EXAMPLES,
+            file: PLAN,
+            options: &[Opt::Text("base", "HEX", BASE_HELP)],
+        },
+        Subcommand {
             name: "check",
             about: CHECK,
             examples: CHECK_EXAMPLES,
@@ -236,12 +259,20 @@ fn erased(matches: &ArgMatches) -> Option<BuildId> {
 }
 
 // The schedules that are asked for by the words that were matched.
-fn schedules_by(explore: &ArgMatches) -> Result<Schedules, SampleAboveMost> {
+fn schedules_by(explore: &ArgMatches) -> Result<Schedules, BadOption> {
     schedules_asked(
         explore.get_one("most"),
         explore.get_one("sample"),
         explore.get_one("seed"),
     )
+}
+
+// The address of the first granule, by the words that were matched.
+fn base_by(calls: &ArgMatches) -> Result<BaseAddress, BadOption> {
+    match calls.get_str("base") {
+        Some(text) => BaseAddress::read(text).ok_or(BadOption::NoBase),
+        None => Ok(BaseAddress::usual()),
+    }
 }
 
 // How builds take turns, by the words that were matched.
@@ -254,7 +285,7 @@ fn turns_by(order: &ArgMatches) -> SchedulingPolicy {
 }
 
 // The request of the subcommand of that name.
-fn asked_by(name: &str, matches: &ArgMatches) -> Result<ViewSubcommand, SampleAboveMost> {
+fn asked_by(name: &str, matches: &ArgMatches) -> Result<ViewSubcommand, BadOption> {
     match name {
         "history" => Ok(ViewSubcommand::History(erased(matches))),
         "apply" => Ok(ViewSubcommand::Apply(erased(matches))),
@@ -265,14 +296,19 @@ fn asked_by(name: &str, matches: &ArgMatches) -> Result<ViewSubcommand, SampleAb
         }),
         "explore" => Ok(ViewSubcommand::Explore(schedules_by(matches)?)),
         "order" => Ok(ViewSubcommand::Order(turns_by(matches))),
+        "calls" => Ok(ViewSubcommand::Calls(base_by(matches)?)),
         _ => Ok(ViewSubcommand::Check),
     }
 }
 
-// The error that says that more schedules are to be drawn than may be run.
-fn too_many(alloc: Global, above: SampleAboveMost) -> Result<Error, AllocError> {
-    let SampleAboveMost { sample, most } = above;
-    let message = format!(in alloc; "--sample {sample} is above --most {most}")?;
+// The error that says why options ask for nothing.
+fn bad_option(alloc: Global, reason: BadOption) -> Result<Error, AllocError> {
+    let message = match reason {
+        BadOption::SampleAboveMost { sample, most } => {
+            format!(in alloc; "--sample {sample} is above --most {most}")?
+        }
+        BadOption::NoBase => String::from_str(alloc, NO_BASE)?,
+    };
     REALMVIEW
         .command(alloc)?
         .error(ErrorKind::ValueValidation, &message)
@@ -294,7 +330,7 @@ impl ViewSubcommand {
                 asked,
                 file: given_file(&matches),
             }),
-            Err(above) => Err(too_many(alloc, above)?),
+            Err(reason) => Err(bad_option(alloc, reason)?),
         }
     }
 }

@@ -19,6 +19,7 @@ pub mod Json
 pub mod PageData
 pub mod Applied
 pub mod Taking
+pub mod Calls
 pub mod Checked
 pub mod Why
 pub mod Orders

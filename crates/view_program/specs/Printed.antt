@@ -11,6 +11,7 @@ use Rattle.realm_program.specs.Replay.{IsWithoutText}
 use Rattle.realm_plan.specs.Plan as plan
 use Rattle.realm_program.specs.declared.fault.Fault as plan_fault
 use Rattle.view_program.specs.History.{IsHistoryText}
+use Rattle.view_program.specs.Calls.{IsCallsText}
 use Rattle.view_program.specs.Json.{IsJsonText}
 use Rattle.view_program.specs.PageData.{IsPageText}
 use Rattle.view_program.specs.Checked.{AreErrorsOf, IsCheckEnd}
@@ -20,7 +21,7 @@ use Rattle.view_program.specs.Reordered.{IsReorderEnd}
 use Rattle.view_program.specs.declared.checking.ViewOutcome.{ViewOutcome}
 use Rattle.view_program.specs.declared.checking.ViewOutcome.TheVariants.{Done, HasErrors}
 use Rattle.command_line.specs.declared.realmview.ViewSubcommand.{ViewSubcommand}
-use Rattle.command_line.specs.declared.realmview.ViewSubcommand.TheVariants.{History, Apply, Json, Page, Why, Explore, Order, Check}
+use Rattle.command_line.specs.declared.realmview.ViewSubcommand.TheVariants.{History, Apply, Calls, Json, Page, Why, Explore, Order, Check}
 use Rattle.view_program.specs.declared.fault.ViewError.TheVariants.{NoPlan, Plan, NoOpening, NoEvent, Refused, EraseNamesNoBuild, Memory, Device}
 
 -- the input is a history with this map
@@ -89,6 +90,7 @@ IsRunEnd (Apply erase) source unread input old new result = EndsAs (IsApplyEnd e
 IsRunEnd Json source unread input old new result = EndsAs (IsPlanEnd IsJsonText (IsWithoutText None) source unread input old new) result
 IsRunEnd Page source unread input old new result = EndsAs (IsPlanEnd IsPageText (IsWithoutText None) source unread input old new) result
 IsRunEnd (Why all) source unread input old new result = EndsAs (IsPlanEnd IsWhyText (IsWithoutText None) source unread input old new) result
+IsRunEnd (Calls base) source unread input old new result = EndsAs (IsPlanEnd IsCallsText (IsWithoutText None) source unread input old new) result
 IsRunEnd (Explore orders) source unread input old new result = EndsAs (IsPlanEnd (IsSchedulesText orders) (IsWithoutSchedules orders) source unread input old new) result
 IsRunEnd (Order turns) source unread input old new result = EndsAs (IsReorderEnd turns source unread input old new) result
 IsRunEnd Check source unread input old new result = IsCheckEnd source unread input old new result

@@ -6,8 +6,8 @@ ghost use Rattle.view_program.specs.declared.fault.ViewError.TheVariants.{Device
 use crate::printing::print;
 use crate::schedules::Progress;
 use crate::{
-    Documents, Exploring, Histories, Pages, Reasons, ViewError, ViewOutcome, ViewSubcommand, apply,
-    check, reorder,
+    Calls, Documents, Exploring, Histories, Pages, Reasons, ViewError, ViewOutcome, ViewSubcommand,
+    apply, check, reorder,
 };
 use checked_io::Told;
 use std::alloc::Global;
@@ -45,6 +45,7 @@ pub fn run<R: Read, W: Write, P: Progress>(
             print(&exploring, alloc, source, input, output)?;
         }
         ViewSubcommand::Order(turns) => reorder(alloc, source, input, output, turns)?,
+        ViewSubcommand::Calls(base) => print(&Calls { base }, alloc, source, input, output)?,
         ViewSubcommand::Why { all } => print(&Reasons { all }, alloc, source, input, output)?,
     }
     Ok(ViewOutcome::Done)

@@ -1,0 +1,67 @@
+//! Operations of a host and of guests.
+use arrayvec::ArrayVec;
+use rmi_abi::Call;
+
+/// An operation of a host on an RMM, or of the guest of a REC. Addresses are physical, but for that of a guest.
+#[derive(Drop)]
+pub enum HostAction {
+    /// The host writes one value to each byte of granules.
+    Fill {
+        address: u64,
+        granules: u16,
+        value: u8,
+    },
+    /// The host reads a word, each byte of which has a value.
+    Load {
+        address: u64,
+        byte: u8,
+    },
+    /// The host writes the parameters of a realm to a page. RMM 1.0, RmiRealmParams.
+    RealmParams {
+        page: u64,
+        width: u8,
+        vmid: u8,
+        tables: u64,
+        count: u16,
+    },
+    /// The host writes the parameters of a REC to a page. RMM 1.0, RmiRecParams.
+    RecParams {
+        page: u64,
+        mpidr: u64,
+        auxiliaries: ArrayVec<u64, 16>,
+    },
+    /// A call that succeeds, with X1 if the command has an output there that is known.
+    Call {
+        call: Call,
+        x1: Option<u64>,
+    },
+    /// RMI_REC_ENTER of a REC whose guest runs on.
+    Enter {
+        rec: u64,
+        run: u64,
+    },
+    /// The run of a REC ends by an interrupt.
+    Interrupt {
+        rec: u64,
+    },
+    /// The guest writes a byte, from its next entry on.
+    Write {
+        rec: u64,
+        ipa: u64,
+        value: u8,
+    },
+    /// The guest runs on until it is interrupted.
+    Spin {
+        rec: u64,
+    },
+    /// The guest has done the write before.
+    Saw {
+        rec: u64,
+    },
+}
+
+impl Default for HostAction {
+    fn default() -> HostAction {
+        HostAction::Saw { rec: 0 }
+    }
+}

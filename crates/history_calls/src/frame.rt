@@ -1,0 +1,73 @@
+//! The place of a history's machine in the address space.
+ghost use Rattle.std.specs.Prelude.{◌≡◌, ◌<◌, ◌≤◌, ◌+◌, ◌%◌, ◌^◌};
+ghost use Rattle.history_calls.specs.Frame as frames;
+
+use granule_addr::Gran;
+use std::marker::Model;
+
+/// The pages for the exits of runs: so many RECs run at a time, each with a page of its own.
+pub const MOST_RUNS: u16 = 64;
+
+/// The granules of the host after those of the history's machine.
+pub const HOST_GRANULES: u16 = 66;
+
+/// The address of granule 0, and the number of granules of the history's machine.
+#[derive(Clone, Copy)]
+pub struct Frame {
+    base: u64,
+    pages: u16,
+}
+
+impl Model for Frame {
+    ghost use Rattle.history_calls.specs.Frame.{Place, IsFrame};
+
+    ghost Value = { Place };
+
+    ghost view = { λ frame. record { base = frame.base; pages = frame.pages } };
+
+    ghost invariant = { λ frame. IsFrame frame.base frame.pages };
+
+    ghost inverse = { λ place. record { base = place.base; pages = place.pages } };
+}
+
+impl Frame {
+    /// The frame of a machine of `pages` pages, whose granule 0 is at an address in bytes.
+    pub fn new(base: u64, pages: u16) -> Frame
+        requires granule { base % 4096 ≡ 0 }
+        requires low { base < 2 ^ 46 }
+        requires few { pages ≤ 4096 }
+        ensures { result ≡ record { base = base; pages = pages } }
+    {
+        Frame { base, pages }
+    }
+
+    /// The address of granule 0, in bytes.
+    pub fn base(self) -> u64
+        ensures { result ≡ self.base }
+    {
+        self.base
+    }
+
+    /// The granules of the machine and of the host.
+    pub fn granules(self) -> u16
+        ensures { result ≡ self.pages + 66 }
+    {
+        self.pages + HOST_GRANULES
+    }
+
+    /// The address of a granule, in bytes.
+    pub fn address(self, granule: Gran) -> u64
+        ensures value { result ≡ frames.address self granule }
+        ensures below { result < 2 ^ 47 }
+    {
+        self.base + 4096 * granule.number() as u64
+    }
+
+    /// The address of a granule of the host.
+    pub(crate) fn host(self, number: u16) -> u64
+        requires { number < 66 }
+        ensures { result ≡ frames.host self number }
+    {
+        self.base + 4096 * (self.pages as u64 + number as u64)
+    }
+}

@@ -1,0 +1,19 @@
+//! The calls of a history: the operations of a host on an RMM by registers for each event.
+//!
+//! An event names granules by their numbers in the machine of the history. A frame places that machine at an address,
+//! with granules of the host after it: one for the parameters of realms, one for those of RECs, and one for each REC
+//! that runs at a time. The calls of an event are a function of the event, of the realm and the REC that it is about,
+//! and of the page for the exits of its run (`specs/Actions.antt`). No function takes memory.
+#![tactic(auto)]
+
+mod action;
+mod actions;
+mod frame;
+mod runs;
+mod text;
+
+pub use action::HostAction;
+pub use actions::{MOST_ACTIONS, actions_of};
+pub use frame::{Frame, HOST_GRANULES, MOST_RUNS};
+pub use runs::RunPages;
+pub use text::{push_action, push_platform};

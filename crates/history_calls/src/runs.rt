@@ -1,0 +1,78 @@
+//! The pages for the exits of runs.
+ghost use Rattle.std.specs.Prelude.{◌≡◌, ◌<◌, replicate, None};
+ghost use Rattle.std.specs.List.{position_from};
+ghost use Rattle.history_calls.specs.Runs as runs;
+
+use granule_addr::Gran;
+use realm_model::Act;
+use std::marker::Model;
+
+/// The pages for the exits of runs: one for each REC that runs, by the REC's granule.
+///
+/// With `MOST_RUNS` RECs running, those entered later share the last page.
+#[derive(Drop)]
+pub struct RunPages {
+    recs: [Option<Gran>; 64],
+}
+
+impl Model for RunPages {
+    ghost use Rattle.std.specs.Prelude.{ℕ, List, Option};
+
+    ghost Value = { List (Option ℕ) };
+
+    ghost view = { λ pages. pages.recs };
+}
+
+// The place of a value among values.
+fn place_of(recs: &[Option<Gran>], rec: Option<Gran>) -> Option<usize>
+    ensures { result ≡ position_from (runs.is_same rec) 0 recs.now }
+{
+    for (place, it) in recs.iter().enumerate() {
+        if *it == rec {
+            return Some(place);
+        }
+    }
+    None
+}
+
+impl RunPages {
+    /// Pages of which none is in use.
+    pub fn new() -> RunPages
+        ensures { result ≡ replicate 64 None }
+    {
+        RunPages { recs: [None; 64] }
+    }
+
+    // The page of a REC, or a page that is in no use.
+    fn page_of(&self, rec: Option<Gran>) -> u16
+        ensures value { result ≡ runs.page_of rec self.now }
+        ensures below { result < 64 }
+    {
+        match place_of(&self.recs, rec) {
+            Some(page) if page < 64 => page as u16,
+            _ => 63,
+        }
+    }
+
+    /// The number of the page for an event that is about a REC. After an entry the page is in use, and after an exit it
+    /// is free again.
+    pub fn page_for(&mut self, rec: Option<Gran>, act: &Act) -> u16
+        ensures value { result ≡ runs.page_for rec act.now self.old }
+        ensures below { result < 64 }
+        ensures pages { self.new ≡ runs.pages_after rec act.now self.old }
+    {
+        match act {
+            Act::Enter { .. } => {
+                let page = self.page_of(None);
+                self.recs[page as usize] = rec;
+                page
+            }
+            Act::Exit { .. } => {
+                let page = self.page_of(rec);
+                self.recs[page as usize] = None;
+                page
+            }
+            _ => self.page_of(rec),
+        }
+    }
+}

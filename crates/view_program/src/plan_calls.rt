@@ -1,0 +1,101 @@
+//! The calls of a plan's run, as a trace by registers.
+ghost use Rattle.std.specs.Prelude.{◌<◌, None, vec_len};
+ghost use Rattle.realm_program.specs.Replay.{IsWithoutText};
+ghost use Rattle.view_program.specs.Calls.{IsCallsText};
+
+use crate::plan_text::ViewText;
+use buddy::BuddyArena;
+use command_line::BaseAddress;
+use granule_addr::BuildId;
+use history_calls::{Frame, RunPages, actions_of, push_action, push_platform};
+use plan_replay::{PlanCursor, push_turn, take_turn};
+use realm_host::Host;
+use realm_model::Event;
+use realm_plan::{Plan, push_idle};
+use realm_program::{Fault, boot};
+use std::alloc::{AllocError, Global};
+
+// Appends the operations of a host for an event that it has just recorded.
+fn push_event(
+    text: &mut String,
+    frame: Frame,
+    host: &Host<BuddyArena>,
+    runs: &mut RunPages,
+    event: &Event,
+) -> Result<(), AllocError> {
+    if !host.ledger().has_build(event.build) {
+        return Ok(());
+    }
+    let subject = host.ledger().place(event.build, &event.act);
+    let run = runs.page_for(subject.rec, &event.act);
+    let actions = actions_of(frame, subject, run, &event.act);
+    for action in actions.as_slice() {
+        push_action(text, action)?;
+        text.push_str("\n")?;
+    }
+    Ok(())
+}
+
+// Performs one turn of a build, and appends its line as a comment, and the operations for the event that it adds.
+fn push_one(
+    text: &mut String,
+    frame: Frame,
+    host: &mut Host<BuddyArena>,
+    plan: &Plan,
+    places: &mut [PlanCursor; 8],
+    runs: &mut RunPages,
+    build: BuildId,
+) -> Result<(), AllocError>
+    requires { build < vec_len plan.now.builds }
+{
+    let before = host.history().len();
+    text.push_str("# ")?;
+    match take_turn(host, plan, places, build.number() as usize) {
+        Some((step, answer)) => push_turn(text, build, step, answer)?,
+        None => push_idle(text, build)?,
+    }
+    match host.history().get(before) {
+        Some(event) => push_event(text, frame, host, runs, event),
+        None => Ok(()),
+    }
+}
+
+// The trace of a run of the plan by a fresh host.
+fn calls_text(alloc: Global, plan: &Plan, frame: Frame) -> Result<String, AllocError> {
+    let mut host = boot::<BuddyArena>(alloc, plan)?;
+    let mut text = String::new(alloc);
+    push_platform(&mut text, frame, plan.aux)?;
+    text.push_str("\n")?;
+    let mut places = [PlanCursor::first(); 8];
+    let mut runs = RunPages::new();
+    for build in &plan.order {
+        push_one(
+            &mut text,
+            frame,
+            &mut host,
+            plan,
+            &mut places,
+            &mut runs,
+            *build,
+        )?;
+    }
+    Ok(text)
+}
+
+/// The runs of plans as calls on an RMM by registers. A plan has none only if allocation failed.
+#[derive(Drop)]
+pub struct Calls {
+    /// The address of granule 0, in bytes.
+    pub base: BaseAddress,
+}
+
+impl ViewText for Calls {
+    ghost is_text = { λ asked. IsCallsText };
+
+    ghost is_without = { λ asked. IsWithoutText None };
+
+    fn text_of(&self, alloc: Global, plan: &Plan, _source: &[u8]) -> Result<Vec<u8>, Fault> {
+        let frame = Frame::new(self.base.address(), plan.pages);
+        Ok(calls_text(alloc, plan, frame)?.into_bytes())
+    }
+}
