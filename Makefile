@@ -32,13 +32,11 @@ build: ## proves the three programs with their libraries, and puts them into bin
 	@tools/build
 
 c-library: ## proves the RMM as a library for C, and puts it into build/
-	@tools/c-library
 	@tools/rmm-library
 
-c-test: c-library ## tries the library from C, C++ and Python, over 1,000 random traces too (needs a C compiler)
-	@test -x bin/rmitrace || tools/build rmitrace
-	@tests/c-library --all
+c-test: c-library ## tries the library from C, C++ and Python, with sanitizers, valgrind and random calls (needs a C compiler)
 	@tests/rmm-c --all
+	@tests/fuzz_c 2
 
 docs-html: ## makes a site of the documents in build/html, which can be read offline (needs pandoc)
 	@tools/docs_html
@@ -59,24 +57,24 @@ install: ## copies what `make build` and `make c-library` have built, man pages,
 	install -m 644 plans/guide/* $(SHARE)/realmhost/plans/guide
 	install -m 644 traces/*.trace $(SHARE)/realmhost/traces
 	install -m 644 examples/drive.py $(SHARE)/realmhost/examples
-	@if test -f build/librmi_bench.a; then $(MAKE) --no-print-directory install-c-library; \
-	  else echo "install: there is no build/librmi_bench.a, and the library for C is left out: make c-library"; fi
+	@if test -f build/librmm.a; then $(MAKE) --no-print-directory install-c-library; \
+	  else echo "install: there is no build/librmm.a, and the library for C is left out: make c-library"; fi
 
 install-c-library: ## copies the library for C and Python alone below PREFIX, after `make c-library`
 	install -d $(DESTDIR)$(PREFIX)/include $(LIB)/pkgconfig $(SHARE)/realmhost/python $(SHARE)/realmhost/examples/c
-	install -m 644 include/rmi_bench.h $(DESTDIR)$(PREFIX)/include
-	install -m 644 build/librmi_bench.a $(LIB)
-	if test -f build/librmi_bench.so.0; then install -m 755 build/librmi_bench.so.0 $(LIB) && ln -sf librmi_bench.so.0 $(LIB)/librmi_bench.so; fi
-	sed 's|^libdir=.*|libdir=$${pcfiledir}/..|; s|^includedir=.*|includedir=$${pcfiledir}/../../include|' include/rmi_bench.pc > $(LIB)/pkgconfig/rmi_bench.pc
-	install -m 644 python/rmi_bench.py $(SHARE)/realmhost/python
+	install -m 644 include/rmm.h include/rmm_commands.h $(DESTDIR)$(PREFIX)/include
+	install -m 644 build/librmm.a $(LIB)
+	if test -f build/librmm.so.0; then install -m 755 build/librmm.so.0 $(LIB) && ln -sf librmm.so.0 $(LIB)/librmm.so; fi
+	sed 's|^libdir=.*|libdir=$${pcfiledir}/..|; s|^includedir=.*|includedir=$${pcfiledir}/../../include|' include/rmm.pc > $(LIB)/pkgconfig/rmm.pc
+	install -m 644 python/rmm.py $(SHARE)/realmhost/python
 	install -m 644 examples/c/* $(SHARE)/realmhost/examples/c
 
 test: ## the whole gate from nothing: proofs, tests, what the built programs print, and the documents
 	@tools/gate
 	@mkdir -p bin
 	@for it in $(PROGRAMS) test_memory; do install -m 755 crates/$$it/out/$$it bin/$$it || exit 1; done
-	@! command -v $(CC) > /dev/null || { tools/c-library && tools/rmm-library; }
-	@tools/at_once tests/commands tests/program tests/traces tests/rules tests/rmm_traces tests/rmm_rules tests/rmm_program tests/view tests/terminal tests/orders tests/json tests/page tests/allocations tests/c-library tests/rmm-c tests/documents tests/prose tests/believed tests/names tests/pages tests/schema "tools/pictures --check" "tools/calls --check" "tools/commands_index --check" "tools/page_template --check"
+	@! command -v $(CC) > /dev/null || tools/rmm-library
+	@tools/at_once tests/commands tests/program tests/traces tests/rules tests/rmm_traces tests/rmm_rules tests/rmm_program tests/view tests/terminal tests/orders tests/json tests/page tests/allocations tests/rmm-c tests/documents tests/prose tests/believed tests/names tests/pages tests/schema "tools/pictures --check" "tools/calls --check" "tools/commands_index --check" "tools/page_template --check"
 
 mutants: ## tries the mutants of CRATE or all: the prover has to refuse each
 	@tests/mutants $(if $(JOBS),--jobs $(JOBS)) $(if $(SINCE),--since $(SINCE)) $(CRATE)
@@ -91,10 +89,12 @@ allocations: ## refuses each allocation of the programs in turn, over all plans 
 memcheck: build ## runs the programs under valgrind's memcheck
 	@tests/memcheck
 
-fuzz: build ## runs COUNT plans and traces of each kind of random change, long inputs, and COUNT histories by registers
+fuzz: build ## runs COUNT plans and traces of each kind of random change, long inputs, COUNT histories by registers, and random calls from C for a minute
 	@tests/fuzz $(COUNT)
 	@tools/build test_rmm_lines
 	@tests/fuzz_rmm $(COUNT)
+	@tools/rmm-library
+	@tests/fuzz_c 60
 
 bench: build ## CPU time and peak memory of the program over plans of several shapes, and how they grow, and CPU time of each command of the RMM by registers, beside plain Rust (needs cargo)
 	@tools/build test_rmm_speed
