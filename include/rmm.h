@@ -132,8 +132,8 @@ static inline unsigned rmm_index(uint64_t word) { return (unsigned)(word >> 8 & 
 
 /* Judgements of a call, which do not perform it. They are of the machine as it is, so ask before rmm_smc.
  *
- * RMM 1.0 orders the failure conditions of a command in part. A check is made if each check that it comes after was
- * made and passed. If several are made and fail, an RMM may answer the word of each. */
+ * RMM 1.0 says of some failure conditions of a command which comes first. A check is made if each check that it comes
+ * after was made and passed. If several are made and fail, an RMM may answer the word of each. */
 
 /* The check that decides in this RMM: the first that fails. 0 if none fails, for a function that is no command, and on
  * a closed handle. The numbers and rmm_check_name are in rmm_commands.h.

@@ -40,14 +40,14 @@ abbrev pub is_among_words : ℕ → List Word → Bool
 is_among_words x0 words = list_any (λ word. x0 == number word) words
 
 -- a function that is no command is answered by NOT_SUPPORTED alone
-abbrev pub is_allowed_of_call : Option Call → ℕ → Machine → Bool
-is_allowed_of_call (Some call) x0 m = is_among_words x0 (allowed_words (command_of call m))
-is_allowed_of_call None x0 m = x0 == 2 ^ 64 - 1
+abbrev pub is_answer_of_call : Option Call → ℕ → Machine → Bool
+is_answer_of_call (Some call) x0 m = is_among_words x0 (allowed_words (command_of call m))
+is_answer_of_call None x0 m = x0 == 2 ^ 64 - 1
 
 -- An RMM may answer a call with an X0. A closed handle is firmware without an RMM.
-abbrev pub is_allowed : SmcRegisters → ℕ → Option Machine → Bool
-is_allowed r x0 (Some m) = is_allowed_of_call (call_in (call_of r)) x0 m
-is_allowed r x0 None = x0 == 2 ^ 64 - 1
+abbrev pub may_answer : SmcRegisters → ℕ → Option Machine → Bool
+may_answer r x0 (Some m) = is_answer_of_call (call_in (call_of r)) x0 m
+may_answer r x0 None = x0 == 2 ^ 64 - 1
 
 -- ---- evaluated checks
 

@@ -73,7 +73,7 @@ fn allows(rows: &[EvaluatedCheck], x0: u64) -> bool
 
 // Whether an RMM may answer a call with an X0.
 fn is_allowed(plain: &PlainRmm, registers: Registers, x0: u64) -> bool
-    ensures { result ≡ judging.is_allowed_of_call (call_in registers) x0 plain.now }
+    ensures { result ≡ judging.is_answer_of_call (call_in registers) x0 plain.now }
 {
     match decode_call(registers) {
         Some(call) => allows(checks_of(plain.rmm.granules(), call).rows(), x0),
@@ -106,8 +106,8 @@ pub extern "C" fn rmm_deciding_check(
 /// Whether an RMM may answer a call with this X0, with these registers on the machine as it is. The call is not
 /// performed.
 ///
-/// RMM 1.0 orders the failure conditions of a command in part: where several fail, the word of each that comes after
-/// none of the others is allowed. A closed handle is firmware without an RMM.
+/// It may be the word of each check that is made and fails, and RMI_SUCCESS if none does. For a function that is no
+/// command, and on a closed handle, it is NOT_SUPPORTED alone. RMM 1.0, failure conditions and their ordering.
 #[unsafe(no_mangle)]
 pub extern "C" fn rmm_is_allowed(
     alloc: Global,
@@ -115,7 +115,7 @@ pub extern "C" fn rmm_is_allowed(
     registers: &SmcRegisters,
     x0: u64,
 ) -> bool
-    ensures answer { result ≡ judging.is_allowed registers.now x0 handle.old.held.machine }
+    ensures answer { result ≡ judging.may_answer registers.now x0 handle.old.held.machine }
     ensures same { handle.new.held.machine ≡ handle.old.held.machine }
 {
     let asked = registers.call();
