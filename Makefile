@@ -32,14 +32,12 @@ build: ## proves the three programs with their libraries, and puts them into bin
 	@tools/build
 
 c-library: ## proves the RMM as a library for C, and puts it into build/
-	@tools/c-library
 	@tools/rmm-library
 
-c-test: c-library ## tries the library from C, C++ and Python, over 1,000 random traces too (needs a C compiler)
-	@test -x bin/rmitrace || tools/build rmitrace
-	@tests/c-library --all
+c-test: c-library ## tries the library from C, C++ and Python, with sanitizers, valgrind and random calls (needs a C compiler)
 	@tests/rmm-c --all
 	@tests/examples --all
+	@tests/fuzz_c 2
 
 docs-html: ## makes a site of the documents in build/html, which can be read offline (needs pandoc)
 	@tools/docs_html
@@ -79,8 +77,8 @@ test: ## the whole gate from nothing: proofs, tests, what the built programs pri
 	@tools/gate
 	@mkdir -p bin
 	@for it in $(PROGRAMS) test_memory; do install -m 755 crates/$$it/out/$$it bin/$$it || exit 1; done
-	@! command -v $(CC) > /dev/null || { tools/c-library && tools/rmm-library; }
-	@tools/at_once tests/commands tests/program tests/traces tests/rules tests/rmm_traces tests/rmm_rules tests/planted_rmm tests/rmm_freedoms tests/view tests/terminal tests/orders tests/json tests/page tests/allocations tests/c-library tests/rmm-c tests/examples tests/documents tests/prose tests/believed tests/names tests/pages tests/schema "tools/pictures --check" "tools/calls --check" "tools/commands_index --check" "tools/page_template --check"
+	@! command -v $(CC) > /dev/null || tools/rmm-library
+	@tools/at_once tests/commands tests/program tests/traces tests/rules tests/rmm_traces tests/rmm_rules tests/planted_rmm tests/rmm_freedoms tests/view tests/terminal tests/orders tests/json tests/page tests/allocations tests/rmm-c tests/examples tests/documents tests/prose tests/believed tests/names tests/pages tests/schema "tools/pictures --check" "tools/calls --check" "tools/commands_index --check" "tools/page_template --check"
 
 mutants: ## tries the mutants of CRATE or all: the prover has to refuse each
 	@tests/mutants $(if $(JOBS),--jobs $(JOBS)) $(if $(SINCE),--since $(SINCE)) $(CRATE)
@@ -95,9 +93,11 @@ allocations: ## refuses each allocation of the programs in turn, over all plans 
 memcheck: build ## runs the programs under valgrind's memcheck
 	@tests/memcheck
 
-fuzz: build ## runs COUNT plans and traces of each kind of random change, long inputs, and COUNT histories by registers
+fuzz: build ## runs COUNT plans and traces of each kind of random change, long inputs, COUNT histories by registers, and random calls from C for a minute
 	@tests/fuzz $(COUNT)
 	@tests/fuzz_rmm $(COUNT)
+	@tools/rmm-library
+	@tests/fuzz_c 60
 
 bench: build ## CPU time and peak memory of the program over plans of several shapes, and how they grow, and CPU time of each command of the RMM by registers, beside plain Rust (needs cargo)
 	@tools/build test_rmm_speed

@@ -130,6 +130,21 @@ enum { RMM_SUCCESS = 0, RMM_ERROR_INPUT = 1, RMM_ERROR_REALM = 2, RMM_ERROR_REC 
 static inline unsigned rmm_status(uint64_t word) { return (unsigned)(word & 0xff); }
 static inline unsigned rmm_index(uint64_t word) { return (unsigned)(word >> 8 & 0xff); }
 
+/* Judgements of a call, which do not perform it. They are of the machine as it is, so ask before rmm_smc.
+ *
+ * RMM 1.0 says of some failure conditions of a command which comes first. A check is made if each check that it comes
+ * after was made and passed. If several are made and fail, an RMM may answer the word of each. */
+
+/* The check that decides in this RMM: the first that fails. 0 if none fails, for a function that is no command, and on
+ * a closed handle. The numbers and rmm_check_name are in rmm_commands.h.
+ * Required: handle; `registers` is not NULL, and each of its fields is written. */
+uint64_t rmm_deciding_check(rmm_handle *handle, const rmm_registers *registers) RMM_NO_NULL;
+
+/* Whether an RMM may answer this X0: the word of a check that is made and fails; RMM_SUCCESS if none does. For a function
+ * that is no command, and on a closed handle, RMM_NOT_SUPPORTED alone. RMM_RUNNING is the answer of no RMM.
+ * Required: handle; `registers` is not NULL, and each of its fields is written. */
+bool rmm_is_allowed(rmm_handle *handle, const rmm_registers *registers, uint64_t x0) RMM_NO_NULL;
+
 /* ---- memory of the host */
 
 /* Reads and writes bytes within one granule. False, with nothing changed, where a host gets a granule protection fault:

@@ -59,6 +59,14 @@ static inline rmm_registers rmm_call(rmm_handle *handle, rmm_registers registers
     return registers;
 }
 
+/* An SMC, and the check that decided it; 0 if no check failed. rmm_check_name has the check's name. */
+static inline uint64_t rmm_checked_smc(rmm_handle *handle, rmm_registers *registers)
+{
+    uint64_t check = rmm_deciding_check(handle, registers);
+    rmm_smc(handle, registers);
+    return check;
+}
+
 static inline void rmm_output(uint64_t *output, uint64_t value)
 {
     if (output != NULL)
@@ -373,6 +381,86 @@ RMM_STATIC_ASSERT(sizeof(rmm_rec_run) == RMM_GRANULE_SIZE, "rmm_rec_run is a gra
 
 /* ---- values */
 
+/* The checks of commands, each by its failure condition. RMM 1.0, failure conditions of RMI commands. */
+enum {
+    RMM_CHECK_VERSION = 1,
+    RMM_CHECK_GRAN_ALIGN = 2,
+    RMM_CHECK_GRAN_BOUND = 3,
+    RMM_CHECK_GRAN_STATE = 4,
+    RMM_CHECK_GRAN_GPT = 5,
+    RMM_CHECK_RD_ALIGN = 6,
+    RMM_CHECK_RD_BOUND = 7,
+    RMM_CHECK_RD_STATE = 8,
+    RMM_CHECK_PARAMS_ALIGN = 9,
+    RMM_CHECK_PARAMS_BOUND = 10,
+    RMM_CHECK_PARAMS_PAS = 11,
+    RMM_CHECK_PARAMS_VALID = 12,
+    RMM_CHECK_PARAMS_SUPP = 13,
+    RMM_CHECK_RTT_NUM_LEVEL = 14,
+    RMM_CHECK_RTT_ALIGN = 15,
+    RMM_CHECK_RTT_BOUND = 16,
+    RMM_CHECK_RTT_STATE = 17,
+    RMM_CHECK_ALIAS = 18,
+    RMM_CHECK_VMID_VALID = 19,
+    RMM_CHECK_REALM_STATE = 20,
+    RMM_CHECK_REALM_LIVE = 21,
+    RMM_CHECK_LEVEL_BOUND = 22,
+    RMM_CHECK_IPA_ALIGN = 23,
+    RMM_CHECK_IPA_BOUND = 24,
+    RMM_CHECK_RTT_WALK = 25,
+    RMM_CHECK_RTTE_STATE = 26,
+    RMM_CHECK_RTT_LIVE = 27,
+    RMM_CHECK_RTT_HOMO = 28,
+    RMM_CHECK_RTT_BLOCK = 29,
+    RMM_CHECK_DESC_BOUND = 30,
+    RMM_CHECK_DATA_ALIGN = 31,
+    RMM_CHECK_DATA_BOUND = 32,
+    RMM_CHECK_DATA_STATE = 33,
+    RMM_CHECK_SRC_ALIGN = 34,
+    RMM_CHECK_SRC_BOUND = 35,
+    RMM_CHECK_SRC_PAS = 36,
+    RMM_CHECK_FLAGS_VALID = 37,
+    RMM_CHECK_RTTE_RIPAS = 38,
+    RMM_CHECK_SIZE = 39,
+    RMM_CHECK_BASE_GRAN_ALIGN = 40,
+    RMM_CHECK_TOP_GRAN_ALIGN = 41,
+    RMM_CHECK_BASE_BOUND = 42,
+    RMM_CHECK_TOP_BOUND = 43,
+    RMM_CHECK_BASE_ALIGN = 44,
+    RMM_CHECK_NO_PROGRESS = 45,
+    RMM_CHECK_REC_ALIGN = 46,
+    RMM_CHECK_REC_BOUND = 47,
+    RMM_CHECK_REC_GRAN_STATE = 48,
+    RMM_CHECK_NUM_AUX = 49,
+    RMM_CHECK_AUX_ALIGN = 50,
+    RMM_CHECK_AUX_BOUND = 51,
+    RMM_CHECK_AUX_ALIAS = 52,
+    RMM_CHECK_AUX_STATE = 53,
+    RMM_CHECK_MPIDR_INDEX = 54,
+    RMM_CHECK_NUM_RECS = 55,
+    RMM_CHECK_REC_STATE = 56,
+    RMM_CHECK_REC_OWNER = 57,
+    RMM_CHECK_RUN_ALIGN = 58,
+    RMM_CHECK_RUN_BOUND = 59,
+    RMM_CHECK_RUN_PAS = 60,
+    RMM_CHECK_REALM_NEW = 61,
+    RMM_CHECK_SYSTEM_OFF = 62,
+    RMM_CHECK_REC_RUNNABLE = 63,
+    RMM_CHECK_REC_MMIO = 64,
+    RMM_CHECK_REC_PSCI = 65,
+    RMM_CHECK_REC_GICV3 = 66,
+    RMM_CHECK_CALLING_ALIGN = 67,
+    RMM_CHECK_CALLING_BOUND = 68,
+    RMM_CHECK_CALLING_STATE = 69,
+    RMM_CHECK_TARGET_ALIGN = 70,
+    RMM_CHECK_TARGET_BOUND = 71,
+    RMM_CHECK_TARGET_STATE = 72,
+    RMM_CHECK_PENDING = 73,
+    RMM_CHECK_OWNER = 74,
+    RMM_CHECK_TARGET = 75,
+    RMM_CHECK_STATUS = 76
+};
+
 /* RMM 1.0, RmiRttEntryState. */
 enum { RMM_UNASSIGNED = 0, RMM_ASSIGNED = 1, RMM_TABLE = 2 };
 
@@ -423,6 +511,23 @@ static inline const char *rmm_status_name(uint64_t word)
     if (word == RMM_RUNNING)
         return "RUNNING";
     return word == RMM_NOT_SUPPORTED ? "NOT_SUPPORTED" : rmm_name_of(rmm_status(word), names, 5);
+}
+
+/* The name of a check, as "rtte_state". */
+static inline const char *rmm_check_name(uint64_t check)
+{
+    static const char *const names[] = {
+        "version", "gran_align", "gran_bound", "gran_state", "gran_gpt", "rd_align", "rd_bound", "rd_state",
+        "params_align", "params_bound", "params_pas", "params_valid", "params_supp", "rtt_num_level", "rtt_align",
+        "rtt_bound", "rtt_state", "alias", "vmid_valid", "realm_state", "realm_live", "level_bound", "ipa_align",
+        "ipa_bound", "rtt_walk", "rtte_state", "rtt_live", "rtt_homo", "rtt_block", "desc_bound", "data_align",
+        "data_bound", "data_state", "src_align", "src_bound", "src_pas", "flags_valid", "rtte_ripas", "size",
+        "base_gran_align", "top_gran_align", "base_bound", "top_bound", "base_align", "no_progress", "rec_align",
+        "rec_bound", "rec_gran_state", "num_aux", "aux_align", "aux_bound", "aux_alias", "aux_state", "mpidr_index",
+        "num_recs", "rec_state", "rec_owner", "run_align", "run_bound", "run_pas", "realm_new", "system_off",
+        "rec_runnable", "rec_mmio", "rec_psci", "rec_gicv3", "calling_align", "calling_bound", "calling_state",
+        "target_align", "target_bound", "target_state", "pending", "owner", "target", "status"};
+    return rmm_name_of(check - 1, names, sizeof names / sizeof names[0]);
 }
 
 static inline const char *rmm_granule_state_name(uint64_t state)

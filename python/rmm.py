@@ -5,6 +5,7 @@
     with Rmm(granules=2048, base=0x80000000, aux=2) as rmm:
         rmm.granule_delegate(0x80010000)                   # Answer(word=0)
         rmm.rtt_destroy(0x80010000, 0x80000000, 3).name    # 'RMI_ERROR_INPUT': it is no RD
+        rmm.rtt_destroy(0x80010000, 0x80000000, 3).check   # 'rd_state'
         rmm.store(0x80014000, RealmParams(s2sz=33, vmid=1))
         rmm.load(0x80014008, 1)                            # b'!'
         rmm.smc(0xC4000151, 0x80010000)                    # [1, 0, 0, 0, 0]
@@ -13,7 +14,7 @@ A method has the name of a function of include/rmm.h or include/rmm_commands.h. 
 `raises=True` an answer that is not RMI_SUCCESS is raised as `Refused`, and a load or store that faults as `Fault`. A
 number that no register holds, below 0 or from 2^64 on, is an OverflowError. An RMM that is closed is a ValueError.
 
-This needs librmm.so.0 (`tools/rmm-library`). It is looked for at the path of $RMM_LIBRARY, beside this file, in the
+This needs librmm.so.0 (`make c-library`). It is looked for at the path of $RMM_LIBRARY, beside this file, in the
 folder build/ of the repository, and where the system has its libraries. Where it is not found, there is an OSError.
 """
 import ctypes
@@ -42,6 +43,21 @@ STEPS = (
 RESULTS = ("done", "read", "sea", "accepted", "rejected", "returned", "psci", "rsi_error_input")
 LAYOUTS = {"rel0": 0, "eac5": 1}
 QUEUED = ("queued", "full", "no REC")
+# The checks of commands by their numbers, from 1 on.
+CHECKS = (
+    "version", "gran_align", "gran_bound", "gran_state", "gran_gpt", "rd_align", "rd_bound", "rd_state", "params_align",
+    "params_bound", "params_pas", "params_valid", "params_supp", "rtt_num_level", "rtt_align", "rtt_bound", "rtt_state",
+    "alias", "vmid_valid", "realm_state", "realm_live", "level_bound", "ipa_align", "ipa_bound", "rtt_walk",
+    "rtte_state", "rtt_live", "rtt_homo", "rtt_block", "desc_bound", "data_align", "data_bound", "data_state",
+    "src_align", "src_bound", "src_pas", "flags_valid", "rtte_ripas", "size", "base_gran_align", "top_gran_align",
+    "base_bound", "top_bound", "base_align", "no_progress", "rec_align", "rec_bound", "rec_gran_state", "num_aux",
+    "aux_align", "aux_bound", "aux_alias", "aux_state", "mpidr_index", "num_recs", "rec_state", "rec_owner",
+    "run_align", "run_bound", "run_pas", "realm_new", "system_off", "rec_runnable", "rec_mmio", "rec_psci", "rec_gicv3",
+    "calling_align", "calling_bound", "calling_state", "target_align", "target_bound", "target_state", "pending",
+    "owner", "target", "status",
+)
+# The words of refusals: REALM has index 0 or 1, and RTT the level of a table.
+REFUSALS = (0x1, 0x2, 0x102, 0x3, *(4 | level << 8 for level in range(4)))
 # The answers of rmm_open.
 OPENED, NO_MACHINE, NO_MEMORY = 0, 1, 2
 
@@ -87,11 +103,14 @@ FIRST_FID = 0xC4000000
 class Answer:
     """The answer of a command: its result word, and its outputs by name, which are attributes too.
 
-    `exit` is what an entry or an interrupt wrote to the run page: None if the REC runs on, or was not entered.
+    `check` is the name of the check that decided, None if no check failed. `allowed` has the words that an RMM may answer,
+    of which this is one; RUNNING is the answer of no RMM. `exit` is what an entry or an interrupt wrote to the run page:
+    None if the REC runs on, or was not entered.
     """
 
-    def __init__(self, word, outputs=(), exit=None):
+    def __init__(self, word, outputs=(), exit=None, check=None, allowed=()):
         self.word, self.outputs, self.exit = word, dict(outputs), exit
+        self.check, self.allowed = check, allowed
 
     @property
     def status(self):
@@ -275,6 +294,7 @@ _Rec = _structure("_Rec", *_numbers(*_REC), ("is_runnable", _BOOL), ("is_psci_pe
 # Of each function its result, and its parameters after the handle.
 _FUNCTIONS = {
     "open": (_U64, _TO(_Settings)), "close": (None,), "smc": (None, _TO(_Registers)),
+    "deciding_check": (_U64, _TO(_Registers)), "is_allowed": (_BOOL, _TO(_Registers), _U64),
     "load": (_BOOL, _U64, ctypes.c_char_p, ctypes.c_size_t), "store": (_BOOL, _U64, ctypes.c_char_p, ctypes.c_size_t),
     "guest": (_U64, _U64, _TO(_Step)), "interrupt": (_BOOL, _U64, _TO(_U64)),
     "result": (_BOOL, _U64, _U64, _TO(_Result)), "read_state": (_BOOL, _U64, _TO(_U64)),
@@ -299,7 +319,7 @@ def load(path=None):
     try:
         library = ctypes.PyDLL(path or _places()[0])
     except OSError as error:
-        hint = "`tools/rmm-library` builds the library, and RMM_LIBRARY can name its path"
+        hint = "`make c-library` builds the library, and RMM_LIBRARY can name its path"
         raise OSError(f"{error} ({hint})") from None
     for name, (result, *given) in _FUNCTIONS.items():
         function = getattr(library, f"rmm_{name}")
@@ -313,6 +333,13 @@ def _number(it):
     if not 0 <= it <= MOST:
         raise OverflowError(f"no register of 64 bits holds {it}")
     return it
+
+
+def _registers(given):
+    """The registers of a call; those that are not given are 0."""
+    if len(given) > 7:
+        raise TypeError("a call has the registers X0 to X6")
+    return _Registers(*map(_number, given))
 
 
 def _settings(given):
@@ -376,23 +403,37 @@ class Rmm:
 
     def smc(self, *registers):
         """X0 to X4 after a call with these registers; those that are not given are 0."""
-        if len(registers) > 7:
-            raise TypeError("a call has the registers X0 to X6")
-        asked = [*map(_number, registers), *[0] * (7 - len(registers))]
-        it = _Registers(*asked)
+        it = _registers(registers)
+        rec, run = it.x1, it.x2
         self._call("smc", ctypes.byref(it))
         if it.x0 == RUNNING:
             # (the run page of an entry that has not come back)
-            self._runs[asked[1]] = asked[2]
+            self._runs[rec] = run
         return [it.x0, it.x1, it.x2, it.x3, it.x4]
+
+    def deciding_check(self, *registers):
+        """The name of the check that decides a call, on the machine as it is; None if no check fails."""
+        number = self._call("deciding_check", ctypes.byref(_registers(registers)))
+        return CHECKS[number - 1] if number else None
+
+    def is_allowed(self, word, *registers):
+        """Whether an RMM may answer a call with a word, on the machine as it is."""
+        return self._call("is_allowed", ctypes.byref(_registers(registers)), _number(word))
+
+    def allowed(self, *registers):
+        """The words that an RMM may answer a call with, on the machine as it is."""
+        words = (0,) if self.is_allowed(0, *registers) else (*REFUSALS, NOT_SUPPORTED)
+        return tuple(word for word in words if self.is_allowed(word, *registers))
 
     def command(self, name, *operands):
         """The answer of a command, by its name as rtt_create."""
         number, taken, outputs = COMMANDS[name]
         if len(operands) != len(taken):
             raise TypeError(f"{name} takes {', '.join(taken)}")
-        word, *values = self.smc(FIRST_FID + number, *operands)
-        answer = Answer(word, zip(outputs, values))
+        registers = FIRST_FID + number, *operands
+        check, allowed = self.deciding_check(*registers), self.allowed(*registers)
+        word, *values = self.smc(*registers)
+        answer = Answer(word, zip(outputs, values), check=check, allowed=allowed)
         if name == "rec_enter" and word == 0:
             answer.exit = self._exit(operands[1])
         if self.raises and word not in (0, RUNNING):

@@ -1,4 +1,4 @@
-/* Closed handles, settings out of their range, two machines at once, and accesses that a host may not make.
+/* Closed handles, settings out of their range, two machines at once, accesses that a host may not make, and judgements.
  * The last line is `N checks passed`. */
 #include "life.h"
 
@@ -31,6 +31,8 @@ static bool closed(void)
     uint8_t byte = 5;
     rmm_smc(&handle, &registers);
     CHECKED(registers.x0 == RMM_NOT_SUPPORTED && registers.x1 == 1 && registers.x4 == 4 && registers.x6 == 6);
+    CHECKED(rmm_deciding_check(&handle, &registers) == 0 && rmm_is_allowed(&handle, &registers, RMM_NOT_SUPPORTED));
+    CHECKED(!rmm_is_allowed(&handle, &registers, RMM_SUCCESS) && !rmm_is_allowed(&handle, &registers, RMM_ERROR_INPUT));
     CHECKED(!rmm_load(&handle, RD, &byte, 1) && byte == 5 && !rmm_store(&handle, RD, &byte, 1));
     CHECKED(rmm_guest(&handle, REC, &step) == RMM_NO_REC);
     CHECKED(!rmm_interrupt(&handle, REC, &word) && word == 3);
@@ -153,6 +155,31 @@ static bool guests(void)
     return true;
 }
 
+/* RMI_DATA_CREATE in an ACTIVE realm, of a source that is DELEGATED. RMM 1.0 orders neither check after the other. */
+static bool judgements(void)
+{
+    const uint64_t page = 0x80006000, source = 0x80007000;
+    rmm_registers asked = {RMM_FID_DATA_CREATE, RD, page, 0x1000, source, 0, 0}, other = {0xC4000156, 1, 2, 3, 4, 5, 6};
+    rmm_handle handle = RMM_CLOSED;
+    CHECKED(opened(&handle, PAGE_COUNT) == RMM_OPENED && make_realm(&handle, 1, 3) && delegated(&handle, page, 2));
+    CHECKED(rmm_realm_activate(&handle, RD) == RMM_SUCCESS);
+    CHECKED(rmm_deciding_check(&handle, &asked) == RMM_CHECK_SRC_PAS && asked.x0 == RMM_FID_DATA_CREATE);
+    CHECKED(rmm_is_allowed(&handle, &asked, RMM_ERROR_INPUT) && rmm_is_allowed(&handle, &asked, RMM_ERROR_REALM));
+    CHECKED(!rmm_is_allowed(&handle, &asked, RMM_SUCCESS) && !rmm_is_allowed(&handle, &asked, RMM_ERROR_RTT | 3 << 8));
+    CHECKED(!rmm_is_allowed(&handle, &asked, RMM_ERROR_REALM | 1 << 8) && !rmm_is_allowed(&handle, &asked, UINT64_MAX));
+    CHECKED(rmm_checked_smc(&handle, &asked) == RMM_CHECK_SRC_PAS && asked.x0 == RMM_ERROR_INPUT);
+    CHECKED(rmm_granule_undelegate(&handle, source) == RMM_SUCCESS);
+    asked.x0 = RMM_FID_DATA_CREATE;
+    CHECKED(rmm_deciding_check(&handle, &asked) == RMM_CHECK_REALM_STATE);
+    CHECKED(rmm_is_allowed(&handle, &asked, RMM_ERROR_REALM) && !rmm_is_allowed(&handle, &asked, RMM_ERROR_INPUT));
+    CHECKED(rmm_deciding_check(&handle, &other) == 0 && rmm_is_allowed(&handle, &other, RMM_NOT_SUPPORTED));
+    CHECKED(!rmm_is_allowed(&handle, &other, RMM_SUCCESS));
+    CHECKED(strcmp(rmm_check_name(RMM_CHECK_SRC_PAS), "src_pas") == 0 && strcmp(rmm_check_name(76), "status") == 0);
+    CHECKED(strcmp(rmm_check_name(0), "?") == 0 && strcmp(rmm_check_name(77), "?") == 0);
+    rmm_close(&handle);
+    return true;
+}
+
 /* The first RIM of a realm with 33 bits: by hand, SHA-256 of RmiRealmParams with nothing but s2sz. */
 static bool measurement(void)
 {
@@ -178,7 +205,8 @@ static bool measurement(void)
 
 int main(void)
 {
-    if (!closed() || !settings() || !two_machines() || !accesses() || !guests() || !measurement())
+    if (!closed() || !settings() || !two_machines() || !accesses() || !guests() || !judgements() ||
+        !measurement())
         return 1;
     printf("%u checks passed\n", passed);
     return 0;

@@ -77,6 +77,25 @@ static void smc(rmm_handle *handle)
            registers.x3, registers.x4);
 }
 
+static void print_if_allowed(rmm_handle *handle, const rmm_registers *registers, uint64_t word)
+{
+    if (rmm_is_allowed(handle, registers, word))
+        printf(" %" PRIx64, word);
+}
+
+/* The name of the check that decides a call, or `-`, and the words that are allowed, of all statuses with some indices. */
+static void judge(rmm_handle *handle)
+{
+    rmm_registers registers = {n[0], n[1], n[2], n[3], n[4], n[5], n[6]};
+    uint64_t check = rmm_deciding_check(handle, &registers);
+    printf("%s", check == 0 ? "-" : rmm_check_name(check));
+    for (uint64_t index = 0; index < 6; index++)
+        for (uint64_t status = 0; status < 6; status++)
+            print_if_allowed(handle, &registers, index << 8 | status);
+    print_if_allowed(handle, &registers, RMM_RUNNING);
+    print_if_allowed(handle, &registers, RMM_NOT_SUPPORTED);
+}
+
 static void put(rmm_handle *handle, const uint8_t *bytes, size_t size)
 {
     printf("%s", rmm_store(handle, n[0], bytes, size) ? "done" : "fault");
@@ -204,6 +223,7 @@ static const struct operation {
 } operations[] = {
     {"smc", smc},     {"fill", fill}, {"store", store}, {"load", load},   {"guest", guest}, {"interrupt", interrupt},
     {"state", state}, {"sum", sum},   {"realm", realm}, {"rim", rim},     {"rec", rec},     {"saw", saw},
+    {"judge", judge},
 };
 
 int main(void)

@@ -93,13 +93,17 @@ def rec(rmm, address):
     return f"{digits(flags[0])} - {digits(it.mpidr, *flags[1:], *words)}"
 
 
+def judge(rmm, *registers):
+    return " ".join([rmm.deciding_check(*registers) or "-", *(digits(it) for it in rmm.allowed(*registers))])
+
+
 # Each operation on numbers.
 OPERATIONS = {
     "smc": lambda rmm, *registers: digits(*rmm.smc(*registers)),
     "fill": lambda rmm, address, byte: done(rmm.store(address, bytes([byte]) * 4096)),
     "load": lambda rmm, address, count: content(rmm.load(address, count)),
     "guest": guest, "interrupt": interrupt, "saw": saw, "state": state, "sum": sum_of, "realm": realm, "rim": rim,
-    "rec": rec,
+    "rec": rec, "judge": judge,
 }
 
 

@@ -40,7 +40,7 @@ def made(rmm):
 def of_text():
     """The example of the module's text has the values beside it."""
     lines = [it.strip() for it in module.__doc__.splitlines() if it.startswith("        rmm.")]
-    assert len(lines) == 5
+    assert len(lines) == 6
     with Rmm(granules=2048, base=0x80000000, aux=2) as rmm:
         for line in lines:
             code, _, wanted = line.partition("  #")
@@ -83,6 +83,15 @@ def of_values():
         assert rmm.load(RD, 1) is None and rmm.store(RD, b"1") is False and rmm.load(PARAMS, 4097) is None
         assert rmm.guest(RD, "wfi") == "no REC" and rmm.results(RD) == []
         raised(AttributeError, lambda: rmm.granule_delegate(RD).top)
+        answer = rmm.granule_delegate(RD)
+        assert (answer.status, answer.index, answer.check, answer.allowed) == (1, 0, "gran_state", (1,))
+        answer = rmm.rtt_create(RD, RD + 1, 0, 3)
+        assert (answer.word, answer.check, answer.allowed) == (1, "rtt_align", (1,))
+        answer = rmm.version(0x10000)
+        assert (answer.check, answer.allowed, answer.lower) == (None, (0,), 0x10000)
+        assert rmm.deciding_check(0xC4000156) is None and rmm.allowed(0xC4000156) == (NOT_SUPPORTED,)
+        assert rmm.is_allowed(1, 0xC4000151, RD) is True and rmm.is_allowed(0, 0xC4000151, RD) is False
+        raised(OverflowError, lambda: rmm.deciding_check(2**64))
         raised(TypeError, lambda: rmm.granule_delegate())
         raised(TypeError, lambda: rmm.smc(*range(8)))
     assert Answer(5).name == "?" and Answer(0x204).name == "RMI_ERROR_RTT"

@@ -38,15 +38,17 @@ void __wrap_free(void *block)
     __real_free(block);
 }
 
-/* The life of a realm takes no block, nor does a reading. */
+/* The life of a realm takes no block, nor does a reading or a judgement. */
 static bool takes_none(rmm_handle *handle)
 {
     rmm_realm realm;
     rmm_rec rec;
+    rmm_registers asked = {RMM_FID_GRANULE_DELEGATE, RD, 0, 0, 0, 0, 0};
     uint64_t state = 0;
     long before = taken;
     WANTED(live(handle, 1, 3) && make_realm(handle, 1, 3));
     WANTED(rmm_read_realm(handle, RD, &realm) && rmm_read_rec(handle, REC, &rec) && rmm_read_state(handle, RD, &state));
+    WANTED(rmm_deciding_check(handle, &asked) == RMM_CHECK_GRAN_STATE && rmm_is_allowed(handle, &asked, RMM_ERROR_INPUT));
     WANTED(taken == before);
     return true;
 }

@@ -1,4 +1,5 @@
 pub mod Guest
+pub mod Judging
 pub mod Memory
 pub mod Owned
 pub mod Reading

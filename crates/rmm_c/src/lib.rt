@@ -8,6 +8,7 @@ mod attributes;
 mod guest;
 mod handle;
 mod held;
+mod judging;
 mod memory;
 mod open;
 mod parts;

@@ -21,7 +21,7 @@ pub struct SmcRegisters {
 
 impl SmcRegisters {
     // The registers as the RMM has them.
-    fn call(&self) -> Registers
+    pub(crate) fn call(&self) -> Registers
         ensures { result ≡ call_of self.now }
     {
         Registers {
