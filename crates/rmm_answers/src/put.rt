@@ -1,0 +1,53 @@
+//! Words of an answer, put after one another.
+ghost use Rattle.std.specs.Prelude.{◌≡◌, ◌+◌, ◌<◌, ◌≤◌, length};
+ghost use Rattle.rmm_answers.specs.Put as words;
+
+use rmm_trace::{Atom, Sentence, output_atom, plain, push_word};
+
+// Puts a word after the others.
+pub(crate) fn put(answer: &mut Sentence, atom: Atom)
+    requires { length answer.old.items < 64 }
+    ensures items { answer.new.items ≡ words.word atom answer.old.items }
+    ensures len { length answer.new.items ≡ length answer.old.items + 1 }
+{
+    push_word(answer, plain(atom), false);
+}
+
+// Puts the first word of a further part after the others.
+#[tactic(auto, using(crate::proofs::Lengths::length_comma))]
+pub(crate) fn put_part(answer: &mut Sentence, atom: Atom)
+    requires { length answer.old.items < 64 }
+    ensures items { answer.new.items ≡ words.part atom answer.old.items }
+    ensures len { length answer.new.items ≡ length answer.old.items + 1 }
+{
+    push_word(answer, plain(atom), true);
+}
+
+// Puts a part: a name.
+pub(crate) fn put_flag(answer: &mut Sentence, name: usize)
+    requires { length answer.old.items < 64 }
+    ensures items { answer.new.items ≡ words.flag name answer.old.items }
+    ensures len { length answer.new.items ≡ length answer.old.items + 1 }
+{
+    put_part(answer, Atom::Name(name));
+}
+
+// Puts a part: a name and its value.
+#[tactic(auto, unfolding(crate::specs::Put::value))]
+pub(crate) fn put_value(answer: &mut Sentence, name: usize, value: Atom)
+    requires { length answer.old.items ≤ 62 }
+    ensures items { answer.new.items ≡ words.value name value answer.old.items }
+    ensures len { length answer.new.items ≡ length answer.old.items + 2 }
+{
+    put_part(answer, Atom::Name(name));
+    put(answer, value);
+}
+
+// Puts an output: its name and its value.
+pub(crate) fn put_output(answer: &mut Sentence, name: usize, value: u64)
+    requires { length answer.old.items ≤ 62 }
+    ensures items { answer.new.items ≡ words.output name value answer.old.items }
+    ensures len { length answer.new.items ≡ length answer.old.items + 2 }
+{
+    put_value(answer, name, output_atom(name, value));
+}
