@@ -1,1 +1,3 @@
 pub mod Lengths
+pub mod Rows
+pub mod Rounds

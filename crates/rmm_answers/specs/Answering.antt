@@ -8,7 +8,7 @@ use Rattle.rmm_trace.specs.declared.word.Atom.{Atom}
 use Rattle.rmm_trace.specs.declared.word.Atom.TheVariants.{Decimal}
 use Rattle.rmm_trace.specs.declared.word.TraceWord.{TraceWord}
 use Rattle.rmm_trace.specs.Access.{operand_at}
-use Rattle.rmm_trace.specs.Compare.{first_of, place_of, rest_of}
+use Rattle.rmm_trace.specs.Compare.{rest_of}
 use Rattle.rmm_answers.specs.declared.page.TheConstants.{REALM_FIELDS, RUN_FIELDS}
 use Rattle.rmm_answers.specs.declared.reply.Reply.{Reply}
 use Rattle.rmm_answers.specs.declared.rounds.LastCall.{LastCall}
@@ -21,10 +21,7 @@ use Rattle.rmm_answers.specs.Put.{◌▷◌, word, value}
 use Rattle.rmm_answers.specs.Reading.{state_atom, sum_atom, realm_at, shown_realm, rim_reply, shown_rec}
 use Rattle.rmm_answers.specs.Replies.{of_words, no_answer, no_command}
 use Rattle.rmm_answers.specs.Rounds.{asked, performed_rounds, filled_rounds}
-
--- the place of the name of a question; that of `-`, which is none, if no name is first
-abbrev pub first_place : List TraceWord → ℕ
-first_place ws = place_of (first_of ws).value
+use Rattle.rmm_answers.specs.Words.{first_place}
 
 -- ---- calls and fills
 

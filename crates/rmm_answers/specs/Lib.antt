@@ -13,3 +13,4 @@ pub mod Put
 pub mod Reading
 pub mod Replies
 pub mod Rounds
+pub mod Words

@@ -1,5 +1,5 @@
 -- Raw calls and their answers by names.
-use Rattle.std.specs.Prelude.{ℕ, zero, suc, ◌==◌, nat_lt, if◌then◌else◌, List, [], ◌∷◌, slice_index, Option, Some, None}
+use Rattle.std.specs.Prelude.{ℕ, zero, suc, ◌==◌, nat_lt, if◌then◌else◌, List, [], ◌∷◌, slice_index, slice_index_or, Option, Some, None}
 use Rattle.rmm_trace.specs.declared.place.TheConstants.{PLATFORM, PSCI_DENIED, PSCI_SUCCESS}
 use Rattle.rmm_trace.specs.declared.word.Atom.{Atom}
 use Rattle.rmm_trace.specs.declared.word.Atom.TheVariants.{Name, Decimal, Hexadecimal}
@@ -8,7 +8,7 @@ use Rattle.rmm_trace.specs.Access.{operand_at}
 use Rattle.rmm_trace.specs.Compare.{atom_number, rest_of}
 use Rattle.rmm_answers.specs.declared.naming.OperandForm.{OperandForm}
 use Rattle.rmm_answers.specs.declared.naming.OperandForm.TheVariants.{Absent, Decimal as InDecimal, Hexadecimal as InHexadecimal, Psci}
-use Rattle.rmm_answers.specs.declared.naming.TheConstants.{OPERANDS}
+use Rattle.rmm_answers.specs.declared.naming.TheConstants.{OPERANDS, NO_OPERANDS}
 use Rattle.rmm_answers.specs.Outputs.{command_place, outputs_of, returned, status}
 use Rattle.rmm_answers.specs.Put.{◌▷◌, word}
 
@@ -28,10 +28,10 @@ in_form Psci v ws = word (psci_atom v) ws
 -- the call of a command, with its operands from the second word on
 unfoldable pub named_call : ℕ → List TraceWord → List TraceWord
 named_call place ws =
-    let forms = slice_index OPERANDS place in
-    [] ▷ word (Name place) ▷ in_form (slice_index forms 0) (operand_at ws 1 0) ▷ in_form (slice_index forms 1) (operand_at ws 2 0)
-    ▷ in_form (slice_index forms 2) (operand_at ws 3 0) ▷ in_form (slice_index forms 3) (operand_at ws 4 0)
-    ▷ in_form (slice_index forms 4) (operand_at ws 5 0)
+    let forms = slice_index_or OPERANDS place NO_OPERANDS in
+    [] ▷ word (Name place) ▷ in_form (slice_index_or forms 0 Absent) (operand_at ws 1 0) ▷ in_form (slice_index_or forms 1 Absent) (operand_at ws 2 0)
+    ▷ in_form (slice_index_or forms 2 Absent) (operand_at ws 3 0) ▷ in_form (slice_index_or forms 3 Absent) (operand_at ws 4 0)
+    ▷ in_form (slice_index_or forms 4 Absent) (operand_at ws 5 0)
 
 -- The named call of a raw one; none comes for a function that is no command.
 unfoldable pub named_question : List TraceWord → Option (List TraceWord)

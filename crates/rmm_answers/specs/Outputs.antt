@@ -1,5 +1,5 @@
 -- The outputs of commands by name. RMM 1.0, RMI commands: outputs.
-use Rattle.std.specs.Prelude.{ℕ, zero, ◌%◌, ◌==◌, nat_lt, Bool, false, ◌&&◌, ◌||◌, if◌then◌else◌, List, [], ◌∷◌, slice_index, Option, Some, None, unwrap_or}
+use Rattle.std.specs.Prelude.{ℕ, ◌%◌, ◌==◌, Bool, false, ◌&&◌, ◌||◌, if◌then◌else◌, List, slice_index, slice_index_or, Option, Some, None, unwrap_or}
 use Rattle.std.specs.List.{position_from}
 use Rattle.rmi_abi.specs.declared.registers.Registers.{Registers}
 use Rattle.rmm_trace.specs.declared.access.TheConstants.{FUNCTIONS}
@@ -8,13 +8,13 @@ use Rattle.rmm_trace.specs.declared.word.Atom.{Atom}
 use Rattle.rmm_trace.specs.declared.word.Atom.TheVariants.{Hexadecimal}
 use Rattle.rmm_trace.specs.declared.word.TraceWord.{TraceWord}
 use Rattle.rmm_trace.specs.Answers.{status_of, index_of}
-use Rattle.rmm_answers.specs.declared.outputs.TheConstants.{OUTPUTS, NO_OUTPUT}
+use Rattle.rmm_answers.specs.declared.outputs.TheConstants.{OUTPUTS, NO_OUTPUT, NO_OUTPUTS}
 use Rattle.rmm_answers.specs.declared.place.TheConstants.{TOP}
 use Rattle.rmm_answers.specs.Put.{◌▷◌, word, output}
 
--- the names of the outputs X1 to X4 of a command
+-- the names of the outputs X1 to X4 of a command; none for a place that is no command's
 unfoldable pub outputs_of : ℕ → List ℕ
-outputs_of place = if nat_lt place PLATFORM then slice_index OUTPUTS place else NO_OUTPUT ∷ NO_OUTPUT ∷ NO_OUTPUT ∷ NO_OUTPUT ∷ []
+outputs_of place = slice_index_or OUTPUTS place NO_OUTPUTS
 
 -- the place of the command of a function; that after the last command for any other number
 unfoldable pub command_place : ℕ → ℕ

@@ -14,38 +14,15 @@ use crate::put::{put, put_value};
 use crate::reading::{answer_realm, answer_rec, answer_rim, state_atom, sum_atom};
 use crate::reply::Reply;
 use crate::rounds::{fill_rounds, perform_rounds};
+use crate::words::{first_place, rest};
 use page_arena::PageStore;
 use rmm::Rmm;
 use rmm_checks::EvaluatedChecks;
 use rmm_trace::place::{
-    AFTER, DASH, FILL, GUEST, INTERRUPT, LOAD, PLATFORM, REALM, REALM_PARAMS, REC, REC_PARAMS,
+    AFTER, FILL, GUEST, INTERRUPT, LOAD, PLATFORM, REALM, REALM_PARAMS, REC, REC_PARAMS,
     REC_RUN, REPEAT, RIM, SAW, SMC, STATE, STORE, SUM,
 };
 use rmm_trace::{Atom, Sentence, TraceWord, operand};
-
-// The place of the name of a question; that of `-`, which is none, if no name is first.
-pub(crate) fn first_place(words: &[TraceWord]) -> usize
-    ensures { result ≡ specs.first_place words.now }
-{
-    match words {
-        [] => DASH,
-        [first, ..] => match first.value {
-            Atom::Name(place) => place,
-            Atom::Decimal(_) => DASH,
-            Atom::Hexadecimal(_) => DASH,
-        },
-    }
-}
-
-// The words after the first one.
-pub(crate) fn rest(words: &[TraceWord]) -> &[TraceWord]
-    ensures { result.now ≡ rest_of words.now }
-{
-    match words {
-        [] => words,
-        [_, rest @ ..] => rest,
-    }
-}
 
 // Puts whether fills are done, and how many were before one that faults, if any.
 fn put_fill(answer: &mut Sentence, round: u64, is_done: bool)

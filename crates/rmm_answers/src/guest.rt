@@ -4,15 +4,15 @@ ghost use Rattle.std.specs.List.{position_from};
 ghost use Rattle.rmm_answers.specs.Guest as guests;
 ghost use Rattle.rmm_answers.specs.Replies.{of_words, no_answer};
 
-use crate::answering::rest;
 use crate::exit::put_exit;
 use crate::outputs::put_status;
 use crate::place::{
     ACCEPTED, DONE, FULL, IS_RUNNING, NO, NOT, NOTHING, PSCI_RESULT, QUEUED, REC_STATE, REJECTED,
     RETURNED, RSI_ERROR_INPUT, SEA,
 };
-use crate::put::put;
+use crate::put::{put, put_listed};
 use crate::reply::Reply;
+use crate::words::rest;
 use page_arena::PageStore;
 use rmm::Rmm;
 use rmm_model::{Queued, RmmRec, StepWords};
@@ -20,7 +20,7 @@ use rmm_trace::place::{
     AFFINITY_INFO, CPU_OFF, CPU_ON, CPU_SUSPEND, FETCH, HOST_CALL, NONE, PSCI_DENIED, PSCI_SUCCESS,
     READ, SET_RIPAS, SPIN, SYSREG, SYSTEM_OFF, SYSTEM_RESET, WFE, WFI, WRITE,
 };
-use rmm_trace::{Atom, Sentence, TraceWord, operand, plain, push_word};
+use rmm_trace::{Atom, Sentence, TraceWord, operand};
 
 /// The steps of a guest by the numbers of their kinds.
 pub const STEPS: [usize; 15] = [
@@ -219,13 +219,13 @@ fn result_atom(kind: u64, value: u64) -> Atom
 }
 
 // Puts a result, which is the first or a further one.
-#[tactic(auto, unfolding(crate::specs::Guest::result), using(crate::proofs::Lengths::length_listed))]
+#[tactic(auto, unfolding(crate::specs::Guest::result))]
 fn put_result(answer: &mut Sentence, is_further: bool, kind: u64, value: u64)
     requires { length answer.old.items ≤ 62 }
     ensures items { answer.new.items ≡ guests.result is_further kind value answer.old.items }
     ensures len { length answer.new.items ≤ length answer.old.items + 2 }
 {
-    push_word(answer, plain(Atom::Name(result_name(kind))), is_further);
+    put_listed(answer, is_further, Atom::Name(result_name(kind)));
     if has_value(kind) {
         put(answer, result_atom(kind, value));
     }

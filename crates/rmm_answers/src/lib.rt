@@ -13,7 +13,9 @@
 //! | `guest` | steps of guests, the end of their runs, and their results |
 //! | `reading` | readings that no host has |
 //! | `reply`, `put`, `place` | answers, the words that they are made of, and the places of their names |
+//! | `words` | the words of a question |
 //! | `judging` | the verdict on an answer that is written |
+//! | `law` | theorems: names of places, tables by name, and refusals that change nothing |
 //! | `naming` | raw calls and their answers by names |
 //!
 //! A fresh machine takes memory, and no other question does.
@@ -24,6 +26,7 @@ mod call;
 mod exit;
 mod guest;
 mod judging;
+pub mod law;
 mod machine;
 mod memory;
 mod naming;
@@ -35,6 +38,7 @@ mod put;
 mod reading;
 mod reply;
 mod rounds;
+mod words;
 
 pub use answering::{answer_on, checks_on};
 pub use judging::{Verdict, is_allowed, judge};

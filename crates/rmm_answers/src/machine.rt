@@ -3,9 +3,10 @@ ghost use Rattle.std.specs.Prelude.{◌≡◌, None, OnOk, OnErr, option_and_the
 ghost use Rattle.rmm_answers.specs.Answering as specs;
 ghost use Rattle.rmm_answers.specs.Platform.{opened};
 
-use crate::answering::{answer_on, checks_on, first_place, rest};
+use crate::answering::{answer_on, checks_on};
 use crate::platform::open;
 use crate::reply::Reply;
+use crate::words::{first_place, rest};
 use page_arena::PlainStore;
 use rmm::Rmm;
 use rmm_checks::EvaluatedChecks;

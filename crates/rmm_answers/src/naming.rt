@@ -1,10 +1,10 @@
 //! Raw calls and their answers by names.
-ghost use Rattle.std.specs.Prelude.{◌≡◌, ◌+◌, ◌<◌, ◌≤◌, length, [], option_map};
+ghost use Rattle.std.specs.Prelude.{◌≡◌, ◌+◌, ◌<◌, ◌≤◌, length, slice_index_or, option_map};
 ghost use Rattle.rmm_answers.specs.Naming as naming;
 
-use crate::answering::rest;
 use crate::outputs::{command_place, outputs_of, put_returned, put_status};
 use crate::put::put;
+use crate::words::rest;
 use rmm_trace::place::{PLATFORM, PSCI_DENIED, PSCI_SUCCESS};
 use rmm_trace::{Atom, Sentence, TraceWord, atom_number, operand};
 
@@ -79,13 +79,26 @@ fn put_operand(call: &mut Sentence, form: OperandForm, number: u64)
     }
 }
 
+/// No operands.
+pub const NO_OPERANDS: [OperandForm; 5] = [Absent, Absent, Absent, Absent, Absent];
+
+// The forms of the operands in a row; none past the last row.
+fn row_at(rows: &[[OperandForm; 5]], place: usize) -> [OperandForm; 5]
+    ensures { result ≡ slice_index_or rows.now place NO_OPERANDS }
+{
+    if place < rows.len() {
+        rows[place]
+    } else {
+        NO_OPERANDS
+    }
+}
+
 // The named call of a command, with its operands from the second word on.
 #[tactic(auto, unfolding(crate::specs::Naming::named_call))]
 fn named_call(place: usize, words: &[TraceWord]) -> Sentence
-    requires { place < 23 }
     ensures { result.items ≡ naming.named_call place words.now }
 {
-    let forms = OPERANDS[place];
+    let forms = row_at(&OPERANDS, place);
     let mut call = Sentence::new();
     put(&mut call, Atom::Name(place));
     put_operand(&mut call, forms[0], operand(words, 1, 0));

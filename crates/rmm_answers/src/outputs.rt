@@ -1,5 +1,5 @@
 //! The outputs of commands by name.
-ghost use Rattle.std.specs.Prelude.{◌≡◌, ◌==◌, ◌+◌, ◌<◌, ◌≤◌, length};
+ghost use Rattle.std.specs.Prelude.{◌≡◌, ◌==◌, ◌+◌, ◌<◌, ◌≤◌, length, slice_index_or};
 ghost use Rattle.std.specs.List.{position_from};
 ghost use Rattle.rmm_answers.specs.Outputs as specs;
 
@@ -47,16 +47,26 @@ pub const OUTPUTS: [[usize; 4]; 23] = [
     [0, 0, 0, 0],
 ];
 
+// No outputs.
+pub const NO_OUTPUTS: [usize; 4] = [0, 0, 0, 0];
+
+// The names of the outputs in a row; none past the last row.
+fn row_at(rows: &[[usize; 4]], place: usize) -> [usize; 4]
+    ensures { result ≡ slice_index_or rows.now place NO_OUTPUTS }
+{
+    if place < rows.len() {
+        rows[place]
+    } else {
+        NO_OUTPUTS
+    }
+}
+
 // The names of the outputs of a command; none for a place that is no command's.
 #[tactic(auto, unfolding(crate::specs::Outputs::outputs_of))]
 pub(crate) fn outputs_of(place: usize) -> [usize; 4]
     ensures { result ≡ specs.outputs_of place }
 {
-    if place < PLATFORM {
-        OUTPUTS[place]
-    } else {
-        [NO_OUTPUT, NO_OUTPUT, NO_OUTPUT, NO_OUTPUT]
-    }
+    row_at(&OUTPUTS, place)
 }
 
 // The place of a function identifier among some.

@@ -4,7 +4,7 @@ ghost use Rattle.rmm_model.specs.Host.{can_fill};
 ghost use Rattle.rmm_trace.specs.Access.{operand_at};
 ghost use Rattle.rmm_answers.specs.Page as pages;
 
-use crate::answering::rest;
+use crate::words::rest;
 use page_arena::PageStore;
 use rmm::Rmm;
 use rmm_trace::place::{

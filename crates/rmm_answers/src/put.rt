@@ -1,8 +1,18 @@
 //! Words of an answer, put after one another.
 ghost use Rattle.std.specs.Prelude.{◌≡◌, ◌+◌, ◌<◌, ◌≤◌, length};
+ghost use Rattle.rmm_trace.specs.Answers.{listed};
 ghost use Rattle.rmm_answers.specs.Put as words;
 
 use rmm_trace::{Atom, Sentence, output_atom, plain, push_word};
+
+// Puts a word after the others, with a comma before it if it is the first of a further part.
+pub(crate) fn put_listed(answer: &mut Sentence, is_part: bool, atom: Atom)
+    requires { length answer.old.items < 64 }
+    ensures items { answer.new.items ≡ words.word atom (listed is_part answer.old.items) }
+    ensures len { length answer.new.items ≡ length answer.old.items + 1 }
+{
+    push_word(answer, plain(atom), is_part);
+}
 
 // Puts a word after the others.
 pub(crate) fn put(answer: &mut Sentence, atom: Atom)
@@ -10,17 +20,16 @@ pub(crate) fn put(answer: &mut Sentence, atom: Atom)
     ensures items { answer.new.items ≡ words.word atom answer.old.items }
     ensures len { length answer.new.items ≡ length answer.old.items + 1 }
 {
-    push_word(answer, plain(atom), false);
+    put_listed(answer, false, atom);
 }
 
 // Puts the first word of a further part after the others.
-#[tactic(auto, using(crate::proofs::Lengths::length_comma))]
 pub(crate) fn put_part(answer: &mut Sentence, atom: Atom)
     requires { length answer.old.items < 64 }
     ensures items { answer.new.items ≡ words.part atom answer.old.items }
     ensures len { length answer.new.items ≡ length answer.old.items + 1 }
 {
-    push_word(answer, plain(atom), true);
+    put_listed(answer, true, atom);
 }
 
 // Puts a part: a name.

@@ -1,5 +1,5 @@
 //! Answers to readings, which no host has.
-ghost use Rattle.std.specs.Prelude.{◌≡◌, ◌+◌, ◌<◌, ◌≤◌, length, []};
+ghost use Rattle.std.specs.Prelude.{◌≡◌, ◌+◌, ◌<◌, ◌≤◌, length, take, []};
 ghost use Rattle.std.specs.List.{sum};
 ghost use Rattle.rmm_model.specs.Command.PsciComplete as completion;
 ghost use Rattle.rmm_model.specs.Host.{state_shown};
@@ -160,16 +160,22 @@ pub(crate) fn answer_realm<S: PageStore>(answer: &mut Sentence, rmm: &Rmm<S>, ad
     }
 }
 
+// The first 32 of 64 bytes.
+fn first_half(bytes: &[u8]) -> [u8; 32]
+    requires { length bytes.now ≡ 64 }
+    ensures { result ≡ take 32 bytes.now }
+{
+    let mut half = [0; 32];
+    half.copy_from_slice(&bytes[..32]);
+    half
+}
+
 // The digest of a measurement by an algorithm. A digest of 32 bytes has zeros after it.
 fn digest_of(hash: HashAlgorithm, rim: [u8; 64]) -> Digest
     ensures { result ≡ readings.digest_of hash rim }
 {
     match hash {
-        HashAlgorithm::Sha256 => {
-            let mut digest = [0; 32];
-            digest.copy_from_slice(&rim[..32]);
-            Digest::Sha256(digest)
-        }
+        HashAlgorithm::Sha256 => Digest::Sha256(first_half(&rim)),
         HashAlgorithm::Sha512 => Digest::Sha512(rim),
     }
 }
