@@ -1,3 +1,3 @@
 pub mod Lengths
 pub mod Rows
-pub mod Rounds
+pub mod MoreRounds

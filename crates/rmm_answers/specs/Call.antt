@@ -12,11 +12,11 @@ use Rattle.rmm_model.specs.Machine.{Machine}
 use Rattle.rmm_trace.specs.declared.place.TheConstants.{AFTER, RMI_REC_ENTER}
 use Rattle.rmm_trace.specs.declared.word.Atom.TheVariants.{Name, Decimal}
 use Rattle.rmm_trace.specs.declared.word.TraceWord.{TraceWord}
-use Rattle.rmm_answers.specs.declared.reply.Reply.{Reply}
+use Rattle.rmm_answers.specs.declared.reply.TraceReply.{TraceReply}
 use Rattle.rmm_answers.specs.declared.rounds.LastCall.{LastCall}
-use Rattle.rmm_answers.specs.Exit.{exit}
-use Rattle.rmm_answers.specs.Outputs.{command_place, status, outputs, registers}
-use Rattle.rmm_answers.specs.Put.{◌▷◌, word, value}
+use Rattle.rmm_answers.specs.Exit.{put_exit}
+use Rattle.rmm_answers.specs.Outputs.{command_place, put_status, put_outputs, put_registers}
+use Rattle.rmm_answers.specs.Put.{◌▷◌, put_word, put_value}
 
 -- ---- refusals
 
@@ -34,38 +34,38 @@ deciding r m = option_and_then (λ call. option_map (λ refusal. refusal.conditi
 
 -- ---- words
 
-abbrev pub check_name : Option Condition → List TraceWord → List TraceWord
-check_name (Some condition) ws = word (Name (179 + condition_number condition)) ws
-check_name None ws = ws
+abbrev pub put_check_name : Option Condition → List TraceWord → List TraceWord
+put_check_name (Some condition) ws = put_word (Name (179 + condition_number condition)) ws
+put_check_name None ws = ws
 
 -- the check that decides, on the machine of the refused call, which no refusal changes
-unfoldable pub check : Registers → Machine → ℕ → List TraceWord → List TraceWord
-check r m x0 ws = if is_refused x0 then check_name (deciding r m) ws else ws
+unfoldable pub put_check : Registers → Machine → ℕ → List TraceWord → List TraceWord
+put_check r m x0 ws = if is_refused x0 then put_check_name (deciding r m) ws else ws
 
 -- how many rounds are before a refused one, if there are any
-unfoldable pub after : ℕ → ℕ → List TraceWord → List TraceWord
-after x0 round ws = if not (x0 == 0) && not (round == 0) then value AFTER (Decimal round) ws else ws
+unfoldable pub put_after : ℕ → ℕ → List TraceWord → List TraceWord
+put_after x0 round ws = if not (x0 == 0) && not (round == 0) then put_value AFTER (Decimal round) ws else ws
 
 -- the exit of a REC that has left
-unfoldable pub exit_of : ℕ → ℕ → ℕ → Machine → List TraceWord → List TraceWord
-exit_of place x0 run m ws = if place == RMI_REC_ENTER && x0 == 0 then exit m run ws else ws
+unfoldable pub put_exit_of : ℕ → ℕ → ℕ → Machine → List TraceWord → List TraceWord
+put_exit_of place x0 run m ws = if place == RMI_REC_ENTER && x0 == 0 then put_exit m run ws else ws
 
 -- the round of a call that is refused
 abbrev pub refused_round : LastCall → Option ℕ
 refused_round it = if is_refused it.after.x0 then Some it.round else None
 
 -- The answer to a call by the names of its outputs: the last of its rounds, the registers of that round, and the machine after it.
-unfoldable pub call_reply : ℕ → Registers → LastCall → Machine → Reply
+unfoldable pub call_reply : ℕ → Registers → LastCall → Machine → TraceReply
 call_reply place r it m = record {
-  words = record { items = [] ▷ status it.after.x0 ▷ outputs place it.after ▷ exit_of place it.after.x0 r.x2 m ▷ check r m it.after.x0 ▷ after it.after.x0 it.round };
+  words = record { items = [] ▷ put_status it.after.x0 ▷ put_outputs place it.after ▷ put_exit_of place it.after.x0 r.x2 m ▷ put_check r m it.after.x0 ▷ put_after it.after.x0 it.round };
   rim = None;
   refused = refused_round it;
 }
 
 -- the answer to a raw call by its registers
-unfoldable pub raw_reply : Registers → LastCall → Reply
+unfoldable pub raw_reply : Registers → LastCall → TraceReply
 raw_reply r it = record {
-  words = record { items = [] ▷ registers (command_place r.x0) it.after };
+  words = record { items = [] ▷ put_registers (command_place r.x0) it.after };
   rim = None;
   refused = refused_round it;
 }

@@ -21,10 +21,10 @@ use Rattle.rmm_trace.specs.Access.{operand_at}
 use Rattle.rmm_trace.specs.Answers.{plain, listed}
 use Rattle.rmm_answers.specs.declared.guest.TheConstants.{STEPS}
 use Rattle.rmm_answers.specs.declared.place.TheConstants.{ACCEPTED, DONE, FULL, IS_RUNNING, NO, NOT, NOTHING, PSCI_RESULT, QUEUED, REC_STATE, REJECTED, RETURNED, RSI_ERROR_INPUT, SEA}
-use Rattle.rmm_answers.specs.declared.reply.Reply.{Reply}
-use Rattle.rmm_answers.specs.Exit.{exit}
-use Rattle.rmm_answers.specs.Outputs.{status}
-use Rattle.rmm_answers.specs.Put.{◌▷◌, word}
+use Rattle.rmm_answers.specs.declared.reply.TraceReply.{TraceReply}
+use Rattle.rmm_answers.specs.Exit.{put_exit}
+use Rattle.rmm_answers.specs.Outputs.{put_status}
+use Rattle.rmm_answers.specs.Put.{◌▷◌, put_word}
 use Rattle.rmm_answers.specs.Replies.{of_words, no_command}
 
 -- ---- steps
@@ -50,24 +50,24 @@ step_in [] = None
 step_in (w ∷ ws) = named_step w.value ws
 
 abbrev pub queued_words : Queued → List TraceWord
-queued_words IsQueued = [] ▷ word (Name QUEUED)
-queued_words Full = [] ▷ word (Name FULL)
-queued_words NoRec = [] ▷ word (Name NO) ▷ word (Name REC_STATE)
+queued_words IsQueued = [] ▷ put_word (Name QUEUED)
+queued_words Full = [] ▷ put_word (Name FULL)
+queued_words NoRec = [] ▷ put_word (Name NO) ▷ put_word (Name REC_STATE)
 
-abbrev pub stepped : ℕ → Option StepWords → Machine → Reply × Machine
+abbrev pub stepped : ℕ → Option StepWords → Machine → TraceReply × Machine
 stepped rec (Some step) m = (of_words (queued_words (queued m rec step).0), (queued m rec step).1)
 stepped rec None m = (no_command, m)
 
 -- The answer to a step of a guest, and the machine after it: `REC STEP OPERAND ..`.
-unfoldable pub guest_answered : List TraceWord → Machine → Reply × Machine
+unfoldable pub guest_answered : List TraceWord → Machine → TraceReply × Machine
 guest_answered [] m = (no_command, m)
 guest_answered (rec ∷ ws) m = stepped (operand_at (rec ∷ ws) 0 0) (step_in ws) m
 
 -- ---- the end of a run
 
 -- the attributes of the REC at an address
-abbrev pub rec_at : Machine → ℕ → Option Attributes
-rec_at m address = option_and_then rec_of (state_shown m address)
+abbrev pub rec_named : Machine → ℕ → Option Attributes
+rec_named m address = option_and_then rec_of (state_shown m address)
 
 -- the address of the run page of a REC; 0 if there is none
 abbrev pub run_of : Option Attributes → ℕ
@@ -75,16 +75,16 @@ run_of (Some rec) = rec.run
 run_of None = 0
 
 abbrev pub left : ℕ → ℕ → Machine → List TraceWord
-left x0 run m = if x0 == 0 then ([] ▷ status x0 ▷ exit m run) else ([] ▷ status x0)
+left x0 run m = if x0 == 0 then ([] ▷ put_status x0 ▷ put_exit m run) else ([] ▷ put_status x0)
 
 abbrev pub interrupt_words : Option Word → ℕ → Machine → List TraceWord
 interrupt_words (Some w) run m = left (number w) run m
-interrupt_words None run m = [] ▷ word (Name NOT) ▷ word (Name IS_RUNNING)
+interrupt_words None run m = [] ▷ put_word (Name NOT) ▷ put_word (Name IS_RUNNING)
 
 -- The answer to an interrupt of the host's, and the machine after it.
-unfoldable pub interrupt_answered : ℕ → Machine → Reply × Machine
+unfoldable pub interrupt_answered : ℕ → Machine → TraceReply × Machine
 interrupt_answered address m =
-    (of_words (interrupt_words (interrupted m address).0 (run_of (rec_at m address)) (interrupted m address).1), (interrupted m address).1)
+    (of_words (interrupt_words (interrupted m address).0 (run_of (rec_named m address)) (interrupted m address).1), (interrupted m address).1)
 
 -- ---- results
 
@@ -108,25 +108,25 @@ result_atom kind v =
     else (if kind == 6 && v == 0xFFFFFFFFFFFFFFFD then Name PSCI_DENIED else Hexadecimal v)
 
 -- a result, the first or a further one
-unfoldable pub result : Bool → ℕ → ℕ → List TraceWord → List TraceWord
-result is_further kind v ws =
-    let named = listed is_further ws ▷ word (Name (result_name kind)) in
-    if has_value kind then word (result_atom kind v) named else named
+unfoldable pub put_result : Bool → ℕ → ℕ → List TraceWord → List TraceWord
+put_result is_further kind v ws =
+    let named = listed is_further ws ▷ put_word (Name (result_name kind)) in
+    if has_value kind then put_word (result_atom kind v) named else named
 
 abbrev pub result_word : Machine → ℕ → ℕ → ℕ
 result_word m rec i = unwrap_or (word_shown m rec i) 0
 
 -- result k of a REC, after those before it
-abbrev pub result_at : Machine → ℕ → ℕ → List TraceWord → List TraceWord
-result_at m rec k ws = result (nat_lt 0 k) (result_word m rec (128 + 2 * k)) (result_word m rec (128 + 2 * k + 1)) ws
+abbrev pub put_result_at : Machine → ℕ → ℕ → List TraceWord → List TraceWord
+put_result_at m rec k ws = put_result (nat_lt 0 k) (result_word m rec (128 + 2 * k)) (result_word m rec (128 + 2 * k + 1)) ws
 
 -- the first results of a REC
 unfoldable pub results : Machine → ℕ → ℕ → List TraceWord
 results m rec zero = []
-results m rec (suc k) = result_at m rec k (results m rec k)
+results m rec (suc k) = put_result_at m rec k (results m rec k)
 
 -- the results of a REC since its last entry
 unfoldable pub saw_words : Machine → ℕ → Option Attributes → List TraceWord
 saw_words m rec (Some attributes) =
-    if attributes.result_count % 32 == 0 then ([] ▷ word (Name NOTHING)) else results m rec (attributes.result_count % 32)
-saw_words m rec None = [] ▷ word (Name NONE)
+    if attributes.result_count % 32 == 0 then ([] ▷ put_word (Name NOTHING)) else results m rec (attributes.result_count % 32)
+saw_words m rec None = [] ▷ put_word (Name NONE)

@@ -15,7 +15,7 @@ use Rattle.rmm_trace.specs.declared.word.TraceWord.{TraceWord}
 use Rattle.rmm_trace.specs.Sentences.{words_in}
 use Rattle.rmm_answers.specs.declared.judging.Verdict.{Verdict}
 use Rattle.rmm_answers.specs.declared.judging.Verdict.TheVariants.{Same, Allowed, Wrong}
-use Rattle.rmm_answers.specs.declared.reply.Reply.{Reply}
+use Rattle.rmm_answers.specs.declared.reply.TraceReply.{TraceReply}
 use Rattle.rmm_answers.specs.Answering.{refused_checks}
 use Rattle.rmm_answers.specs.Replies.{is_written}
 
@@ -58,14 +58,14 @@ allows_first rows (Decimal x0) ws = not (x0 == 0) && allows_number rows x0
 allows_first rows (Hexadecimal x0) ws = not (x0 == 0) && allows_number rows x0
 
 -- A written answer refuses by a word that the checks allow.
-abbrev pub is_allowed : List TraceWord → List EvaluatedCheck → Bool
-is_allowed [] rows = false
-is_allowed (w ∷ ws) rows = allows_first rows w.value ws
+abbrev pub is_refusal_allowed : List TraceWord → List EvaluatedCheck → Bool
+is_refusal_allowed [] rows = false
+is_refusal_allowed (w ∷ ws) rows = allows_first rows w.value ws
 
 -- ---- verdicts
 
 abbrev pub are_words_allowed : Option (List TraceWord) → List EvaluatedCheck → Bool
-are_words_allowed (Some ws) rows = is_allowed ws rows
+are_words_allowed (Some ws) rows = is_refusal_allowed ws rows
 are_words_allowed None rows = false
 
 abbrev pub is_text_allowed : List ℕ → Option (List EvaluatedCheck) → Bool
@@ -73,7 +73,7 @@ is_text_allowed written (Some rows) = are_words_allowed (words_in 64 (slice_spli
 is_text_allowed written None = false
 
 -- The verdict on a written answer, by our reply and the machine after it: ours, a refusal by another check of the refused call, or wrong.
-unfoldable pub judged : Option Machine → List TraceWord → List ℕ → Reply → Verdict
+unfoldable pub judged : Option Machine → List TraceWord → List ℕ → TraceReply → Verdict
 judged m question written reply =
     if is_written question written reply then Same
     else (if is_text_allowed written (option_and_then (refused_checks question reply) m) then Allowed else Wrong)

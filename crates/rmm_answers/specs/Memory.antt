@@ -5,10 +5,10 @@ use Rattle.rmm_trace.specs.declared.word.Atom.TheVariants.{Name, Hexadecimal}
 use Rattle.rmm_answers.specs.declared.place.TheConstants.{DONE, FAULT}
 
 -- whether the host's access is done
-abbrev pub access : Bool → Atom
-access is_done = Name (if is_done then DONE else FAULT)
+abbrev pub access_atom : Bool → Atom
+access_atom is_done = Name (if is_done then DONE else FAULT)
 
 -- the word that a load returns
-abbrev pub load : Option ℕ → Atom
-load (Some w) = Hexadecimal w
-load None = Name FAULT
+abbrev pub load_atom : Option ℕ → Atom
+load_atom (Some w) = Hexadecimal w
+load_atom None = Name FAULT

@@ -10,7 +10,7 @@ use Rattle.rmm_trace.specs.declared.word.TraceWord.{TraceWord}
 use Rattle.rmm_trace.specs.Answers.{status_of, index_of}
 use Rattle.rmm_answers.specs.declared.outputs.TheConstants.{OUTPUTS, NO_OUTPUT, NO_OUTPUTS}
 use Rattle.rmm_answers.specs.declared.place.TheConstants.{TOP}
-use Rattle.rmm_answers.specs.Put.{◌▷◌, word, output}
+use Rattle.rmm_answers.specs.Put.{◌▷◌, put_word, put_output}
 
 -- the names of the outputs X1 to X4 of a command; none for a place that is no command's
 unfoldable pub outputs_of : ℕ → List ℕ
@@ -30,30 +30,30 @@ is_returned place x0 name =
     if name == NO_OUTPUT then false
     else (x0 == 0 || place == RMI_VERSION || (x0 % 256 == 4 && name == TOP && has_top place))
 
-unfoldable pub returned : ℕ → ℕ → ℕ → ℕ → List TraceWord → List TraceWord
-returned place x0 name v ws = if is_returned place x0 name then output name v ws else ws
+unfoldable pub put_returned : ℕ → ℕ → ℕ → ℕ → List TraceWord → List TraceWord
+put_returned place x0 name v ws = if is_returned place x0 name then put_output name v ws else ws
 
-abbrev pub index : Option Atom → List TraceWord → List TraceWord
-index (Some a) ws = word a ws
-index None ws = ws
+abbrev pub put_index : Option Atom → List TraceWord → List TraceWord
+put_index (Some a) ws = put_word a ws
+put_index None ws = ws
 
 -- the result word of a call, with its index
-unfoldable pub status : ℕ → List TraceWord → List TraceWord
-status x0 ws = ws ▷ word (status_of x0) ▷ index (index_of x0)
+unfoldable pub put_status : ℕ → List TraceWord → List TraceWord
+put_status x0 ws = ws ▷ put_word (status_of x0) ▷ put_index (index_of x0)
 
 -- the outputs that a command returns
-unfoldable pub outputs : ℕ → Registers → List TraceWord → List TraceWord
-outputs place after ws =
+unfoldable pub put_outputs : ℕ → Registers → List TraceWord → List TraceWord
+put_outputs place after ws =
     let names = outputs_of place in
-    ws ▷ returned place after.x0 (slice_index names 0) after.x1 ▷ returned place after.x0 (slice_index names 1) after.x2
-    ▷ returned place after.x0 (slice_index names 2) after.x3 ▷ returned place after.x0 (slice_index names 3) after.x4
+    ws ▷ put_returned place after.x0 (slice_index names 0) after.x1 ▷ put_returned place after.x0 (slice_index names 1) after.x2
+    ▷ put_returned place after.x0 (slice_index names 2) after.x3 ▷ put_returned place after.x0 (slice_index names 3) after.x4
 
-unfoldable pub register : ℕ → ℕ → List TraceWord → List TraceWord
-register name v ws = if name == NO_OUTPUT then ws else word (Hexadecimal v) ws
+unfoldable pub put_register : ℕ → ℕ → List TraceWord → List TraceWord
+put_register name v ws = if name == NO_OUTPUT then ws else put_word (Hexadecimal v) ws
 
 -- X0, and the registers in which a command has an output
-unfoldable pub registers : ℕ → Registers → List TraceWord → List TraceWord
-registers place after ws =
+unfoldable pub put_registers : ℕ → Registers → List TraceWord → List TraceWord
+put_registers place after ws =
     let names = outputs_of place in
-    ws ▷ word (Hexadecimal after.x0) ▷ register (slice_index names 0) after.x1 ▷ register (slice_index names 1) after.x2
-    ▷ register (slice_index names 2) after.x3 ▷ register (slice_index names 3) after.x4
+    ws ▷ put_word (Hexadecimal after.x0) ▷ put_register (slice_index names 0) after.x1 ▷ put_register (slice_index names 1) after.x2
+    ▷ put_register (slice_index names 2) after.x3 ▷ put_register (slice_index names 3) after.x4

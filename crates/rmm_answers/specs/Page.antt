@@ -19,16 +19,16 @@ abbrev pub next_offset : List (ℕ × ℕ) → ℕ → Atom → ℕ
 next_offset fields at (Name name) = offset_in name fields
 next_offset fields at _ = (at + 8) % 2 ^ 64
 
-abbrev pub with_value : Machine → ℕ → Atom → Machine
-with_value m address (Name name) = m
-with_value m address (Decimal n) = after_store m address n
-with_value m address (Hexadecimal n) = after_store m address n
+abbrev pub with_stored : Machine → ℕ → Atom → Machine
+with_stored m address (Name name) = m
+with_stored m address (Decimal n) = after_store m address n
+with_stored m address (Hexadecimal n) = after_store m address n
 
 -- a field's name moves to its offset, and each value is stored there, one after another
 unfoldable pub with_fields : List (ℕ × ℕ) → ℕ → ℕ → List TraceWord → Machine → Machine
 with_fields fields address at [] m = m
 with_fields fields address at (w ∷ ws) m =
-    with_fields fields address (next_offset fields at w.value) ws (with_value m ((address + at) % 2 ^ 64) w.value)
+    with_fields fields address (next_offset fields at w.value) ws (with_stored m ((address + at) % 2 ^ 64) w.value)
 
 -- The machine after a page at an address gets these fields, and else zeros.
 unfoldable pub after_page : List (ℕ × ℕ) → List TraceWord → Machine → Machine

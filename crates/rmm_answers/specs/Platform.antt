@@ -59,5 +59,5 @@ abbrev pub is_opened : List TraceWord → Bool
 is_opened ws = nat_le 1 (operand_at ws 1 0) && nat_le (operand_at ws 1 0) 4096 && is_platform (settings_in ws)
 
 -- The fresh machine of a platform: its granules are UNDELEGATED, and their bytes are 0.
-unfoldable pub opened : List TraceWord → Option Machine
-opened ws = if is_opened ws then Some (platform_machine (settings_in ws) (replicate (operand_at ws 1 0) zero_page)) else None
+unfoldable pub machine_of_platform : List TraceWord → Option Machine
+machine_of_platform ws = if is_opened ws then Some (platform_machine (settings_in ws) (replicate (operand_at ws 1 0) zero_page)) else None

@@ -10,20 +10,20 @@ infixl 10 ◌▷◌
 abbrev pub ◌▷◌ : List TraceWord → (List TraceWord → List TraceWord) → List TraceWord
 ws ▷ f = f ws
 
-abbrev pub word : Atom → List TraceWord → List TraceWord
-word a ws = ws ++ plain a ∷ []
+abbrev pub put_word : Atom → List TraceWord → List TraceWord
+put_word a ws = ws ++ plain a ∷ []
 
 -- the first word of a further part: a comma is before it
-abbrev pub part : Atom → List TraceWord → List TraceWord
-part a ws = with_comma ws ++ plain a ∷ []
+abbrev pub put_part : Atom → List TraceWord → List TraceWord
+put_part a ws = with_comma ws ++ plain a ∷ []
 
 -- a part that is a name
-abbrev pub flag : ℕ → List TraceWord → List TraceWord
-flag name ws = part (Name name) ws
+abbrev pub put_flag : ℕ → List TraceWord → List TraceWord
+put_flag name ws = put_part (Name name) ws
 
 -- a part that is a name and its value
-unfoldable pub value : ℕ → Atom → List TraceWord → List TraceWord
-value name a ws = ws ▷ part (Name name) ▷ word a
+unfoldable pub put_value : ℕ → Atom → List TraceWord → List TraceWord
+put_value name a ws = ws ▷ put_part (Name name) ▷ put_word a
 
-abbrev pub output : ℕ → ℕ → List TraceWord → List TraceWord
-output name v ws = value name (output_atom name v) ws
+abbrev pub put_output : ℕ → ℕ → List TraceWord → List TraceWord
+put_output name v ws = put_value name (output_atom name v) ws

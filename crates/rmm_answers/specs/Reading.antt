@@ -22,8 +22,8 @@ use Rattle.rmm_trace.specs.declared.word.TraceWord.{TraceWord}
 use Rattle.rmm_answers.specs.declared.place.TheConstants.{ACTIVE, BASE, DATA_STATE, DELEGATED, GPR0, IS_SYSTEM_OFF, NEW, NEXT, OFF, PENDING, RD, RD_STATE, READY, RECS, REC_AUX, REC_STATE, RTT_STATE, TABLES, UNDELEGATED}
 use Rattle.rmm_answers.specs.declared.reply.Digest.{Digest}
 use Rattle.rmm_answers.specs.declared.reply.Digest.TheVariants.{Sha256, Sha512}
-use Rattle.rmm_answers.specs.declared.reply.Reply.{Reply}
-use Rattle.rmm_answers.specs.Put.{◌▷◌, word, flag, value}
+use Rattle.rmm_answers.specs.declared.reply.TraceReply.{TraceReply}
+use Rattle.rmm_answers.specs.Put.{◌▷◌, put_word, put_flag, put_value}
 use Rattle.rmm_answers.specs.Replies.{of_words}
 
 -- ---- granules
@@ -64,28 +64,28 @@ realm_state_name Active = ACTIVE
 realm_state_name SystemOff = IS_SYSTEM_OFF
 
 -- the realm whose RD is at an address
-abbrev pub realm_at : Machine → ℕ → Option RmmRealm
-realm_at m address = option_and_then realm_of (state_shown m address)
+abbrev pub realm_named : Machine → ℕ → Option RmmRealm
+realm_named m address = option_and_then realm_of (state_shown m address)
 
 -- the attributes of a realm of a machine from an address on
 unfoldable pub realm_words : RmmRealm → ℕ → List TraceWord
 realm_words realm base =
-    [] ▷ word (Name (realm_state_name realm.state)) ▷ value S2SZ (Decimal realm.s2sz) ▷ value LEVEL (Decimal realm.start_level)
-    ▷ value TABLES (Decimal realm.table_count) ▷ value BASE (Hexadecimal ((base + 4096 * realm.first_table) % 2 ^ 64))
-    ▷ value VMID (Decimal realm.vmid) ▷ value NEXT (Decimal realm.next_rec) ▷ value RECS (Decimal realm.rec_count)
+    [] ▷ put_word (Name (realm_state_name realm.state)) ▷ put_value S2SZ (Decimal realm.s2sz) ▷ put_value LEVEL (Decimal realm.start_level)
+    ▷ put_value TABLES (Decimal realm.table_count) ▷ put_value BASE (Hexadecimal ((base + 4096 * realm.first_table) % 2 ^ 64))
+    ▷ put_value VMID (Decimal realm.vmid) ▷ put_value NEXT (Decimal realm.next_rec) ▷ put_value RECS (Decimal realm.rec_count)
 
-abbrev pub shown_realm : Option RmmRealm → ℕ → List TraceWord
-shown_realm (Some realm) base = realm_words realm base
-shown_realm None base = [] ▷ word (Name NONE)
+abbrev pub realm_answer : Option RmmRealm → ℕ → List TraceWord
+realm_answer (Some realm) base = realm_words realm base
+realm_answer None base = [] ▷ put_word (Name NONE)
 
 -- the digest of a measurement; that of SHA-256 is its first half
 abbrev pub digest_of : HashAlgorithm → List ℕ → Digest
 digest_of BySha256 rim = Sha256 (take 32 rim)
 digest_of BySha512 rim = Sha512 rim
 
-abbrev pub rim_reply : Option RmmRealm → Reply
+abbrev pub rim_reply : Option RmmRealm → TraceReply
 rim_reply (Some realm) = record { words = record { items = [] }; rim = Some (digest_of realm.hash realm.rim); refused = None }
-rim_reply None = of_words ([] ▷ word (Name NONE))
+rim_reply None = of_words ([] ▷ put_word (Name NONE))
 
 -- ---- RECs
 
@@ -97,19 +97,19 @@ rd_address m None = 0
 unfoldable pub owner_address : Machine → ℕ → ℕ
 owner_address m address = if is_inside m address then rd_address m (granule_at m (number_of m address)).owner else 0
 
-unfoldable pub pending : Bool → List TraceWord → List TraceWord
-pending is ws = if is then flag PENDING ws else ws
+unfoldable pub put_pending : Bool → List TraceWord → List TraceWord
+put_pending is ws = if is then put_flag PENDING ws else ws
 
-abbrev pub rec_word : Machine → ℕ → ℕ → ℕ
-rec_word m rec i = unwrap_or (word_shown m rec i) 0
+abbrev pub rec_page_word : Machine → ℕ → ℕ → ℕ
+rec_page_word m rec i = unwrap_or (word_shown m rec i) 0
 
 -- the attributes of a REC at an address
 unfoldable pub rec_words : Machine → ℕ → Attributes → List TraceWord
 rec_words m address rec =
-    [] ▷ word (Name (if is_running rec.state then RUNNING else READY)) ▷ value RD (Hexadecimal (owner_address m address))
-    ▷ value MPIDR (Hexadecimal rec.mpidr) ▷ flag (if rec.is_runnable then RUNNABLE else OFF) ▷ pending (is_pending rec.psci)
-    ▷ value PC (Hexadecimal (rec_word m address 31)) ▷ value GPR0 (Hexadecimal (rec_word m address 0))
+    [] ▷ put_word (Name (if is_running rec.state then RUNNING else READY)) ▷ put_value RD (Hexadecimal (owner_address m address))
+    ▷ put_value MPIDR (Hexadecimal rec.mpidr) ▷ put_flag (if rec.is_runnable then RUNNABLE else OFF) ▷ put_pending (is_pending rec.psci)
+    ▷ put_value PC (Hexadecimal (rec_page_word m address 31)) ▷ put_value GPR0 (Hexadecimal (rec_page_word m address 0))
 
-abbrev pub shown_rec : Machine → ℕ → Option Attributes → List TraceWord
-shown_rec m address (Some rec) = rec_words m address rec
-shown_rec m address None = [] ▷ word (Name NONE)
+abbrev pub rec_answer : Machine → ℕ → Option Attributes → List TraceWord
+rec_answer m address (Some rec) = rec_words m address rec
+rec_answer m address None = [] ▷ put_word (Name NONE)

@@ -11,20 +11,20 @@ use Rattle.rmm_trace.specs.Sentences.{sentence_text, words_in}
 use Rattle.rmm_answers.specs.declared.place.TheConstants.{NO, COMMAND}
 use Rattle.rmm_answers.specs.declared.reply.Digest.{Digest}
 use Rattle.rmm_answers.specs.declared.reply.Digest.TheVariants.{Sha256, Sha512}
-use Rattle.rmm_answers.specs.declared.reply.Reply.{Reply}
-use Rattle.rmm_answers.specs.Put.{◌▷◌, word}
+use Rattle.rmm_answers.specs.declared.reply.TraceReply.{TraceReply}
+use Rattle.rmm_answers.specs.Put.{◌▷◌, put_word}
 
 -- an answer that is words, and refuses no call
-abbrev pub of_words : List TraceWord → Reply
+abbrev pub of_words : List TraceWord → TraceReply
 of_words ws = record { words = record { items = ws }; rim = None; refused = None }
 
 -- no answer: that to a platform
-abbrev pub no_answer : Reply
+abbrev pub no_answer : TraceReply
 no_answer = of_words []
 
 -- the answer to a line that is no command
-unfoldable pub no_command : Reply
-no_command = of_words ([] ▷ word (Name NO) ▷ word (Name COMMAND))
+unfoldable pub no_command : TraceReply
+no_command = of_words ([] ▷ put_word (Name NO) ▷ put_word (Name COMMAND))
 
 -- two small hexadecimal digits for each byte
 abbrev pub digest_text : Digest → List ℕ
@@ -44,11 +44,11 @@ is_absent None = true
 is_absent (Some digest) = false
 
 -- there is no answer
-abbrev pub is_empty : Reply → Bool
-is_empty reply = is_none_left reply.words.items && is_absent reply.rim
+abbrev pub is_unanswered : TraceReply → Bool
+is_unanswered reply = is_none_left reply.words.items && is_absent reply.rim
 
 -- the text of an answer
-abbrev pub reply_text : Reply → List ℕ
+abbrev pub reply_text : TraceReply → List ℕ
 reply_text reply = text_by reply.rim reply.words.items
 
 abbrev pub are_same : List TraceWord → Option (List TraceWord) → List TraceWord → Bool
@@ -60,5 +60,5 @@ is_written_by question written (Some digest) ours = bytes_eq written (digest_tex
 is_written_by question written None ours = are_same question (words_in 64 (slice_split (λ b. b == 32) written)) ours
 
 -- A written answer to a question is this one: it is its digits, or its words are the same.
-unfoldable pub is_written : List TraceWord → List ℕ → Reply → Bool
+unfoldable pub is_written : List TraceWord → List ℕ → TraceReply → Bool
 is_written question written reply = is_written_by question written reply.rim reply.words.items

@@ -12,7 +12,7 @@ use crate::memory::{put_access, put_load};
 use crate::page::{write_realm_params, write_rec_params, write_rec_run};
 use crate::put::{put, put_value};
 use crate::reading::{answer_realm, answer_rec, answer_rim, state_atom, sum_atom};
-use crate::reply::Reply;
+use crate::reply::TraceReply;
 use crate::rounds::{fill_rounds, perform_rounds};
 use crate::words::{first_place, rest};
 use page_arena::PageStore;
@@ -38,7 +38,7 @@ fn put_fill(answer: &mut Sentence, round: u64, is_done: bool)
 // Answers a call or a fill with so many rounds at most after the first.
 #[tactic(auto, unfolding(crate::specs::Answering::rounds_answered))]
 fn answer_rounds<S: PageStore>(
-    reply: &mut Reply,
+    reply: &mut TraceReply,
     rmm: &mut Rmm<S>,
     call: &[TraceWord],
     more: u64,
@@ -62,7 +62,7 @@ fn answer_rounds<S: PageStore>(
 // Answers a reading.
 #[tactic(auto, unfolding(crate::specs::Answering::reading_answered))]
 fn answer_reading<S: PageStore>(
-    reply: &mut Reply,
+    reply: &mut TraceReply,
     rmm: &mut Rmm<S>,
     place: usize,
     words: &[TraceWord],
@@ -91,7 +91,7 @@ fn answer_reading<S: PageStore>(
 // Answers a parameter page, or a reading.
 #[tactic(auto, unfolding(crate::specs::Answering::page_answered))]
 fn answer_page<S: PageStore>(
-    reply: &mut Reply,
+    reply: &mut TraceReply,
     rmm: &mut Rmm<S>,
     place: usize,
     words: &[TraceWord],
@@ -116,7 +116,7 @@ fn answer_page<S: PageStore>(
 // Answers a question that is no call and no fill, by the words after its name.
 #[tactic(auto, unfolding(crate::specs::Answering::other_answered))]
 fn answer_other<S: PageStore>(
-    reply: &mut Reply,
+    reply: &mut TraceReply,
     rmm: &mut Rmm<S>,
     place: usize,
     words: &[TraceWord],
@@ -140,7 +140,7 @@ fn answer_other<S: PageStore>(
 }
 
 // Answers a raw call.
-fn answer_smc<S: PageStore>(reply: &mut Reply, rmm: &mut Rmm<S>, call: &[TraceWord])
+fn answer_smc<S: PageStore>(reply: &mut TraceReply, rmm: &mut Rmm<S>, call: &[TraceWord])
     requires { reply.old ≡ no_answer }
     ensures { (reply.new, rmm.new) ≡ specs.raw_reply_of call.now (performed_rounds 0 call.now rmm.old) }
 {
@@ -149,7 +149,7 @@ fn answer_smc<S: PageStore>(reply: &mut Reply, rmm: &mut Rmm<S>, call: &[TraceWo
 }
 
 // Answers a repeated call or fill, by the words after `repeat`.
-fn answer_repeat<S: PageStore>(reply: &mut Reply, rmm: &mut Rmm<S>, words: &[TraceWord])
+fn answer_repeat<S: PageStore>(reply: &mut TraceReply, rmm: &mut Rmm<S>, words: &[TraceWord])
     requires { reply.old ≡ no_answer }
     ensures { (reply.new, rmm.new)
         ≡ specs.rounds_answered (rest_of words.now) (operand_at words.now 0 0 - 1) rmm.old }
@@ -160,7 +160,7 @@ fn answer_repeat<S: PageStore>(reply: &mut Reply, rmm: &mut Rmm<S>, words: &[Tra
 
 /// Performs a question on an RMM, and answers it. A platform is no command here.
 #[tactic(auto, unfolding(crate::specs::Answering::answered_on))]
-pub fn answer_on<S: PageStore>(rmm: &mut Rmm<S>, question: &[TraceWord], reply: &mut Reply)
+pub fn answer_on<S: PageStore>(rmm: &mut Rmm<S>, question: &[TraceWord], reply: &mut TraceReply)
     ensures { (reply.new, rmm.new) ≡ specs.answered_on question.now rmm.old }
 {
     reply.clear();
@@ -178,7 +178,7 @@ pub fn answer_on<S: PageStore>(rmm: &mut Rmm<S>, question: &[TraceWord], reply: 
 
 // The words of a call, without those that repeat it.
 fn call_in(question: &[TraceWord]) -> &[TraceWord]
-    ensures { result.now ≡ specs.call_of question.now }
+    ensures { result.now ≡ specs.unrepeated question.now }
 {
     if first_place(question) == REPEAT {
         rest(rest(question))
@@ -192,7 +192,7 @@ fn call_in(question: &[TraceWord]) -> &[TraceWord]
 pub fn checks_on<S: PageStore>(
     rmm: &Rmm<S>,
     question: &[TraceWord],
-    reply: &Reply,
+    reply: &TraceReply,
 ) -> Option<EvaluatedChecks>
     ensures { result ≡ specs.refused_checks question.now reply.now rmm.now }
 {

@@ -8,7 +8,7 @@ ghost use Rattle.rmm_answers.specs.Rounds.{registers_in, asked};
 use crate::exit::put_exit;
 use crate::outputs::{command_place, put_outputs, put_registers, put_status};
 use crate::put::{put, put_value};
-use crate::reply::Reply;
+use crate::reply::TraceReply;
 use crate::rounds::LastCall;
 use page_arena::PageStore;
 use rmi_abi::{Registers, decode_call};
@@ -77,10 +77,10 @@ fn check_place(condition: Condition) -> usize
 }
 
 // Puts the name of the check that decides a refused call.
-#[tactic(auto, unfolding(crate::specs::Call::check))]
+#[tactic(auto, unfolding(crate::specs::Call::put_check))]
 fn put_check<S: PageStore>(answer: &mut Sentence, rmm: &Rmm<S>, asked: Registers, x0: u64)
     requires { length answer.old.items < 64 }
-    ensures items { answer.new.items ≡ calls.check asked rmm.now x0 answer.old.items }
+    ensures items { answer.new.items ≡ calls.put_check asked rmm.now x0 answer.old.items }
     ensures len { length answer.new.items ≤ length answer.old.items + 1 }
 {
     if !is_refused(x0) {
@@ -92,10 +92,10 @@ fn put_check<S: PageStore>(answer: &mut Sentence, rmm: &Rmm<S>, asked: Registers
 }
 
 // Puts how many rounds were before a refused one, if there were any.
-#[tactic(auto, unfolding(crate::specs::Call::after))]
+#[tactic(auto, unfolding(crate::specs::Call::put_after))]
 fn put_after(answer: &mut Sentence, x0: u64, round: u64)
     requires { length answer.old.items ≤ 62 }
-    ensures { answer.new.items ≡ calls.after x0 round answer.old.items }
+    ensures { answer.new.items ≡ calls.put_after x0 round answer.old.items }
 {
     if x0 != 0 && round != 0 {
         put_value(answer, AFTER, Atom::Decimal(round));
@@ -114,10 +114,10 @@ fn refused_round(last: &LastCall) -> Option<u64>
 }
 
 // Puts the exit of a REC that has left.
-#[tactic(auto, unfolding(crate::specs::Call::exit_of))]
+#[tactic(auto, unfolding(crate::specs::Call::put_exit_of))]
 fn put_exit_of<S: PageStore>(answer: &mut Sentence, rmm: &Rmm<S>, place: usize, x0: u64, run: u64)
     requires { length answer.old.items ≤ 51 }
-    ensures items { answer.new.items ≡ calls.exit_of place x0 run rmm.now answer.old.items }
+    ensures items { answer.new.items ≡ calls.put_exit_of place x0 run rmm.now answer.old.items }
     ensures len { length answer.new.items ≤ length answer.old.items + 13 }
 {
     if place == RMI_REC_ENTER && x0 == 0 {
@@ -128,7 +128,7 @@ fn put_exit_of<S: PageStore>(answer: &mut Sentence, rmm: &Rmm<S>, place: usize, 
 // Answers a call with the last of its rounds, by the names of its outputs.
 #[tactic(auto, unfolding(crate::specs::Call::call_reply))]
 pub(crate) fn answer_call<S: PageStore>(
-    reply: &mut Reply,
+    reply: &mut TraceReply,
     rmm: &Rmm<S>,
     place: usize,
     asked: Registers,
@@ -148,7 +148,7 @@ pub(crate) fn answer_call<S: PageStore>(
 
 // Answers a raw call by its registers.
 #[tactic(auto, unfolding(crate::specs::Call::raw_reply))]
-pub(crate) fn answer_raw(reply: &mut Reply, asked: Registers, last: &LastCall)
+pub(crate) fn answer_raw(reply: &mut TraceReply, asked: Registers, last: &LastCall)
     requires { reply.old ≡ no_answer }
     ensures { reply.new ≡ calls.raw_reply asked last.now }
 {

@@ -17,7 +17,7 @@ fn field<S: PageStore>(rmm: &Rmm<S>, run: u64, offset: u64) -> u64
 }
 
 // Puts a field of an exit.
-#[tactic(auto, unfolding(crate::specs::Exit::named_field))]
+#[tactic(auto, unfolding(crate::specs::Exit::put_field))]
 fn put_field<S: PageStore>(
     answer: &mut Sentence,
     rmm: &Rmm<S>,
@@ -26,17 +26,17 @@ fn put_field<S: PageStore>(
     offset: u64,
 )
     requires { length answer.old.items ≤ 62 }
-    ensures items { answer.new.items ≡ exits.named_field rmm.now run name offset answer.old.items }
+    ensures items { answer.new.items ≡ exits.put_field rmm.now run name offset answer.old.items }
     ensures len { length answer.new.items ≡ length answer.old.items + 2 }
 {
     put_output(answer, name, field(rmm, run, offset));
 }
 
 // Puts a general-purpose register if it is shown.
-#[tactic(auto, unfolding(crate::specs::Exit::gpr))]
+#[tactic(auto, unfolding(crate::specs::Exit::put_gpr))]
 fn put_gpr(answer: &mut Sentence, is_shown: bool, value: u64)
     requires { length answer.old.items < 64 }
-    ensures items { answer.new.items ≡ exits.gpr is_shown value answer.old.items }
+    ensures items { answer.new.items ≡ exits.put_gpr is_shown value answer.old.items }
     ensures len { length answer.new.items ≤ length answer.old.items + 1 }
 {
     if is_shown {
@@ -53,10 +53,10 @@ fn is_some_set(a: u64, b: u64, c: u64) -> bool
 
 // Puts general-purpose registers 0 to 3 of an exit, without the zeros at their end, but one at least. No exit of this
 // RMM has others.
-#[tactic(auto, unfolding(crate::specs::Exit::gprs))]
+#[tactic(auto, unfolding(crate::specs::Exit::put_gprs))]
 fn put_gprs(answer: &mut Sentence, gpr0: u64, gpr1: u64, gpr2: u64, gpr3: u64)
     requires { length answer.old.items ≤ 59 }
-    ensures items { answer.new.items ≡ exits.gprs gpr0 gpr1 gpr2 gpr3 answer.old.items }
+    ensures items { answer.new.items ≡ exits.put_gprs gpr0 gpr1 gpr2 gpr3 answer.old.items }
     ensures len { length answer.new.items ≤ length answer.old.items + 5 }
 {
     put_value(answer, GPRS, Atom::Hexadecimal(gpr0));
@@ -66,10 +66,10 @@ fn put_gprs(answer: &mut Sentence, gpr0: u64, gpr1: u64, gpr2: u64, gpr3: u64)
 }
 
 // Puts the general-purpose registers of an exit.
-#[tactic(auto, unfolding(crate::specs::Exit::gprs_in))]
+#[tactic(auto, unfolding(crate::specs::Exit::put_gprs_in))]
 fn put_gprs_in<S: PageStore>(answer: &mut Sentence, rmm: &Rmm<S>, run: u64)
     requires { length answer.old.items ≤ 59 }
-    ensures items { answer.new.items ≡ exits.gprs_in rmm.now run answer.old.items }
+    ensures items { answer.new.items ≡ exits.put_gprs_in rmm.now run answer.old.items }
     ensures len { length answer.new.items ≤ length answer.old.items + 5 }
 {
     let gpr0 = field(rmm, run, 0xA00);
@@ -80,10 +80,10 @@ fn put_gprs_in<S: PageStore>(answer: &mut Sentence, rmm: &Rmm<S>, run: u64)
 }
 
 // Puts the fields of an exit by a reason.
-#[tactic(auto, unfolding(crate::specs::Exit::fields))]
+#[tactic(auto, unfolding(crate::specs::Exit::put_fields))]
 fn put_fields<S: PageStore>(answer: &mut Sentence, rmm: &Rmm<S>, run: u64, reason: u64)
     requires { length answer.old.items ≤ 53 }
-    ensures items { answer.new.items ≡ exits.fields rmm.now run reason answer.old.items }
+    ensures items { answer.new.items ≡ exits.put_fields rmm.now run reason answer.old.items }
     ensures len { length answer.new.items ≤ length answer.old.items + 11 }
 {
     match reason {
@@ -108,10 +108,10 @@ fn put_fields<S: PageStore>(answer: &mut Sentence, rmm: &Rmm<S>, run: u64, reaso
 }
 
 // Puts the exit of a REC that the run page at an address has.
-#[tactic(auto, unfolding(crate::specs::Exit::exit, crate::specs::Exit::named_field))]
+#[tactic(auto, unfolding(crate::specs::Exit::put_exit, crate::specs::Exit::put_field))]
 pub(crate) fn put_exit<S: PageStore>(answer: &mut Sentence, rmm: &Rmm<S>, run: u64)
     requires { length answer.old.items ≤ 51 }
-    ensures items { answer.new.items ≡ exits.exit rmm.now run answer.old.items }
+    ensures items { answer.new.items ≡ exits.put_exit rmm.now run answer.old.items }
     ensures len { length answer.new.items ≤ length answer.old.items + 13 }
 {
     let reason = field(rmm, run, 0x800);

@@ -11,7 +11,7 @@ use crate::place::{
     RETURNED, RSI_ERROR_INPUT, SEA,
 };
 use crate::put::{put, put_listed};
-use crate::reply::Reply;
+use crate::reply::TraceReply;
 use crate::words::rest;
 use page_arena::PageStore;
 use rmm::Rmm;
@@ -122,7 +122,7 @@ fn put_queued(answer: &mut Sentence, queued: Queued)
 
 // Answers a step of a guest.
 #[tactic(auto, unfolding(crate::specs::Guest::guest_answered))]
-pub(crate) fn answer_guest<S: PageStore>(reply: &mut Reply, rmm: &mut Rmm<S>, words: &[TraceWord])
+pub(crate) fn answer_guest<S: PageStore>(reply: &mut TraceReply, rmm: &mut Rmm<S>, words: &[TraceWord])
     requires { reply.old ≡ no_answer }
     ensures { (reply.new, rmm.new) ≡ guests.guest_answered words.now rmm.old }
 {
@@ -138,14 +138,14 @@ pub(crate) fn answer_guest<S: PageStore>(reply: &mut Reply, rmm: &mut Rmm<S>, wo
 
 // The attributes of the REC at an address.
 pub(crate) fn rec_at<S: PageStore>(rmm: &Rmm<S>, address: u64) -> Option<RmmRec>
-    ensures { result ≡ guests.rec_at rmm.now address }
+    ensures { result ≡ guests.rec_named rmm.now address }
 {
     rmm.state(address)?.rec()
 }
 
 // The address of the run page of the REC at an address; 0 if there is no REC.
 fn run_of<S: PageStore>(rmm: &Rmm<S>, address: u64) -> u64
-    ensures { result ≡ guests.run_of (guests.rec_at rmm.now address) }
+    ensures { result ≡ guests.run_of (guests.rec_named rmm.now address) }
 {
     match rec_at(rmm, address) {
         Some(rec) => rec.run,
@@ -219,10 +219,10 @@ fn result_atom(kind: u64, value: u64) -> Atom
 }
 
 // Puts a result, which is the first or a further one.
-#[tactic(auto, unfolding(crate::specs::Guest::result))]
+#[tactic(auto, unfolding(crate::specs::Guest::put_result))]
 fn put_result(answer: &mut Sentence, is_further: bool, kind: u64, value: u64)
     requires { length answer.old.items ≤ 62 }
-    ensures items { answer.new.items ≡ guests.result is_further kind value answer.old.items }
+    ensures items { answer.new.items ≡ guests.put_result is_further kind value answer.old.items }
     ensures len { length answer.new.items ≤ length answer.old.items + 2 }
 {
     put_listed(answer, is_further, Atom::Name(result_name(kind)));
@@ -235,7 +235,7 @@ fn put_result(answer: &mut Sentence, is_further: bool, kind: u64, value: u64)
 fn put_result_at<S: PageStore>(answer: &mut Sentence, rmm: &Rmm<S>, rec: u64, k: u16)
     requires few { k < 32 }
     requires room { length answer.old.items ≤ 62 }
-    ensures items { answer.new.items ≡ guests.result_at rmm.now rec k answer.old.items }
+    ensures items { answer.new.items ≡ guests.put_result_at rmm.now rec k answer.old.items }
     ensures len { length answer.new.items ≤ length answer.old.items + 2 }
 {
     let kind = rmm.word(rec, 128 + 2 * k).unwrap_or(0);
@@ -257,7 +257,7 @@ fn put_results<S: PageStore>(answer: &mut Sentence, rmm: &Rmm<S>, rec: u64, coun
 // Answers which results a guest has seen since the last entry of its REC.
 pub(crate) fn answer_saw<S: PageStore>(answer: &mut Sentence, rmm: &Rmm<S>, address: u64)
     requires { answer.old.items ≡ [] }
-    ensures { answer.new.items ≡ guests.saw_words rmm.now address (guests.rec_at rmm.now address) }
+    ensures { answer.new.items ≡ guests.saw_words rmm.now address (guests.rec_named rmm.now address) }
 {
     match rec_at(rmm, address) {
         Some(rec) => {

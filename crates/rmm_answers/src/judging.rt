@@ -3,7 +3,7 @@ ghost use Rattle.std.specs.Prelude.{◌≡◌, ◌<◌};
 ghost use Rattle.std.specs.List.{list_any};
 ghost use Rattle.rmm_answers.specs.Judging as judging;
 
-use crate::{Reply, TraceMachine};
+use crate::{TraceReply, TraceMachine};
 use rmi_abi::Word;
 use rmm_checks::{CheckOutcome, EvaluatedCheck, EvaluatedChecks};
 use rmm_trace::place::{DASH, RMI_SUCCESS};
@@ -92,7 +92,7 @@ fn allows_name(checks: &EvaluatedChecks, place: usize, rest: &[TraceWord]) -> bo
 /// Whether an answer that is written refuses the call by a word that evaluated checks allow: the name of its status with an
 /// index, or X0.
 pub fn is_allowed(written: &[TraceWord], checks: &EvaluatedChecks) -> bool
-    ensures { result ≡ judging.is_allowed written.now checks.now }
+    ensures { result ≡ judging.is_refusal_allowed written.now checks.now }
 {
     match written {
         [] => false,
@@ -126,7 +126,7 @@ pub fn judge(
     machine: &TraceMachine,
     question: &[TraceWord],
     written: &[u8],
-    reply: &Reply,
+    reply: &TraceReply,
 ) -> Verdict
     ensures { result ≡ judging.judged machine.now question.now written.now reply.now }
 {

@@ -45,4 +45,4 @@ pub use judging::{Verdict, is_allowed, judge};
 pub use machine::TraceMachine;
 pub use naming::{named_answer, named_question};
 pub use outputs::OUTPUTS;
-pub use reply::{Digest, Reply};
+pub use reply::{Digest, TraceReply};

@@ -1,11 +1,11 @@
 //! The machine of a trace.
 ghost use Rattle.std.specs.Prelude.{◌≡◌, None, OnOk, OnErr, option_and_then};
 ghost use Rattle.rmm_answers.specs.Answering as specs;
-ghost use Rattle.rmm_answers.specs.Platform.{opened};
+ghost use Rattle.rmm_answers.specs.Platform.{machine_of_platform};
 
 use crate::answering::{answer_on, checks_on};
 use crate::platform::open;
-use crate::reply::Reply;
+use crate::reply::TraceReply;
 use crate::words::{first_place, rest};
 use page_arena::PlainStore;
 use rmm::Rmm;
@@ -47,9 +47,9 @@ impl TraceMachine {
         &mut self,
         alloc: Global,
         words: &[TraceWord],
-        reply: &mut Reply,
+        reply: &mut TraceReply,
     ) -> Result<(), AllocError>
-        ensures ok { OnOk result ((reply.new, self.new) ≡ specs.after_opening (opened words.now) self.old) }
+        ensures ok { OnOk result ((reply.new, self.new) ≡ specs.after_opening (machine_of_platform words.now) self.old) }
         ensures err { OnErr result (self.new ≡ self.old) }
     {
         match open(alloc, words)? {
@@ -63,7 +63,7 @@ impl TraceMachine {
     }
 
     // Answers a question that is no platform.
-    fn answer_here(&mut self, question: &[TraceWord], reply: &mut Reply)
+    fn answer_here(&mut self, question: &[TraceWord], reply: &mut TraceReply)
         ensures { (reply.new, self.new) ≡ specs.answered_in question.now self.old }
     {
         match &mut self.rmm {
@@ -79,7 +79,7 @@ impl TraceMachine {
         &mut self,
         alloc: Global,
         question: &[TraceWord],
-        reply: &mut Reply,
+        reply: &mut TraceReply,
     ) -> Result<(), AllocError>
         ensures ok { OnOk result ((reply.new, self.new) ≡ specs.answered question.now self.old) }
         ensures err { OnErr result (self.new ≡ self.old) }
@@ -92,7 +92,7 @@ impl TraceMachine {
     }
 
     /// The checks of the call that a reply has refused, on the machine then: a refusal changes nothing.
-    pub fn checks(&self, question: &[TraceWord], reply: &Reply) -> Option<EvaluatedChecks>
+    pub fn checks(&self, question: &[TraceWord], reply: &TraceReply) -> Option<EvaluatedChecks>
         ensures { result ≡ option_and_then (specs.refused_checks question.now reply.now) self.now }
     {
         match &self.rmm {

@@ -65,10 +65,10 @@ fn psci_atom(status: u64) -> Atom
 }
 
 // Puts an operand in its form.
-#[tactic(auto, unfolding(crate::specs::Naming::in_form))]
+#[tactic(auto, unfolding(crate::specs::Naming::put_operand))]
 fn put_operand(call: &mut Sentence, form: OperandForm, number: u64)
     requires { length call.old.items < 64 }
-    ensures items { call.new.items ≡ naming.in_form form number call.old.items }
+    ensures items { call.new.items ≡ naming.put_operand form number call.old.items }
     ensures len { length call.new.items ≤ length call.old.items + 1 }
 {
     match form {
@@ -136,10 +136,10 @@ fn written_number(words: &[TraceWord], k: usize) -> Option<u64>
 }
 
 // Puts an output if it is written, and if the command returns it.
-#[tactic(auto, unfolding(crate::specs::Naming::written_output))]
+#[tactic(auto, unfolding(crate::specs::Naming::put_written))]
 fn put_written(answer: &mut Sentence, place: usize, x0: u64, name: usize, number: Option<u64>)
     requires { length answer.old.items ≤ 62 }
-    ensures items { answer.new.items ≡ naming.written_output place x0 name number answer.old.items }
+    ensures items { answer.new.items ≡ naming.put_written place x0 name number answer.old.items }
     ensures len { length answer.new.items ≤ length answer.old.items + 2 }
 {
     if let Some(number) = number {

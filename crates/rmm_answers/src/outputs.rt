@@ -108,10 +108,10 @@ fn is_returned(place: usize, x0: u64, name: usize) -> bool
 }
 
 // Puts an output if the command returns it.
-#[tactic(auto, unfolding(crate::specs::Outputs::returned))]
+#[tactic(auto, unfolding(crate::specs::Outputs::put_returned))]
 pub(crate) fn put_returned(answer: &mut Sentence, place: usize, x0: u64, name: usize, value: u64)
     requires { length answer.old.items ≤ 62 }
-    ensures items { answer.new.items ≡ specs.returned place x0 name value answer.old.items }
+    ensures items { answer.new.items ≡ specs.put_returned place x0 name value answer.old.items }
     ensures len { length answer.new.items ≤ length answer.old.items + 2 }
 {
     if is_returned(place, x0, name) {
@@ -120,10 +120,10 @@ pub(crate) fn put_returned(answer: &mut Sentence, place: usize, x0: u64, name: u
 }
 
 // Puts the result word of a call, with its index.
-#[tactic(auto, unfolding(crate::specs::Outputs::status))]
+#[tactic(auto, unfolding(crate::specs::Outputs::put_status))]
 pub(crate) fn put_status(answer: &mut Sentence, x0: u64)
     requires { length answer.old.items ≤ 62 }
-    ensures items { answer.new.items ≡ specs.status x0 answer.old.items }
+    ensures items { answer.new.items ≡ specs.put_status x0 answer.old.items }
     ensures len { length answer.new.items ≤ length answer.old.items + 2 }
 {
     put(answer, status_of(x0));
@@ -133,10 +133,10 @@ pub(crate) fn put_status(answer: &mut Sentence, x0: u64)
 }
 
 // Puts the outputs that a command returns.
-#[tactic(auto, unfolding(crate::specs::Outputs::outputs))]
+#[tactic(auto, unfolding(crate::specs::Outputs::put_outputs))]
 pub(crate) fn put_outputs(answer: &mut Sentence, place: usize, after: &Registers)
     requires { length answer.old.items ≤ 56 }
-    ensures items { answer.new.items ≡ specs.outputs place after.now answer.old.items }
+    ensures items { answer.new.items ≡ specs.put_outputs place after.now answer.old.items }
     ensures len { length answer.new.items ≤ length answer.old.items + 8 }
 {
     let names = outputs_of(place);
@@ -147,10 +147,10 @@ pub(crate) fn put_outputs(answer: &mut Sentence, place: usize, after: &Registers
 }
 
 // Puts a register if the command has an output there.
-#[tactic(auto, unfolding(crate::specs::Outputs::register))]
+#[tactic(auto, unfolding(crate::specs::Outputs::put_register))]
 fn put_register(answer: &mut Sentence, name: usize, value: u64)
     requires { length answer.old.items < 64 }
-    ensures items { answer.new.items ≡ specs.register name value answer.old.items }
+    ensures items { answer.new.items ≡ specs.put_register name value answer.old.items }
     ensures len { length answer.new.items ≤ length answer.old.items + 1 }
 {
     if name != NO_OUTPUT {
@@ -159,10 +159,10 @@ fn put_register(answer: &mut Sentence, name: usize, value: u64)
 }
 
 // Puts X0 and the outputs of a raw call.
-#[tactic(auto, unfolding(crate::specs::Outputs::registers))]
+#[tactic(auto, unfolding(crate::specs::Outputs::put_registers))]
 pub(crate) fn put_registers(answer: &mut Sentence, place: usize, after: &Registers)
     requires { length answer.old.items ≤ 56 }
-    ensures items { answer.new.items ≡ specs.registers place after.now answer.old.items }
+    ensures items { answer.new.items ≡ specs.put_registers place after.now answer.old.items }
 {
     let names = outputs_of(place);
     put(answer, Atom::Hexadecimal(after.x0));

@@ -74,7 +74,7 @@ fn next_offset(fields: &[(usize, u64)], at: u64, atom: Atom) -> u64
 
 // Stores a value at an address; a name is none.
 fn store_value<S: PageStore>(rmm: &mut Rmm<S>, address: u64, atom: Atom)
-    ensures { rmm.new ≡ pages.with_value rmm.old address atom }
+    ensures { rmm.new ≡ pages.with_stored rmm.old address atom }
 {
     match atom {
         Atom::Name(_) => {}

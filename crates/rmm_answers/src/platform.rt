@@ -98,12 +98,12 @@ fn open_granules(
 }
 
 // The fresh RMM of a platform. None comes if this RMM has no such platform: 1 to 4,096 granules below 2^47.
-#[tactic(auto, unfolding(crate::specs::Platform::opened))]
+#[tactic(auto, unfolding(crate::specs::Platform::machine_of_platform))]
 pub(crate) fn open(
     alloc: Global,
     words: &[TraceWord],
 ) -> Result<Option<Rmm<PlainStore>>, AllocError>
-    ensures { IfOk result (λ rmm. rmm ≡ platforms.opened words.now) }
+    ensures { IfOk result (λ rmm. rmm ≡ platforms.machine_of_platform words.now) }
 {
     let count = operand(words, 1, 0);
     if count < 1 || count > 4_096 {

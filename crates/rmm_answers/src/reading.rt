@@ -4,8 +4,8 @@ ghost use Rattle.std.specs.List.{sum};
 ghost use Rattle.rmm_model.specs.Command.PsciComplete as completion;
 ghost use Rattle.rmm_model.specs.Host.{state_shown};
 ghost use Rattle.rmm_trace.specs.declared.word.Atom.TheVariants.{Decimal, Hexadecimal};
-ghost use Rattle.rmm_answers.specs.Guest.{rec_at};
-ghost use Rattle.rmm_answers.specs.Put.{value};
+ghost use Rattle.rmm_answers.specs.Guest.{rec_named};
+ghost use Rattle.rmm_answers.specs.Put.{put_value};
 ghost use Rattle.rmm_answers.specs.Reading as readings;
 ghost use Rattle.rmm_answers.specs.Replies.{no_answer};
 
@@ -15,7 +15,7 @@ use crate::place::{
     READY, RECS, REC_AUX, REC_STATE, RTT_STATE, TABLES, UNDELEGATED,
 };
 use crate::put::{put, put_flag, put_value};
-use crate::reply::{Digest, Reply};
+use crate::reply::{Digest, TraceReply};
 use page_arena::PageStore;
 use rmi_abi::HashAlgorithm;
 use rmm::Rmm;
@@ -110,7 +110,7 @@ fn realm_state_name(state: RmmRealmState) -> usize
 
 // The realm whose RD is at an address.
 fn realm_at<S: PageStore>(rmm: &Rmm<S>, address: u64) -> Option<RmmRealm>
-    ensures { result ≡ readings.realm_at rmm.now address }
+    ensures { result ≡ readings.realm_named rmm.now address }
 {
     rmm.state(address)?.realm()
 }
@@ -118,7 +118,7 @@ fn realm_at<S: PageStore>(rmm: &Rmm<S>, address: u64) -> Option<RmmRealm>
 // Puts a number in decimal with its name.
 fn put_number(answer: &mut Sentence, name: usize, number: u64)
     requires { length answer.old.items ≤ 62 }
-    ensures items { answer.new.items ≡ value name (Decimal number) answer.old.items }
+    ensures items { answer.new.items ≡ put_value name (Decimal number) answer.old.items }
     ensures len { length answer.new.items ≡ length answer.old.items + 2 }
 {
     put_value(answer, name, Atom::Decimal(number));
@@ -127,7 +127,7 @@ fn put_number(answer: &mut Sentence, name: usize, number: u64)
 // Puts an address or a register with its name.
 fn put_word(answer: &mut Sentence, name: usize, word: u64)
     requires { length answer.old.items ≤ 62 }
-    ensures items { answer.new.items ≡ value name (Hexadecimal word) answer.old.items }
+    ensures items { answer.new.items ≡ put_value name (Hexadecimal word) answer.old.items }
     ensures len { length answer.new.items ≡ length answer.old.items + 2 }
 {
     put_value(answer, name, Atom::Hexadecimal(word));
@@ -152,7 +152,7 @@ fn put_realm(answer: &mut Sentence, realm: &RmmRealm, base: u64)
 // Answers the attributes of a realm.
 pub(crate) fn answer_realm<S: PageStore>(answer: &mut Sentence, rmm: &Rmm<S>, address: u64)
     requires { answer.old.items ≡ [] }
-    ensures { answer.new.items ≡ readings.shown_realm (readings.realm_at rmm.now address) rmm.now.settings.base }
+    ensures { answer.new.items ≡ readings.realm_answer (readings.realm_named rmm.now address) rmm.now.settings.base }
 {
     match realm_at(rmm, address) {
         Some(realm) => put_realm(answer, &realm, rmm.settings().base),
@@ -181,9 +181,9 @@ fn digest_of(hash: HashAlgorithm, rim: [u8; 64]) -> Digest
 }
 
 // Answers the initial measurement of a realm.
-pub(crate) fn answer_rim<S: PageStore>(reply: &mut Reply, rmm: &Rmm<S>, address: u64)
+pub(crate) fn answer_rim<S: PageStore>(reply: &mut TraceReply, rmm: &Rmm<S>, address: u64)
     requires { reply.old ≡ no_answer }
-    ensures { reply.new ≡ readings.rim_reply (readings.realm_at rmm.now address) }
+    ensures { reply.new ≡ readings.rim_reply (readings.realm_named rmm.now address) }
 {
     match realm_at(rmm, address) {
         Some(realm) => reply.rim = Some(digest_of(realm.hash, realm.rim)),
@@ -219,10 +219,10 @@ fn owner_address<S: PageStore>(rmm: &Rmm<S>, address: u64) -> u64
 }
 
 // Puts that a request is pending, if it is.
-#[tactic(auto, unfolding(crate::specs::Reading::pending))]
+#[tactic(auto, unfolding(crate::specs::Reading::put_pending))]
 fn put_pending(answer: &mut Sentence, is_pending: bool)
     requires { length answer.old.items < 64 }
-    ensures items { answer.new.items ≡ readings.pending is_pending answer.old.items }
+    ensures items { answer.new.items ≡ readings.put_pending is_pending answer.old.items }
     ensures len { length answer.new.items ≤ length answer.old.items + 1 }
 {
     if is_pending {
@@ -248,7 +248,7 @@ fn put_rec<S: PageStore>(answer: &mut Sentence, rmm: &Rmm<S>, address: u64, rec:
 // Answers the attributes of a REC.
 pub(crate) fn answer_rec<S: PageStore>(answer: &mut Sentence, rmm: &Rmm<S>, address: u64)
     requires { answer.old.items ≡ [] }
-    ensures { answer.new.items ≡ readings.shown_rec rmm.now address (rec_at rmm.now address) }
+    ensures { answer.new.items ≡ readings.rec_answer rmm.now address (rec_named rmm.now address) }
 {
     match rec_at(rmm, address) {
         Some(rec) => put_rec(answer, rmm, address, &rec),

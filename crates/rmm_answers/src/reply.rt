@@ -21,7 +21,7 @@ pub enum Digest {
 
 /// The answer to a question: words, or a measurement. That to a platform is neither.
 #[derive(Drop)]
-pub struct Reply {
+pub struct TraceReply {
     pub words: Sentence,
     pub rim: Option<Digest>,
     /// The round of the call that is refused, which is 0 if it is not repeated. None comes if no call is refused.
@@ -50,12 +50,12 @@ impl Digest {
     }
 }
 
-impl Reply {
+impl TraceReply {
     /// No answer: that to a platform.
-    pub fn new() -> Reply
+    pub fn new() -> TraceReply
         ensures { result ≡ replies.no_answer }
     {
-        Reply {
+        TraceReply {
             words: Sentence::new(),
             rim: None,
             refused: None,
@@ -83,7 +83,7 @@ impl Reply {
 
     /// Whether there is no answer: the line is printed as it is.
     pub fn is_empty(&self) -> bool
-        ensures { result ≡ replies.is_empty self.now }
+        ensures { result ≡ replies.is_unanswered self.now }
     {
         self.words.is_empty() && self.rim.is_none()
     }
