@@ -1,4 +1,4 @@
--- The verdict on an answer that is written. RMM 1.0 orders the failure conditions of a command in part.
+-- The verdict on an answer that is written. RMM 1.0, failure conditions of RMI commands: their ordering is partial.
 use Rattle.std.specs.Prelude.{ℕ, ◌+◌, ◌-◌, ◌*◌, ◌%◌, ◌==◌, nat_le, nat_lt, Bool, false, not, ◌&&◌, ◌||◌, if◌then◌else◌, List, [], ◌∷◌, Option, Some, None, option_and_then}
 use Rattle.std.specs.List.{list_any, slice_split}
 use Rattle.rmi_abi.specs.declared.word.Word.{Word}

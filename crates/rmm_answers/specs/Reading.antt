@@ -41,7 +41,7 @@ abbrev pub state_atom : Option RmmGranuleState → Atom
 state_atom (Some state) = Name (state_name state)
 state_atom None = Name NONE
 
--- granules whose pages have the monitor's own content
+-- granules whose pages have the RMM's own content
 abbrev pub is_own : RmmGranuleState → Bool
 is_own (Rd realm) = true
 is_own (Rec rec) = true

@@ -50,7 +50,7 @@ pub(crate) fn state_atom(state: Option<RmmGranuleState>) -> Atom
 
 // ---- sums
 
-// Whether the page of a granule has the monitor's own content.
+// Whether the page of a granule has the RMM's own content.
 fn is_own(state: RmmGranuleState) -> bool
     ensures { result ≡ readings.is_own state }
 {
