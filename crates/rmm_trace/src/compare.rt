@@ -278,8 +278,8 @@ fn are_first(written: &[TraceWord], ours: &[TraceWord]) -> bool
 
 // ---- checks
 
-// The checks whose names are not the standard's, or are unsure, after their commands.
-const UNSURE: [(usize, usize); 20] = [
+/// The checks whose names are not the standard's, or are unsure, after their commands.
+pub const UNSURE: [(usize, usize); 20] = [
     (RMI_VERSION, CHECK_VERSION),
     (RMI_DATA_CREATE, CHECK_FLAGS_VALID),
     (RMI_DATA_CREATE, CHECK_RTTE_RIPAS),

@@ -38,7 +38,7 @@ mod word;
 
 pub use access::{FUNCTIONS, after_name, call_registers, operand};
 pub use answer::{RUNS_ON, index_of, output_atom, plain, push_word, status_of};
-pub use compare::{atom_number, is_same};
+pub use compare::{UNSURE, atom_number, is_same};
 pub use consistent::is_consistent;
 pub use cut::cut_at;
 pub use digest::{sha256_text, sha512_text};

@@ -1,0 +1,3 @@
+pub mod Lengths
+pub mod Rows
+pub mod MoreRounds

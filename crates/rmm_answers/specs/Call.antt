@@ -1,0 +1,71 @@
+-- Answers to calls.
+use Rattle.std.specs.Prelude.{ℕ, ◌+◌, ◌==◌, Bool, not, ◌&&◌, if◌then◌else◌, List, [], Option, Some, None, option_map, option_and_then}
+use Rattle.rmi_abi.specs.declared.registers.Registers.{Registers}
+use Rattle.rmi_abi.specs.Call.{call_in}
+use Rattle.rmm_checks.specs.declared.evaluated.EvaluatedCheck.{EvaluatedCheck}
+use Rattle.rmm_checks.specs.Evaluated.{evaluated}
+use Rattle.rmm_model.specs.declared.condition.Condition.{Condition}
+use Rattle.rmm_model.specs.Allowed.{condition_number}
+use Rattle.rmm_model.specs.Call.{command_of}
+use Rattle.rmm_model.specs.Check.{first_failing}
+use Rattle.rmm_model.specs.Machine.{Machine}
+use Rattle.rmm_trace.specs.declared.place.TheConstants.{AFTER, RMI_REC_ENTER}
+use Rattle.rmm_trace.specs.declared.word.Atom.TheVariants.{Name, Decimal}
+use Rattle.rmm_trace.specs.declared.word.TraceWord.{TraceWord}
+use Rattle.rmm_answers.specs.declared.reply.TraceReply.{TraceReply}
+use Rattle.rmm_answers.specs.declared.rounds.LastCall.{LastCall}
+use Rattle.rmm_answers.specs.Exit.{put_exit}
+use Rattle.rmm_answers.specs.Outputs.{command_place, put_status, put_outputs, put_registers}
+use Rattle.rmm_answers.specs.Put.{◌▷◌, put_word, put_value}
+
+-- ---- refusals
+
+-- X0 refuses a call: it is neither RMI_SUCCESS nor that of a REC that runs on
+abbrev pub is_refused : ℕ → Bool
+is_refused x0 = not (x0 == 0) && not (x0 == 0xFFFFFFFFFFFFFFFE)
+
+-- the checks of a call by registers on a machine
+unfoldable pub checks_at : Registers → Machine → Option (List EvaluatedCheck)
+checks_at r m = option_map (λ call. evaluated (command_of call m).checks) (call_in r)
+
+-- the condition by which a call by registers is refused on a machine
+unfoldable pub deciding : Registers → Machine → Option Condition
+deciding r m = option_and_then (λ call. option_map (λ refusal. refusal.condition) (first_failing (command_of call m).checks)) (call_in r)
+
+-- ---- words
+
+abbrev pub put_check_name : Option Condition → List TraceWord → List TraceWord
+put_check_name (Some condition) ws = put_word (Name (179 + condition_number condition)) ws
+put_check_name None ws = ws
+
+-- the check that decides, on the machine of the refused call, which no refusal changes
+unfoldable pub put_check : Registers → Machine → ℕ → List TraceWord → List TraceWord
+put_check r m x0 ws = if is_refused x0 then put_check_name (deciding r m) ws else ws
+
+-- how many rounds are before a refused one, if there are any
+unfoldable pub put_after : ℕ → ℕ → List TraceWord → List TraceWord
+put_after x0 round ws = if not (x0 == 0) && not (round == 0) then put_value AFTER (Decimal round) ws else ws
+
+-- the exit of a REC that has left
+unfoldable pub put_exit_of : ℕ → ℕ → ℕ → Machine → List TraceWord → List TraceWord
+put_exit_of place x0 run m ws = if place == RMI_REC_ENTER && x0 == 0 then put_exit m run ws else ws
+
+-- the round of a call that is refused
+abbrev pub refused_round : LastCall → Option ℕ
+refused_round it = if is_refused it.after.x0 then Some it.round else None
+
+-- The answer to a call by the names of its outputs: the last of its rounds, the registers of that round, and the machine after it.
+unfoldable pub call_reply : ℕ → Registers → LastCall → Machine → TraceReply
+call_reply place r it m = record {
+  words = record { items = [] ▷ put_status it.after.x0 ▷ put_outputs place it.after ▷ put_exit_of place it.after.x0 r.x2 m ▷ put_check r m it.after.x0 ▷ put_after it.after.x0 it.round };
+  rim = None;
+  refused = refused_round it;
+}
+
+-- the answer to a raw call by its registers
+unfoldable pub raw_reply : Registers → LastCall → TraceReply
+raw_reply r it = record {
+  words = record { items = [] ▷ put_registers (command_place r.x0) it.after };
+  rim = None;
+  refused = refused_round it;
+}

@@ -1,0 +1,79 @@
+-- The verdict on an answer that is written. RMM 1.0, failure conditions of RMI commands: their ordering is partial.
+use Rattle.std.specs.Prelude.{ℕ, ◌+◌, ◌-◌, ◌*◌, ◌%◌, ◌==◌, nat_le, nat_lt, Bool, false, not, ◌&&◌, ◌||◌, if◌then◌else◌, List, [], ◌∷◌, Option, Some, None, option_and_then}
+use Rattle.std.specs.List.{list_any, slice_split}
+use Rattle.rmi_abi.specs.declared.word.Word.{Word}
+use Rattle.rmi_abi.specs.Word.{number, word_of}
+use Rattle.rmm_checks.specs.declared.evaluated.CheckOutcome.{CheckOutcome}
+use Rattle.rmm_checks.specs.declared.evaluated.CheckOutcome.TheVariants.{Failed}
+use Rattle.rmm_checks.specs.declared.evaluated.EvaluatedCheck.{EvaluatedCheck}
+use Rattle.rmm_checks.specs.Evaluated as evaluated
+use Rattle.rmm_model.specs.Machine.{Machine}
+use Rattle.rmm_trace.specs.declared.place.TheConstants.{DASH, RMI_SUCCESS}
+use Rattle.rmm_trace.specs.declared.word.Atom.{Atom}
+use Rattle.rmm_trace.specs.declared.word.Atom.TheVariants.{Name, Decimal, Hexadecimal}
+use Rattle.rmm_trace.specs.declared.word.TraceWord.{TraceWord}
+use Rattle.rmm_trace.specs.Sentences.{words_in}
+use Rattle.rmm_answers.specs.declared.judging.Verdict.{Verdict}
+use Rattle.rmm_answers.specs.declared.judging.Verdict.TheVariants.{Same, Allowed, Wrong}
+use Rattle.rmm_answers.specs.declared.reply.TraceReply.{TraceReply}
+use Rattle.rmm_answers.specs.Answering.{refused_checks}
+use Rattle.rmm_answers.specs.Replies.{is_written}
+
+-- ---- words that checks allow
+
+abbrev pub allows : List EvaluatedCheck → Option Word → Bool
+allows rows (Some w) = evaluated.is_allowed rows w
+allows rows None = false
+
+-- the word that X0 is read as is allowed
+abbrev pub allows_number : List EvaluatedCheck → ℕ → Bool
+allows_number rows x0 = allows rows (word_of x0)
+
+abbrev pub has_status : ℕ → CheckOutcome → Bool
+has_status status (Failed answer) = number answer.word % 256 == status
+has_status status _ = false
+
+abbrev pub allows_index : List EvaluatedCheck → ℕ → ℕ → Bool
+allows_index rows status index = nat_lt index 256 && allows_number rows (status + 256 * index)
+
+-- `-` is each index
+abbrev pub allows_index_in : List EvaluatedCheck → ℕ → Atom → Bool
+allows_index_in rows status (Name place) =
+    if place == DASH then list_any (λ row. has_status status row.outcome) rows else allows_index rows status 0
+allows_index_in rows status (Decimal index) = allows_index rows status index
+allows_index_in rows status (Hexadecimal index) = allows_index rows status index
+
+-- no index is 0
+abbrev pub allows_written : List EvaluatedCheck → ℕ → List TraceWord → Bool
+allows_written rows status [] = allows_index rows status 0
+allows_written rows status (w ∷ ws) = allows_index_in rows status w.value
+
+abbrev pub allows_name : List EvaluatedCheck → ℕ → List TraceWord → Bool
+allows_name rows place ws =
+    if nat_le place RMI_SUCCESS || nat_le (RMI_SUCCESS + 5) place then false else allows_written rows (place - RMI_SUCCESS) ws
+
+abbrev pub allows_first : List EvaluatedCheck → Atom → List TraceWord → Bool
+allows_first rows (Name place) ws = allows_name rows place ws
+allows_first rows (Decimal x0) ws = not (x0 == 0) && allows_number rows x0
+allows_first rows (Hexadecimal x0) ws = not (x0 == 0) && allows_number rows x0
+
+-- A written answer refuses by a word that the checks allow.
+abbrev pub is_refusal_allowed : List TraceWord → List EvaluatedCheck → Bool
+is_refusal_allowed [] rows = false
+is_refusal_allowed (w ∷ ws) rows = allows_first rows w.value ws
+
+-- ---- verdicts
+
+abbrev pub are_words_allowed : Option (List TraceWord) → List EvaluatedCheck → Bool
+are_words_allowed (Some ws) rows = is_refusal_allowed ws rows
+are_words_allowed None rows = false
+
+abbrev pub is_text_allowed : List ℕ → Option (List EvaluatedCheck) → Bool
+is_text_allowed written (Some rows) = are_words_allowed (words_in 64 (slice_split (λ b. b == 32) written)) rows
+is_text_allowed written None = false
+
+-- The verdict on a written answer, by our reply and the machine after it: ours, a refusal by another check of the refused call, or wrong.
+unfoldable pub judged : Option Machine → List TraceWord → List ℕ → TraceReply → Verdict
+judged m question written reply =
+    if is_written question written reply then Same
+    else (if is_text_allowed written (option_and_then (refused_checks question reply) m) then Allowed else Wrong)

@@ -1,0 +1,16 @@
+pub mod Answering
+pub mod Call
+pub mod Exit
+pub mod Guest
+pub mod Judging
+pub mod Memory
+pub mod Naming
+pub mod Outputs
+pub mod Page
+pub mod Places
+pub mod Platform
+pub mod Put
+pub mod Reading
+pub mod Replies
+pub mod Rounds
+pub mod Words

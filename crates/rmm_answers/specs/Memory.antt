@@ -1,0 +1,14 @@
+-- Answers to loads and stores of the host.
+use Rattle.std.specs.Prelude.{ℕ, Bool, if◌then◌else◌, List, [], Option, Some, None}
+use Rattle.rmm_trace.specs.declared.word.Atom.{Atom}
+use Rattle.rmm_trace.specs.declared.word.Atom.TheVariants.{Name, Hexadecimal}
+use Rattle.rmm_answers.specs.declared.place.TheConstants.{DONE, FAULT}
+
+-- whether the host's access is done
+abbrev pub access_atom : Bool → Atom
+access_atom is_done = Name (if is_done then DONE else FAULT)
+
+-- the word that a load returns
+abbrev pub load_atom : Option ℕ → Atom
+load_atom (Some w) = Hexadecimal w
+load_atom None = Name FAULT

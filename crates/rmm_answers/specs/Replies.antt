@@ -1,0 +1,64 @@
+-- Answers to questions.
+use Rattle.std.specs.Prelude.{ℕ, ◌&&◌, Bool, true, false, List, [], ◌∷◌, Option, Some, None, ◌==◌}
+use Rattle.std.specs.Str.{bytes_eq}
+use Rattle.std.specs.List.{slice_split}
+use Rattle.hex.specs.Hex.{encode_lower}
+use Rattle.rmm_trace.specs.declared.compare.TheConstants.{UNSURE}
+use Rattle.rmm_trace.specs.declared.word.Atom.TheVariants.{Name}
+use Rattle.rmm_trace.specs.declared.word.TraceWord.{TraceWord}
+use Rattle.rmm_trace.specs.Compare.{is_same}
+use Rattle.rmm_trace.specs.Sentences.{sentence_text, words_in}
+use Rattle.rmm_answers.specs.declared.place.TheConstants.{NO, COMMAND}
+use Rattle.rmm_answers.specs.declared.reply.Digest.{Digest}
+use Rattle.rmm_answers.specs.declared.reply.Digest.TheVariants.{Sha256, Sha512}
+use Rattle.rmm_answers.specs.declared.reply.TraceReply.{TraceReply}
+use Rattle.rmm_answers.specs.Put.{◌▷◌, put_word}
+
+-- an answer that is words, and refuses no call
+abbrev pub of_words : List TraceWord → TraceReply
+of_words ws = record { words = record { items = ws }; rim = None; refused = None }
+
+-- no answer: that to a platform
+abbrev pub no_answer : TraceReply
+no_answer = of_words []
+
+-- the answer to a line that is no command
+unfoldable pub no_command : TraceReply
+no_command = of_words ([] ▷ put_word (Name NO) ▷ put_word (Name COMMAND))
+
+-- two small hexadecimal digits for each byte
+abbrev pub digest_text : Digest → List ℕ
+digest_text (Sha256 bytes) = encode_lower bytes
+digest_text (Sha512 bytes) = encode_lower bytes
+
+abbrev pub text_by : Option Digest → List TraceWord → List ℕ
+text_by (Some digest) ws = digest_text digest
+text_by None ws = sentence_text ws
+
+abbrev pub is_none_left : List TraceWord → Bool
+is_none_left [] = true
+is_none_left (w ∷ ws) = false
+
+abbrev pub is_absent : Option Digest → Bool
+is_absent None = true
+is_absent (Some digest) = false
+
+-- there is no answer
+abbrev pub is_unanswered : TraceReply → Bool
+is_unanswered reply = is_none_left reply.words.items && is_absent reply.rim
+
+-- the text of an answer
+abbrev pub reply_text : TraceReply → List ℕ
+reply_text reply = text_by reply.rim reply.words.items
+
+abbrev pub are_same : List TraceWord → Option (List TraceWord) → List TraceWord → Bool
+are_same question (Some written) ours = is_same UNSURE question written ours
+are_same question None ours = false
+
+abbrev pub is_written_by : List TraceWord → List ℕ → Option Digest → List TraceWord → Bool
+is_written_by question written (Some digest) ours = bytes_eq written (digest_text digest)
+is_written_by question written None ours = are_same question (words_in 64 (slice_split (λ b. b == 32) written)) ours
+
+-- A written answer to a question is this one: it is its digits, or its words are the same.
+unfoldable pub is_written : List TraceWord → List ℕ → TraceReply → Bool
+is_written question written reply = is_written_by question written reply.rim reply.words.items

@@ -1,0 +1,61 @@
+-- Rounds of calls and of fills: a question is repeated up to the first round that is refused.
+use Rattle.std.specs.Prelude.{ℕ, zero, suc, ◌+◌, ◌%◌, ◌==◌, Bool, if◌then◌else◌, List, slice_index, Option, Some, None}
+use Rattle.rmi_abi.specs.declared.registers.Registers.{Registers}
+use Rattle.rmm_model.specs.Call.{rmi}
+use Rattle.rmm_model.specs.Host.{can_fill, after_fill}
+use Rattle.rmm_model.specs.Machine.{Machine}
+use Rattle.rmm_trace.specs.declared.word.TraceWord.{TraceWord}
+use Rattle.rmm_trace.specs.Access.{operand_at, call_registers}
+use Rattle.rmm_answers.specs.declared.rounds.LastCall.{LastCall}
+
+-- ---- calls
+
+abbrev pub registers_in : Option (List ℕ) → Registers
+registers_in (Some xs) = record {
+  x0 = slice_index xs 0;
+  x1 = slice_index xs 1;
+  x2 = slice_index xs 2;
+  x3 = slice_index xs 3;
+  x4 = slice_index xs 4;
+  x5 = slice_index xs 5;
+  x6 = slice_index xs 6;
+}
+registers_in None = record { x0 = 0; x1 = 0; x2 = 0; x3 = 0; x4 = 0; x5 = 0; x6 = 0 }
+
+-- the registers of a call in a round
+unfoldable pub asked : List TraceWord → ℕ → Registers
+asked call round = registers_in (call_registers call round)
+
+-- the last round that is performed, and the registers after it
+abbrev pub last : ℕ → Registers × Machine → LastCall × Machine
+last round after = (record { round = round; after = after.0 }, after.1)
+
+-- that many rounds at most after one, which goes on if it is RMI_SUCCESS
+unfoldable pub more_rounds : ℕ → List TraceWord → ℕ → Registers × Machine → LastCall × Machine
+more_rounds zero call round after = last round after
+more_rounds (suc left) call round after =
+    if after.0.x0 == 0 then more_rounds left call (round + 1) (rmi (asked call (round + 1)) after.1) else last round after
+
+-- The last round of a call, and the machine after it: there are that many rounds at most after the first.
+unfoldable pub performed_rounds : ℕ → List TraceWord → Machine → LastCall × Machine
+performed_rounds more call m = more_rounds more call 0 (rmi (asked call 0) m)
+
+-- ---- fills
+
+-- whether the host may fill the page of a round, and the machine after it
+unfoldable pub filled : List TraceWord → ℕ → Machine → Bool × Machine
+filled operands round m =
+    let address = operand_at operands 0 round in
+    (can_fill m address, after_fill m address (operand_at operands 1 round % 256))
+
+abbrev pub last_fill : ℕ → Bool × Machine → ℕ × Bool × Machine
+last_fill round after = (round, after.0, after.1)
+
+unfoldable pub more_fills : ℕ → List TraceWord → ℕ → Bool × Machine → ℕ × Bool × Machine
+more_fills zero operands round after = last_fill round after
+more_fills (suc left) operands round after =
+    if after.0 then more_fills left operands (round + 1) (filled operands (round + 1) after.1) else last_fill round after
+
+-- The last round of a fill, whether it is done, and the machine after it.
+unfoldable pub filled_rounds : ℕ → List TraceWord → Machine → ℕ × Bool × Machine
+filled_rounds more operands m = more_fills more operands 0 (filled operands 0 m)

@@ -1,0 +1,141 @@
+//! The verdict on an answer that is written.
+ghost use Rattle.std.specs.Prelude.{◌≡◌, ◌<◌};
+ghost use Rattle.std.specs.List.{list_any};
+ghost use Rattle.rmm_answers.specs.Judging as judging;
+
+use crate::{TraceReply, TraceMachine};
+use rmi_abi::Word;
+use rmm_checks::{CheckOutcome, EvaluatedCheck, EvaluatedChecks};
+use rmm_trace::place::{DASH, RMI_SUCCESS};
+use rmm_trace::{Atom, TraceWord, read_words};
+
+/// The verdict on an answer that is written: ours, a refusal by another check, or neither.
+#[derive(Clone, Copy, Debug, PartialEq, Eq)]
+pub enum Verdict {
+    Same,
+    Allowed,
+    Wrong,
+}
+
+// Whether the checks allow the word that X0 is read as.
+fn allows_number(checks: &EvaluatedChecks, x0: u64) -> bool
+    ensures { result ≡ judging.allows_number checks.now x0 }
+{
+    match Word::from_number(x0) {
+        Some(word) => checks.allows(word),
+        None => false,
+    }
+}
+
+// Whether a check was made and failed, and its word has a status.
+fn has_status(row: &EvaluatedCheck, status: u64) -> bool
+    ensures { result ≡ judging.has_status status row.now.outcome }
+{
+    match row.outcome {
+        CheckOutcome::Failed(answer) => answer.word.number() % 0x100 == status,
+        CheckOutcome::NotMade => false,
+        CheckOutcome::Passed => false,
+    }
+}
+
+// Whether the checks allow a status with any index.
+fn allows_status(rows: &[EvaluatedCheck], status: u64) -> bool
+    ensures { result ≡ list_any (λ row. judging.has_status status row.outcome) rows.now }
+{
+    for row in rows {
+        if has_status(row, status) {
+            return true;
+        }
+    }
+    false
+}
+
+// Whether the checks allow a status with an index.
+fn allows_index(checks: &EvaluatedChecks, status: u64, index: u64) -> bool
+    requires { status < 5 }
+    ensures { result ≡ judging.allows_index checks.now status index }
+{
+    index < 0x100 && allows_number(checks, status + 0x100 * index)
+}
+
+// Whether the checks allow a status with what is written after it: an index, `-`, or none, which is 0.
+fn allows_written(checks: &EvaluatedChecks, status: u64, rest: &[TraceWord]) -> bool
+    requires { status < 5 }
+    ensures { result ≡ judging.allows_written checks.now status rest.now }
+{
+    match rest {
+        [] => allows_index(checks, status, 0),
+        [index, ..] => match index.value {
+            Atom::Name(place) => {
+                if place == DASH {
+                    allows_status(checks.rows(), status)
+                } else {
+                    allows_index(checks, status, 0)
+                }
+            }
+            Atom::Decimal(index) => allows_index(checks, status, index),
+            Atom::Hexadecimal(index) => allows_index(checks, status, index),
+        },
+    }
+}
+
+// Whether the checks allow a status by the place of its name, if it refuses a call.
+fn allows_name(checks: &EvaluatedChecks, place: usize, rest: &[TraceWord]) -> bool
+    ensures { result ≡ judging.allows_name checks.now place rest.now }
+{
+    if place <= RMI_SUCCESS || place >= RMI_SUCCESS + 5 {
+        return false;
+    }
+    allows_written(checks, (place - RMI_SUCCESS) as u64, rest)
+}
+
+/// Whether an answer that is written refuses the call by a word that evaluated checks allow: the name of its status with an
+/// index, or X0.
+pub fn is_allowed(written: &[TraceWord], checks: &EvaluatedChecks) -> bool
+    ensures { result ≡ judging.is_refusal_allowed written.now checks.now }
+{
+    match written {
+        [] => false,
+        [first, rest @ ..] => match first.value {
+            Atom::Name(place) => allows_name(checks, place, rest),
+            Atom::Decimal(x0) => x0 != 0 && allows_number(checks, x0),
+            Atom::Hexadecimal(x0) => x0 != 0 && allows_number(checks, x0),
+        },
+    }
+}
+
+// Whether the checks, if there are any, allow the answer that a text is.
+fn is_text_allowed(checks: Option<EvaluatedChecks>, written: &[u8]) -> bool
+    ensures { result ≡ judging.is_text_allowed written.now checks }
+{
+    match checks {
+        Some(checks) => match read_words(written) {
+            Some(words) => is_allowed(words.as_slice(), &checks),
+            None => false,
+        },
+        None => false,
+    }
+}
+
+/// The verdict on an answer that is written to a question, by our reply and the machine after it.
+///
+/// Both refuse the call if the answer is allowed, so both machines are those before it. Checks are evaluated only if the
+/// answer is not ours.
+#[tactic(auto, unfolding(crate::specs::Judging::judged))]
+pub fn judge(
+    machine: &TraceMachine,
+    question: &[TraceWord],
+    written: &[u8],
+    reply: &TraceReply,
+) -> Verdict
+    ensures { result ≡ judging.judged machine.now question.now written.now reply.now }
+{
+    if reply.is_written(question, written) {
+        return Verdict::Same;
+    }
+    if is_text_allowed(machine.checks(question, reply), written) {
+        Verdict::Allowed
+    } else {
+        Verdict::Wrong
+    }
+}

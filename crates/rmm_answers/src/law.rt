@@ -1,0 +1,32 @@
+//! Theorems about answers.
+ghost use Rattle.std.specs.Prelude.{◌≡◌, ◌+◌, ◌++◌, true, codes};
+ghost use Rattle.rmi_abi.specs.declared.registers.Registers.{Registers};
+ghost use Rattle.rmm_checks.specs.Names.{name_of};
+ghost use Rattle.rmm_model.specs.declared.condition.Condition.{Condition};
+ghost use Rattle.rmm_model.specs.Allowed.{condition_number};
+ghost use Rattle.rmm_model.specs.Call.{rmi};
+ghost use Rattle.rmm_model.specs.Machine.{Machine};
+ghost use Rattle.rmm_answers.specs.Call.{is_refused};
+ghost use Rattle.rmm_answers.specs.Places.{has_name, are_answer_places_named, are_outputs_named, are_fields_named, are_steps_named};
+
+/// The places that answers have are those of their names.
+pub fn answer_places_are_of_their_names()
+    ensures { are_answer_places_named ≡ true }
+{}
+
+/// Each command has its outputs, each parameter page its fields at their offsets, and each step its number.
+pub fn tables_are_of_their_names()
+    ensures outputs { are_outputs_named ≡ true }
+    ensures fields { are_fields_named ≡ true }
+    ensures steps { are_steps_named ≡ true }
+{}
+
+/// Each check has its name in brackets.
+pub fn checks_are_of_their_names()
+    ensures { (c : Condition) → has_name (179 + condition_number c) (codes "(" ++ (name_of c ++ codes ")")) ≡ true }
+{}
+
+/// A call that is refused changes nothing: the checks that are evaluated after it are those before it.
+pub fn refusals_change_nothing()
+    ensures { (r : Registers) (m : Machine) → is_refused (rmi r m).0.x0 ≡ true → (rmi r m).1 ≡ m }
+{}

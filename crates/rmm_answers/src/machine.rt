@@ -1,0 +1,103 @@
+//! The machine of a trace.
+ghost use Rattle.std.specs.Prelude.{◌≡◌, None, OnOk, OnErr, option_and_then};
+ghost use Rattle.rmm_answers.specs.Answering as specs;
+ghost use Rattle.rmm_answers.specs.Platform.{machine_of_platform};
+
+use crate::answering::{answer_on, checks_on};
+use crate::platform::open;
+use crate::reply::TraceReply;
+use crate::words::{first_place, rest};
+use page_arena::PlainStore;
+use rmm::Rmm;
+use rmm_checks::EvaluatedChecks;
+use rmm_trace::TraceWord;
+use rmm_trace::place::PLATFORM;
+use std::alloc::{AllocError, Global};
+use std::marker::Model;
+
+/// The machine of a trace: none before the first platform.
+#[derive(Drop)]
+pub struct TraceMachine {
+    rmm: Option<Rmm<PlainStore>>,
+}
+
+impl Model for TraceMachine {
+    ghost use Rattle.std.specs.Prelude.{Option};
+    ghost use Rattle.std.specs.Coded.{coded_option};
+    ghost use Rattle.rmm_model.specs.Machine.{Machine};
+    ghost use Rattle.rmm_model.specs.Codes.{machine_code};
+
+    ghost Value = { Option Machine };
+
+    ghost coded = { coded_option machine_code };
+
+    ghost view = { λ trace. trace.rmm };
+}
+
+impl TraceMachine {
+    /// No machine.
+    pub fn new() -> TraceMachine
+        ensures { result ≡ None }
+    {
+        TraceMachine { rmm: None }
+    }
+
+    // Opens the machine of a platform.
+    fn open(
+        &mut self,
+        alloc: Global,
+        words: &[TraceWord],
+        reply: &mut TraceReply,
+    ) -> Result<(), AllocError>
+        ensures ok { OnOk result ((reply.new, self.new) ≡ specs.after_opening (machine_of_platform words.now) self.old) }
+        ensures err { OnErr result (self.new ≡ self.old) }
+    {
+        match open(alloc, words)? {
+            Some(rmm) => {
+                self.rmm = Some(rmm);
+                reply.clear();
+            }
+            None => reply.no_command(),
+        }
+        Ok(())
+    }
+
+    // Answers a question that is no platform.
+    fn answer_here(&mut self, question: &[TraceWord], reply: &mut TraceReply)
+        ensures { (reply.new, self.new) ≡ specs.answered_in question.now self.old }
+    {
+        match &mut self.rmm {
+            Some(rmm) => answer_on(rmm, question, reply),
+            None => reply.no_command(),
+        }
+    }
+
+    /// Performs a question, and answers it. A platform opens a fresh machine, and it alone takes memory: an error
+    /// leaves the machine as it is. Before the first platform any other question is no command.
+    #[tactic(auto, unfolding(crate::specs::Answering::answered))]
+    pub fn answer(
+        &mut self,
+        alloc: Global,
+        question: &[TraceWord],
+        reply: &mut TraceReply,
+    ) -> Result<(), AllocError>
+        ensures ok { OnOk result ((reply.new, self.new) ≡ specs.answered question.now self.old) }
+        ensures err { OnErr result (self.new ≡ self.old) }
+    {
+        if first_place(question) == PLATFORM {
+            return self.open(alloc, rest(question), reply);
+        }
+        self.answer_here(question, reply);
+        Ok(())
+    }
+
+    /// The checks of the call that a reply has refused, on the machine then: a refusal changes nothing.
+    pub fn checks(&self, question: &[TraceWord], reply: &TraceReply) -> Option<EvaluatedChecks>
+        ensures { result ≡ option_and_then (specs.refused_checks question.now reply.now) self.now }
+    {
+        match &self.rmm {
+            Some(rmm) => checks_on(rmm, question, reply),
+            None => None,
+        }
+    }
+}

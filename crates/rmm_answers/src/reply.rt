@@ -1,0 +1,119 @@
+//! Answers to questions.
+ghost use Rattle.std.specs.Prelude.{◌≡◌, ◌++◌, IfOk, OnOk};
+ghost use Rattle.std.specs.String.{string_bytes};
+ghost use Rattle.std.specs.Str.{bytes_eq};
+ghost use Rattle.rmm_answers.specs.Replies as replies;
+
+use crate::place::{COMMAND, NO};
+use crate::put::put;
+use rmm_trace::{
+    Atom, Sentence, SentenceText, TraceWord, is_same, read_words, sha256_text, sha512_text,
+};
+use std::alloc::{AllocError, Global};
+use std::fmt::Write;
+
+/// The digest that a realm's initial measurement is.
+#[derive(Clone, Copy)]
+pub enum Digest {
+    Sha256([u8; 32]),
+    Sha512([u8; 64]),
+}
+
+/// The answer to a question: words, or a measurement. That to a platform is neither.
+#[derive(Drop)]
+pub struct TraceReply {
+    pub words: Sentence,
+    pub rim: Option<Digest>,
+    /// The round of the call that is refused, which is 0 if it is not repeated. None comes if no call is refused.
+    pub refused: Option<u64>,
+}
+
+impl Digest {
+    // Whether a text has the digits of the digest.
+    fn is_text(&self, text: &[u8]) -> bool
+        ensures { result ≡ bytes_eq text.now (replies.digest_text self.now) }
+    {
+        match self {
+            Digest::Sha256(bytes) => text == sha256_text(bytes).as_slice(),
+            Digest::Sha512(bytes) => text == sha512_text(bytes).as_slice(),
+        }
+    }
+
+    // The digits of the digest.
+    fn digits(&self, alloc: Global) -> Result<String, AllocError>
+        ensures { IfOk result (λ text. string_bytes text ≡ replies.digest_text self.now) }
+    {
+        match self {
+            Digest::Sha256(bytes) => hex::encode(alloc, bytes.as_slice()),
+            Digest::Sha512(bytes) => hex::encode(alloc, bytes.as_slice()),
+        }
+    }
+}
+
+impl TraceReply {
+    /// No answer: that to a platform.
+    pub fn new() -> TraceReply
+        ensures { result ≡ replies.no_answer }
+    {
+        TraceReply {
+            words: Sentence::new(),
+            rim: None,
+            refused: None,
+        }
+    }
+
+    // Makes the answer none.
+    pub(crate) fn clear(&mut self)
+        ensures { self.new ≡ replies.no_answer }
+    {
+        self.words.clear();
+        self.rim = None;
+        self.refused = None;
+    }
+
+    /// Makes the answer that to a line which is no command.
+    #[tactic(auto, unfolding(crate::specs::Replies::no_command))]
+    pub fn no_command(&mut self)
+        ensures { self.new ≡ replies.no_command }
+    {
+        self.clear();
+        put(&mut self.words, Atom::Name(NO));
+        put(&mut self.words, Atom::Name(COMMAND));
+    }
+
+    /// Whether there is no answer: the line is printed as it is.
+    pub fn is_empty(&self) -> bool
+        ensures { result ≡ replies.is_unanswered self.now }
+    {
+        self.words.is_empty() && self.rim.is_none()
+    }
+
+    /// Whether an answer that is written to a question is this one.
+    pub fn is_written(&self, question: &[TraceWord], written: &[u8]) -> bool
+        ensures { result ≡ replies.is_written question.now written.now self.now }
+    {
+        if let Some(digest) = &self.rim {
+            return digest.is_text(written);
+        }
+        match read_words(written) {
+            Some(words) => is_same(question, words.as_slice(), self.words.as_slice()),
+            None => false,
+        }
+    }
+
+    /// Appends the text of the answer.
+    pub fn push_text(&self, alloc: Global, text: &mut String) -> Result<(), AllocError>
+        ensures ok { OnOk result (string_bytes text.new ≡ string_bytes text.old ++ replies.reply_text self.now) }
+    {
+        match &self.rim {
+            Some(digest) => {
+                let digits = digest.digits(alloc)?;
+                text.push_str(digits.as_str())
+            }
+            None => {
+                write!(text, "{}", SentenceText(self.words.as_slice()))?;
+                Ok(())
+            }
+        }
+    }
+}
