@@ -1,3 +1,0 @@
-pub mod Machine
-pub mod Calls
-pub mod Readings
