@@ -22,16 +22,16 @@ abbrev pub mpidr_of : ℕ → ℕ
 mpidr_of number = number % 2 ^ 4 + number / 2 ^ 4 * 2 ^ 8
 
 -- the RD of the realm that an event is about; granule 0 if there is no such realm
-abbrev pub rd_of : RealmAndRec → ℕ
-rd_of subject = unwrap_or subject.realm 0
+abbrev pub rd_or_first : RealmAndRec → ℕ
+rd_or_first subject = unwrap_or subject.realm 0
 
 -- the granule of the REC that an event is about, likewise
-abbrev pub rec_of : RealmAndRec → ℕ
-rec_of subject = unwrap_or subject.rec 0
+abbrev pub rec_or_first : RealmAndRec → ℕ
+rec_or_first subject = unwrap_or subject.rec 0
 
 -- a call without an output that is known
-abbrev pub plain : Call → HostAction
-plain call = host.Call call None
+abbrev pub plain_call : Call → HostAction
+plain_call call = host.Call call None
 
 -- a call with X1
 abbrev pub with_x1 : Call → ℕ → HostAction
@@ -47,21 +47,21 @@ on_rec rec run _ = []
 
 -- An event about a realm's tables and memory, or its activation.
 abbrev pub call_in_realm : Place → ℕ → Act → Option HostAction
-call_in_realm place rd (Rtt granule ipa level) = Some (plain (RttCreate rd (address place granule) (ipa_of ipa) level))
+call_in_realm place rd (Rtt granule ipa level) = Some (plain_call (RttCreate rd (address place granule) (ipa_of ipa) level))
 call_in_realm place rd (UnRtt granule ipa level) = Some (with_x1 (RttDestroy rd (ipa_of ipa) level) (address place granule))
 call_in_realm place rd (Ripas ipa count) = Some (with_x1 (RttInitRipas rd (ipa_of ipa) (ipa_of (ipa + count))) (ipa_of (ipa + count)))
-call_in_realm place rd (Data granule ipa source) = Some (plain (DataCreate rd (address place granule) (ipa_of ipa) (address place source) 1))
-call_in_realm place rd (Unknown granule ipa) = Some (plain (DataCreateUnknown rd (address place granule) (ipa_of ipa)))
+call_in_realm place rd (Data granule ipa source) = Some (plain_call (DataCreate rd (address place granule) (ipa_of ipa) (address place source) 1))
+call_in_realm place rd (Unknown granule ipa) = Some (plain_call (DataCreateUnknown rd (address place granule) (ipa_of ipa)))
 call_in_realm place rd (UnData granule ipa) = Some (with_x1 (DataDestroy rd (ipa_of ipa)) (address place granule))
-call_in_realm place rd Activate = Some (plain (RealmActivate rd))
+call_in_realm place rd Activate = Some (plain_call (RealmActivate rd))
 call_in_realm place rd _ = None
 
 -- An event about the making of a REC, or its end.
 abbrev pub on_rec_granule : Place → ℕ → Act → List HostAction
 on_rec_granule place rd (Rec granule auxiliaries number) =
     host.RecParams (rec_params place) (mpidr_of number) (record { items = map (address place) auxiliaries.items })
-    ∷ plain (RecCreate rd (address place granule) (rec_params place)) ∷ []
-on_rec_granule place rd (UnRec granule auxiliaries number) = plain (RecDestroy (address place granule)) ∷ []
+    ∷ plain_call (RecCreate rd (address place granule) (rec_params place)) ∷ []
+on_rec_granule place rd (UnRec granule auxiliaries number) = plain_call (RecDestroy (address place granule)) ∷ []
 on_rec_granule place rd _ = []
 
 -- An event about pages, or about a realm's descriptor.
@@ -69,12 +69,12 @@ abbrev pub on_granules : Place → Act → List HostAction
 on_granules place (UnTake order first) = host.Fill (address place first) (2 ^ order) 0 ∷ []
 on_granules place (Fill granule value) = host.Fill (address place granule) 1 value ∷ []
 on_granules place (Peek granule offset byte) = host.Load (address place granule + offset / 8 * 8) byte ∷ []
-on_granules place (Delegate granule) = plain (GranuleDelegate (address place granule)) ∷ []
-on_granules place (Undelegate granule) = plain (GranuleUndelegate (address place granule)) ∷ []
+on_granules place (Delegate granule) = plain_call (GranuleDelegate (address place granule)) ∷ []
+on_granules place (Undelegate granule) = plain_call (GranuleUndelegate (address place granule)) ∷ []
 on_granules place (Realm rd root vmid) =
     host.RealmParams (realm_params place) root.width vmid (address place root.first) (2 ^ (root.width - 39))
-    ∷ plain (RealmCreate (address place rd) (realm_params place)) ∷ []
-on_granules place (UnRealm rd root vmid) = plain (RealmDestroy (address place rd)) ∷ []
+    ∷ plain_call (RealmCreate (address place rd) (realm_params place)) ∷ []
+on_granules place (UnRealm rd root vmid) = plain_call (RealmDestroy (address place rd)) ∷ []
 on_granules place _ = []
 
 -- The operations of a host for an event about a realm and a REC there, with the number of a page for the exits of its
@@ -82,6 +82,6 @@ on_granules place _ = []
 abbrev pub actions_of : Place → RealmAndRec → ℕ → Act → List HostAction
 actions_of place subject run act =
     on_granules place act
-    ++ option_to_list (call_in_realm place (address place (rd_of subject)) act)
-    ++ on_rec_granule place (address place (rd_of subject)) act
-    ++ on_rec (address place (rec_of subject)) (run_page place run) act
+    ++ option_to_list (call_in_realm place (address place (rd_or_first subject)) act)
+    ++ on_rec_granule place (address place (rd_or_first subject)) act
+    ++ on_rec (address place (rec_or_first subject)) (run_page place run) act

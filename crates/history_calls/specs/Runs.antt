@@ -9,16 +9,16 @@ abbrev pub is_same : Option ℕ → Option ℕ → Bool
 is_same rec it = option_eq nat_eq it rec
 
 -- the page of a REC that runs; the last one if it has none
-abbrev pub page_of : Option ℕ → List (Option ℕ) → ℕ
-page_of rec pages = min 63 (unwrap_or (position_from (is_same rec) 0 pages) 63)
+abbrev pub run_page_of : Option ℕ → List (Option ℕ) → ℕ
+run_page_of rec pages = min 63 (unwrap_or (position_from (is_same rec) 0 pages) 63)
 
 -- The page for an event about a REC: for an entry the lowest that is free, else that of the REC.
-abbrev pub page_for : Option ℕ → Act → List (Option ℕ) → ℕ
-page_for rec (Enter number) pages = page_of None pages
-page_for rec _ pages = page_of rec pages
+abbrev pub run_page_for : Option ℕ → Act → List (Option ℕ) → ℕ
+run_page_for rec (Enter number) pages = run_page_of None pages
+run_page_for rec _ pages = run_page_of rec pages
 
 -- the pages after an event about a REC
-abbrev pub pages_after : Option ℕ → Act → List (Option ℕ) → List (Option ℕ)
-pages_after rec (Enter number) pages = slice_set pages (page_of None pages) rec
-pages_after rec (Exit number) pages = slice_set pages (page_of rec pages) None
-pages_after rec _ pages = pages
+abbrev pub run_pages_after : Option ℕ → Act → List (Option ℕ) → List (Option ℕ)
+run_pages_after rec (Enter number) pages = slice_set pages (run_page_of None pages) rec
+run_pages_after rec (Exit number) pages = slice_set pages (run_page_of rec pages) None
+run_pages_after rec _ pages = pages

@@ -63,8 +63,8 @@ fn push(actions: &mut Actions, action: HostAction)
 }
 
 // A call without an output that is known.
-fn plain(call: Call) -> HostAction
-    ensures { result ≡ specs.plain call }
+fn plain_call(call: Call) -> HostAction
+    ensures { result ≡ specs.plain_call call }
 {
     HostAction::Call { call, x1: None }
 }
@@ -131,20 +131,20 @@ fn push_on_granules(actions: &mut Actions, frame: Frame, act: &Act)
         ),
         Act::Delegate { granule } => {
             let address = frame.address(*granule);
-            push(actions, plain(Call::GranuleDelegate { address }));
+            push(actions, plain_call(Call::GranuleDelegate { address }));
         }
         Act::Undelegate { granule } => {
             let address = frame.address(*granule);
-            push(actions, plain(Call::GranuleUndelegate { address }));
+            push(actions, plain_call(Call::GranuleUndelegate { address }));
         }
         Act::Realm { rd, root, vmid } => {
             push(actions, realm_params(frame, *root, *vmid));
             let (rd, params) = (frame.address(*rd), frame.host(0));
-            push(actions, plain(Call::RealmCreate { rd, params }));
+            push(actions, plain_call(Call::RealmCreate { rd, params }));
         }
         Act::UnRealm { rd, .. } => {
             let rd = frame.address(*rd);
-            push(actions, plain(Call::RealmDestroy { rd }));
+            push(actions, plain_call(Call::RealmDestroy { rd }));
         }
         _ => {}
     }
@@ -159,7 +159,7 @@ fn call_in_realm(frame: Frame, rd: u64, act: &Act) -> Option<HostAction>
             granule,
             ipa,
             level,
-        } => plain(Call::RttCreate {
+        } => plain_call(Call::RttCreate {
             rd,
             rtt: frame.address(*granule),
             ipa: ipa_of(*ipa),
@@ -182,14 +182,14 @@ fn call_in_realm(frame: Frame, rd: u64, act: &Act) -> Option<HostAction>
             granule,
             ipa,
             source,
-        } => plain(Call::DataCreate {
+        } => plain_call(Call::DataCreate {
             rd,
             data: frame.address(*granule),
             ipa: ipa_of(*ipa),
             source: frame.address(*source),
             flags: 1,
         }),
-        Act::Unknown { granule, ipa } => plain(Call::DataCreateUnknown {
+        Act::Unknown { granule, ipa } => plain_call(Call::DataCreateUnknown {
             rd,
             data: frame.address(*granule),
             ipa: ipa_of(*ipa),
@@ -198,7 +198,7 @@ fn call_in_realm(frame: Frame, rd: u64, act: &Act) -> Option<HostAction>
             let ipa = ipa_of(*ipa);
             with_x1(Call::DataDestroy { rd, ipa }, frame.address(*granule))
         }
-        Act::Activate => plain(Call::RealmActivate { rd }),
+        Act::Activate => plain_call(Call::RealmActivate { rd }),
         _ => return None,
     };
     Some(action)
@@ -217,11 +217,11 @@ fn push_on_rec_granule(actions: &mut Actions, frame: Frame, rd: u64, act: &Act)
         } => {
             push(actions, rec_params(frame, *number, auxiliaries));
             let (rec, params) = (frame.address(*granule), frame.host(1));
-            push(actions, plain(Call::RecCreate { rd, rec, params }));
+            push(actions, plain_call(Call::RecCreate { rd, rec, params }));
         }
         Act::UnRec { granule, .. } => {
             let rec = frame.address(*granule);
-            push(actions, plain(Call::RecDestroy { rec }));
+            push(actions, plain_call(Call::RecDestroy { rec }));
         }
         _ => {}
     }

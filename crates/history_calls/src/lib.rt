@@ -1,9 +1,11 @@
 //! The calls of a history: the operations of a host on an RMM by registers for each event.
 //!
-//! An event names granules by their numbers in the machine of the history. A frame places that machine at an address,
-//! with granules of the host after it: one for the parameters of realms, one for those of RECs, and one for each REC
-//! that runs at a time. The calls of an event are a function of the event, of the realm and the REC that it is about,
-//! and of the page for the exits of its run (`specs/Actions.antt`). No function takes memory.
+//! An event names granules by their numbers in the machine of the history. A frame places that machine at an address.
+//! After it are granules of the host: one for the parameters of realms, one for those of RECs, and one for each REC that
+//! runs at a time.
+//!
+//! The operations for an event are a function of four values: the frame, the event, the realm and the REC that it is
+//! about, and the page for the exits of its run (`specs/Actions.antt`). No function but those of texts takes memory.
 #![tactic(auto)]
 
 mod action;

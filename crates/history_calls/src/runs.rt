@@ -45,7 +45,7 @@ impl RunPages {
 
     // The page of a REC, or a page that is in no use.
     fn page_of(&self, rec: Option<Gran>) -> u16
-        ensures value { result ≡ runs.page_of rec self.now }
+        ensures value { result ≡ runs.run_page_of rec self.now }
         ensures below { result < 64 }
     {
         match place_of(&self.recs, rec) {
@@ -57,9 +57,9 @@ impl RunPages {
     /// The number of the page for an event that is about a REC. After an entry the page is in use, and after an exit it
     /// is free again.
     pub fn page_for(&mut self, rec: Option<Gran>, act: &Act) -> u16
-        ensures value { result ≡ runs.page_for rec act.now self.old }
+        ensures value { result ≡ runs.run_page_for rec act.now self.old }
         ensures below { result < 64 }
-        ensures pages { self.new ≡ runs.pages_after rec act.now self.old }
+        ensures pages { self.new ≡ runs.run_pages_after rec act.now self.old }
     {
         match act {
             Act::Enter { .. } => {

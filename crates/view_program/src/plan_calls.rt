@@ -6,14 +6,29 @@ ghost use Rattle.view_program.specs.Calls.{IsCallsText};
 use crate::plan_text::ViewText;
 use buddy::BuddyArena;
 use command_line::BaseAddress;
-use granule_addr::BuildId;
+use granule_addr::{BuildId, Level};
 use history_calls::{Frame, RunPages, actions_of, push_action, push_platform};
 use plan_replay::{PlanCursor, push_turn, take_turn};
 use realm_host::Host;
-use realm_model::Event;
+use realm_model::{Act, Event, Ripas};
 use realm_plan::{Plan, push_idle};
 use realm_program::{Fault, boot};
 use std::alloc::{AllocError, Global};
+
+// The line in place of a guest's write that RMM 1.0 has not.
+const BESIDE_RAM: &str =
+    "# no call: the RIPAS there is not RAM, and in RMM 1.0 the guest's write is refused\n";
+
+// Whether an event is a guest's write at an address whose RIPAS is not RAM. RMM 1.0 has no write there.
+fn is_beside_ram(host: &Host<BuddyArena>, event: &Event) -> bool {
+    let Act::Poke { ipa, .. } = event.act else {
+        return false;
+    };
+    match host.row(event.build, ipa.number(), Level::last()) {
+        Some(row) => !matches!(row.entry.ripas, Ripas::Ram),
+        None => true,
+    }
+}
 
 // Appends the operations of a host for an event that it has just recorded.
 fn push_event(
@@ -25,6 +40,9 @@ fn push_event(
 ) -> Result<(), AllocError> {
     if !host.ledger().has_build(event.build) {
         return Ok(());
+    }
+    if is_beside_ram(host, event) {
+        return text.push_str(BESIDE_RAM);
     }
     let subject = host.ledger().place(event.build, &event.act);
     let run = runs.page_for(subject.rec, &event.act);
