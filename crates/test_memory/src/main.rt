@@ -6,6 +6,8 @@
 //! and the line after it, and compares the times of the last three such parts.
 #![tactic(auto)]
 
+ghost use Rattle.std.specs.Prelude.{◌≡◌, false};
+
 mod blocks;
 mod boot;
 mod calls;
@@ -13,7 +15,10 @@ mod plain;
 mod recorded;
 mod seats;
 
+use checked_io::Told;
+use realm_program::{Fault as PlanFault, read_whole};
 use std::alloc::{AllocError, AllocFailed, Global};
+use std::io::{Read, Write};
 use std::marker::Sync;
 use std::process::ExitCode;
 use std::sync::Wait;
@@ -71,18 +76,34 @@ fn make_calls<R: Print + AllocGlobal + Threads + Wait + Sync>(rt: &R) -> Result<
     use_stores(rt, rt.alloc())
 }
 
-/// Replays the plan on standard input, or makes every call if there is none.
-fn run(rt: &HostRuntime) -> Result<(), Fault> {
-    let bytes = plain::input(rt)?;
+/// The bytes of an input.
+fn bytes_in<I: Read>(alloc: Global, input: &mut Told<I>) -> Result<Vec<u8>, PlanFault>
+    requires { input.old.failed ≡ false }
+{
+    Ok(read_whole(alloc, input)?)
+}
+
+/// Replays the plan in the input, or makes every call if there is none.
+fn run<H: Print + AllocGlobal + Threads + Wait + Sync, I: Read, O: Write>(
+    rt: &H,
+    input: &mut Told<I>,
+    output: &mut Told<O>,
+) -> Result<(), Fault>
+    requires readable { input.old.failed ≡ false }
+    requires writable { output.old.failed ≡ false }
+{
+    let bytes = bytes_in(rt.alloc(), input)?;
     if bytes.is_empty() {
         return make_calls(rt);
     }
-    plain::replay(rt, &bytes)?;
+    plain::replay(rt.alloc(), &bytes, output)?;
     Ok(())
 }
 
 fn main(rt: HostRuntime) -> ExitCode {
-    match run(&rt) {
+    let mut input = Told::new(rt.stdin());
+    let mut output = Told::new(rt.stdout());
+    match run(&rt, &mut input, &mut output) {
         Ok(()) => ExitCode::SUCCESS,
         Err(Fault::Memory) => {
             let _told = eprintln!(rt; "memory");
