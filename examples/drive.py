@@ -126,14 +126,20 @@ class Entry(threading.Thread):
         self.start()
 
     def run(self):
-        self.came.put(self.call(self.registers))
+        try:
+            self.came.put((self.call(self.registers), None))
+        except Exception as error:
+            self.came.put((None, error))
 
     def after(self, seconds):
-        """X0 to X4, or None if the guest runs on."""
+        """X0 to X4, or None if the guest runs on. An error of the call is raised."""
         try:
-            return self.came.get(timeout=seconds)
+            after, error = self.came.get(timeout=seconds)
         except queue.Empty:
             return None
+        if error:
+            raise error
+        return after
 
 
 class Watch(threading.Thread):
