@@ -150,6 +150,9 @@ class Following:
             except (AttributeError, IndexError, KeyError):
                 return None
             return event if self.open[build][-1:] == [event] else None
+        if word in OF_AN_RD and numbers[0] not in self.builds:
+            # An event names the build, and so its own realm.
+            return None
         is_leased = word not in OF_AN_RD or all(self.owners.get(it, build) == build for it in granules_of(word, numbers))
         has_room = len(self.open[build]) + len(self.taken[build]) < MOST_OPERATIONS
         return self.event(word, numbers) if is_leased and has_room else None

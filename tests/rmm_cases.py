@@ -121,7 +121,8 @@ smc 0xc4000151 0x80010000 | 0x0 0x0 | wrong
 rmi_rtt_init_ripas 0x80000000 0x800 0x2000 | RMI_ERROR_INPUT (base_gran_align) | same
 rmi_rtt_init_ripas 0x80000000 0x800 0x2000 | RMI_ERROR_INPUT (base_align) | same
 rmi_rtt_init_ripas 0x80000000 0x800 0x2000 | RMI_ERROR_RTT 3 (base_align) | allowed
-rmi_rtt_init_ripas 0x80000000 0x1000 0x1000 | RMI_ERROR_INPUT (size_valid) | same
+rmi_rtt_init_ripas 0x80000000 0x1000 0x1000 | RMI_ERROR_INPUT (rd_state) | same
+rmi_rtt_init_ripas 0x80000000 0x1000 0x1000 | RMI_ERROR_INPUT (no_such_check) | wrong
 repeat 2 rmi_granule_delegate 0x80010000+0x1000 | RMI_SUCCESS | same
 repeat 2 rmi_granule_delegate 0x8000f000+0x1000 | RMI_ERROR_INPUT (gran_state) | same
 repeat 2 rmi_granule_delegate 0x8003f000+0x1000 | RMI_ERROR_INPUT (gran_bound), after 1 | same

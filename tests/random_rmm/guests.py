@@ -22,7 +22,7 @@ class Guests(Tables):
 
     def step_of(self, realm: Realm) -> Step:
         draws = (
-            *[self.access] * 7, *[self.change] * 3, *[self.cpu_on] * 2, *[self.affinity_info] * 2, *[self.wait] * 2,
+            *[self.access] * 7, *[self.change] * 3, *[self.cpu_on] * 5, *[self.affinity_info] * 4, *[self.wait] * 2,
             self.host_call, self.register, self.turn_off,
         )
         return self.dice.choice(draws)(realm)

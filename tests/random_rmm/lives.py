@@ -21,9 +21,9 @@ MOST_CALLS = 4000
 # Granules beside the 512 that become a block; secure ones are among them.
 LAST = 64
 WEIGHTS = {
-    "rec_enter": 24, "set_ripas": 10, "psci_complete": 8, "interrupt": 5, "tables_to_pages": 5, "rtt_create": 4,
-    "rtt_destroy": 4, "rtt_fold": 4, "read_entry": 5, "map_unprotected": 6, "unmap_unprotected": 4, "data_create": 4,
-    "data_create_unknown": 5, "data_destroy": 5, "init_ripas": 4, "rec_create": 4, "rec_destroy": 2, "realm_create": 2,
+    "rec_enter": 24, "set_ripas": 16, "psci_complete": 20, "interrupt": 5, "tables_to_pages": 5, "rtt_create": 4,
+    "rtt_destroy": 4, "rtt_fold": 4, "read_entry": 5, "map_unprotected": 6, "unmap_unprotected": 4, "data_create": 8,
+    "data_create_unknown": 5, "data_destroy": 5, "init_ripas": 8, "rec_create": 8, "rec_destroy": 2, "realm_create": 2,
     "realm_activate": 2, "realm_destroy": 1, "aux_count": 1, "delegate": 4, "undelegate": 2, "interface": 1,
     "memory": 4, "reading": 6,
 }

@@ -10,7 +10,7 @@ from collections.abc import Iterable, Iterator
 from typing import NamedTuple
 
 from .bench import Bench
-from .command import COMMANDS
+from .command import COMMANDS, names_of_checks
 from .facts import STATUSES, word_of
 from .printing import NAMES
 from .reading import parts_of
@@ -92,7 +92,8 @@ def is_word(written: list[str], here: list[str]) -> bool:
 def is_name(written: str, here: str, command: str) -> bool:
     """Whether the name of a check is the same, or cannot be compared."""
     is_unsure = any((command, it) in UNSURE_NAMES for it in (written, here))
-    return not written or written == here or bool(here) and is_unsure
+    is_known = any(written in names_of_checks(it) for it in COMMANDS)
+    return not written or written == here or bool(here) and is_unsure and is_known
 
 
 def is_same(written: str, here: str, question: str) -> bool:

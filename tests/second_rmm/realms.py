@@ -41,7 +41,7 @@ class GranuleDelegate(Command):
 
     def checks(self) -> Checks:
         yield from self.granule(lambda: self.addr, UNDELEGATED, "gran_align", "gran_bound", "gran_state")
-        yield Check("gran_gpt", lambda: self.machine.is_secure(self.addr), after=("gran_state",))
+        yield Check("gran_gpt", lambda: self.machine.is_secure(self.addr), after=("gran_bound",))
 
     def effect(self) -> Outcome:
         self.machine.become(self.addr, DELEGATED)
