@@ -57,7 +57,7 @@ CHECKS = (
     "owner", "target", "status",
 )
 # The words of refusals: REALM has index 0 or 1, and RTT the level of a table.
-REFUSALS = (0x1, 0x2, 0x102, 0x3, *(4 | level << 8 for level in range(4)))
+REFUSALS = (0x1, 0x2, 0x3, 0x4, 0x102, 0x104, 0x204, 0x304)
 # The answers of rmm_open.
 OPENED, NO_MACHINE, NO_MEMORY = 0, 1, 2
 

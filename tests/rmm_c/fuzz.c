@@ -51,8 +51,8 @@ static void call(rmm_registers *registers)
         rmm_store(&handle, BASE + (operand & 0x1f000), &byte, 1);
     if (PLANTED == 2 && asked == RMM_FID_GRANULE_UNDELEGATE && !is_refused)
         rmm_store(&handle, operand + 0xfff, &byte, 1);
-    if (PLANTED == 3 && asked == RMM_FID_RTT_CREATE && registers->x0 == (RMM_ERROR_RTT | 2 << 8))
-        registers->x0 = RMM_ERROR_RTT | 1 << 8;
+    if (PLANTED == 3 && asked == RMM_FID_RTT_DESTROY && rmm_status(registers->x0) == RMM_ERROR_RTT)
+        registers->x0 ^= 1 << 8;
     if (PLANTED == 4 && asked == RMM_FID_REC_DESTROY && !is_refused)
         registers->x6 = 0;
 }
@@ -71,11 +71,12 @@ static uint64_t next_number(unsigned bytes)
     return number;
 }
 
-/* An address: of a granule of the machine, sometimes of none, and sometimes of no granule's begin. */
+/* An address: of a granule of the machine, sometimes of none, and sometimes of no granule's begin. Half of them are of
+ * four granules that no realm begins with. */
 static uint64_t next_address(void)
 {
     uint8_t which = next();
-    uint64_t address = BASE + GRANULE * (which % (PAGE_COUNT + 1));
+    uint64_t address = BASE + GRANULE * (which < 128 ? 20 + which % 4 : which % (PAGE_COUNT + 1));
     return which < 250 ? address : address + next_number(which == 255 ? 8 : 1);
 }
 
@@ -88,13 +89,25 @@ static uint64_t next_ipa(void)
     return (which & 8) != 0 ? ipa | (uint64_t)1 << 32 : ipa;
 }
 
-/* An operand of a kind: a(ddress), i(pa), l(evel), d(escriptor), n(umber). One of 16 is any number. */
+/* The address that is likely for an operand of a kind: r(d), (re)c, p(arameters), (r)u(n), s(ource). */
+static uint64_t likely(char kind)
+{
+    return kind == 'r' ? RD : kind == 'c' ? REC : kind == 'p' ? PARAMS : kind == 'u' ? RUN : SOURCE;
+}
+
+/* An operand of a kind: one of the above, a(ddress), i(pa), l(evel), d(escriptor), n(umber). One of 16 is any number. */
 static uint64_t next_operand(char kind)
 {
     uint8_t which = next();
     if (which >= 240)
         return next_number(8);
     switch (kind) {
+    case 'r':
+    case 'c':
+    case 'p':
+    case 'u':
+    case 's':
+        return which < 180 ? likely(kind) : next_address();
     case 'a':
         return next_address();
     case 'i':
@@ -110,8 +123,8 @@ static uint64_t next_operand(char kind)
 
 /* The kinds of the operands of a command, by its number from FIRST_COMMAND on. */
 static const char *const operands[COMMANDS] = {
-    "n",    "a",   "a",   "aaian", "aai",  "ai",  "",   "a",  "aa", "a", "aaa", "a", "aa",
-    "aail", "ail", "aild", "",     "ail",  "ail", "",   "aan", "n", "ail", "a", "aii", "aaii",
+    "n",    "a",   "a",   "raisn", "rai",  "ri",  "",   "r",   "rp", "r",   "rcp", "c",   "cu",
+    "rail", "ril", "rild", "",     "ril",  "ril", "",   "ccn", "n",  "ril", "r",   "rii", "rcii",
 };
 
 /* ---- the pages of the host */
@@ -127,23 +140,35 @@ static bool is_of_host(uint64_t address)
 /* The page of an address has the bytes that are kept of it, if it is the host's. */
 static void check_page(uint64_t address)
 {
-    uint8_t page[RMM_GRANULE_SIZE];
-    uint64_t begin = address - address % GRANULE;
-    HOLDS(rmm_load(&handle, begin, page, sizeof page) == is_of_host(begin));
-    HOLDS(!is_of_host(begin) || memcmp(page, stored_pages[place_of(begin)], sizeof page) == 0);
+    uint64_t begin = address - address % GRANULE, word = 0, kept;
+    if (!is_of_host(begin))
+        return;
+    for (unsigned k = 0; k < RMM_GRANULE_SIZE / sizeof word; k++) {
+        memcpy(&kept, stored_pages[place_of(begin)] + k * sizeof word, sizeof word);
+        HOLDS(rmm_read_word(&handle, begin, k, &word) && word == kept);
+    }
 }
 
+/* The host loads the bytes that are kept of its pages, and no others. */
 static void check_pages(void)
 {
-    for (unsigned k = 0; k < PAGE_COUNT; k++)
-        check_page(BASE + k * GRANULE);
+    uint8_t page[RMM_GRANULE_SIZE];
+    for (unsigned k = 0; k < PAGE_COUNT; k++) {
+        uint64_t begin = BASE + k * GRANULE;
+        HOLDS(rmm_load(&handle, begin, page, sizeof page) == is_of_host(begin));
+        HOLDS(!is_of_host(begin) || memcmp(page, stored_pages[k], sizeof page) == 0);
+    }
 }
 
 /* The pages are kept as they are, since a guest or an exit may have written to any. */
 static void keep_pages(void)
 {
+    uint64_t word = 0;
     for (unsigned k = 0; k < PAGE_COUNT; k++)
-        (void)rmm_load(&handle, BASE + k * GRANULE, stored_pages[k], RMM_GRANULE_SIZE);
+        for (unsigned n = 0; n < RMM_GRANULE_SIZE / sizeof word; n++) {
+            HOLDS(rmm_read_word(&handle, BASE + k * GRANULE, n, &word));
+            memcpy(stored_pages[k] + n * sizeof word, &word, sizeof word);
+        }
 }
 
 /* ---- operations */
@@ -277,7 +302,7 @@ static void params_next(void)
 static void guest_next(void)
 {
     static const char kinds[] = "in";
-    uint64_t rec = next_address();
+    uint64_t rec = next_operand('c');
     rmm_step step = {next() % 16, 0, 0, 0, 0};
     step.a = next_operand(kinds[step.kind >= RMM_STEP_HOST_CALL && step.kind != RMM_STEP_SET_RIPAS]);
     step.b = next_operand(step.kind == RMM_STEP_SET_RIPAS ? 'i' : 'n');
@@ -291,7 +316,7 @@ static void guest_next(void)
 
 static void interrupt_next(void)
 {
-    uint64_t rec = next_address(), word = 77;
+    uint64_t rec = next_operand('c'), word = 77;
     rmm_rec attributes;
     bool is_running = rmm_read_rec(&handle, rec, &attributes) && attributes.state == RMM_REC_RUNNING;
     HOLDS(rmm_interrupt(&handle, rec, &word) == is_running && (is_running || word == 77));
@@ -302,7 +327,7 @@ static void interrupt_next(void)
 /* Readings change nothing: what they read is left to the sanitizers. */
 static void read_next(void)
 {
-    uint64_t address = next_operand('a'), number = next_operand('n') + 500 * (next() % 2), word = 0;
+    uint64_t address = next_operand("arc"[next() % 3]), number = next_operand('n') + 500 * (next() % 2), word = 0;
     rmm_realm realm;
     rmm_step_result result;
     bool is_read = rmm_read_state(&handle, address, &word);

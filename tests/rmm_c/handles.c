@@ -159,7 +159,8 @@ static bool guests(void)
 static bool judgements(void)
 {
     const uint64_t page = 0x80006000, source = 0x80007000;
-    rmm_registers asked = {RMM_FID_DATA_CREATE, RD, page, 0x1000, source, 0, 0}, other = {0xC4000156, 1, 2, 3, 4, 5, 6};
+    const rmm_registers data_create = {RMM_FID_DATA_CREATE, RD, page, 0x1000, source, 0, 0};
+    rmm_registers asked = data_create, other = {0xC4000156, 1, 2, 3, 4, 5, 6};
     rmm_handle handle = RMM_CLOSED;
     CHECKED(opened(&handle, PAGE_COUNT) == RMM_OPENED && make_realm(&handle, 1, 3) && delegated(&handle, page, 2));
     CHECKED(rmm_realm_activate(&handle, RD) == RMM_SUCCESS);
@@ -169,9 +170,9 @@ static bool judgements(void)
     CHECKED(!rmm_is_allowed(&handle, &asked, RMM_ERROR_REALM | 1 << 8) && !rmm_is_allowed(&handle, &asked, UINT64_MAX));
     CHECKED(rmm_checked_smc(&handle, &asked) == RMM_CHECK_SRC_PAS && asked.x0 == RMM_ERROR_INPUT);
     CHECKED(rmm_granule_undelegate(&handle, source) == RMM_SUCCESS);
-    asked.x0 = RMM_FID_DATA_CREATE;
-    CHECKED(rmm_deciding_check(&handle, &asked) == RMM_CHECK_REALM_STATE);
-    CHECKED(rmm_is_allowed(&handle, &asked, RMM_ERROR_REALM) && !rmm_is_allowed(&handle, &asked, RMM_ERROR_INPUT));
+    CHECKED(rmm_deciding_check(&handle, &data_create) == RMM_CHECK_REALM_STATE);
+    CHECKED(rmm_is_allowed(&handle, &data_create, RMM_ERROR_REALM));
+    CHECKED(!rmm_is_allowed(&handle, &data_create, RMM_ERROR_INPUT));
     CHECKED(rmm_deciding_check(&handle, &other) == 0 && rmm_is_allowed(&handle, &other, RMM_NOT_SUPPORTED));
     CHECKED(!rmm_is_allowed(&handle, &other, RMM_SUCCESS));
     CHECKED(strcmp(rmm_check_name(RMM_CHECK_SRC_PAS), "src_pas") == 0 && strcmp(rmm_check_name(76), "status") == 0);
