@@ -26,7 +26,7 @@ has_name place text = bytes_eq (nth_text place names) text
 
 -- each place is that of its name
 unfoldable pub are_answer_places_named : Bool
-are_places_named = list_all (λ it. has_name it.0 it.1) answer_places
+are_answer_places_named = list_all (λ it. has_name it.0 it.1) answer_places
 
 -- ---- outputs. RMM 1.0, RMI commands: outputs
 

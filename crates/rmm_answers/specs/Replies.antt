@@ -55,9 +55,13 @@ abbrev pub are_same : List TraceWord → Option (List TraceWord) → List TraceW
 are_same question (Some written) ours = is_same UNSURE question written ours
 are_same question None ours = false
 
+-- the words that a text is are the same as ours
+abbrev pub are_words : List TraceWord → List ℕ → List TraceWord → Bool
+are_words question written ours = are_same question (words_in 64 (slice_split (λ b. b == 32) written)) ours
+
 abbrev pub is_written_by : List TraceWord → List ℕ → Option Digest → List TraceWord → Bool
 is_written_by question written (Some digest) ours = bytes_eq written (digest_text digest)
-is_written_by question written None ours = are_same question (words_in 64 (slice_split (λ b. b == 32) written)) ours
+is_written_by question written None ours = are_words question written ours
 
 -- A written answer to a question is this one: it is its digits, or its words are the same.
 unfoldable pub is_written : List TraceWord → List ℕ → TraceReply → Bool

@@ -255,6 +255,7 @@ fn put_results<S: PageStore>(answer: &mut Sentence, rmm: &Rmm<S>, rec: u64, coun
 }
 
 // Answers which results a guest has seen since the last entry of its REC.
+#[tactic(auto, unfolding(crate::specs::Guest::saw_words))]
 pub(crate) fn answer_saw<S: PageStore>(answer: &mut Sentence, rmm: &Rmm<S>, address: u64)
     requires { answer.old.items ≡ [] }
     ensures { answer.new.items ≡ guests.saw_words rmm.now address (guests.rec_named rmm.now address) }

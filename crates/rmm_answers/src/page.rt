@@ -88,6 +88,7 @@ fn store_value<S: PageStore>(rmm: &mut Rmm<S>, address: u64, atom: Atom)
 }
 
 // Stores fields of a page: a name moves to its offset, and each value is stored there, one after another.
+#[tactic(auto, unfolding(crate::specs::Page::with_fields))]
 fn store_fields<S: PageStore>(
     rmm: &mut Rmm<S>,
     fields: &[(usize, u64)],

@@ -50,6 +50,16 @@ impl Digest {
     }
 }
 
+// Whether the words that a text is are the same as ours.
+fn are_words(question: &[TraceWord], written: &[u8], ours: &[TraceWord]) -> bool
+    ensures { result ≡ replies.are_words question.now written.now ours.now }
+{
+    match read_words(written) {
+        Some(words) => is_same(question, words.as_slice(), ours),
+        None => false,
+    }
+}
+
 impl TraceReply {
     /// No answer: that to a platform.
     pub fn new() -> TraceReply
@@ -89,15 +99,13 @@ impl TraceReply {
     }
 
     /// Whether an answer that is written to a question is this one.
+    #[tactic(auto, unfolding(crate::specs::Replies::is_written))]
     pub fn is_written(&self, question: &[TraceWord], written: &[u8]) -> bool
         ensures { result ≡ replies.is_written question.now written.now self.now }
     {
-        if let Some(digest) = &self.rim {
-            return digest.is_text(written);
-        }
-        match read_words(written) {
-            Some(words) => is_same(question, words.as_slice(), self.words.as_slice()),
-            None => false,
+        match &self.rim {
+            Some(digest) => digest.is_text(written),
+            None => are_words(question, written, self.words.as_slice()),
         }
     }
 

@@ -60,12 +60,13 @@ pub(crate) fn fill_rounds<S: PageStore>(
     let mut round = 0;
     let mut is_done = fill_round(rmm, operands, 0);
     'rounds: while left > 0 {
-        if !is_done {
+        if is_done {
+            left -= 1;
+            round += 1;
+            is_done = fill_round(rmm, operands, round);
+        } else {
             break;
         }
-        left -= 1;
-        round += 1;
-        is_done = fill_round(rmm, operands, round);
     }
     (round, is_done)
 }

@@ -1,9 +1,0 @@
-use Rattle.rmm_answers.specs.declared.outputs.TheConstants.{NO_OUTPUTS}
-use Rattle.rmm_answers.proofs.Rows.{row_here, no_row_here}
-use Rattle.rmm_answers.proofs.outputs.row_at.Goals as goal
-
-pub returns-then-place-lt-rows : goal.returns-then-place-lt-rows
-returns-then-place-lt-rows c = row_here c.args.rows.now c.args.place _ NO_OUTPUTS c.if-place-lt-rows.true
-
-pub returns-else-place-lt-rows : goal.returns-else-place-lt-rows
-returns-else-place-lt-rows c = no_row_here c.args.rows.now c.args.place NO_OUTPUTS c.if-place-lt-rows.false
