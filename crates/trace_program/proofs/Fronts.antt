@@ -21,15 +21,15 @@ module _ (asked : TraceSubcommand) (first : Session) (begun texts : List ℕ) wh
     pub front_line : (rest kept new : List ℕ) (after : Session) → is_done asked s ≡ false
         → ((begin : List ℕ) → line ≡ kept_of_line begin → kept ≡ kept_of_line (begin ++ before_mark 10 rest))
         → TakesLine asked kept s after text new → FrontTaken (front ++ (before_mark 10 rest ++ 10 ∷ [])) after [] new
-    front_line rest kept new after open keeps k read written t =
+    front_line rest kept new after going keeps k read written t =
         subst (λ (x : List ℕ). IsTaken asked x written after [] new) (append_assoc read front (before_mark 10 rest ++ 10 ∷ []))
-        (line_taken asked (read ++ front) written s line text (f read written t) (before_mark 10 rest) kept new after open (no_feed_before rest) keeps k)
+        (line_taken asked (read ++ front) written s line text (f read written t) (before_mark 10 rest) kept new after going (no_feed_before rest) keeps k)
 
     pub front_part : (rest kept : List ℕ) → is_done asked s ≡ false → after_mark 10 rest ≡ None
         → ((begin : List ℕ) → line ≡ kept_of_line begin → kept ≡ kept_of_line (begin ++ before_mark 10 rest)) → FrontTaken (front ++ rest) s kept text
-    front_part rest kept open none keeps read written t =
+    front_part rest kept going none keeps read written t =
         subst (λ (x : List ℕ). IsTaken asked x written s kept text) (append_assoc read front (before_mark 10 rest) ∙ ap (λ (x : List ℕ). read ++ (front ++ x)) (cut_none rest none))
-        (part_taken asked (read ++ front) written s line text (f read written t) (before_mark 10 rest) kept open (no_feed_before rest) keeps)
+        (part_taken asked (read ++ front) written s line text (f read written t) (before_mark 10 rest) kept going (no_feed_before rest) keeps)
 
     pub front_done : (more : List ℕ) → is_done asked s ≡ true → FrontTaken (front ++ more) s line text
     front_done more done read written t =

@@ -1,5 +1,5 @@
 -- The parts between line feeds, one byte or one part after another.
-use Rattle.std.proofs.Common.{◌≡◌, ℕ, ◌<◌, ◌==◌, Bool, true, false, cond, not, List, [], ◌∷◌, ◌++◌, length, refl, sym, ap, ◌∙◌, subst, append_assoc, append-nil, arith, length-append, eqb→eq, inl, inr}
+use Rattle.std.proofs.Common.{◌≡◌, ℕ, ◌<◌, ◌==◌, Bool, true, false, cond, not, List, [], ◌∷◌, ◌++◌, length, refl, sym, ap, ◌∙◌, subst, append_assoc, append-nil, arith, length-append, true-eqb, inl, inr}
 use Rattle.std.specs.Prelude.{Option, Some, None}
 use Rattle.std.specs.List.{list_all, onto_first}
 use Rattle.std.proofs.lemmas.Bool.{and_parts, not-true, cases_Bool}
@@ -83,7 +83,7 @@ pub cut_some : (t after : List ℕ) → after_mark 10 t ≡ Some after → t ≡
 cut_some [] after is = absurd (cc)
 cut_some (b ∷ bs) after is =
     elim (b == 10) as (λ v. (b == 10) ≡ v → cond v (Some bs) (after_mark 10 bs) ≡ Some after → b ∷ bs ≡ (cond v [] (b ∷ before_mark 10 bs) ++ 10 ∷ []) ++ after) [
-      | true ↦ λ e same. let here : b ≡ 10 = eqb→eq b 10 e in let rest : bs ≡ after = cc in rw (here, rest) refl
+      | true ↦ λ e same. let here : b ≡ 10 = true-eqb b 10 e in let rest : bs ≡ after = cc in rw (here, rest) refl
       | false ↦ λ e some. ap (λ (xs : List ℕ). b ∷ xs) (cut_some bs after some)
     ] refl is
 

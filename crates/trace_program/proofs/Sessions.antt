@@ -12,18 +12,33 @@ not_both false e f = absurd (cc)
 module _ (asked : TraceSubcommand) where
   pub session_more : (old : Session) (lines : List (List ℕ)) (line text told : List ℕ) (mid : Session) → IsSession asked old lines text mid → is_done asked mid ≡ false
       → IsLineText asked line mid (after_line asked mid line) told → IsSession asked old (lines ++ line ∷ []) (text ++ told) (after_line asked mid line)
-  session_more old [] line text told mid is open k =
+  session_more old [] line text told mid is going k =
       let same = is.1 in
-      inr (subst (λ (s : Session). is_done asked s ≡ false) same open,
-      (told, [], subst (λ (s : Session). IsLineText asked line s (after_line asked s line) told) same k, (refl, ap (λ (s : Session). after_line asked s line) same),
-      ap (λ t. t ++ told) is.0 ∙ sym (append-nil told)))
-  session_more old (l ∷ ls) line text told mid is open k =
+      inr (
+        subst (λ (s : Session). is_done asked s ≡ false) same going,
+        (
+          told,
+          [],
+          subst (λ (s : Session). IsLineText asked line s (after_line asked s line) told) same k,
+          (refl, ap (λ (s : Session). after_line asked s line) same),
+          ap (λ t. t ++ told) is.0 ∙ sym (append-nil told),
+        ),
+      )
+  session_more old (l ∷ ls) line text told mid is going k =
       elim is [
-        | inl done ↦ absurd (not_both (is_done asked old) done.0 (subst (λ (s : Session). is_done asked s ≡ false) done.2 open))
+        | inl done ↦ absurd (not_both (is_done asked old) done.0 (subst (λ (s : Session). is_done asked s ≡ false) done.2 going))
         | inr goes ↦
             let it = goes.1 in
-            inr (goes.0, (it.0, it.1 ++ told, it.2, session_more (after_line asked old l) ls line it.1 told mid it.3 open k,
-            ap (λ t. t ++ told) it.4 ∙ append_assoc it.0 it.1 told))
+            inr (
+              goes.0,
+              (
+                it.0,
+                it.1 ++ told,
+                it.2,
+                session_more (after_line asked old l) ls line it.1 told mid it.3 going k,
+                ap (λ t. t ++ told) it.4 ∙ append_assoc it.0 it.1 told,
+              ),
+            )
       ]
 
   done_more : (old : Session) (more : List (List ℕ)) → is_done asked old ≡ true → IsSession asked old more [] old

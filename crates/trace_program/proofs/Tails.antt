@@ -1,5 +1,5 @@
 -- The lengths of the parts of a line.
-use Rattle.std.proofs.Common.{◌≡◌, ℕ, ◌+◌, ◌≤◌, ◌==◌, Bool, true, false, cond, List, [], ◌∷◌, length, drop, codes, refl, arith, length-drop}
+use Rattle.std.proofs.Common.{◌≡◌, ℕ, ◌+◌, ◌≤◌, ◌==◌, Bool, true, false, cond, ◌&&◌, List, [], ◌∷◌, length, drop, codes, refl, arith, length-drop}
 use Rattle.std.specs.Prelude.{nat_eq, Option, Some, None}
 use Rattle.std.specs.List.{starts_with}
 use Rattle.std.proofs.lemmas.Bool.{true≢false}
@@ -30,19 +30,20 @@ abbrev pub answer_length : Option (List ℕ) → ℕ
 answer_length (Some answer) = 3 + length answer
 answer_length None = 0
 
+-- a conjunction that ends in false
+false_end : (v w : Bool) → (v && (w && false)) ≡ true → ⊥
+false_end true true e = absurd (cc)
+false_end true false e = absurd (cc)
+false_end false w e = absurd (cc)
+
+false_soon : (v : Bool) → (v && false) ≡ true → ⊥
+false_soon true e = absurd (cc)
+false_soon false e = absurd (cc)
+
 sign_length : (bs : List ℕ) → starts_with nat_eq bs (codes " = ") ≡ true → 3 ≤ length bs
 sign_length [] is = absurd (cc)
-sign_length (a ∷ []) is = absurd (none (nat_eq a 32) is)
-  where
-    none : (v : Bool) → cond v false false ≡ true → ⊥
-    none true e = absurd (cc)
-    none false e = absurd (cc)
-sign_length (a ∷ b ∷ []) is = absurd (none (nat_eq a 32) (nat_eq b 61) is)
-  where
-    none : (v w : Bool) → cond v (cond w false false) false ≡ true → ⊥
-    none true true e = absurd (cc)
-    none true false e = absurd (cc)
-    none false w e = absurd (cc)
+sign_length (a ∷ []) is = absurd (false_soon _ is)
+sign_length (a ∷ b ∷ []) is = absurd (false_end _ _ is)
 sign_length (a ∷ b ∷ c ∷ bs) is = omega arith
 
 -- the question of a text, and its answer, are all of it
@@ -54,3 +55,12 @@ cut_length (b ∷ bs) =
       | true ↦ λ is. omega (arith, sign_length (b ∷ bs) is, length-drop 3 (b ∷ bs))
       | false ↦ λ is. omega (arith, cut_length bs)
     ] refl
+
+-- ---- the end of a question and an answer
+
+pub end_with : (line question answer : List ℕ) → question ≡ before_answer (bare_text line) → answer_in (bare_text line) ≡ Some answer
+    → length question + 3 + length answer ≡ length (bare_text line)
+end_with line question answer is has = let all = cut_length (bare_text line) in let whole = rw has at all in rw is (omega (arith, whole))
+
+pub end_without : (line question : List ℕ) → question ≡ before_answer (bare_text line) → answer_in (bare_text line) ≡ None → length question ≡ length (bare_text line)
+end_without line question is has = let all = cut_length (bare_text line) in let whole = rw has at all in rw is (omega (arith, whole))

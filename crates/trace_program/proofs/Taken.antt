@@ -12,7 +12,7 @@ use Rattle.trace_program.proofs.Sessions.{not_both, session_more, session_done}
 
 module _ (asked : TraceSubcommand) where
   pub taken_none : is_done asked fresh ≡ false → IsTaken asked [] [] fresh [] []
-  taken_none open = record {
+  taken_none going = record {
     lines = [];
     left = [] ∷ [];
     cut = refl;
@@ -27,7 +27,7 @@ module _ (asked : TraceSubcommand) where
 
     pub part_taken : (part kept : List ℕ) → is_done asked s ≡ false → HasNoFeed part → ((rest : List ℕ) → line ≡ kept_of_line rest → kept ≡ kept_of_line (rest ++ part))
         → IsTaken asked (read ++ part) written s kept text
-    part_taken part kept open none keeps = let r = t.begun open in record {
+    part_taken part kept going none keeps = let r = t.begun going in record {
       lines = t.lines;
       left = (r.rest ++ part) ∷ [];
       cut = cut_part read part t.lines r.rest none (begins r);
@@ -39,25 +39,25 @@ module _ (asked : TraceSubcommand) where
     -- a line more in a session
     more_session : (lines : List (List ℕ)) (kept whole new : List ℕ) (after : Session) → is_done asked s ≡ false → IsSession asked fresh (map kept_of_line lines) (written ++ text) s
         → kept ≡ kept_of_line whole → TakesLine asked kept s after text new → IsSession asked fresh (map kept_of_line (lines ++ whole ∷ [])) (written ++ new) after
-    more_session lines kept whole new after open is keeps k =
+    more_session lines kept whole new after going is keeps k =
         let told = subst (λ (it : Session). IsLineText asked kept s it k.text) k.session k.is_text in
-        let all = session_more asked fresh (map kept_of_line lines) kept (written ++ text) k.text s is open told in
+        let all = session_more asked fresh (map kept_of_line lines) kept (written ++ text) k.text s is going told in
         let texts : (written ++ text) ++ k.text ≡ written ++ new = append_assoc written text k.text ∙ ap (λ (x : List ℕ). written ++ x) (sym k.appended) in
         let bytes : map kept_of_line lines ++ kept ∷ [] ≡ map kept_of_line (lines ++ whole ∷ []) =
-            ap (λ (x : List ℕ). map kept_of_line lines ++ x ∷ []) keeps ∙ sym (map-append kept_of_line lines (whole ∷ [])) in
+        ap (λ (x : List ℕ). map kept_of_line lines ++ x ∷ []) keeps ∙ sym (map-append kept_of_line lines (whole ∷ [])) in
         subst (λ (it : Session). IsSession asked fresh (map kept_of_line (lines ++ whole ∷ [])) (written ++ new) it) (sym k.session)
         (subst (λ (x : List ℕ). IsSession asked fresh (map kept_of_line (lines ++ whole ∷ [])) x (after_line asked s kept)) texts
         (subst (λ (x : List (List ℕ)). IsSession asked fresh x ((written ++ text) ++ k.text) (after_line asked s kept)) bytes all))
 
     pub line_taken : (part kept new : List ℕ) (after : Session) → is_done asked s ≡ false → HasNoFeed part → ((rest : List ℕ) → line ≡ kept_of_line rest → kept ≡ kept_of_line (rest ++ part))
         → TakesLine asked kept s after text new → IsTaken asked (read ++ (part ++ 10 ∷ [])) written after [] new
-    line_taken part kept new after open none keeps k = let r = t.begun open in record {
+    line_taken part kept new after going none keeps k = let r = t.begun going in record {
       lines = t.lines ++ (r.rest ++ part) ∷ [];
       left = [] ∷ [];
       cut = cut_line read part t.lines r.rest none (begins r);
       some = omega arith;
       begun = λ _. record { rest = []; alone = refl; is_kept = sym kept_none };
-      session = more_session t.lines kept (r.rest ++ part) new after open t.session (keeps r.rest r.is_kept) k;
+      session = more_session t.lines kept (r.rest ++ part) new after going t.session (keeps r.rest r.is_kept) k;
     }
 
     -- what is read after it is done changes nothing
@@ -67,22 +67,22 @@ module _ (asked : TraceSubcommand) where
       left = g.left;
       cut = g.cut;
       some = g.some;
-      begun = λ open. absurd (not_both (is_done asked s) done open);
+      begun = λ going. absurd (not_both (is_done asked s) done going);
       session = t.session;
     }
 
     -- ---- at the end
 
     pub all_taken : is_done asked s ≡ false → length line ≡ 0 → AreAllTaken asked read written s text
-    all_taken open none = let r = t.begun open in
+    all_taken going none = let r = t.begun going in
         subst (λ (x : List (List ℕ)). IsSession asked fresh (map kept_of_line x) (written ++ text) s)
         (sym (lines_without read t.lines r.rest (begins r) (none_kept line r.rest r.is_kept none))) t.session
 
     pub last_taken : (new : List ℕ) (after : Session) → is_done asked s ≡ false → 0 < length line → TakesLine asked line s after text new → AreAllTaken asked read written after new
-    last_taken new after open some k = let r = t.begun open in
+    last_taken new after going some k = let r = t.begun going in
         subst (λ (x : List (List ℕ)). IsSession asked fresh (map kept_of_line x) (written ++ new) after)
         (sym (lines_with read t.lines r.rest (begins r) (some_kept line r.rest r.is_kept some)))
-        (more_session t.lines line r.rest new after open t.session r.is_kept k)
+        (more_session t.lines line r.rest new after going t.session r.is_kept k)
 
     pub lines_split : taken_lines read ≡ map kept_of_line t.lines ++ map kept_of_line (without_empty_last t.left)
     lines_split = ap (map kept_of_line) (lines_are read t.lines t.left t.cut t.some) ∙ map-append kept_of_line t.lines (without_empty_last t.left)

@@ -50,11 +50,11 @@ whole_front old new text written = record { front = text; rest = []; split = sym
 
 module _ (asked : TraceSubcommand) (input left old new : Option (List ℕ)) where
   pub underway_none : is_done asked fresh ≡ false → Keeps input left → Keeps old new → IsUnderway asked input left old new fresh []
-  underway_none open unread unwritten = record {
+  underway_none going unread unwritten = record {
     read = [];
     consumed = consumes_keeps input input left [] (consumes_none input) unread;
     written = [];
-    taken = taken_none asked open;
+    taken = taken_none asked going;
     appended = appends_keeps old old new [] (appends_none old) unwritten;
   }
 

@@ -26,18 +26,18 @@ use Rattle.trace_program.specs.LineText.{read, written_in}
 
 -- ---- lines that are no command
 
-abbrev pub is_name : TraceWord → ℕ → Bool
-is_name w name = is_place w.value name
-
 abbrev pub is_place : Atom → ℕ → Bool
 is_place (Name place) name = place == name
 is_place _ name = false
 
+abbrev pub is_name : TraceWord → ℕ → Bool
+is_name w name = is_place w.value name
+
 abbrev pub are_no_command : List TraceWord → Bool
 are_no_command [] = false
 are_no_command (w ∷ []) = false
-are_no_command (no ∷ command ∷ []) = is_name no NO && is_name command COMMAND
-are_no_command (a ∷ b ∷ c ∷ ws) = false
+are_no_command (w ∷ v ∷ []) = is_name w NO && is_name v COMMAND
+are_no_command (w ∷ v ∷ u ∷ ws) = false
 
 -- the answer to a line that is no command
 unfoldable pub is_no_command : TraceReply → Bool

@@ -1,10 +1,10 @@
 //! The counts of the lines of a trace, and the verdict on it.
-ghost use Rattle.std.specs.Prelude.{◌≡◌, ◌+◌, IfErr, IfOk, string_bytes};
+ghost use Rattle.std.specs.Prelude.{◌≡◌, ◌+◌, IfErr, IfOk};
 ghost use Rattle.trace_program.specs.declared.fault.TraceError.TheVariants.{TooLong};
-ghost use Rattle.trace_program.specs.Counting.{counted, summary_text, trace_verdict};
+ghost use Rattle.trace_program.specs.Counting.{counted, trace_verdict};
 
 use crate::TraceError;
-use std::alloc::{AllocError, Global};
+use std::fmt;
 
 /// How a line counts.
 #[derive(Clone, Copy)]
@@ -79,16 +79,6 @@ impl Counts {
         }
     }
 
-    /// The line of the counts.
-    pub fn summary(self, alloc: Global) -> Result<String, AllocError>
-        ensures { IfOk result (λ text. string_bytes text ≡ summary_text self) }
-    {
-        format!(in alloc;
-            "{} same, {} allowed, {} wrong\n",
-            self.same, self.allowed, self.wrong
-        )
-    }
-
     /// The verdict on a trace with these counts.
     pub fn verdict(self) -> TraceVerdict
         ensures { result ≡ trace_verdict self }
@@ -101,5 +91,21 @@ impl Counts {
         } else {
             TraceVerdict::NothingSame
         }
+    }
+}
+
+/// The line of the counts.
+impl fmt::Display for Counts {
+    ghost use Rattle.std.specs.Prelude.{Some};
+    ghost use Rattle.trace_program.specs.Counting.{summary_text};
+
+    ghost output = { λ c. Some (summary_text c) };
+
+    fn fmt<W: fmt::Write>(&self, f: &mut fmt::Formatter<W>) -> fmt::Result {
+        write!(
+            f,
+            "{} same, {} allowed, {} wrong\n",
+            self.same, self.allowed, self.wrong
+        )
     }
 }

@@ -1,5 +1,6 @@
 //! The verdict on a line whose answer is written.
-ghost use Rattle.std.specs.Prelude.{◌≡◌};
+ghost use Rattle.std.specs.Prelude.{◌≡◌, ◌==◌};
+ghost use Rattle.std.specs.List.{position_from};
 ghost use Rattle.std.specs.Option.{option_copied};
 ghost use Rattle.trace_program.specs.Judged as specs;
 
@@ -21,6 +22,7 @@ fn is_name(word: &TraceWord, name: usize) -> bool
 }
 
 // Whether an answer is that to a line that is no command.
+#[tactic(auto, unfolding(crate::specs::Judged::is_no_command))]
 pub(crate) fn is_no_command(reply: &TraceReply) -> bool
     ensures { result ≡ specs.is_no_command reply.now }
 {
@@ -59,14 +61,23 @@ fn repeated(question: &[TraceWord]) -> &[TraceWord]
     }
 }
 
+// The place of a function identifier among some.
+fn place_among(functions: &[u64], function: u64) -> Option<usize>
+    ensures { result ≡ position_from (λ it. it == function) 0 functions.now }
+{
+    for (place, it) in functions.iter().enumerate() {
+        if *it == function {
+            return Some(place);
+        }
+    }
+    None
+}
+
 // The place of the command with a function identifier; that of raw calls if there is none.
 fn function_place(function: u64) -> usize
     ensures { result ≡ specs.function_place function }
 {
-    FUNCTIONS
-        .iter()
-        .position(|it| *it == function)
-        .unwrap_or(SMC)
+    place_among(&FUNCTIONS, function).unwrap_or(SMC)
 }
 
 // The place of the first word's name.
@@ -83,6 +94,7 @@ fn name_place(question: &[TraceWord]) -> usize
 }
 
 /// The place of the name of a question, or of its command if it is a repeated or a raw call.
+#[tactic(auto, unfolding(crate::specs::Judged::command_place))]
 pub(crate) fn command_place(question: &[TraceWord]) -> usize
     ensures { result ≡ specs.command_place question.now }
 {
@@ -96,6 +108,7 @@ pub(crate) fn command_place(question: &[TraceWord]) -> usize
 }
 
 // Whether a line has a name of a set: that of its question, or that of a check in one of its answers.
+#[tactic(auto, unfolding(crate::specs::Judged::is_named))]
 fn is_named(set: &NameSet, question: &[TraceWord], written: &[u8], reply: &TraceReply) -> bool
     ensures { result ≡ specs.is_named set.now question.now written.now reply.now }
 {
@@ -112,6 +125,7 @@ fn is_named(set: &NameSet, question: &[TraceWord], written: &[u8], reply: &Trace
 }
 
 // Whether a line with an answer is compared.
+#[tactic(auto, unfolding(crate::specs::Judged::is_compared))]
 fn is_compared(
     asked: &Comparison,
     question: &[TraceWord],
@@ -158,12 +172,13 @@ fn no_command_verdict(written: Option<&[u8]>) -> LineVerdict
     ensures { result ≡ specs.no_command_verdict (option_copied written.entry) }
 {
     match written {
-        Some(b"no command") => LineVerdict::Same,
+        Some(text) if text == b"no command".as_slice() => LineVerdict::Same,
         _ => LineVerdict::Wrong,
     }
 }
 
 /// The verdict on a line, after it was answered: the machine and the answer are those after it.
+#[tactic(auto, unfolding(crate::specs::Judged::line_verdict))]
 pub fn line_verdict(
     asked: &Comparison,
     machine: &TraceMachine,

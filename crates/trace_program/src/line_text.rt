@@ -90,6 +90,7 @@ impl LineTexts {
     }
 
     /// Appends a line with our answer. A remark is appended as it is.
+    #[tactic(auto, unfolding(crate::specs::LineText::answered_text))]
     pub fn push_answered(
         &mut self,
         bytes: &[u8],
@@ -108,6 +109,7 @@ impl LineTexts {
 }
 
 /// The end of a line after its question and its answer: the comment, and the blanks before it.
+#[tactic(auto, unfolding(crate::specs::LineText::tail_of))]
 pub(crate) fn tail(bytes: &[u8]) -> &[u8]
     ensures { result.now ≡ tail_of bytes.now }
 {

@@ -31,6 +31,7 @@ fn answer_of(line: &RmmTraceLine, written: &[u8]) -> Option<Sentence>
 }
 
 /// Appends a raw line by the names of its command and of its outputs, and any other line as it is.
+#[tactic(auto, unfolding(crate::specs::LineText::named_text))]
 pub(crate) fn push_named(
     text: &mut LineTexts,
     bytes: &[u8],

@@ -61,7 +61,7 @@ impl Reading {
 
     // Takes bytes of the input, up to the line that ends the run.
     fn take_part(&mut self, request: Request<'_>, part: &[u8]) -> Result<(), TraceError>
-        requires { is_done request.entry.asked.now self.old.session ≡ false }
+        requires { is_done request.asked.now self.old.session ≡ false }
         ensures ok { OnOk result ((read written : List ℕ) → specs.IsTaken request.entry.asked.now read written self.old.session self.old.line.items self.old.text
             → specs.IsTaken request.entry.asked.now (read ++ part.now) written self.new.session self.new.line.items self.new.text) }
         ensures err { ¬ (result ≡ Err Device) }
@@ -81,7 +81,7 @@ impl Reading {
 
     // Ends the last line, which has no line feed, unless it is empty.
     fn end(&mut self, request: Request<'_>) -> Result<(), TraceError>
-        requires { is_done request.entry.asked.now self.old.session ≡ false }
+        requires { is_done request.asked.now self.old.session ≡ false }
         ensures ok { OnOk result ((read written : List ℕ) → specs.IsTaken request.entry.asked.now read written self.old.session self.old.line.items self.old.text
             → specs.AreAllTaken request.entry.asked.now read written self.new.session self.new.text) }
         ensures err { ¬ (result ≡ Err Device) }
@@ -123,7 +123,7 @@ impl Reading {
         requires readable { input.old.failed ≡ false }
         requires writable { output.old.failed ≡ false }
         requires empty { self.old.text ≡ [] }
-        requires open { is_done request.entry.asked.now self.old.session ≡ false }
+        requires going { is_done request.asked.now self.old.session ≡ false }
         ensures ok { (begin start : Option (List ℕ)) → specs.IsUnderway request.entry.asked.now begin (R.remaining input.old.device) start (W.contents output.old.device) self.old.session self.old.line.items
             → IfOk result (λ more. specs.GoesOn more request.entry.asked.now begin (R.remaining input.new.device) start (W.contents output.new.device) self.new.session self.new.line.items) }
         ensures empty { OnOk result (self.new.text ≡ []) }
@@ -159,7 +159,7 @@ impl Reading {
             return Ok(TraceVerdict::Agrees);
         };
         let counts = self.session.counts;
-        let summary = counts.summary(request.alloc)?;
+        let summary = format!(in request.alloc; "{counts}")?;
         output.write_whole(summary.as_bytes())?;
         Ok(counts.verdict())
     }

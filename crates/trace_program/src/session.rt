@@ -94,7 +94,12 @@ impl Session {
     }
 
     // Answers a line.
-    fn answer(&mut self, alloc: Global, bytes: &[u8], text: &mut Vec<u8>) -> Result<(), AllocError>
+    fn answer(
+        &mut self,
+        alloc: Global,
+        bytes: &[u8],
+        text: &mut LineTexts,
+    ) -> Result<(), AllocError>
         ensures session { OnOk result (self.new ≡ specs.performed self.old (line_of bytes.now)) }
         ensures text { OnOk result (text.new ≡ text.old ++ answered_text bytes.now (line_of bytes.now) self.new.reply) }
     {
@@ -104,7 +109,12 @@ impl Session {
     }
 
     // Answers a line, and explains its refusal.
-    fn explain(&mut self, alloc: Global, bytes: &[u8], text: &mut Vec<u8>) -> Result<(), AllocError>
+    fn explain(
+        &mut self,
+        alloc: Global,
+        bytes: &[u8],
+        text: &mut LineTexts,
+    ) -> Result<(), AllocError>
         ensures session { OnOk result (self.new ≡ specs.performed self.old (line_of bytes.now)) }
         ensures text { OnOk result ((more : List ℕ) × specs.IsExplained bytes.now self.new.reply more × (text.new ≡ text.old ++ more)) }
     {
