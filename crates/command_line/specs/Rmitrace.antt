@@ -3,5 +3,5 @@ use Rattle.std.specs.Prelude.{ℕ, Bool, false, slice_get, unwrap_or}
 use Rattle.command_line.specs.declared.rmitrace.NameSet.{NameSet}
 
 -- a name is in a set
-abbrev pub is_in : NameSet → ℕ → Bool
-is_in set place = unwrap_or (slice_get set.places place) false
+abbrev pub is_name_in : NameSet → ℕ → Bool
+is_name_in set place = unwrap_or (slice_get set.places place) false

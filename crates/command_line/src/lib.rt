@@ -27,4 +27,4 @@ pub use paint::{Colour, Painting, painted};
 pub use process::arguments;
 pub use stop::{Reason, Stop};
 pub use terminal::{Input, Output};
-pub use waiting::Waiting;
+pub use waiting::WaitingStream;

@@ -1,6 +1,6 @@
 //! The command line of `rmitrace`.
 ghost use Rattle.std.specs.Prelude.{◌≡◌};
-ghost use Rattle.command_line.specs.Rmitrace.{is_in};
+ghost use Rattle.command_line.specs.Rmitrace.{is_name_in};
 
 use crate::Invocation;
 use crate::table::{Opt, Program, Subcommand, given_file};
@@ -125,10 +125,10 @@ const RMITRACE: Program = Program {
 impl NameSet {
     /// Whether a name is in the set.
     pub fn has(&self, place: usize) -> bool
-        ensures { result ≡ is_in self.now place }
+        ensures { result ≡ is_name_in self.now place }
     {
         match self.places.get(place) {
-            Some(is_in) => *is_in,
+            Some(is_name_in) => *is_name_in,
             None => false,
         }
     }

@@ -6,7 +6,7 @@ ghost use Rattle.command_line.specs.declared.stop.Stop.TheVariants.{Run};
 
 use crate::paint::{Painting, painted};
 use crate::stop::{Reason, Stop};
-use crate::waiting::Waiting;
+use crate::waiting::WaitingStream;
 use std::alloc::Global;
 use std::env::VarError;
 use std::fs::File;
@@ -18,7 +18,7 @@ use std::{env, io};
 #[derive(Drop)]
 pub enum Input<'a> {
     /// Standard input.
-    Standard(Waiting<'a, Stdin>),
+    Standard(WaitingStream<'a, Stdin>),
     /// A file.
     File(File),
 }
@@ -68,7 +68,7 @@ impl<'a> Input<'a> {
                     "{program}: reading {awaited} from the terminal; end it with Ctrl-D"
                 );
             }
-            return Ok(Input::Standard(Waiting::new(rt, stdin)));
+            return Ok(Input::Standard(WaitingStream::new(rt, stdin)));
         };
         match opened(rt, name) {
             Ok(file) => Ok(Input::File(file)),
@@ -98,7 +98,7 @@ fn allows_colours(rt: &HostRuntime) -> bool {
 /// Standard output. On a terminal it is painted, if the program asks for that.
 #[derive(Drop)]
 pub struct Output<'a> {
-    stdout: Waiting<'a, Stdout>,
+    stdout: WaitingStream<'a, Stdout>,
     alloc: Global,
     painting: Option<Painting>,
 }
@@ -108,7 +108,7 @@ impl<'a> Output<'a> {
     pub fn open(rt: &'a HostRuntime, painting: Option<Painting>) -> Output<'a> {
         let is_painted = rt.stdout().is_terminal() && allows_colours(rt);
         Output {
-            stdout: Waiting::new(rt, rt.stdout()),
+            stdout: WaitingStream::new(rt, rt.stdout()),
             alloc: rt.alloc(),
             painting: if is_painted { painting } else { None },
         }

@@ -10,19 +10,19 @@ const PAUSE: u64 = 2;
 /// A stream of the process, and the clock of its pauses. A call that would wait in a pipe which does not block is tried
 /// again after a pause.
 #[derive(Drop)]
-pub struct Waiting<'a, D> {
+pub struct WaitingStream<'a, D> {
     rt: &'a HostRuntime,
     stream: D,
 }
 
-impl<'a, D> Waiting<'a, D> {
+impl<'a, D> WaitingStream<'a, D> {
     /// A stream that waits.
-    pub fn new(rt: &'a HostRuntime, stream: D) -> Waiting<'a, D> {
-        Waiting { rt, stream }
+    pub fn new(rt: &'a HostRuntime, stream: D) -> WaitingStream<'a, D> {
+        WaitingStream { rt, stream }
     }
 }
 
-impl<R: Read> Read for Waiting<'_, R> {
+impl<R: Read> Read for WaitingStream<'_, R> {
     fn read(&mut self, buf: &mut [u8]) -> io::Result<usize> {
         for _ in 0..u64::MAX {
             match self.stream.read(buf) {
@@ -37,7 +37,7 @@ impl<R: Read> Read for Waiting<'_, R> {
     }
 }
 
-impl<W: Write> Write for Waiting<'_, W> {
+impl<W: Write> Write for WaitingStream<'_, W> {
     fn write(&mut self, buf: &[u8]) -> io::Result<usize> {
         for _ in 0..u64::MAX {
             match self.stream.write(buf) {

@@ -4,7 +4,7 @@ use Rattle.std.specs.List.{list_any, position_from}
 use Rattle.std.specs.Str.{bytes_eq}
 use Rattle.command_line.specs.declared.rmitrace.Comparison.{Comparison}
 use Rattle.command_line.specs.declared.rmitrace.NameSet.{NameSet}
-use Rattle.command_line.specs.Rmitrace.{is_in}
+use Rattle.command_line.specs.Rmitrace.{is_name_in}
 use Rattle.rmm_model.specs.Machine.{Machine}
 use Rattle.rmm_trace.specs.declared.access.TheConstants.{FUNCTIONS}
 use Rattle.rmm_trace.specs.declared.line.RmmTraceLine.{RmmTraceLine}
@@ -47,7 +47,7 @@ is_no_command reply = are_no_command reply.words.items
 
 -- a check of a set
 abbrev pub is_check_in : NameSet → Atom → Bool
-is_check_in set (Name place) = nat_le FIRST_CHECK place && is_in set place
+is_check_in set (Name place) = nat_le FIRST_CHECK place && is_name_in set place
 is_check_in set _ = false
 
 abbrev pub has_check : NameSet → List TraceWord → Bool
@@ -81,7 +81,7 @@ command_place question = call_place (repeated question)
 -- A line has the names of its question and of its command, and those of the checks in its answers.
 unfoldable pub is_named : NameSet → List TraceWord → List ℕ → TraceReply → Bool
 is_named set question written reply =
-    is_in set (name_place question) || is_in set (command_place question) || has_check set reply.words.items || has_check_written set (read written)
+    is_name_in set (name_place question) || is_name_in set (command_place question) || has_check set reply.words.items || has_check_written set (read written)
 
 -- ---- lines that are compared
 
