@@ -1,4 +1,4 @@
--- The command line of `rmitrace`: what its reader is told of the program, and what the words ask for.
+-- The names of lines that the words of `rmitrace` give.
 use Rattle.std.specs.Prelude.{ℕ, Bool, false, slice_get, unwrap_or}
 use Rattle.command_line.specs.declared.rmitrace.NameSet.{NameSet}
 

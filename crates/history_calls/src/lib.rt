@@ -4,8 +4,8 @@
 //! After it are granules of the host: one for the parameters of realms, one for those of RECs, and one for each REC that
 //! runs at a time.
 //!
-//! The operations for an event are a function of four values: the frame, the event, the realm and the REC that it is
-//! about, and the page for the exits of its run (`specs/Actions.antt`). No function but those of texts takes memory.
+//! The operations for an event are a function of the frame, of the event, of its realm and REC, and of the page for the
+//! exits of its run (`specs/Actions.antt`). No function but those of texts takes memory.
 #![tactic(auto)]
 
 mod action;

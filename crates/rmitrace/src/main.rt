@@ -1,4 +1,4 @@
-//! The program for traces of an RMM. The lines of a trace come from a file or from standard input, and go to standard
+//! The program for traces of an RMM. The lines of a trace come from a file or from standard input. They go to standard
 //! output with their answers, by names, or with the reasons of refusals; or they are compared.
 #![tactic(auto)]
 
