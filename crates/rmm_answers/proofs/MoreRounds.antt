@@ -1,11 +1,10 @@
 -- Rounds of calls and of fills, one after another.
-use Rattle.std.proofs.Common.{◌≡◌, ◌≢◌, ℕ, zero, suc, ◌+◌, ◌==◌, Bool, true, false, if◌then◌else◌, List, refl, sym, ap, ◌∙◌, eq-eqb, arith}
+use Rattle.std.proofs.Common.{◌≡◌, ◌≢◌, ℕ, zero, suc, ◌+◌, Bool, true, false, if◌then◌else◌, List, refl, sym, ap, ◌∙◌, eq-eqb, arith}
 use Rattle.std.proofs.lemmas.Bool.{ne_eqb}
 use Rattle.rmi_abi.specs.declared.registers.Registers.{Registers}
 use Rattle.rmm_model.specs.Call.{rmi}
 use Rattle.rmm_model.specs.Machine.{Machine}
 use Rattle.rmm_trace.specs.declared.word.TraceWord.{TraceWord}
-use Rattle.rmm_answers.specs.declared.rounds.LastCall.{LastCall}
 use Rattle.rmm_answers.specs.Rounds.{asked, last, more_rounds, filled, last_fill, more_fills}
 
 -- ---- calls

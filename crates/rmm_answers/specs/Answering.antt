@@ -1,5 +1,5 @@
 -- The answer to each question, and the machine after it.
-use Rattle.std.specs.Prelude.{ℕ, ◌-◌, ◌==◌, nat_lt, Bool, false, ◌&&◌, ◌||◌, not, if◌then◌else◌, List, [], ◌∷◌, Option, Some, None, option_and_then}
+use Rattle.std.specs.Prelude.{ℕ, ◌-◌, ◌==◌, nat_lt, Bool, ◌&&◌, ◌||◌, not, if◌then◌else◌, List, [], Option, Some, None}
 use Rattle.rmm_checks.specs.declared.evaluated.EvaluatedCheck.{EvaluatedCheck}
 use Rattle.rmm_model.specs.Host.{can_access, can_fill, loaded, state_shown, after_store}
 use Rattle.rmm_model.specs.Machine.{Machine}

@@ -1,5 +1,5 @@
 -- Guests: their steps, the end of their runs, and the results of their steps.
-use Rattle.std.specs.Prelude.{ℕ, zero, suc, ◌+◌, ◌*◌, ◌%◌, ◌==◌, nat_le, nat_lt, Bool, true, false, ◌&&◌, ◌||◌, if◌then◌else◌, List, [], ◌∷◌, length, Option, Some, None, option_map, option_and_then, unwrap_or}
+use Rattle.std.specs.Prelude.{ℕ, zero, suc, ◌+◌, ◌*◌, ◌%◌, ◌==◌, nat_le, nat_lt, Bool, ◌&&◌, ◌||◌, if◌then◌else◌, List, [], ◌∷◌, length, Option, Some, None, option_and_then, unwrap_or}
 use Rattle.std.specs.List.{position_from}
 use Rattle.rmi_abi.specs.declared.word.Word.{Word}
 use Rattle.rmi_abi.specs.Word.{number}
@@ -15,10 +15,10 @@ use Rattle.rmm_model.specs.Host.{state_shown}
 use Rattle.rmm_model.specs.Machine.{Machine}
 use Rattle.rmm_trace.specs.declared.place.TheConstants.{NONE, PSCI_DENIED, PSCI_SUCCESS, READ, SET_RIPAS}
 use Rattle.rmm_trace.specs.declared.word.Atom.{Atom}
-use Rattle.rmm_trace.specs.declared.word.Atom.TheVariants.{Name, Decimal, Hexadecimal}
+use Rattle.rmm_trace.specs.declared.word.Atom.TheVariants.{Name, Hexadecimal}
 use Rattle.rmm_trace.specs.declared.word.TraceWord.{TraceWord}
 use Rattle.rmm_trace.specs.Access.{operand_at}
-use Rattle.rmm_trace.specs.Answers.{plain, listed}
+use Rattle.rmm_trace.specs.Answers.{listed}
 use Rattle.rmm_answers.specs.declared.guest.TheConstants.{STEPS}
 use Rattle.rmm_answers.specs.declared.place.TheConstants.{ACCEPTED, DONE, FULL, IS_RUNNING, NO, NOT, NOTHING, PSCI_RESULT, QUEUED, REC_STATE, REJECTED, RETURNED, RSI_ERROR_INPUT, SEA}
 use Rattle.rmm_answers.specs.declared.reply.TraceReply.{TraceReply}

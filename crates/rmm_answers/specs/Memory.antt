@@ -1,5 +1,5 @@
 -- Answers to loads and stores of the host.
-use Rattle.std.specs.Prelude.{ℕ, Bool, if◌then◌else◌, List, [], Option, Some, None}
+use Rattle.std.specs.Prelude.{ℕ, Bool, if◌then◌else◌, Option, Some, None}
 use Rattle.rmm_trace.specs.declared.word.Atom.{Atom}
 use Rattle.rmm_trace.specs.declared.word.Atom.TheVariants.{Name, Hexadecimal}
 use Rattle.rmm_answers.specs.declared.place.TheConstants.{DONE, FAULT}

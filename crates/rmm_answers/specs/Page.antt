@@ -1,5 +1,5 @@
 -- Parameter pages, written by their fields. RMM 1.0, RmiRealmParams, RmiRecParams and RmiRecEnter.
-use Rattle.std.specs.Prelude.{ℕ, ◌+◌, ◌%◌, ◌^◌, ◌==◌, Bool, if◌then◌else◌, List, [], ◌∷◌, length}
+use Rattle.std.specs.Prelude.{ℕ, ◌+◌, ◌%◌, ◌^◌, ◌==◌, if◌then◌else◌, List, [], ◌∷◌, length}
 use Rattle.rmm_model.specs.Host.{can_fill, after_fill, after_store}
 use Rattle.rmm_model.specs.Machine.{Machine}
 use Rattle.rmm_trace.specs.declared.place.TheConstants.{AUX}

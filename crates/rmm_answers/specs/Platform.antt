@@ -1,5 +1,5 @@
 -- Platforms: the settings that words are, and the fresh machine of a platform.
-use Rattle.std.specs.Prelude.{ℕ, ◌+◌, ◌%◌, ◌==◌, ◌&&◌, nat_le, Bool, true, false, if◌then◌else◌, List, [], ◌∷◌, replicate, Option, Some, None}
+use Rattle.std.specs.Prelude.{ℕ, ◌+◌, ◌%◌, ◌&&◌, nat_le, Bool, false, if◌then◌else◌, List, [], ◌∷◌, replicate, Option, Some, None}
 use Rattle.granule_addr.specs.Page.{zero_page}
 use Rattle.rmi_abi.specs.declared.settings.Layout.TheVariants.{Rel0, Eac5}
 use Rattle.rmi_abi.specs.declared.settings.RmmSettings.{RmmSettings}
@@ -8,7 +8,6 @@ use Rattle.rmm_granules.specs.Inside.{platform_machine}
 use Rattle.rmm_model.specs.Machine.{Machine}
 use Rattle.rmm_trace.specs.declared.place.TheConstants.{ALL, ANY_RIPAS, AUX, BLOCK_LEVEL, BPS, CHANGE, CHECKED, DATA_FLAGS, DATA_RIPAS, DESC_SH, GIC, GIVEN, INIT_DESTROYED, LAYOUT, LIVE_TOP, LOOSE, LRS, MAX_RECS_ORDER, MEASURE_REC, NONE, PARAMS}
 use Rattle.rmm_trace.specs.declared.place.TheConstants.{PSCI_ARGS, REL0, RUNNABLE, S2SZ, SECURE, VMID_BITS, WPS, ZERO}
-use Rattle.rmm_trace.specs.declared.word.Atom.{Atom}
 use Rattle.rmm_trace.specs.declared.word.TraceWord.{TraceWord}
 use Rattle.rmm_trace.specs.Access.{operand_at, after_name, is_name}
 

@@ -19,8 +19,8 @@ use page_arena::PageStore;
 use rmm::Rmm;
 use rmm_checks::EvaluatedChecks;
 use rmm_trace::place::{
-    AFTER, FILL, GUEST, INTERRUPT, LOAD, PLATFORM, REALM, REALM_PARAMS, REC, REC_PARAMS,
-    REC_RUN, REPEAT, RIM, SAW, SMC, STATE, STORE, SUM,
+    AFTER, FILL, GUEST, INTERRUPT, LOAD, PLATFORM, REALM, REALM_PARAMS, REC, REC_PARAMS, REC_RUN,
+    REPEAT, RIM, SAW, SMC, STATE, STORE, SUM,
 };
 use rmm_trace::{Atom, Sentence, TraceWord, operand};
 

@@ -18,13 +18,7 @@ fn field<S: PageStore>(rmm: &Rmm<S>, run: u64, offset: u64) -> u64
 
 // Puts a field of an exit.
 #[tactic(auto, unfolding(crate::specs::Exit::put_field))]
-fn put_field<S: PageStore>(
-    answer: &mut Sentence,
-    rmm: &Rmm<S>,
-    run: u64,
-    name: usize,
-    offset: u64,
-)
+fn put_field<S: PageStore>(answer: &mut Sentence, rmm: &Rmm<S>, run: u64, name: usize, offset: u64)
     requires { length answer.old.items ≤ 62 }
     ensures items { answer.new.items ≡ exits.put_field rmm.now run name offset answer.old.items }
     ensures len { length answer.new.items ≡ length answer.old.items + 2 }

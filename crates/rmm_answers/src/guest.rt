@@ -122,7 +122,11 @@ fn put_queued(answer: &mut Sentence, queued: Queued)
 
 // Answers a step of a guest.
 #[tactic(auto, unfolding(crate::specs::Guest::guest_answered))]
-pub(crate) fn answer_guest<S: PageStore>(reply: &mut TraceReply, rmm: &mut Rmm<S>, words: &[TraceWord])
+pub(crate) fn answer_guest<S: PageStore>(
+    reply: &mut TraceReply,
+    rmm: &mut Rmm<S>,
+    words: &[TraceWord],
+)
     requires { reply.old ≡ no_answer }
     ensures { (reply.new, rmm.new) ≡ guests.guest_answered words.now rmm.old }
 {

@@ -3,7 +3,7 @@ ghost use Rattle.std.specs.Prelude.{◌≡◌, ◌<◌};
 ghost use Rattle.std.specs.List.{list_any};
 ghost use Rattle.rmm_answers.specs.Judging as judging;
 
-use crate::{TraceReply, TraceMachine};
+use crate::{TraceMachine, TraceReply};
 use rmi_abi::Word;
 use rmm_checks::{CheckOutcome, EvaluatedCheck, EvaluatedChecks};
 use rmm_trace::place::{DASH, RMI_SUCCESS};
@@ -89,8 +89,8 @@ fn allows_name(checks: &EvaluatedChecks, place: usize, rest: &[TraceWord]) -> bo
     allows_written(checks, (place - RMI_SUCCESS) as u64, rest)
 }
 
-/// Whether an answer that is written refuses the call by a word that evaluated checks allow: the name of its status with an
-/// index, or X0.
+/// Whether an answer that is written refuses the call by a word that evaluated checks allow. The word is the name of its
+/// status with an index, or X0.
 pub fn is_allowed(written: &[TraceWord], checks: &EvaluatedChecks) -> bool
     ensures { result ≡ judging.is_refusal_allowed written.now checks.now }
 {

@@ -7,7 +7,8 @@ ghost use Rattle.rmm_model.specs.Allowed.{condition_number};
 ghost use Rattle.rmm_model.specs.Call.{rmi};
 ghost use Rattle.rmm_model.specs.Machine.{Machine};
 ghost use Rattle.rmm_answers.specs.Call.{is_refused};
-ghost use Rattle.rmm_answers.specs.Places.{has_name, are_answer_places_named, are_outputs_named, are_fields_named, are_steps_named};
+ghost use Rattle.rmm_answers.specs.Places.{has_name, are_answer_places_named, are_outputs_named};
+ghost use Rattle.rmm_answers.specs.Places.{are_fields_named, are_steps_named};
 
 /// The places that answers have are those of their names.
 pub fn answer_places_are_of_their_names()

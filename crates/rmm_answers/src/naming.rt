@@ -45,7 +45,13 @@ pub const OPERANDS: [[OperandForm; 5]; 23] = [
     [Hexadecimal, Hexadecimal, Decimal, Hexadecimal, Absent],
     [Hexadecimal, Hexadecimal, Decimal, Absent, Absent],
     // rmi_data_create to rmi_data_destroy, rmi_psci_complete
-    [Hexadecimal, Hexadecimal, Hexadecimal, Hexadecimal, Hexadecimal],
+    [
+        Hexadecimal,
+        Hexadecimal,
+        Hexadecimal,
+        Hexadecimal,
+        Hexadecimal,
+    ],
     [Hexadecimal, Hexadecimal, Hexadecimal, Absent, Absent],
     [Hexadecimal, Hexadecimal, Absent, Absent, Absent],
     [Hexadecimal, Hexadecimal, Psci, Absent, Absent],
@@ -162,8 +168,8 @@ fn answer_by(place: usize, x0: u64, written: &[TraceWord]) -> Sentence
     answer
 }
 
-/// The named answer of a raw one, `X0 X1 ..`, to a raw call; none comes if X0 is not written. Outputs that are not written
-/// are left out.
+/// The named answer of a raw one, `X0 X1 ..`, to a raw call; none comes if X0 is not written. Outputs that are not
+/// written are left out.
 #[tactic(auto, unfolding(crate::specs::Naming::named_answer))]
 pub fn named_answer(question: &[TraceWord], written: &[TraceWord]) -> Option<Sentence>
     ensures { option_map (λ answer. answer.items) result ≡ naming.named_answer question.now written.now }

@@ -108,11 +108,7 @@ fn store_fields<S: PageStore>(
 
 // Writes a page with these fields, and else zeros. Returns whether the host may.
 #[tactic(auto, unfolding(crate::specs::Page::after_page))]
-fn write_page<S: PageStore>(
-    rmm: &mut Rmm<S>,
-    fields: &[(usize, u64)],
-    words: &[TraceWord],
-) -> bool
+fn write_page<S: PageStore>(rmm: &mut Rmm<S>, fields: &[(usize, u64)], words: &[TraceWord]) -> bool
     ensures answer { result ≡ can_fill rmm.old (operand_at words.now 0 0) }
     ensures machine { rmm.new ≡ pages.after_page fields.now words.now rmm.old }
 {

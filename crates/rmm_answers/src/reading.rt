@@ -11,8 +11,8 @@ ghost use Rattle.rmm_answers.specs.Replies.{no_answer};
 
 use crate::guest::rec_at;
 use crate::place::{
-    ACTIVE, BASE, DATA_STATE, DELEGATED, GPR0, IS_SYSTEM_OFF, NEW, NEXT, OFF, PENDING, RD, RD_STATE,
-    READY, RECS, REC_AUX, REC_STATE, RTT_STATE, TABLES, UNDELEGATED,
+    ACTIVE, BASE, DATA_STATE, DELEGATED, GPR0, IS_SYSTEM_OFF, NEW, NEXT, OFF, PENDING, RD,
+    RD_STATE, READY, REC_AUX, REC_STATE, RECS, RTT_STATE, TABLES, UNDELEGATED,
 };
 use crate::put::{put, put_flag, put_value};
 use crate::reply::{Digest, TraceReply};
@@ -143,7 +143,11 @@ fn put_realm(answer: &mut Sentence, realm: &RmmRealm, base: u64)
     put_number(answer, S2SZ, u64::from(realm.s2sz));
     put_number(answer, LEVEL, u64::from(realm.start_level));
     put_number(answer, TABLES, u64::from(realm.table_count));
-    put_word(answer, BASE, base.wrapping_add(4096 * u64::from(realm.first_table.number())));
+    put_word(
+        answer,
+        BASE,
+        base.wrapping_add(4096 * u64::from(realm.first_table.number())),
+    );
     put_number(answer, VMID, u64::from(realm.vmid));
     put_number(answer, NEXT, u64::from(realm.next_rec));
     put_number(answer, RECS, u64::from(realm.rec_count));
@@ -213,7 +217,10 @@ fn owner_address<S: PageStore>(rmm: &Rmm<S>, address: u64) -> u64
         return 0;
     }
     match granules.owner(granules.number_of(address)) {
-        Some(rd) => granules.settings().base.wrapping_add(4096 * u64::from(rd.number())),
+        Some(rd) => granules
+            .settings()
+            .base
+            .wrapping_add(4096 * u64::from(rd.number())),
         None => 0,
     }
 }
@@ -236,7 +243,10 @@ fn put_rec<S: PageStore>(answer: &mut Sentence, rmm: &Rmm<S>, address: u64, rec:
     requires { answer.old.items ≡ [] }
     ensures { answer.new.items ≡ readings.rec_words rmm.now address rec.now }
 {
-    put(answer, Atom::Name(if rec.is_running() { RUNNING } else { READY }));
+    put(
+        answer,
+        Atom::Name(if rec.is_running() { RUNNING } else { READY }),
+    );
     put_word(answer, RD, owner_address(rmm, address));
     put_word(answer, MPIDR, rec.mpidr);
     put_flag(answer, if rec.is_runnable { RUNNABLE } else { OFF });

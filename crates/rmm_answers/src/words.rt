@@ -29,4 +29,3 @@ pub(crate) fn rest(words: &[TraceWord]) -> &[TraceWord]
         [_, rest @ ..] => rest,
     }
 }
-
