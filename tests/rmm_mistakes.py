@@ -9,11 +9,10 @@ from contextlib import contextmanager
 from dataclasses import replace
 from typing import Any, NamedTuple
 
-from second_rmm import guest, machine, measurement, realms, recs, tables
-from second_rmm.bench import Bench
+from second_rmm import guest, measurement, realms, recs, tables
 from second_rmm.command import COMMANDS, Check, Checks, Command, Outcome
-from second_rmm.facts import DATA, DELEGATED, EMPTY, PAGE, RAM, REC_AUX, RTT_STATE, UNDELEGATED, size
-from second_rmm.machine import Entry, Exit, Machine, Realm
+from second_rmm.facts import DATA, DELEGATED, EMPTY, PAGE, RAM, size
+from second_rmm.machine import Entry, Exit, Machine
 
 # Puts a value in the place of an attribute.
 Put = Callable[[Any, str, Any], None]
@@ -315,7 +314,8 @@ def request_stays(put: Put) -> None:
 
     def checks(self: Any) -> Checks:
         here = self.machine
-        self.request = here.rec(self.calling).pending if here.is_state(self.calling, "REC") and not self.calling % PAGE else None
+        is_rec = here.is_state(self.calling, "REC") and self.calling % PAGE == 0
+        self.request = here.rec(self.calling).pending if is_rec else None
         yield from right(self)
 
     put(recs.PsciComplete, "checks", checks)
