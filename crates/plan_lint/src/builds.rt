@@ -1,5 +1,5 @@
 //! Mistakes in the builds of a plan.
-use crate::finding::{Findings, Severity, Span};
+use crate::finding::{Findings, Severity};
 use crate::keys::{Meant, means_steps, of_kind};
 use crate::message_text::Piece::{Count, Quoted, Words};
 use crate::outline::{Build, Content, Outline, Value};
@@ -21,7 +21,11 @@ pub fn builds(text: &str, outline: &Outline, meant: Meant, found: &mut Findings)
     match outline.value("build") {
         Some(value) if !value.is_array() => return no_builds(text, value, found),
         Some(value) if !has_builds => return no_build(outline, value, found),
-        None if !has_builds => return missing_build(outline, meant, found),
+        None if !has_builds && meant.build => return,
+        None if !has_builds => {
+            found.error(PlanFault::Key, outline.start(), "missing key `build`", &[]);
+            return found.help("add a line `[[build]]`, and below it `steps = [..]`", &[]);
+        }
         _ => {}
     }
     for (number, build) in outline.builds.iter().enumerate() {
@@ -49,8 +53,11 @@ fn no_builds(text: &str, value: &Value, found: &mut Findings) {
 
 // An array of builds that is empty. Each turn names no build then.
 fn no_build(outline: &Outline, value: &Value, found: &mut Findings) {
-    let first = outline.turns.first();
-    let also = first.map(|_| PlanFault::Order { place: 0 });
+    let also = if outline.turns.is_empty() {
+        None
+    } else {
+        Some(PlanFault::Order { place: 0 })
+    };
     let words = "`build` is empty; a plan has 1 to 8 builds";
     found.add(
         Severity::Error(PlanFault::Limit, also),
@@ -58,13 +65,6 @@ fn no_build(outline: &Outline, value: &Value, found: &mut Findings) {
         words,
         &[],
     );
-}
-
-fn missing_build(outline: &Outline, meant: Meant, found: &mut Findings) {
-    if !meant.build {
-        found.error(PlanFault::Key, outline.start(), "missing key `build`", &[]);
-        found.help("add a line `[[build]]`, and below it `steps = [..]`", &[]);
-    }
 }
 
 // A build, which is a table with the one key `steps`.
@@ -111,25 +111,21 @@ fn steps(text: &str, number: usize, build: &Build, found: &mut Findings) {
 }
 
 fn one_step(text: &str, value: &Value, fault: PlanFault, found: &mut Findings) {
-    match value.as_text() {
-        Some(written) if step_from_text(written).is_some() => {}
-        Some(written) => {
-            let step = InvalidStep {
-                written,
-                fault,
-                whole: value.span,
-                inside: is_inside(text, value.span, written),
-            };
-            of_step(&step, found);
-        }
-        None => of_kind(value, "a string", found),
-    }
-}
-
-// Whether the text of a string follows its quote as it is, with no escape.
-fn is_inside(text: &str, span: Span, written: &str) -> bool {
-    match text.as_bytes().get(span.start.saturating_add(1)..) {
-        Some(after) => after.starts_with(written.as_bytes()),
-        None => false,
+    let Some(written) = value.as_text() else {
+        return of_kind(value, "a string", found);
+    };
+    if step_from_text(written).is_none() {
+        // (the text of a string follows its quote as it is, unless it has an escape)
+        let inside = match text.as_bytes().get(value.span.start.saturating_add(1)..) {
+            Some(after) => after.starts_with(written.as_bytes()),
+            None => false,
+        };
+        let step = InvalidStep {
+            written,
+            fault,
+            whole: value.span,
+            inside,
+        };
+        of_step(&step, found);
     }
 }

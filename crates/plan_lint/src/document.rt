@@ -38,19 +38,18 @@ pub fn errors_in(
 
 fn in_text(alloc: Global, text: &str, found: &mut Findings) -> Result<(), AllocError> {
     let outline = outline_of(alloc, text)?;
-    if outline.is_empty() {
+    if outline.keys.is_empty() && outline.builds.is_empty() {
         empty_plan(found);
         return Ok(());
     }
     let meant = unknown_keys(&outline, found);
     numbers(&outline, meant, found);
     // (builds under another key are not counted)
-    let count = if meant.build {
-        None
-    } else {
-        count_of_builds(&outline)
+    let count = match count_of_builds(&outline) {
+        Some(count) if count > 0 && !meant.build => Some(count),
+        _ => None,
     };
-    order(&outline, count.filter(|it| *it > 0), found)?;
+    order(&outline, count, found)?;
     builds(text, &outline, meant, found);
     Ok(())
 }

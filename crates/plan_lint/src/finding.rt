@@ -66,26 +66,17 @@ impl Findings {
 
     /// Adds a finding. The words have a gap `{}` for each piece.
     pub fn add(&mut self, severity: Severity, span: Span, words: &str, pieces: &[Piece<'_>]) {
-        let added = self.try_add(severity, span, words, pieces);
-        self.has_failed |= added.is_err();
-    }
-
-    fn try_add(
-        &mut self,
-        severity: Severity,
-        span: Span,
-        words: &str,
-        pieces: &[Piece<'_>],
-    ) -> Result<(), AllocError> {
-        let words = filled(self.alloc, "", words, pieces)?;
-        let notes = Vec::new(self.alloc);
-        self.list.push(Finding {
+        let Ok(words) = filled(self.alloc, "", words, pieces) else {
+            self.has_failed = true;
+            return;
+        };
+        let added = self.list.push(Finding {
             severity,
             span,
             words,
-            notes,
-        })?;
-        Ok(())
+            notes: Vec::new(self.alloc),
+        });
+        self.has_failed |= added.is_err();
     }
 
     /// Adds an error with one fault.

@@ -92,7 +92,12 @@ const FORMS: [Form; 18] = [
 
 /// The form of the step with this word, if there is one.
 pub fn form_of(word: &str) -> Option<Form> {
-    FORMS.iter().find(|form| form.word == word).copied()
+    for form in &FORMS {
+        if form.word == word {
+            return Some(*form);
+        }
+    }
+    None
 }
 
 /// The step of the command that has this name in the RMI, in a trace or in a history.

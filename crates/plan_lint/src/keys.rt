@@ -1,7 +1,7 @@
 //! Unknown and missing keys, and the numbers of a plan.
 use crate::finding::Findings;
 use crate::message_text::Piece::{Quoted, Whole, Words};
-use crate::outline::{Build, KeyValue, Outline, PLAN_KEYS, Value};
+use crate::outline::{Build, KeyValue, Outline, PLAN_KEYS, Value, is_among};
 use realm_plan::PlanFault;
 
 /// Whether an unknown key means one that is missing.
@@ -28,7 +28,7 @@ pub fn unknown_keys(outline: &Outline, found: &mut Findings) -> Meant {
     let mut before = None;
     for key in &outline.keys {
         let name = key.name.as_str();
-        if before != Some(name) && !is_of_plan(name) {
+        if before != Some(name) && !is_among(&PLAN_KEYS, name) {
             meant.note(unknown_key(outline, key, found));
         }
         before = Some(name);
@@ -44,25 +44,27 @@ fn unknown_keys_of(outline: &Outline, build: &Build, meant: &mut Meant, found: &
     for key in &build.keys {
         let name = key.name.as_str();
         if before != Some(name) && name != "steps" {
-            if is_of_plan(name) && name != "build" {
+            if is_among(&PLAN_KEYS, name) && name != "build" {
                 meant.note(key_of_plan(outline, key, found));
+            } else if build.steps_value().is_none() && is_near_steps(key, found) {
+                did_you_mean(key, "steps", found);
             } else {
-                key_of_build(build, key, found);
+                no_such_key(key, "the only key of a build is `steps`", found);
             }
         }
         before = Some(name);
     }
 }
 
-fn is_of_plan(name: &str) -> bool {
-    PLAN_KEYS.iter().any(|it| *it == name)
-}
-
 // A key that no plan has. Returns the missing one that it means.
 fn unknown_key<'a>(outline: &Outline, key: &'a KeyValue, found: &mut Findings) -> Option<&'a str> {
     let name = key.name.as_str();
     if name == "steps" {
-        stray_steps(outline, key, found);
+        let words = "`steps` is a key of a build, not of the plan";
+        found.error(PlanFault::Key, key.key, words, &[]);
+        if outline.lacks("build") && key.value.is_array() {
+            found.help("write `[[build]]` on a line above it", &[]);
+        }
         return Some("build");
     }
     let near = found.nearest(&outline.missing, name);
@@ -77,15 +79,6 @@ fn unknown_key<'a>(outline: &Outline, key: &'a KeyValue, found: &mut Findings) -
     near
 }
 
-// Steps below no build.
-fn stray_steps(outline: &Outline, key: &KeyValue, found: &mut Findings) {
-    let words = "`steps` is a key of a build, not of the plan";
-    found.error(PlanFault::Key, key.key, words, &[]);
-    if outline.lacks("build") && key.value.is_array() {
-        found.help("write `[[build]]` on a line above it", &[]);
-    }
-}
-
 // A key of the plan below a build. Returns it if the plan lacks it.
 fn key_of_plan<'a>(outline: &Outline, key: &'a KeyValue, found: &mut Findings) -> Option<&'a str> {
     let name = key.name.as_str();
@@ -96,14 +89,6 @@ fn key_of_plan<'a>(outline: &Outline, key: &'a KeyValue, found: &mut Findings) -
     }
     found.help("write it above the first `[[build]]`", &[]);
     Some(name)
-}
-
-fn key_of_build(build: &Build, key: &KeyValue, found: &mut Findings) {
-    if build.steps_value().is_none() && is_near_steps(key, found) {
-        did_you_mean(key, "steps", found);
-    } else {
-        no_such_key(key, "the only key of a build is `steps`", found);
-    }
 }
 
 fn is_near_steps(key: &KeyValue, found: &mut Findings) -> bool {

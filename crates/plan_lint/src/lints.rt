@@ -204,8 +204,11 @@ fn highest_page(step: &PlanStep) -> Option<u16> {
         Cmd::Realm { rd, root, .. } => Some(rd.max(root)),
         Cmd::Data { page, source, .. } => Some(page.max(source)),
         Cmd::Rec { page, auxiliaries } => {
-            let highest = auxiliaries.as_slice().iter().max();
-            Some(highest.map_or(page, |it| page.max(*it)))
+            let mut highest = page;
+            for auxiliary in auxiliaries.as_slice() {
+                highest = highest.max(*auxiliary);
+            }
+            Some(highest)
         }
         _ => None,
     }

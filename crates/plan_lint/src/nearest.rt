@@ -18,22 +18,16 @@ pub fn nearest(
     let mut found = None;
     let mut least = usize::MAX;
     for name in names {
-        let edits = distance(alloc, word, name)?;
-        if edits < least && is_near(edits, name, word) {
+        let edits = if word.eq_ignore_ascii_case(name) {
+            0
+        } else {
+            osa_distance(alloc, word, name)?
+        };
+        let is_near = edits.saturating_mul(3) <= name.len().max(word.len());
+        if is_near && edits < least {
             found = Some(*name);
             least = edits;
         }
     }
     Ok(found)
-}
-
-fn distance(alloc: Global, word: &str, name: &str) -> Result<usize, AllocError> {
-    if word.eq_ignore_ascii_case(name) {
-        return Ok(0);
-    }
-    osa_distance(alloc, word, name)
-}
-
-fn is_near(edits: usize, name: &str, word: &str) -> bool {
-    edits.saturating_mul(3) <= name.len().max(word.len())
 }

@@ -118,7 +118,7 @@ impl KnownState {
     }
 
     fn is_delegated(&self, page: u16) -> bool {
-        self.delegated.iter().any(|it| *it == page)
+        self.delegated.as_slice().contains(&page)
     }
 
     // Whether a realm of the least width, which has one starting table, is surely made in these pages.

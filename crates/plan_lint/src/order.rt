@@ -24,18 +24,13 @@ pub fn order(
     match outline.value("order") {
         Some(value) if value.is_array() => of_turns(outline, builds, found),
         Some(value) => {
-            no_order(value, found);
+            of_kind(value, "an array", found);
+            if let Some(whole) = value.as_whole() {
+                found.help("write `[{}]`", &[Whole(whole)]);
+            }
             Ok(())
         }
         None => Ok(()),
-    }
-}
-
-// A value of `order` that is no array.
-fn no_order(value: &Value, found: &mut Findings) {
-    of_kind(value, "an array", found);
-    if let Some(whole) = value.as_whole() {
-        found.help("write `[{}]`", &[Whole(whole)]);
     }
 }
 

@@ -86,11 +86,6 @@ impl Build {
     pub fn steps_value(&self) -> Option<&Value> {
         value_of(&self.keys, "steps")
     }
-
-    /// The place of a step, or else of the build.
-    pub fn step_span(&self, step: usize) -> Span {
-        self.steps.get(step).unwrap_or(&self.value).span
-    }
 }
 
 /// The parts of a plan's text, as far as they were found.
@@ -114,21 +109,15 @@ impl Outline {
 
     /// Whether the plan lacks a key.
     pub fn lacks(&self, name: &str) -> bool {
-        self.missing.iter().any(|it| *it == name)
-    }
-
-    /// Whether the text has no key and no build.
-    pub fn is_empty(&self) -> bool {
-        self.keys.is_empty() && self.builds.is_empty()
+        is_among(&self.missing, name)
     }
 
     /// The place before the first key or header of the text.
     pub fn start(&self) -> Span {
-        let key = self.keys.first().map(|it| it.key.start);
-        let build = self.builds.first().map(|it| it.value.span.start);
-        let start = match (key, build) {
-            (Some(key), Some(build)) => key.min(build),
-            (Some(first), None) | (None, Some(first)) => first,
+        let start = match (self.keys.first(), self.builds.first()) {
+            (Some(key), Some(build)) => key.key.start.min(build.value.span.start),
+            (Some(key), None) => key.key.start,
+            (None, Some(build)) => build.value.span.start,
             (None, None) => 0,
         };
         Span::new(start, 0)
@@ -153,10 +142,20 @@ impl Outline {
     /// The place of a step of a build, or else of the build, or else the beginning of the text.
     pub fn step_span(&self, build: usize, step: usize) -> Span {
         match self.builds.get(build) {
-            Some(build) => build.step_span(step),
+            Some(build) => build.steps.get(step).unwrap_or(&build.value).span,
             None => Span::new(0, 0),
         }
     }
+}
+
+/// Whether one of the names is this.
+pub fn is_among(names: &[&'static str], name: &str) -> bool {
+    for it in names {
+        if *it == name {
+            return true;
+        }
+    }
+    false
 }
 
 // The value of the first key with this name.

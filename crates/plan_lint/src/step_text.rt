@@ -141,12 +141,22 @@ fn of_count(step: &InvalidStep<'_>, form: &Form, from: usize, rest: &str, found:
 }
 
 fn is_right(kind: OperandKind, text: &str) -> bool {
-    let (_, most) = kind.limits();
-    is_of_digits(text) && !has_leading_zero(text) && text.parse::<u64>().is_ok_and(|it| it <= most)
+    if !is_of_digits(text) || has_leading_zero(text) {
+        return false;
+    }
+    match text.parse::<u64>() {
+        Ok(number) => number <= kind.limits().1,
+        Err(_) => false,
+    }
 }
 
 fn is_of_digits(text: &str) -> bool {
-    !text.is_empty() && text.bytes().all(|it| it.is_ascii_digit())
+    for byte in text.as_bytes() {
+        if !byte.is_ascii_digit() {
+            return false;
+        }
+    }
+    !text.is_empty()
 }
 
 fn has_leading_zero(text: &str) -> bool {
@@ -214,8 +224,10 @@ fn of_range(step: &InvalidStep<'_>, argument: &Argument<'_>, found: &mut Finding
     let pieces = [Words(name), Number(most), shown];
     let words = "{} must be from 0 to {}, found {}";
     step.error(at, text.len(), words, &pieces, found);
-    let number = text.parse::<u64>().ok();
-    if let Some(granule) = number.and_then(|it| granule_of(kind, it)) {
+    let Ok(number) = text.parse::<u64>() else {
+        return;
+    };
+    if let Some(granule) = granule_of(kind, number) {
         let words = "an IPA granule is an IPA divided by 4096: write {}";
         found.help(words, &[Number(granule)]);
     }

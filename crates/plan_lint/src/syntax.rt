@@ -13,18 +13,27 @@ pub fn syntax(bytes: &[u8], range: Range<usize>, message: &str, found: &mut Find
         end: range.end,
     };
     let (front, back) = around(bytes, span.start);
-    let (before, after) = (last_line(front), first_line(back));
+    let before = match front.rsplit_once('\n') {
+        Some((_, line)) => line,
+        None => front,
+    };
+    let after = match back.split_once('\n') {
+        Some((line, _)) => line.trim_end(),
+        None => back.trim_end(),
+    };
+    let is_in_array = front.trim_end().ends_with('[') || front.trim_end().ends_with(',');
     if is_other_header(before, after) {
         other_header(span.start, before.trim_start(), after, found);
     } else if message == "invalid string" && after.is_empty() {
         unclosed_string(span.start, before, found);
     } else if message == "duplicate key" {
-        let key = after
-            .split_once('=')
-            .map_or(after, |(key, _)| key.trim_end());
+        let key = match after.split_once('=') {
+            Some((key, _)) => key.trim_end(),
+            None => after,
+        };
         let span = Span::new(span.start, key.len());
         tell(span, "duplicate key {}", &[Quoted(key)], found);
-    } else if is_in_array(front) && !after.starts_with('"') {
+    } else if is_in_array && !after.starts_with('"') {
         in_array(span, message, after, found);
     } else if before.is_empty() && message.starts_with("missing comma between array elements") {
         tell(span, "unclosed array, expected `,` or `]`", &[], found);
@@ -43,20 +52,6 @@ fn around(bytes: &[u8], at: usize) -> (&str, &str) {
     match (text.get(..at), text.get(at..)) {
         (Some(before), Some(after)) => (before, after),
         _ => (text, ""),
-    }
-}
-
-fn last_line(text: &str) -> &str {
-    match text.rsplit_once('\n') {
-        Some((_, line)) => line,
-        None => text,
-    }
-}
-
-fn first_line(text: &str) -> &str {
-    match text.split_once('\n') {
-        Some((line, _)) => line.trim_end(),
-        None => text.trim_end(),
     }
 }
 
@@ -98,12 +93,6 @@ fn unclosed_string(at: usize, before: &str, found: &mut Findings) {
     let span = Span::new(at.saturating_sub(len), len);
     tell(span, "unclosed string", &[], found);
     found.help("close it by the quote that it began with", &[]);
-}
-
-// Whether the next thing after a text is an item of an array.
-fn is_in_array(before: &str) -> bool {
-    let before = before.trim_end();
-    before.ends_with('[') || before.ends_with(',')
 }
 
 // What is no item of an array: a step without quotes, the end of the text, or something else.

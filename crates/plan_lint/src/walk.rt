@@ -78,11 +78,7 @@ pub fn outline_of(alloc: Global, text: &str) -> Result<Outline, AllocError> {
     if let Err(ParseError::OutOfMemory) = walk.to_end() {
         return Err(AllocError);
     }
-    with_missing(walk.outline)
-}
-
-// The outline with the keys that it lacks.
-fn with_missing(mut outline: Outline) -> Result<Outline, AllocError> {
+    let mut outline = walk.outline;
     for name in &PLAN_KEYS {
         let has_builds = *name == "build" && !outline.builds.is_empty();
         if !has_builds && outline.value(name).is_none() {
@@ -115,7 +111,11 @@ impl<'a> Walk<'a> {
             b',' => self.skip_byte(),
             b']' | b'}' => self.close(),
             _ if is_in_table => self.pair(),
-            _ => self.item(),
+            // (an item of an array, up to its own first item)
+            _ => {
+                let (owner, key) = (self.owner(), Span::new(self.at(), 0));
+                self.value(owner, String::new(self.alloc), key)
+            }
         }
     }
 
@@ -215,12 +215,6 @@ impl<'a> Walk<'a> {
         let content = Content::Table;
         self.add(owner, name, span, Value { span, content })?;
         self.value(Part::Other, last, span)
-    }
-
-    // Reads an item of an array, up to its own first item.
-    fn item(&mut self) -> Result<(), ParseError> {
-        let (owner, start) = (self.owner(), self.at());
-        self.value(owner, String::new(self.alloc), Span::new(start, 0))
     }
 
     // Reads a value, or the bracket that it begins with.

@@ -5,7 +5,8 @@ ghost use Rattle.run_json.specs.Worlds.{all_granules, page_items, open_lines, Ar
 
 use crate::build_id::id_of;
 use crate::items::{GranuleItem, PageItem, RecItem, RowItem, page_item, rec_item};
-use crate::json::member;
+use crate::json::Field::Number;
+use crate::json::{member, members};
 use crate::kept::{BuildKept, build_kept};
 use crate::realm::{RealmItem, realm_item};
 use crate::rows::rows_of;
@@ -43,7 +44,7 @@ impl Described for RealmWorld {}
 impl Serialize for RealmWorld {
     fn serialize<W: Serializer>(&self, out: &mut W) -> Result<(), W::Error> {
         out.begin_map(Some(10))?;
-        self.realm.write(out)?;
+        members(out, &self.realm.members())?;
         member(out, "rows", &self.rows)?;
         member(out, "recs", &self.recs)?;
         out.end_map()
@@ -65,8 +66,8 @@ impl Described for BuildItem {}
 impl Serialize for BuildItem {
     fn serialize<W: Serializer>(&self, out: &mut W) -> Result<(), W::Error> {
         out.begin_map(Some(6))?;
-        member(out, "build", &self.build.number())?;
-        self.kept.write(out)?;
+        members(out, &[("build", Number(self.build.number() as u64))])?;
+        members(out, &self.kept.members())?;
         member(out, "open", &self.open)?;
         member(out, "pages", &self.pages)?;
         member(out, "realm", &self.realm)?;
