@@ -66,6 +66,13 @@ impl<S: PageStore> Rmm<S> {
         self.granules.settings()
     }
 
+    /// The granules of a monitor, for readings that no host has.
+    pub fn granules(&self) -> &Granules<S>
+        ensures { result.now ≡ self.now }
+    {
+        &self.granules
+    }
+
     /// The granules of a monitor.
     pub fn into_granules(self) -> Granules<S>
         ensures { result ≡ self }
