@@ -1,16 +1,9 @@
 pub mod Checks
-pub mod Delegated
-pub mod LiveTables
 pub mod NewRealms
 pub mod NewRecs
 pub mod Pages
-pub mod Passing
 pub mod Ranges
 pub mod RequestedRanges
 pub mod Runs
-pub mod StartCounts
-pub mod Starts
 pub mod StatesDiffer
-pub mod Steps
-pub mod Widths
 pub mod WordEdits

@@ -4,11 +4,11 @@ ghost use Rattle.rmm_model.specs.Granule.{realm_of};
 ghost use Rattle.rmm_model.specs.Machine.{granule_count};
 ghost use Rattle.rmm_model.specs.Command.Auxiliary as auxiliary;
 
-use crate::walking::granule_named;
 use granule_addr::Gran;
 use page_arena::PageStore;
 use rmm_granules::Granules;
 use rmm_model::{RmmGranule, aux_address};
+use rmm_reading::granule_named;
 
 // A granule gets other attributes, and its page is zero.
 fn wipe<S: PageStore>(granules: &mut Granules<S>, granule: Gran, kept: &RmmGranule)

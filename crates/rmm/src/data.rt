@@ -9,8 +9,8 @@ ghost use Rattle.rmm_model.specs.Command.DataDestroy as destroying;
 ghost use Rattle.rmm.specs.Found.{IsPageVacancy, IsMapped};
 
 use crate::granule::blank;
-use crate::operand::{Names, check_entry, check_page, delegated, error_rtt_top, realm_of};
-use crate::walking::{memory_below, read, top, walk, write};
+use crate::operand::{check_entry, check_page, delegated, error_rtt_top, realm_of};
+use crate::walking::write;
 use granule_addr::Gran;
 use page_arena::PageStore;
 use rmi_abi::{SmcResult, Word};
@@ -18,12 +18,7 @@ use rmm_granules::Granules;
 use rmm_model::{
     Condition, FailedCondition, RmmGranule, RmmGranuleState, RmmRipas, RmmRttEntry, RttWalk,
 };
-
-pub const DATA: Names = Names {
-    align: Condition::DataAlign,
-    bound: Condition::DataBound,
-    state: Condition::DataState,
-};
+use rmm_reading::{OperandConditions, entry_at, memory_below, top, walk};
 
 // A place for a new page: the RD, the page's granule, and the entry.
 #[derive(Clone, Copy)]
@@ -56,11 +51,11 @@ fn find_vacancy<S: PageStore>(
         ≡ first_failing (creating.data_create_unknown rd page ipa granules.now).checks }
     ensures vacancy { IfOk result (IsPageVacancy granules.now rd page ipa) }
 {
-    let data = delegated(granules, page, DATA)?;
+    let data = delegated(granules, page, OperandConditions::DATA)?;
     let owner = realm_of(granules, rd)?;
     check_page(&owner.realm, ipa)?;
     let found = walk(granules, &owner.realm, ipa, 3);
-    let entry = read(granules, &found, ipa);
+    let entry = entry_at(granules, &found, ipa);
     check_entry(&found, 3, entry.is_unassigned())?;
     Ok(PageVacancy {
         rd: owner.granule,
@@ -153,7 +148,7 @@ fn find_mapped<S: PageStore>(
     let owner = realm_of(granules, rd)?;
     check_page(&owner.realm, ipa)?;
     let found = walk(granules, &owner.realm, ipa, 3);
-    let entry = read(granules, &found, ipa);
+    let entry = entry_at(granules, &found, ipa);
     let data = check_mapped(granules, &found, entry, ipa)?;
     Ok(Mapped { data, found, entry })
 }

@@ -6,10 +6,9 @@ ghost use Rattle.rmm_model.specs.Command.DataCreate as command;
 ghost use Rattle.rmm.specs.NewPages.{flags_checks, with_data};
 ghost use Rattle.rmm.specs.Found.{IsSource, IsTarget, IsNewPage};
 
-use crate::data::DATA;
-use crate::operand::{Names, Rd, check_entry, check_page, delegated, host_page, realm_of};
+use crate::operand::{Rd, check_entry, check_page, delegated, host_page, realm_of};
 use crate::realm::{check_new, set_rim};
-use crate::walking::{read, walk, write};
+use crate::walking::write;
 use granule_addr::Gran;
 use page_arena::PageStore;
 use rmi_abi::{HashAlgorithm, RmmSettings, SmcResult, Word};
@@ -19,12 +18,7 @@ use rmm_model::{
     Condition, FailedCondition, RmmGranule, RmmGranuleState, RmmRealm, RmmRipas, RmmRttEntry,
     RttWalk, error_input, error_rtt,
 };
-
-const SOURCE: Names = Names {
-    align: Condition::SrcAlign,
-    bound: Condition::SrcBound,
-    state: Condition::SrcPas,
-};
+use rmm_reading::{OperandConditions, entry_at, walk};
 
 // A page of the host, and the granule that becomes a page of data.
 #[derive(Clone, Copy)]
@@ -74,8 +68,8 @@ fn find_source<S: PageStore>(
     ensures found { IfOk result (IsSource granules.now page source) }
 {
     check_flags(granules.settings(), flags)?;
-    let source = host_page(granules, source, SOURCE)?;
-    let granule = delegated(granules, page, DATA)?;
+    let source = host_page(granules, source, OperandConditions::SOURCE)?;
+    let granule = delegated(granules, page, OperandConditions::DATA)?;
     Ok(Source {
         page: source,
         granule,
@@ -111,7 +105,7 @@ fn find_target<S: PageStore>(
     check_page(&owner.realm, ipa)?;
     check_new(&owner.realm)?;
     let found = walk(granules, &owner.realm, ipa, 3);
-    check_vacant(granules.settings(), &found, read(granules, &found, ipa))?;
+    check_vacant(granules.settings(), &found, entry_at(granules, &found, ipa))?;
     Ok(Target { owner, found })
 }
 

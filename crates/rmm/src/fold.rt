@@ -1,24 +1,20 @@
 //! RMI_RTT_FOLD.
-ghost use Rattle.std.specs.Prelude.{◌≡◌, ◌^◌, ◌<◌, ◌≤◌, length, IfOk, Some};
+ghost use Rattle.std.specs.Prelude.{◌≡◌, ◌<◌, ◌≤◌, IfOk, Some};
 ghost use Rattle.rmm_model.specs.Check.{outcome, first_failing, refusal_in};
-ghost use Rattle.rmm_model.specs.Entry.{descriptor_of};
 ghost use Rattle.rmm_model.specs.Machine.{granule_count};
-ghost use Rattle.rmm_model.specs.Table.{entry_in_page};
 ghost use Rattle.rmm_model.specs.Walk.{table_below};
 ghost use Rattle.rmm_model.specs.Command.RttFold as command;
 ghost use Rattle.rmm.specs.Found.{IsFoldable};
 
 use crate::granule::blank;
 use crate::operand::{check_ipa, realm_of};
-use crate::walking::{read, table_below, walk, write};
+use crate::walking::write;
 use granule_addr::Gran;
-use page_arena::{PageStore, word_in};
-use rmi_abi::{RmmSettings, SmcResult, Word};
+use page_arena::PageStore;
+use rmi_abi::{SmcResult, Word};
 use rmm_granules::Granules;
-use rmm_model::{
-    Condition, FailedCondition, RmmGranuleState, RmmRttEntry, RttWalk, entry_from_word,
-    entry_offset, error_rtt, has_parts,
-};
+use rmm_model::{Condition, FailedCondition, RmmGranuleState, RmmRttEntry, RttWalk, error_rtt};
+use rmm_reading::{entry_at, first_entry, is_block_too_high, is_homogeneous, table_below, walk};
 
 // A table that can be folded, and the entry that leads to it.
 #[derive(Clone, Copy)]
@@ -26,43 +22,6 @@ pub struct Foldable {
     pub table: Gran,
     pub found: RttWalk,
     pub parent: RmmRttEntry,
-}
-
-// The first entry of a table.
-#[tactic(auto, unfolding(rmm_model::specs::Table::entry_in_page))]
-fn first_entry(page: &[u8]) -> RmmRttEntry
-    requires { length page.now ≡ 4096 }
-    ensures value { result ≡ entry_in_page page.now 0 }
-    ensures fits { descriptor_of result < 2 ^ 48 }
-{
-    entry_from_word(word_in(page, 0))
-}
-
-// Whether an entry can be one a level higher.
-fn is_aligned_above(entry: RmmRttEntry, level: u8) -> bool
-    requires { 1 ≤ level }
-    ensures { result ≡ command.is_aligned_above entry level }
-{
-    !entry.is_mapping() || entry_offset(level - 1, entry.descriptor() / 4096 * 4096) == 0
-}
-
-// Whether a table says the same as one entry above it.
-#[tactic(auto, unfolding(rmm_model::specs::Command::RttFold::is_homogeneous))]
-fn is_homogeneous(page: &[u8], level: u8) -> bool
-    requires page { length page.now ≡ 4096 }
-    requires level { 1 ≤ level }
-    ensures { result ≡ command.is_homogeneous page.now level }
-{
-    let first = first_entry(page);
-    !first.is_table() && is_aligned_above(first, level) && has_parts(page, first, level)
-}
-
-// Whether a table would become a block of a level at which there is none.
-fn is_block_too_high(settings: &RmmSettings, page: &[u8], level: u8) -> bool
-    requires { length page.now ≡ 4096 }
-    ensures { result ≡ command.is_block_too_high settings.now page.now level }
-{
-    first_entry(page).is_mapping() && level <= settings.block_level
 }
 
 // Passes a walk that reaches the level above, to an entry that leads to a table which says the same as one entry.
@@ -111,7 +70,7 @@ fn find_foldable<S: PageStore>(
     let owner = realm_of(granules, rd)?;
     let level = check_ipa(&owner.realm, owner.realm.start_level + 1, level, 1, ipa)?;
     let found = walk(granules, &owner.realm, ipa, level - 1);
-    let parent = read(granules, &found, ipa);
+    let parent = entry_at(granules, &found, ipa);
     let table = check_fold(granules, &found, parent, level)?;
     Ok(Foldable {
         table,

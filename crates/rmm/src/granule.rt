@@ -1,23 +1,18 @@
 //! RMI_GRANULE_DELEGATE and RMI_GRANULE_UNDELEGATE.
-ghost use Rattle.std.specs.Prelude.{◌≡◌, ◌<◌, ◌++◌, ◌∷◌, [], not, None, IfOk};
+ghost use Rattle.std.specs.Prelude.{◌≡◌, ◌<◌, None, IfOk};
 ghost use Rattle.rmm_model.specs.Check.{outcome, first_failing, refusal_in};
 ghost use Rattle.rmm_model.specs.Granule.{realm_of};
 ghost use Rattle.rmm_model.specs.Machine.{granule_count, number_of, with_blank};
 ghost use Rattle.rmm_model.specs.Command.GranuleDelegate.{granule_delegate as delegating};
 ghost use Rattle.rmm_model.specs.Command.GranuleUndelegate.{granule_undelegate as undelegating};
 
-use crate::operand::{Names, delegated, named};
+use crate::operand::{delegated, named};
 use granule_addr::Gran;
 use page_arena::PageStore;
 use rmi_abi::{SmcResult, Word};
 use rmm_granules::Granules;
 use rmm_model::{Condition, FailedCondition, RmmGranule, RmmGranuleState, error_input};
-
-const GRANULE: Names = Names {
-    align: Condition::GranAlign,
-    bound: Condition::GranBound,
-    state: Condition::GranState,
-};
+use rmm_reading::OperandConditions;
 
 // A granule becomes one of no realm, and its page is zero.
 pub fn blank<S: PageStore>(granules: &mut Granules<S>, granule: Gran, state: RmmGranuleState)
@@ -40,7 +35,7 @@ fn find_undelegated<S: PageStore>(
     ensures number { IfOk result (λ granule. granule ≡ number_of granules.now address) }
     ensures inside { IfOk result (λ granule. granule < granule_count granules.now) }
 {
-    let granule = named(granules, address, GRANULE)?;
+    let granule = named(granules, address, OperandConditions::GRANULE)?;
     if !granules.is_undelegated(granule) {
         return Err(error_input(Condition::GranState));
     }
@@ -71,7 +66,7 @@ pub fn granule_undelegate<S: PageStore>(granules: &mut Granules<S>, address: u64
     ensures answer { result ≡ (outcome (undelegating address granules.old) granules.old).0 }
     ensures machine { granules.new ≡ (outcome (undelegating address granules.old) granules.old).1 }
 {
-    match delegated(granules, address, GRANULE) {
+    match delegated(granules, address, OperandConditions::GRANULE) {
         Ok(granule) => {
             blank(granules, granule, RmmGranuleState::Undelegated);
             SmcResult::only(Word::Success)

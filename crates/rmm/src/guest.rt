@@ -6,11 +6,11 @@ ghost use Rattle.rmm_model.specs.Realm.{IsServed};
 ghost use Rattle.rmm_model.specs.Command.RecEnter as entering;
 
 use crate::rec::set_rec;
-use crate::rec_destroy::realm_in;
 use granule_addr::Gran;
 use page_arena::PageStore;
 use rmm_granules::Granules;
 use rmm_model::{GuestStep, Queued, RmmRealm, RmmRec, StepResult, StepWords};
+use rmm_reading::realm_in;
 
 // The attributes of a REC; a granule that is none has those of a new one.
 pub fn rec_in<S: PageStore>(granules: &Granules<S>, g: Gran) -> RmmRec

@@ -1,5 +1,5 @@
 //! RMI_RTT_INIT_RIPAS.
-ghost use Rattle.std.specs.Prelude.{◌≡◌, ◌^◌, ◌<◌, ◌≤◌, ◌∷◌, [], IfOk, OnOk};
+ghost use Rattle.std.specs.Prelude.{◌≡◌, ◌^◌, ◌<◌, ◌≤◌, IfOk, OnOk};
 ghost use Rattle.rmm_model.specs.Check.{outcome, first_failing, refusal_in};
 ghost use Rattle.rmm_model.specs.Command.RttInitRipas as command;
 ghost use Rattle.rmm.specs.Found.{IsRipasRange};
@@ -7,15 +7,14 @@ ghost use Rattle.rmm.specs.Found.{IsRipasRange};
 use crate::operand::{Rd, is_protected, realm_of};
 use crate::realm::{error_realm, is_new, set_rim};
 use crate::ripas_range::{change_count, check_progress, check_size, write_ripas};
-use crate::walking::walk;
 use page_arena::PageStore;
-use rmi_abi::{RmmSettings, SmcResult, Word};
+use rmi_abi::{SmcResult, Word};
 use rmm_granules::Granules;
 use rmm_measurement::{Extension, extend};
 use rmm_model::{
-    Changeable, Condition, FailedCondition, RmmRealm, RmmRipas, RttWalk, entry_index, entry_size,
-    error_input,
+    Condition, FailedCondition, RmmRealm, RmmRipas, RttWalk, entry_index, entry_size, error_input,
 };
+use rmm_reading::{init_changeable, walk};
 
 // The RD of a range with its realm, and the table of its first entry.
 #[derive(Clone, Copy)]
@@ -25,16 +24,6 @@ pub struct RipasRange {
 }
 
 // ---- operands
-
-// The entries that become RAM.
-fn changeable(settings: &RmmSettings) -> Changeable
-    ensures { result ≡ command.init_changeable settings.now }
-{
-    Changeable {
-        assigned: false,
-        destroyed: !settings.stops_at_destroyed,
-    }
-}
 
 // Passes a range of pages in the protected half of a NEW realm.
 #[tactic(auto, unfolding(rmm_model::specs::Command::RttInitRipas::range_checks))]
@@ -79,7 +68,13 @@ fn find_range<S: PageStore>(
     let owner = realm_of(granules, rd)?;
     check_range(&owner.realm, base, top)?;
     let found = walk(granules, &owner.realm, base, 3);
-    check_progress(granules, changeable(granules.settings()), &found, base, top)?;
+    check_progress(
+        granules,
+        init_changeable(granules.settings()),
+        &found,
+        base,
+        top,
+    )?;
     Ok(RipasRange { owner, found })
 }
 
@@ -120,7 +115,7 @@ pub fn rtt_init_ripas<S: PageStore>(
 {
     match find_range(granules, rd, base, top) {
         Ok(range) => {
-            let changeable = changeable(granules.settings());
+            let changeable = init_changeable(granules.settings());
             let count = change_count(granules, changeable, &range.found, base, top);
             let size = entry_size(range.found.level);
             let rim = rim_with_ripas(&range.owner.realm, size, base, count);

@@ -66,7 +66,7 @@ impl<S: PageStore> Rmm<S> {
         self.granules.settings()
     }
 
-    /// The granules of a monitor, for readings that no host has.
+    /// The granules of an RMM, for readings that no host has.
     pub fn granules(&self) -> &Granules<S>
         ensures { result.now ≡ self.now }
     {

@@ -1,27 +1,20 @@
 //! Operands, and the checks that they have to pass.
-ghost use Rattle.std.specs.Prelude.{◌≡◌, ◌+◌, ◌^◌, ◌<◌, ◌≤◌, ◌++◌, ◌∷◌, [], true, not, IfOk, OnOk};
-ghost use Rattle.rmm_model.specs.Check.{check, first_failing, refusal_in, error_input, error_rtt, error_rtt_top as with_top};
+ghost use Rattle.std.specs.Prelude.{◌≡◌, ◌^◌, ◌<◌, ◌≤◌, [], true, IfOk, OnOk};
+ghost use Rattle.rmm_model.specs.Check.{first_failing, refusal_in, error_rtt, error_rtt_top as with_top};
 ghost use Rattle.rmm_model.specs.Machine.{granule_count, granule_at, number_of};
 ghost use Rattle.rmm_model.specs.Granule.{is_undelegated, is_delegated};
 ghost use Rattle.rmm_model.specs.Realm as realms;
 ghost use Rattle.rmm_model.specs.Realm.{IsServed};
 ghost use Rattle.rmm_model.specs.Command.Operand as operands;
 
-use granule_addr::{Gran, MOST_PAGES};
+use granule_addr::Gran;
 use page_arena::PageStore;
 use rmi_abi::{RmmSettings, SmcResult, Word};
 use rmm_granules::Granules;
 use rmm_model::{
     Condition, FailedCondition, RmmRealm, RttWalk, entry_offset, error_input, error_rtt,
 };
-
-// The names of an operand's conditions: of its alignment, its bound and its state.
-#[derive(Clone, Copy)]
-pub struct Names {
-    pub align: Condition,
-    pub bound: Condition,
-    pub state: Condition,
-}
+use rmm_reading::OperandConditions;
 
 // An RD, and its realm.
 #[derive(Clone, Copy)]
@@ -30,71 +23,65 @@ pub struct Rd {
     pub realm: RmmRealm,
 }
 
-pub const RD: Names = Names {
-    align: Condition::RdAlign,
-    bound: Condition::RdBound,
-    state: Condition::RdState,
-};
-
 // ---- granules
 
-// The granule that an address names.
+// The granule that an address conditions.
 pub fn named<S: PageStore>(
     granules: &Granules<S>,
     address: u64,
-    names: Names,
+    conditions: OperandConditions,
 ) -> Result<Gran, FailedCondition>
     ensures refusal { refusal_in result
-        ≡ first_failing (operands.address_checks names.align names.bound granules.now address) }
+        ≡ first_failing (operands.address_checks conditions.align conditions.bound granules.now address) }
     ensures number { IfOk result (λ granule. granule ≡ number_of granules.now address) }
     ensures inside { IfOk result (λ granule. granule < granule_count granules.now) }
 {
     if address % 4096 != 0 {
-        return Err(error_input(names.align));
+        return Err(error_input(conditions.align));
     }
     if !granules.is_inside(address) {
-        return Err(error_input(names.bound));
+        return Err(error_input(conditions.bound));
     }
     Ok(granules.number_of(address))
 }
 
-// The granule of a page of the host that an address names.
+// The granule of a page of the host that an address conditions.
 pub fn host_page<S: PageStore>(
     granules: &Granules<S>,
     address: u64,
-    names: Names,
+    conditions: OperandConditions,
 ) -> Result<Gran, FailedCondition>
     ensures refusal { refusal_in result
-        ≡ first_failing (operands.host_checks names.align names.bound names.state granules.now address) }
+        ≡ first_failing (operands.host_checks conditions.align conditions.bound conditions.state granules.now address) }
     ensures number { IfOk result (λ granule. granule ≡ number_of granules.now address) }
     ensures state { IfOk result (λ granule. is_undelegated (granule_at granules.now granule).state ≡ true) }
     ensures inside { IfOk result (λ granule. granule < granule_count granules.now) }
 {
-    let granule = named(granules, address, names)?;
+    let granule = named(granules, address, conditions)?;
     if granules.is_undelegated(granule) && !granules.is_secure(address) {
         Ok(granule)
     } else {
-        Err(error_input(names.state))
+        Err(error_input(conditions.state))
     }
 }
 
-// The DELEGATED granule that an address names.
+// The DELEGATED granule that an address conditions.
 pub fn delegated<S: PageStore>(
     granules: &Granules<S>,
     address: u64,
-    names: Names,
+    conditions: OperandConditions,
 ) -> Result<Gran, FailedCondition>
     ensures refusal { refusal_in result
-        ≡ first_failing (operands.delegated_checks names.align names.bound names.state granules.now address) }
+        ≡ first_failing (operands.delegated_checks conditions.align conditions.bound conditions.state granules.now address) }
     ensures number { IfOk result (λ granule. granule ≡ number_of granules.now address) }
     ensures state { IfOk result (λ granule. is_delegated (granule_at granules.now granule).state ≡ true) }
     ensures inside { IfOk result (λ granule. granule < granule_count granules.now) }
 {
-    let granule = named(granules, address, names)?;
+    let granule = named(granules, address, conditions)?;
     if granules.is_delegated(granule) {
         Ok(granule)
     } else {
-        Err(error_input(names.state))
+        Err(error_input(conditions.state))
     }
 }
 
@@ -106,29 +93,11 @@ pub fn realm_of<S: PageStore>(granules: &Granules<S>, address: u64) -> Result<Rd
     ensures realm { IfOk result (λ rd. rd.realm ≡ operands.realm_at granules.now address) }
     ensures served { IfOk result (λ rd. IsServed (granule_count granules.now) rd.realm) }
 {
-    let granule = named(granules, address, RD)?;
+    let granule = named(granules, address, OperandConditions::RD)?;
     match granules.realm(granule) {
         Some(realm) => Ok(Rd { granule, realm }),
-        None => Err(error_input(RD.state)),
+        None => Err(error_input(OperandConditions::RD.state)),
     }
-}
-
-// The granule that many after another.
-pub fn granule_after(first: Gran, k: u16) -> Gran
-    requires { first + k < 4096 }
-    ensures { result ≡ first + k }
-{
-    Gran::new(first.number() + k, MOST_PAGES).unwrap()
-}
-
-// Starting table k of a realm.
-pub fn start_table<S: PageStore>(granules: &Granules<S>, realm: &RmmRealm, k: u8) -> Gran
-    requires served { IsServed (granule_count granules.now) realm.now }
-    requires below { k < realm.now.table_count }
-    ensures value { result ≡ realm.now.first_table + k }
-    ensures inside { result < granule_count granules.now }
-{
-    granule_after(realm.first_table, k as u16)
 }
 
 // ---- addresses of a realm

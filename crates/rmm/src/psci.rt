@@ -7,34 +7,20 @@ ghost use Rattle.rmm_model.specs.Command.Operand.{rec_at, rec_checks};
 ghost use Rattle.rmm_model.specs.Command.PsciComplete as command;
 ghost use Rattle.rmm.specs.Found.{IsCompletion};
 
-use crate::operand::Names;
 use crate::rec::{NamedRec, rec_of, set_rec};
 use granule_addr::Gran;
 use page_arena::PageStore;
 use rmi_abi::{SmcResult, Word};
 use rmm_granules::Granules;
 use rmm_model::{Condition, FailedCondition, PsciRequest, RmmRec, error_input};
-
-const PSCI_SUCCESS: u64 = 0;
-
-const PSCI_DENIED: u64 = 0xFFFF_FFFF_FFFF_FFFD;
+use rmm_reading::{
+    OperandConditions, PSCI_SUCCESS, is_pending, is_same_owner, is_status, target_of,
+};
 
 const PSCI_ALREADY_ON: u64 = 0xFFFF_FFFF_FFFF_FFFC;
 
 // The state of a processor that AFFINITY_INFO gives.
 const PSCI_OFF: u64 = 1;
-
-const CALLING: Names = Names {
-    align: Condition::CallingAlign,
-    bound: Condition::CallingBound,
-    state: Condition::CallingState,
-};
-
-const TARGET: Names = Names {
-    align: Condition::TargetAlign,
-    bound: Condition::TargetBound,
-    state: Condition::TargetState,
-};
 
 // A request that can be complete: the REC that made it, and the one that it names.
 #[derive(Clone, Copy)]
@@ -47,42 +33,6 @@ pub struct Completion {
 
 // ---- requests
 
-// Whether a request waits for the host.
-pub fn is_pending(request: PsciRequest) -> bool
-    ensures { result ≡ command.is_pending request }
-{
-    match request {
-        PsciRequest::CpuOn { .. } => true,
-        PsciRequest::AffinityInfo { .. } => true,
-        _ => false,
-    }
-}
-
-// The MPIDR that a request names.
-fn target_of(request: PsciRequest) -> u64
-    ensures { result ≡ command.target_of request }
-{
-    match request {
-        PsciRequest::CpuOn { target, .. } => target,
-        PsciRequest::AffinityInfo { target } => target,
-        _ => 0,
-    }
-}
-
-// Whether the host may deny a request.
-fn can_be_denied(request: PsciRequest) -> bool
-    ensures { result ≡ command.can_be_denied request }
-{
-    matches!(request, PsciRequest::CpuOn { .. })
-}
-
-// Whether the host may give that status.
-fn is_status(request: PsciRequest, status: u64) -> bool
-    ensures { result ≡ command.is_status request status }
-{
-    status == PSCI_SUCCESS || (status == PSCI_DENIED && can_be_denied(request))
-}
-
 // The result of a request, whose target is on or not.
 fn psci_result(request: PsciRequest, on: bool, status: u64) -> u64
     ensures { result ≡ command.psci_result request on status }
@@ -90,19 +40,6 @@ fn psci_result(request: PsciRequest, on: bool, status: u64) -> u64
     match request {
         PsciRequest::CpuOn { .. } => { if on { PSCI_ALREADY_ON } else { status } }
         _ => { if on { PSCI_SUCCESS } else { PSCI_OFF } }
-    }
-}
-
-// Whether two granules are of one realm.
-pub fn is_same_owner(a: Option<Gran>, b: Option<Gran>) -> bool
-    ensures { result ≡ command.is_same_owner a b }
-{
-    match a {
-        Some(first) => match b {
-            Some(second) => first == second,
-            None => false,
-        },
-        None => b.is_none(),
     }
 }
 
@@ -182,7 +119,7 @@ fn find_caller<S: PageStore>(
     if calling == target {
         return Err(error_input(Condition::Alias));
     }
-    rec_of(granules, calling, CALLING)
+    rec_of(granules, calling, OperandConditions::CALLING)
 }
 
 // The request that RMI_PSCI_COMPLETE completes, if its operands pass.
@@ -198,7 +135,7 @@ fn find_request<S: PageStore>(
     ensures found { IfOk result (IsCompletion granules.now calling target) }
 {
     let caller = find_caller(granules, calling, target)?;
-    let named = rec_of(granules, target, TARGET)?;
+    let named = rec_of(granules, target, OperandConditions::TARGET)?;
     check_request(granules, &caller, &named, status)?;
     Ok(Completion {
         calling: caller.granule,

@@ -4,11 +4,11 @@ ghost use Rattle.rmm_model.specs.Check.{outcome, first_failing, refusal_in};
 ghost use Rattle.rmm_model.specs.Command.RttReadEntry.{rtt_read_entry as reading};
 
 use crate::operand::{check_ipa, realm_of};
-use crate::walking::{read, walk};
 use page_arena::PageStore;
 use rmi_abi::{SmcResult, Word};
 use rmm_granules::Granules;
 use rmm_model::FailedCondition;
+use rmm_reading::{entry_at, walk};
 
 // The answer of RMI_RTT_READ_ENTRY, if its operands pass.
 #[tactic(auto, unfolding(rmm_model::specs::Command::RttReadEntry::rtt_read_entry))]
@@ -24,7 +24,7 @@ fn find_entry<S: PageStore>(
     let owner = realm_of(granules, rd)?;
     let level = check_ipa(&owner.realm, owner.realm.start_level, level, 0, ipa)?;
     let found = walk(granules, &owner.realm, ipa, level);
-    let entry = read(granules, &found, ipa);
+    let entry = entry_at(granules, &found, ipa);
     Ok(SmcResult {
         word: Word::Success,
         x1: found.level as u64,

@@ -1,14 +1,14 @@
 //! RMI_REALM_CREATE.
-ghost use Rattle.std.specs.Prelude.{◌≡◌, ◌+◌, ◌<◌, ◌≤◌, true, IfOk, OnOk};
+ghost use Rattle.std.specs.Prelude.{◌≡◌, ◌<◌, ◌≤◌, true, IfOk, OnOk};
 ghost use Rattle.rmm_model.specs.declared.condition.Condition.TheVariants.{ParamsAlign, ParamsBound, ParamsPas};
 ghost use Rattle.rmm_model.specs.Check.{outcome, first_failing, refusal_in};
-ghost use Rattle.rmm_model.specs.Machine.{granule_count, number_of, with_page};
+ghost use Rattle.rmm_model.specs.Machine.{granule_count, with_page};
 ghost use Rattle.rmm_model.specs.Realm.{is_start, IsServed};
 ghost use Rattle.rmm_model.specs.Command.Operand.{host_checks};
 ghost use Rattle.rmm_model.specs.Command.RealmCreate as command;
 ghost use Rattle.rmm.specs.Found.{IsNewRealm};
 
-use crate::operand::{Names, RD, delegated, granule_after, host_page, is_protected, start_table};
+use crate::operand::{delegated, host_page, is_protected};
 use granule_addr::Gran;
 use page_arena::PageStore;
 use rmi_abi::{HashAlgorithm, RealmParams, RmmSettings, SmcResult, Word};
@@ -16,13 +16,11 @@ use rmm_granules::Granules;
 use rmm_measurement::initial;
 use rmm_model::{
     Condition, FailedCondition, RmmGranule, RmmGranuleState, RmmRealm, RmmRealmState, RmmRipas,
-    RmmRttEntry, entry_size, error_input, start_count,
+    RmmRttEntry, entry_size, error_input,
 };
-
-pub const PARAMS: Names = Names {
-    align: Condition::ParamsAlign,
-    bound: Condition::ParamsBound,
-    state: Condition::ParamsPas,
+use rmm_reading::{
+    OperandConditions, can_start, is_start, is_start_table, is_supported, is_vmid_valid,
+    start_table,
 };
 
 // A realm that can be made, and the granule that becomes its RD.
@@ -44,48 +42,8 @@ fn read_params<S: PageStore>(
         ≡ first_failing (host_checks ParamsAlign ParamsBound ParamsPas granules.now params) }
     ensures value { IfOk result (λ p. p ≡ command.params_at granules.now params) }
 {
-    let source = host_page(granules, params, PARAMS)?;
+    let source = host_page(granules, params, OperandConditions::PARAMS)?;
     Ok(RealmParams::read(granules.page(source)))
-}
-
-// Whether breakpoints, watchpoints and vectors are at most those of feature register 0.
-fn fits_features(settings: &RmmSettings, p: &RealmParams) -> bool
-    ensures { result ≡ command.fits_features settings.now p.now }
-{
-    p.num_bps <= settings.bps && p.num_wps <= settings.wps && p.sve_vl == 0
-}
-
-// Whether no flag is set, and the width is one that the monitor supports; the fields too, where they are checked.
-fn is_supported(settings: &RmmSettings, p: &RealmParams) -> bool
-    ensures { result ≡ command.is_supported settings.now p.now }
-{
-    p.flags == 0
-        && 32 <= p.s2sz
-        && p.s2sz <= settings.s2sz
-        && (!settings.checks_params || fits_features(settings, p))
-}
-
-// Whether the starting level and the number of starting tables serve the width.
-#[tactic(auto, unfolding(rmm_model::specs::Realm::is_start))]
-fn is_start(s2sz: u8, level: u64, count: u32) -> bool
-    requires { s2sz ≤ 48 }
-    ensures { result ≡ is_start s2sz level count }
-{
-    if level > 3 {
-        return false;
-    }
-    entry_size(level as u8) < 1 << s2sz
-        && count <= 16
-        && count as u64 == start_count(s2sz, level as u8)
-}
-
-// Whether an address is that of a starting table.
-fn is_start_table(p: &RealmParams, rd: u64) -> bool
-    ensures { result ≡ command.is_start_table p.now rd }
-{
-    p.rtt_base <= rd
-        && rd - p.rtt_base < p.rtt_num_start as u64 * 4096
-        && (rd - p.rtt_base) % 4096 == 0
 }
 
 // Passes parameters of a realm that there can be, whose RD is none of its starting tables.
@@ -116,51 +74,6 @@ fn check_params(settings: &RmmSettings, p: &RealmParams, rd: u64) -> Result<(), 
 }
 
 // ---- what the realm takes
-
-// Whether that many granules from an address on are granules of the machine.
-fn is_range_inside<S: PageStore>(granules: &Granules<S>, base: u64, count: u32) -> bool
-    ensures value { result ≡ command.is_range_inside granules.now base count }
-    ensures few { granule_count granules.now ≤ 4096 }
-    ensures fits { result ≡ true → number_of granules.now base + count ≤ granule_count granules.now }
-{
-    let most = granules.count() as u64;
-    granules.is_inside(base) && granules.number_of(base).number() as u64 + count as u64 <= most
-}
-
-// Whether that many granules from one on are all DELEGATED.
-fn are_delegated<S: PageStore>(granules: &Granules<S>, first: Gran, count: u16) -> bool
-    requires inside { first + count ≤ granule_count granules.now }
-    requires few { granule_count granules.now ≤ 4096 }
-    ensures { result ≡ command.are_delegated granules.now first count }
-{
-    for k in 0..count {
-        if !granules.is_delegated(granule_after(first, k)) {
-            return false;
-        }
-    }
-    true
-}
-
-// Whether each starting table is a DELEGATED granule of the machine.
-#[tactic(auto, unfolding(rmm_model::specs::Command::RealmCreate::can_start))]
-fn can_start<S: PageStore>(granules: &Granules<S>, p: &RealmParams) -> bool
-    ensures value { result ≡ command.can_start granules.now p.now }
-    ensures few { granule_count granules.now ≤ 4096 }
-{
-    if !is_range_inside(granules, p.rtt_base, p.rtt_num_start) {
-        return false;
-    }
-    let first = granules.number_of(p.rtt_base);
-    are_delegated(granules, first, p.rtt_num_start as u16)
-}
-
-// Whether the monitor has a VMID, and no realm does.
-#[tactic(auto, unfolding(rmm_model::specs::Command::RealmCreate::is_vmid_valid))]
-fn is_vmid_valid<S: PageStore>(granules: &Granules<S>, vmid: u16) -> bool
-    ensures { result ≡ command.is_vmid_valid granules.now vmid }
-{
-    (vmid as u64) < 1 << granules.settings().vmid_bits && !granules.is_vmid_used(vmid)
-}
 
 // Passes starting tables that can be used, and a VMID that is free.
 fn check_free<S: PageStore>(granules: &Granules<S>, p: &RealmParams) -> Result<(), FailedCondition>
@@ -276,7 +189,7 @@ fn find_realm<S: PageStore>(
 {
     let p = read_params(granules, params)?;
     check_params(granules.settings(), &p, rd)?;
-    let granule = delegated(granules, rd, RD)?;
+    let granule = delegated(granules, rd, OperandConditions::RD)?;
     check_free(granules, &p)?;
     Ok(NewRealm {
         rd: granule,

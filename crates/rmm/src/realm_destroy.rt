@@ -1,5 +1,5 @@
 //! RMI_REALM_DESTROY.
-ghost use Rattle.std.specs.Prelude.{◌≡◌, ◌+◌, ◌<◌, ◌≤◌, IfOk};
+ghost use Rattle.std.specs.Prelude.{◌≡◌, ◌<◌, IfOk};
 ghost use Rattle.rmm_model.specs.Check.{outcome, first_failing, refusal_in};
 ghost use Rattle.rmm_model.specs.Machine.{granule_count, number_of};
 ghost use Rattle.rmm_model.specs.Realm.{IsServed};
@@ -7,35 +7,13 @@ ghost use Rattle.rmm_model.specs.Command.Operand.{realm_at};
 ghost use Rattle.rmm_model.specs.Command.RealmDestroy as command;
 
 use crate::granule::blank;
-use crate::operand::{Rd, realm_of, start_table};
+use crate::operand::{Rd, realm_of};
 use crate::realm::error_realm;
-use granule_addr::Gran;
 use page_arena::PageStore;
 use rmi_abi::{SmcResult, Word};
 use rmm_granules::Granules;
-use rmm_model::{Condition, FailedCondition, RmmGranuleState, RmmRealm, has_live};
-
-// Whether a starting table of a realm has a live entry.
-fn has_live_table<S: PageStore>(granules: &Granules<S>, realm: &RmmRealm) -> bool
-    requires { IsServed (granule_count granules.now) realm.now }
-    ensures { result ≡ command.has_live_table granules.now realm.now.first_table realm.now.table_count }
-{
-    for k in 0..realm.table_count {
-        if has_live(granules.page(start_table(granules, realm, k))) {
-            return true;
-        }
-    }
-    false
-}
-
-// Whether a realm has a REC, or a live entry in a starting table.
-#[tactic(auto, unfolding(rmm_model::specs::Command::RealmDestroy::is_realm_live))]
-fn is_realm_live<S: PageStore>(granules: &Granules<S>, realm: &RmmRealm) -> bool
-    requires { IsServed (granule_count granules.now) realm.now }
-    ensures { result ≡ command.is_realm_live granules.now realm.now }
-{
-    realm.rec_count > 0 || has_live_table(granules, realm)
-}
+use rmm_model::{Condition, FailedCondition, RmmGranuleState, RmmRealm};
+use rmm_reading::{is_realm_live, start_table};
 
 // The realm that RMI_REALM_DESTROY destroys, if it passes.
 #[tactic(auto, unfolding(rmm_model::specs::Command::RealmDestroy::realm_destroy))]

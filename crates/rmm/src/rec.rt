@@ -1,16 +1,17 @@
 //! RECs as operands, and their attributes.
-ghost use Rattle.std.specs.Prelude.{◌≡◌, ◌<◌, ◌++◌, ◌∷◌, [], IfOk};
+ghost use Rattle.std.specs.Prelude.{◌≡◌, ◌<◌, IfOk};
 ghost use Rattle.rmm_model.specs.Check.{first_failing, refusal_in, error_rec};
 ghost use Rattle.rmm_model.specs.Machine.{granule_count, number_of};
 ghost use Rattle.rmm_model.specs.Command.Operand as operands;
 ghost use Rattle.rmm_model.specs.Command.PsciComplete.{with_rec};
 
-use crate::operand::{Names, named};
+use crate::operand::named;
 use granule_addr::Gran;
 use page_arena::PageStore;
 use rmi_abi::{SmcResult, Word};
 use rmm_granules::Granules;
 use rmm_model::{Condition, FailedCondition, RmmGranule, RmmGranuleState, RmmRec, error_input};
+use rmm_reading::OperandConditions;
 
 // A REC and its granule.
 #[derive(Clone, Copy)]
@@ -18,12 +19,6 @@ pub struct NamedRec {
     pub granule: Gran,
     pub rec: RmmRec,
 }
-
-pub const REC: Names = Names {
-    align: Condition::RecAlign,
-    bound: Condition::RecBound,
-    state: Condition::RecGranState,
-};
 
 // RMI_ERROR_REC by a condition.
 pub fn error_rec(condition: Condition) -> FailedCondition
@@ -35,22 +30,22 @@ pub fn error_rec(condition: Condition) -> FailedCondition
     }
 }
 
-// The REC that an address names.
+// The REC that an address conditions.
 pub fn rec_of<S: PageStore>(
     granules: &Granules<S>,
     address: u64,
-    names: Names,
+    conditions: OperandConditions,
 ) -> Result<NamedRec, FailedCondition>
     ensures refusal { refusal_in result
-        ≡ first_failing (operands.rec_checks names.align names.bound names.state granules.now address) }
+        ≡ first_failing (operands.rec_checks conditions.align conditions.bound conditions.state granules.now address) }
     ensures number { IfOk result (λ found. found.granule ≡ number_of granules.now address) }
     ensures inside { IfOk result (λ found. found.granule < granule_count granules.now) }
     ensures rec { IfOk result (λ found. found.rec ≡ operands.rec_at granules.now address) }
 {
-    let granule = named(granules, address, names)?;
+    let granule = named(granules, address, conditions)?;
     match granules.rec(granule) {
         Some(rec) => Ok(NamedRec { granule, rec }),
-        None => Err(error_input(names.state)),
+        None => Err(error_input(conditions.state)),
     }
 }
 

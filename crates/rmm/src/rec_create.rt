@@ -1,17 +1,14 @@
 //! RMI_REC_CREATE.
 ghost use Rattle.std.specs.Prelude.{◌≡◌, ◌≢◌, ◌^◌, ◌<◌, ◌≤◌, nat_lt, length, IfOk, OnOk};
 ghost use Rattle.rmm_model.specs.Check.{outcome, first_failing, refusal_in};
-ghost use Rattle.rmm_model.specs.Machine.{granule_count, is_aligned, is_inside, page_in, with_page};
-ghost use Rattle.rmm_model.specs.Realm.{IsServed};
+ghost use Rattle.rmm_model.specs.Machine.{granule_count, page_in, with_page};
 ghost use Rattle.rmm_model.specs.Command.RecCreate as command;
 ghost use Rattle.rmm_model.specs.Command.RecMeasurement as measuring;
 ghost use Rattle.rmm.specs.Found.{IsNewRec};
-ghost use Rattle.rmm.specs.Tests.{aux_passes};
 
 use crate::auxiliary::set_aux;
-use crate::operand::{Names, delegated, host_page, realm_of};
+use crate::operand::{delegated, host_page, realm_of};
 use crate::realm::{error_realm, is_new};
-use crate::realm_create::PARAMS;
 use granule_addr::Gran;
 use page_arena::PageStore;
 use rmi_abi::{RecParams, RmmSettings, SmcResult, Word, is_mpidr, rec_number};
@@ -20,11 +17,8 @@ use rmm_measurement::{Extension, extend, rec_digest};
 use rmm_model::{
     Condition, FailedCondition, RmmGranule, RmmGranuleState, RmmRealm, RmmRec, error_input,
 };
-
-const NEW_REC: Names = Names {
-    align: Condition::RecAlign,
-    bound: Condition::RecBound,
-    state: Condition::RecState,
+use rmm_reading::{
+    OperandConditions, are_aux_aligned, are_aux_apart, are_aux_delegated, are_aux_inside,
 };
 
 // A REC that can be made: its granule, that of its parameters, its RD, and its realm.
@@ -37,94 +31,6 @@ pub struct NewRec {
 }
 
 // ---- auxiliary granules
-
-// A test of the address of an auxiliary granule.
-#[derive(Clone, Copy)]
-pub enum AuxTest {
-    Aligned,
-    Inside,
-    Delegated,
-    Not(u64),
-}
-
-// Whether an address passes a test.
-fn passes<S: PageStore>(granules: &Granules<S>, test: AuxTest, address: u64) -> bool
-    ensures { result ≡ aux_passes granules.now test address }
-{
-    match test {
-        AuxTest::Aligned => address % 4096 == 0,
-        AuxTest::Inside => granules.is_inside(address),
-        AuxTest::Delegated => {
-            granules.is_inside(address) && granules.is_delegated(granules.number_of(address))
-        }
-        AuxTest::Not(other) => address != other,
-    }
-}
-
-// Whether each of the first auxiliary granules that parameters name passes a test.
-fn all_aux<S: PageStore>(granules: &Granules<S>, page: &[u8], test: AuxTest, count: u8) -> bool
-    requires page { length page.now ≡ 4096 }
-    requires few { count ≤ 16 }
-    ensures { result ≡ command.all_aux (aux_passes granules.now test) page.now count }
-{
-    for k in 0..count {
-        if !passes(granules, test, RecParams::aux(page, k)) {
-            return false;
-        }
-    }
-    true
-}
-
-// Whether each of the first auxiliary granules is at a multiple of 4,096.
-fn are_aligned<S: PageStore>(granules: &Granules<S>, page: &[u8], count: u8) -> bool
-    requires page { length page.now ≡ 4096 }
-    requires few { count ≤ 16 }
-    ensures { result ≡ command.all_aux is_aligned page.now count }
-{
-    all_aux(granules, page, AuxTest::Aligned, count)
-}
-
-// Whether each of the first auxiliary granules is one of the machine.
-fn are_inside<S: PageStore>(granules: &Granules<S>, page: &[u8], count: u8) -> bool
-    requires page { length page.now ≡ 4096 }
-    requires few { count ≤ 16 }
-    ensures { result ≡ command.all_aux (is_inside granules.now) page.now count }
-{
-    all_aux(granules, page, AuxTest::Inside, count)
-}
-
-// Whether each of the first auxiliary granules is a DELEGATED one of the machine.
-fn are_delegated<S: PageStore>(granules: &Granules<S>, page: &[u8], count: u8) -> bool
-    requires page { length page.now ≡ 4096 }
-    requires few { count ≤ 16 }
-    ensures { result ≡ command.all_aux (command.can_be_aux granules.now) page.now count }
-{
-    all_aux(granules, page, AuxTest::Delegated, count)
-}
-
-// Whether auxiliary granule k is neither the REC nor one before it.
-fn is_apart<S: PageStore>(granules: &Granules<S>, page: &[u8], rec: u64, k: u8) -> bool
-    requires page { length page.now ≡ 4096 }
-    requires below { k < 16 }
-    ensures { result ≡ command.is_apart rec page.now k }
-{
-    let address = RecParams::aux(page, k);
-    address != rec && all_aux(granules, page, AuxTest::Not(address), k)
-}
-
-// Whether no two of the REC and its auxiliary granules are one.
-fn are_apart<S: PageStore>(granules: &Granules<S>, page: &[u8], rec: u64, count: u8) -> bool
-    requires page { length page.now ≡ 4096 }
-    requires few { count ≤ 16 }
-    ensures { result ≡ command.all_from (command.is_apart rec page.now) 0 count }
-{
-    for k in 0..count {
-        if !is_apart(granules, page, rec, k) {
-            return false;
-        }
-    }
-    true
-}
 
 // Passes as many auxiliary granules as a REC has, all of them DELEGATED, and no two of them and the REC one.
 #[tactic(auto, unfolding(rmm_model::specs::Command::RecCreate::aux_checks))]
@@ -140,16 +46,16 @@ fn check_aux<S: PageStore>(
     if RecParams::num_aux(page) != count as u64 {
         return Err(error_input(Condition::NumAux));
     }
-    if !are_aligned(granules, page, count) {
+    if !are_aux_aligned(granules, page, count) {
         return Err(error_input(Condition::AuxAlign));
     }
-    if !are_inside(granules, page, count) {
+    if !are_aux_inside(granules, page, count) {
         return Err(error_input(Condition::AuxBound));
     }
-    if !are_apart(granules, page, rec, count) {
+    if !are_aux_apart(granules, page, rec, count) {
         return Err(error_input(Condition::AuxAlias));
     }
-    if !are_delegated(granules, page, count) {
+    if !are_aux_delegated(granules, page, count) {
         return Err(error_input(Condition::AuxState));
     }
     Ok(())
@@ -288,8 +194,8 @@ fn find_new<S: PageStore>(
         ≡ first_failing (command.rec_create rd rec params granules.now).checks }
     ensures found { IfOk result (IsNewRec granules.now rd rec params) }
 {
-    let source = host_page(granules, params, PARAMS)?;
-    let granule = delegated(granules, rec, NEW_REC)?;
+    let source = host_page(granules, params, OperandConditions::PARAMS)?;
+    let granule = delegated(granules, rec, OperandConditions::NEW_REC)?;
     let owner = realm_of(granules, rd)?;
     let page = granules.page(source);
     check_aux(granules, page, rec)?;

@@ -1,32 +1,19 @@
 //! RMI_REC_DESTROY.
-ghost use Rattle.std.specs.Prelude.{◌≡◌, ◌<◌, IfOk, IfSome};
+ghost use Rattle.std.specs.Prelude.{◌≡◌, ◌<◌, IfOk};
 ghost use Rattle.rmm_model.specs.Check.{outcome, first_failing, refusal_in};
 ghost use Rattle.rmm_model.specs.Granule.{realm_of};
 ghost use Rattle.rmm_model.specs.Machine.{granule_count, granule_at, number_of};
-ghost use Rattle.rmm_model.specs.Realm.{IsServed};
 ghost use Rattle.rmm_model.specs.Command.RecDestroy as command;
 
 use crate::auxiliary::set_aux;
 use crate::granule::blank;
-use crate::rec::{REC, error_rec, rec_of};
+use crate::rec::{error_rec, rec_of};
 use granule_addr::Gran;
 use page_arena::PageStore;
 use rmi_abi::{SmcResult, Word};
 use rmm_granules::Granules;
 use rmm_model::{Condition, FailedCondition, RmmGranule, RmmGranuleState, RmmRealm};
-
-// The realm of an RD, if the granule is one of the machine and an RD.
-pub fn realm_in<S: PageStore>(granules: &Granules<S>, rd: Gran) -> Option<RmmRealm>
-    ensures value { result ≡ realm_of (granule_at granules.now rd).state }
-    ensures inside { IfSome result (λ _. rd < granule_count granules.now) }
-    ensures served { IfSome result (IsServed (granule_count granules.now)) }
-{
-    if rd.number() < granules.count() {
-        granules.realm(rd)
-    } else {
-        None
-    }
-}
+use rmm_reading::{OperandConditions, realm_in};
 
 // The realm of an RD has one REC less.
 fn remove_rec<S: PageStore>(granules: &mut Granules<S>, rd: Gran)
@@ -64,7 +51,7 @@ fn find_ready<S: PageStore>(granules: &Granules<S>, rec: u64) -> Result<Gran, Fa
     ensures number { IfOk result (λ granule. granule ≡ number_of granules.now rec) }
     ensures inside { IfOk result (λ granule. granule < granule_count granules.now) }
 {
-    let found = rec_of(granules, rec, REC)?;
+    let found = rec_of(granules, rec, OperandConditions::REC)?;
     if found.rec.is_running() {
         Err(error_rec(Condition::RecState))
     } else {

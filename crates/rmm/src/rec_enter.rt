@@ -1,5 +1,5 @@
 //! RMI_REC_ENTER.
-ghost use Rattle.std.specs.Prelude.{◌≡◌, ◌<◌, ◌≤◌, ◌&&◌, not, true, false, IfOk};
+ghost use Rattle.std.specs.Prelude.{◌≡◌, ◌<◌, ◌≤◌, ◌&&◌, not, IfOk};
 ghost use Rattle.rmm_model.specs.declared.rec.LastExit.TheVariants.{RipasChange, HostCall, EmulatableAbort};
 ghost use Rattle.rmm_model.specs.Granule.{realm_of};
 ghost use Rattle.rmm_model.specs.Guest as guests;
@@ -13,11 +13,9 @@ ghost use Rattle.rmm.specs.Found.{IsEntry};
 use crate::access::{read, write};
 use crate::guest::{first_step, owner_realm, past_step, push_result, rec_in, rec_named};
 use crate::host::host_granule;
-use crate::operand::{Names, host_page};
-use crate::psci::is_pending;
+use crate::operand::host_page;
 use crate::realm::error_realm;
-use crate::rec::{REC, error_rec, rec_of, set_rec};
-use crate::rec_destroy::realm_in;
+use crate::rec::{error_rec, rec_of, set_rec};
 use crate::run_page::{copy_gic, copy_gprs, is_gic_wrong, write_run};
 use crate::step::{call_outcome, fetched, rec_after_exit, tried};
 use granule_addr::Gran;
@@ -28,12 +26,7 @@ use rmm_model::{
     Condition, FailedCondition, GuestStep, LastExit, PsciRequest, RipasRequest, RmmGranule,
     RmmGranuleState, RmmRealm, RmmRealmState, RmmRec, RmmRecState, StepOutcome, StepResult,
 };
-
-const RUN: Names = Names {
-    align: Condition::RunAlign,
-    bound: Condition::RunBound,
-    state: Condition::RunPas,
-};
+use rmm_reading::{OperandConditions, is_no_mmio, is_pending, realm_in, state_of};
 
 // A REC that can be entered, and its run page.
 #[derive(Clone, Copy)]
@@ -388,23 +381,6 @@ fn perform_steps<S: PageStore>(granules: &mut Granules<S>, g: Gran, flags: u64) 
 
 // ---- the command
 
-// Whether the host emulates an access, and the last exit was none that can be emulated.
-fn is_no_mmio(rec: &RmmRec, flags: u64) -> bool
-    ensures { result ≡ command.is_no_mmio rec.now flags }
-{
-    EnterFlags::emulates_mmio(flags) && !matches!(rec.exit, LastExit::EmulatableAbort)
-}
-
-// The state of a realm; if there is none it counts as NEW.
-fn state_of(realm: Option<RmmRealm>) -> RmmRealmState
-    ensures { result ≡ command.state_of realm }
-{
-    match realm {
-        Some(realm) => realm.state,
-        None => RmmRealmState::New,
-    }
-}
-
 // Passes a REC of an ACTIVE realm that is READY and runnable, and has nothing pending, with GIC fields that are right.
 #[tactic(auto, unfolding(rmm_model::specs::Command::RecEnter::enter_checks))]
 fn check_enter(
@@ -452,8 +428,8 @@ fn find_entry<S: PageStore>(
     ensures refusal { refusal_in result ≡ first_failing (command.rec_enter rec address granules.now).checks }
     ensures found { IfOk result (IsEntry granules.now rec address) }
 {
-    let run = host_page(granules, address, RUN)?;
-    let found = rec_of(granules, rec, REC)?;
+    let run = host_page(granules, address, OperandConditions::RUN)?;
+    let found = rec_of(granules, rec, OperandConditions::REC)?;
     let state = state_of(owner_realm(granules, found.granule));
     let flags = EnterFlags::read(granules.page(run));
     check_enter(state, &found.rec, flags, is_gic_wrong(granules, run))?;

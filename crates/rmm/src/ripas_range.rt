@@ -5,13 +5,13 @@ ghost use Rattle.rmm_model.specs.Level.{entry_index as index_of};
 ghost use Rattle.rmm_model.specs.Machine.{granule_count};
 ghost use Rattle.rmm_model.specs.Command.RipasRange as ranges;
 
-use crate::walking::read;
 use page_arena::{PageStore, word_in};
 use rmm_granules::Granules;
 use rmm_model::{
     Changeable, Condition, FailedCondition, RmmRipas, RttWalk, entry_from_word, entry_index,
     entry_number, entry_offset, entry_size, error_input, error_rtt, first_fixed,
 };
+use rmm_reading::entry_at;
 
 // Passes a range that has addresses.
 pub fn check_size(base: u64, top: u64) -> Result<(), FailedCondition>
@@ -40,7 +40,7 @@ pub fn check_progress<S: PageStore>(
     if entry_offset(found.level, base) != 0 {
         return Err(error_rtt(Condition::BaseAlign, found.level));
     }
-    if !read(granules, found, base).can_change(changeable) {
+    if !entry_at(granules, found, base).can_change(changeable) {
         return Err(error_rtt(Condition::RtteState, found.level));
     }
     if base + entry_size(found.level) > top {

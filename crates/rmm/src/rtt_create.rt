@@ -7,21 +7,14 @@ ghost use Rattle.rmm_model.specs.Table.{children_page};
 ghost use Rattle.rmm_model.specs.Command.RttCreate.{rtt_create as creating};
 ghost use Rattle.rmm.specs.Found.{IsVacancy};
 
-use crate::operand::{Names, check_entry, check_ipa, delegated, realm_of};
-use crate::walking::{read, walk, write};
+use crate::operand::{check_entry, check_ipa, delegated, realm_of};
+use crate::walking::write;
 use granule_addr::Gran;
 use page_arena::PageStore;
 use rmi_abi::{SmcResult, Word};
 use rmm_granules::Granules;
-use rmm_model::{
-    ChildWords, Condition, FailedCondition, RmmGranule, RmmGranuleState, RmmRttEntry, RttWalk,
-};
-
-const RTT: Names = Names {
-    align: Condition::RttAlign,
-    bound: Condition::RttBound,
-    state: Condition::RttState,
-};
+use rmm_model::{ChildWords, FailedCondition, RmmGranule, RmmGranuleState, RmmRttEntry, RttWalk};
+use rmm_reading::{OperandConditions, entry_at, walk};
 
 // A place for a new table: the RD, the table, and the entry whose place it takes.
 #[derive(Clone, Copy)]
@@ -83,11 +76,11 @@ fn find_vacancy<S: PageStore>(
         ≡ first_failing (creating rd rtt ipa level granules.now).checks }
     ensures vacancy { IfOk result (IsVacancy granules.now rd rtt ipa level) }
 {
-    let table = delegated(granules, rtt, RTT)?;
+    let table = delegated(granules, rtt, OperandConditions::RTT)?;
     let owner = realm_of(granules, rd)?;
     let level = check_ipa(&owner.realm, owner.realm.start_level + 1, level, 1, ipa)?;
     let found = walk(granules, &owner.realm, ipa, level - 1);
-    let parent = read(granules, &found, ipa);
+    let parent = entry_at(granules, &found, ipa);
     check_entry(&found, level - 1, !parent.is_table())?;
     Ok(Vacancy {
         rd: owner.granule,

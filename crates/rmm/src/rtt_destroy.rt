@@ -1,14 +1,14 @@
 //! RMI_RTT_DESTROY.
-ghost use Rattle.std.specs.Prelude.{◌≡◌, ◌-◌, ◌^◌, ◌<◌, ◌≤◌, ◌++◌, ◌∷◌, [], is_some, unwrap_or, IfOk, Some};
+ghost use Rattle.std.specs.Prelude.{◌≡◌, ◌^◌, ◌<◌, ◌≤◌, IfOk, Some};
 ghost use Rattle.rmm_model.specs.Check.{outcome, first_failing, refusal_in};
 ghost use Rattle.rmm_model.specs.Machine.{granule_count};
-ghost use Rattle.rmm_model.specs.Walk.{table_below, top as next_live};
+ghost use Rattle.rmm_model.specs.Walk.{table_below};
 ghost use Rattle.rmm_model.specs.Command.RttDestroy.{rtt_destroy as destroying, unused_checks};
 ghost use Rattle.rmm.specs.Found.{IsUnused};
 
 use crate::granule::blank;
 use crate::operand::{check_ipa, error_rtt_top, is_protected, realm_of};
-use crate::walking::{read, table_below, top, walk, write};
+use crate::walking::write;
 use granule_addr::Gran;
 use page_arena::PageStore;
 use rmi_abi::{SmcResult, Word};
@@ -16,6 +16,7 @@ use rmm_granules::Granules;
 use rmm_model::{
     Condition, FailedCondition, RmmGranuleState, RmmRealm, RmmRipas, RmmRttEntry, RttWalk, has_live,
 };
+use rmm_reading::{entry_at, table_below, top, walk};
 
 // A table without live entries, and the entry that leads to it.
 #[derive(Clone, Copy)]
@@ -76,7 +77,7 @@ fn find_unused<S: PageStore>(
     let owner = realm_of(granules, rd)?;
     let level = check_ipa(&owner.realm, owner.realm.start_level + 1, level, 1, ipa)?;
     let found = walk(granules, &owner.realm, ipa, level - 1);
-    let parent = read(granules, &found, ipa);
+    let parent = entry_at(granules, &found, ipa);
     let table = check_unused(granules, &found, parent, ipa, level)?;
     Ok(Unused {
         realm: owner.realm,

@@ -1,16 +1,15 @@
 //! Registers of a REC in its page and in its run page.
 ghost use Rattle.std.specs.Prelude.{◌≡◌, ◌+◌, ◌<◌, ◌≤◌, ◌⊎◌, length};
-ghost use Rattle.rmi_abi.specs.Gic.{is_gicv3_lr};
 ghost use Rattle.rmm_model.specs.Machine.{granule_count, page_in, with_page};
 ghost use Rattle.rmm_model.specs.Table.{with_words_from};
-ghost use Rattle.rmm_model.specs.Command.RecCreate.{all_from};
 ghost use Rattle.rmm_model.specs.Command.RecEnter as entering;
 
 use crate::host::host_granule;
 use granule_addr::Gran;
 use page_arena::{PageStore, word_in};
-use rmi_abi::{GicFields, RecExit, RmmSettings};
+use rmi_abi::RecExit;
 use rmm_granules::Granules;
+use rmm_reading::refuses_gic;
 
 // Words `first` to `first + count` of a page become words `place` to `place + count` of another one, or of the same one
 // beside them.
@@ -72,28 +71,6 @@ fn write_gic<S: PageStore>(granules: &mut Granules<S>, g: Gran, run: Gran)
     if granules.settings().checks_gic {
         copy_words(granules, g, 192, run, 352, 17);
     }
-}
-
-// Whether a host may set the list registers as a run page has them.
-fn are_lrs(num_lrs: u8, page: &[u8]) -> bool
-    requires { length page.now ≡ 4096 }
-    ensures { result ≡ all_from (is_gicv3_lr num_lrs page.now) 0 16 }
-{
-    for k in 0..16u8 {
-        if !GicFields::is_lr(num_lrs, page, k) {
-            return false;
-        }
-    }
-    true
-}
-
-// Whether the GIC fields of a run page are checked, and a host may not set them so.
-#[tactic(auto, unfolding(rmm_model::specs::Command::RecEnter::is_gic_wrong))]
-fn refuses_gic(settings: &RmmSettings, page: &[u8]) -> bool
-    requires { length page.now ≡ 4096 }
-    ensures { result ≡ entering.is_gic_wrong settings.now page.now }
-{
-    settings.checks_gic && !(GicFields::is_hcr(GicFields::hcr(page)) && are_lrs(settings.lrs, page))
 }
 
 // Whether the GIC fields of a granule are checked, and a host may not set them so.

@@ -6,18 +6,17 @@ ghost use Rattle.rmm_model.specs.Command.RttSetRipas as command;
 ghost use Rattle.rmm.specs.Found.{IsRequestedRange};
 
 use crate::operand::{Rd, is_protected, realm_of};
-use crate::psci::is_same_owner;
-use crate::rec::{NamedRec, REC, error_rec, rec_of, set_rec};
+use crate::rec::{NamedRec, error_rec, rec_of, set_rec};
 use crate::ripas_range::{change_count, check_progress, check_size, write_ripas};
-use crate::walking::walk;
 use granule_addr::Gran;
 use page_arena::PageStore;
 use rmi_abi::{SmcResult, Word};
 use rmm_granules::Granules;
 use rmm_model::{
-    Changeable, Condition, FailedCondition, RipasRequest, RmmRealm, RmmRec, RttWalk, entry_index,
-    entry_size, error_input,
+    Condition, FailedCondition, RipasRequest, RmmRealm, RmmRec, RttWalk, entry_index, entry_size,
+    error_input,
 };
+use rmm_reading::{OperandConditions, is_same_owner, set_changeable, walk};
 
 // A range that a REC asked for, and the table of its first entry.
 #[derive(Clone, Copy)]
@@ -25,16 +24,6 @@ pub struct RequestedRange {
     pub granule: Gran,
     pub rec: RmmRec,
     pub found: RttWalk,
-}
-
-// The entries that get another RIPAS.
-fn changeable(request: &RipasRequest) -> Changeable
-    ensures { result ≡ command.set_changeable request.now }
-{
-    Changeable {
-        assigned: true,
-        destroyed: request.changes_destroyed,
-    }
 }
 
 // Whether a range ends within what a REC asked for. That of a REC of the realm begins at a protected address too.
@@ -109,11 +98,17 @@ fn find_range<S: PageStore>(
 {
     check_size(base, top)?;
     let owner = realm_of(granules, rd)?;
-    let asking = rec_of(granules, rec, REC)?;
+    let asking = rec_of(granules, rec, OperandConditions::REC)?;
     let is_owner = is_rec_of(granules, &owner, &asking, rd, rec);
     check_request(&owner.realm, &asking.rec, is_owner, base, top)?;
     let found = walk(granules, &owner.realm, base, 3);
-    check_progress(granules, changeable(&asking.rec.ripas), &found, base, top)?;
+    check_progress(
+        granules,
+        set_changeable(&asking.rec.ripas),
+        &found,
+        base,
+        top,
+    )?;
     Ok(RequestedRange {
         granule: asking.granule,
         rec: asking.rec,
@@ -138,7 +133,7 @@ pub fn rtt_set_ripas<S: PageStore>(
     match find_range(granules, rd, rec, base, top) {
         Ok(range) => {
             let request = range.rec.ripas;
-            let count = change_count(granules, changeable(&request), &range.found, base, top);
+            let count = change_count(granules, set_changeable(&request), &range.found, base, top);
             let stop = base + count as u64 * entry_size(range.found.level);
             let first = entry_index(range.found.level, base);
             write_ripas(granules, &range.found, first, request.ripas, count);

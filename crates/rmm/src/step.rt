@@ -7,7 +7,6 @@ ghost use Rattle.rmm_model.specs.Step as steps;
 
 use crate::host::host_granule;
 use crate::operand::{is_in_space, is_protected};
-use crate::walking::{granule_named, read, walk};
 use granule_addr::Gran;
 use page_arena::PageStore;
 use rmi_abi::{EnterFlags, ExitReason, RecExit, RmmSettings, is_mpidr, rec_number};
@@ -16,6 +15,7 @@ use rmm_model::{
     AccessSize, GuestStep, LastExit, PsciRequest, RipasRequest, RmmRealm, RmmRec, RmmRipas,
     RmmRttEntry, StepOutcome, StepResult, entry_offset,
 };
+use rmm_reading::{entry_at, granule_named, walk};
 
 // ---- accesses to memory
 
@@ -182,7 +182,7 @@ pub fn access<S: PageStore>(
         return Err(StepOutcome::Result(StepResult::Sea));
     }
     let found = walk(granules, realm, ipa, 3);
-    let entry = read(granules, &found, ipa);
+    let entry = entry_at(granules, &found, ipa);
     if is_protected(realm, ipa) {
         protected_access(granules, 0x9000_0000, entry, found.level, ipa)
     } else {
@@ -204,7 +204,7 @@ pub fn fetched<S: PageStore>(
         return Err(StepOutcome::Result(StepResult::Sea));
     }
     let found = walk(granules, realm, ipa, 3);
-    let entry = read(granules, &found, ipa);
+    let entry = entry_at(granules, &found, ipa);
     protected_access(granules, 0x8000_0000, entry, found.level, ipa)
 }
 

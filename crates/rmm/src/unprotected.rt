@@ -1,41 +1,22 @@
 //! RMI_RTT_MAP_UNPROTECTED and RMI_RTT_UNMAP_UNPROTECTED.
-ghost use Rattle.std.specs.Prelude.{◌≡◌, ◌^◌, ◌<◌, ◌≤◌, ◌++◌, ◌∷◌, [], not, IfOk};
+ghost use Rattle.std.specs.Prelude.{◌≡◌, ◌^◌, ◌<◌, IfOk};
 ghost use Rattle.rmm_model.specs.Check.{outcome, first_failing, refusal_in};
 ghost use Rattle.rmm_model.specs.Machine.{granule_count};
-ghost use Rattle.rmm_model.specs.Walk.{entry_at, walk as walked, top as next_live};
+ghost use Rattle.rmm_model.specs.Walk.{walk as walked};
 ghost use Rattle.rmm_model.specs.Command.Operand as operands;
 ghost use Rattle.rmm_model.specs.Command.RttMapUnprotected as mapping;
 ghost use Rattle.rmm_model.specs.Command.RttUnmapUnprotected as unmapping;
 ghost use Rattle.rmm.specs.Found.{IsUnprotected};
 
 use crate::operand::{check_entry, check_unprotected, realm_of};
-use crate::walking::{read, top, walk, write};
+use crate::walking::write;
 use page_arena::PageStore;
 use rmi_abi::{RmmSettings, SmcResult, Word};
 use rmm_granules::Granules;
 use rmm_model::{Condition, FailedCondition, RmmRttEntry, RttWalk, entry_offset, error_input};
+use rmm_reading::{entry_at, has_attributes, top, walk};
 
 // ---- descriptors
-
-// Whether bits 9:8 of a descriptor are a shareability that the host may choose.
-fn is_shareability(settings: &RmmSettings, desc: u64) -> bool
-    ensures { result ≡ mapping.is_shareability settings.now desc }
-{
-    let sh = desc / 0x100 % 4;
-    sh == 0 || (settings.takes_shareability && sh != 1)
-}
-
-// Whether the bits of a descriptor but those of its address are ones that the host may choose.
-fn has_attributes(settings: &RmmSettings, desc: u64) -> bool
-    ensures { result ≡ mapping.has_attributes settings.now desc }
-{
-    desc < 0x1_0000_0000_0000
-        && desc % 4 == 0
-        && desc / 4 % 8 != 4
-        && desc / 0x20 % 2 == 0
-        && is_shareability(settings, desc)
-        && desc / 0x400 % 4 == 0
-}
 
 // Whether a number is a descriptor of a level.
 #[tactic(auto, unfolding(rmm_model::specs::Command::RttMapUnprotected::is_descriptor))]
@@ -68,7 +49,7 @@ fn find_vacancy<S: PageStore>(
         return Err(error_input(Condition::DescBound));
     }
     let found = walk(granules, &owner.realm, ipa, level);
-    let entry = read(granules, &found, ipa);
+    let entry = entry_at(granules, &found, ipa);
     check_entry(&found, level, entry.is_unassigned_ns())?;
     Ok(found)
 }
@@ -127,7 +108,7 @@ fn check_mapped<S: PageStore>(
         let next = top(granules, found, ipa);
         return Err(error_rtt_next(Condition::RttWalk, found.level, next));
     }
-    if !read(granules, found, ipa).is_assigned_ns() {
+    if !entry_at(granules, found, ipa).is_assigned_ns() {
         let next = top(granules, found, ipa);
         return Err(error_rtt_next(Condition::RtteState, found.level, next));
     }

@@ -1,17 +1,10 @@
-pub mod Delegated
 pub mod FirstFailed
-pub mod LiveTables
 pub mod MayWalk
 pub mod NamedConditions
 pub mod Ordered
 pub mod Outside
-pub mod Passing
 pub mod Refusals
 pub mod Rows
-pub mod StartCounts
-pub mod Starts
-pub mod Steps
 pub mod Sure
 pub mod Walked
-pub mod Widths
 pub mod Words

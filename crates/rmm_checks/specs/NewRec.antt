@@ -2,27 +2,14 @@
 use Rattle.std.specs.Prelude.{ℕ, ◌^◌, ◌==◌, Bool, not, nat_lt, List, [], ◌∷◌}
 use Rattle.rmi_abi.specs.declared.settings.RmmSettings.{RmmSettings}
 use Rattle.rmi_abi.specs.Mpidr.{is_mpidr, rec_number}
-use Rattle.rmi_abi.specs.RecParams.{mpidr_in, num_aux_in, aux_in}
+use Rattle.rmi_abi.specs.RecParams.{mpidr_in, num_aux_in}
 use Rattle.rmm_model.specs.declared.condition.Condition.TheVariants.{ParamsPas, ParamsValid, NumAux, AuxAlign, AuxBound, AuxAlias, AuxState, MpidrIndex, RdState, RealmState, NumRecs}
 use Rattle.rmm_model.specs.declared.realm.RmmRealm.{RmmRealm}
 use Rattle.rmm_model.specs.Check.{Check, check, error_input, error_realm}
 use Rattle.rmm_model.specs.Machine.{Machine, is_aligned, is_inside}
 use Rattle.rmm_model.specs.Realm.{is_new}
 use Rattle.rmm_model.specs.Command.RecCreate.{all_aux, all_from, is_apart, can_be_aux}
-use Rattle.rmm_checks.specs.declared.rec_create.AuxAddressTest.{AuxAddressTest}
-use Rattle.rmm_checks.specs.declared.rec_create.AuxAddressTest.TheVariants.{Aligned, Inside, Delegated, Not}
 use Rattle.rmm_checks.specs.declared.rec_create.RecFacts.{RecFacts}
-
--- an address passes a test
-abbrev pub aux_address_passes : Machine → AuxAddressTest → ℕ → Bool
-aux_address_passes m Aligned address = is_aligned address
-aux_address_passes m Inside address = is_inside m address
-aux_address_passes m Delegated address = can_be_aux m address
-aux_address_passes m (Not other) address = not (address == other)
-
--- auxiliary granule k that parameters name passes a test
-abbrev pub aux_address_test : Machine → AuxAddressTest → List ℕ → ℕ → Bool
-aux_address_test m test page k = aux_address_passes m test (aux_in page k)
 
 -- the facts of a page, for a REC at an address
 abbrev pub facts_in : Machine → List ℕ → ℕ → RecFacts

@@ -7,25 +7,14 @@ ghost use Rattle.rmm_checks.specs.Evaluated.{Adds, evaluated};
 
 use crate::EvaluatedChecks;
 use crate::entry::{add_entry, rtt_top};
-use crate::operand::{OperandConditions, add_delegated, add_host};
+use crate::operand::{add_delegated, add_host};
 use crate::realm::{add_new, add_page, add_rd};
-use crate::walking::{memory_below, reach};
+use crate::walking::reach;
 use page_arena::PageStore;
 use rmi_abi::{RmmSettings, SmcResult, Word};
 use rmm_granules::Granules;
 use rmm_model::{Condition, RmmRttEntry};
-
-const DATA: OperandConditions = OperandConditions {
-    align: Condition::DataAlign,
-    bound: Condition::DataBound,
-    state: Condition::DataState,
-};
-
-const SOURCE: OperandConditions = OperandConditions {
-    align: Condition::SrcAlign,
-    bound: Condition::SrcBound,
-    state: Condition::SrcPas,
-};
+use rmm_reading::{OperandConditions, memory_below};
 
 // RMI_DATA_CREATE_UNKNOWN
 pub fn data_create_unknown<S: PageStore>(
@@ -37,7 +26,7 @@ pub fn data_create_unknown<S: PageStore>(
     ensures { result ≡ evaluated (making rd page ipa granules.now).checks }
 {
     let mut checks = EvaluatedChecks::new();
-    add_delegated(&mut checks, granules, DATA, page);
+    add_delegated(&mut checks, granules, OperandConditions::DATA, page);
     add_rd(&mut checks, granules, rd);
     add_page(&mut checks, granules, rd, ipa);
     let reached = reach(granules, rd, ipa, 3);
@@ -106,8 +95,8 @@ fn add_source<S: PageStore>(
     let settings = granules.settings();
     let valid = are_flags_valid(settings, flags);
     checks.input(Condition::FlagsValid, &[], !valid);
-    add_host(checks, granules, SOURCE, source);
-    add_delegated(checks, granules, DATA, page);
+    add_host(checks, granules, OperandConditions::SOURCE, source);
+    add_delegated(checks, granules, OperandConditions::DATA, page);
 }
 
 // RMI_DATA_CREATE

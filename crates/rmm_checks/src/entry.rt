@@ -10,11 +10,12 @@ ghost use Rattle.rmm_checks.specs.CanWalk.{page_below};
 ghost use Rattle.rmm_checks.specs.Evaluated.{Adds, is_made, is_passed};
 
 use crate::EvaluatedChecks;
-use crate::walking::{Reached, table_below};
+use crate::walking::Reached;
 use page_arena::PageStore;
 use rmi_abi::{SmcResult, Word};
 use rmm_granules::Granules;
 use rmm_model::{Condition, RmmRttEntry, has_live};
+use rmm_reading::table_below;
 
 // ---- answers
 

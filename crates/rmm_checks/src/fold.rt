@@ -1,7 +1,5 @@
 //! RMI_RTT_FOLD.
-ghost use Rattle.std.specs.Prelude.{◌≡◌, ◌^◌, ◌<◌, ◌≤◌, nat_le, true, length, is_some};
-ghost use Rattle.rmm_model.specs.Entry.{descriptor_of};
-ghost use Rattle.rmm_model.specs.Table.{entry_in_page};
+ghost use Rattle.std.specs.Prelude.{◌≡◌, ◌≤◌, nat_le, true, is_some};
 ghost use Rattle.rmm_model.specs.Walk as walks;
 ghost use Rattle.rmm_model.specs.Command.RttFold as command;
 ghost use Rattle.rmm_checks.specs.CanWalk.{page_below};
@@ -10,48 +8,12 @@ ghost use Rattle.rmm_checks.specs.Evaluated.{evaluated};
 use crate::EvaluatedChecks;
 use crate::entry::add_entry;
 use crate::realm::{add_ipa, add_rd, start_level_at};
-use crate::walking::{reach, table_below};
-use page_arena::{PageStore, word_in};
-use rmi_abi::{RmmSettings, SmcResult, Word};
+use crate::walking::reach;
+use page_arena::PageStore;
+use rmi_abi::{SmcResult, Word};
 use rmm_granules::Granules;
-use rmm_model::{Condition, RmmRttEntry, entry_from_word, entry_size, has_parts};
-
-// The first entry of a table.
-#[tactic(auto, unfolding(rmm_model::specs::Table::entry_in_page))]
-fn first_entry(page: &[u8]) -> RmmRttEntry
-    requires { length page.now ≡ 4096 }
-    ensures value { result ≡ entry_in_page page.now 0 }
-    ensures fits { descriptor_of result < 2 ^ 48 }
-{
-    entry_from_word(word_in(page, 0))
-}
-
-// Whether an entry can be one a level higher.
-fn is_aligned_above(entry: RmmRttEntry, level: u8) -> bool
-    requires { 1 ≤ level }
-    ensures { result ≡ command.is_aligned_above entry level }
-{
-    !entry.is_mapping() || entry.descriptor() / 4096 * 4096 % entry_size(level - 1) == 0
-}
-
-// Whether a table says the same as one entry above it.
-#[tactic(auto, unfolding(rmm_model::specs::Command::RttFold::is_homogeneous))]
-fn is_homogeneous(page: &[u8], level: u8) -> bool
-    requires page { length page.now ≡ 4096 }
-    requires level { 1 ≤ level }
-    ensures { result ≡ command.is_homogeneous page.now level }
-{
-    let first = first_entry(page);
-    !first.is_table() && is_aligned_above(first, level) && has_parts(page, first, level)
-}
-
-// Whether a table would become a block of a level at which there is none.
-fn is_block_too_high(settings: &RmmSettings, page: &[u8], level: u8) -> bool
-    requires { length page.now ≡ 4096 }
-    ensures { result ≡ command.is_block_too_high settings.now page.now level }
-{
-    first_entry(page).is_mapping() && level <= settings.block_level
-}
+use rmm_model::{Condition, RmmRttEntry};
+use rmm_reading::{is_block_too_high, is_homogeneous, table_below};
 
 // A level of a table that is below another one: it is 1 to 3.
 fn lower_level(level: u64) -> u8

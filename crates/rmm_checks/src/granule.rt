@@ -5,16 +5,11 @@ ghost use Rattle.rmm_model.specs.Command.GranuleUndelegate.{granule_undelegate a
 ghost use Rattle.rmm_checks.specs.Evaluated.{evaluated};
 
 use crate::EvaluatedChecks;
-use crate::operand::{OperandConditions, add_address, add_delegated, state_at};
+use crate::operand::{add_address, add_delegated, state_at};
 use page_arena::PageStore;
 use rmm_granules::Granules;
 use rmm_model::Condition;
-
-const GRANULE: OperandConditions = OperandConditions {
-    align: Condition::GranAlign,
-    bound: Condition::GranBound,
-    state: Condition::GranState,
-};
+use rmm_reading::OperandConditions;
 
 // RMI_GRANULE_DELEGATE
 pub fn granule_delegate<S: PageStore>(granules: &Granules<S>, address: u64) -> EvaluatedChecks
@@ -47,6 +42,6 @@ pub fn granule_undelegate<S: PageStore>(granules: &Granules<S>, address: u64) ->
     ensures { result ≡ evaluated (undelegating address granules.now).checks }
 {
     let mut checks = EvaluatedChecks::new();
-    add_delegated(&mut checks, granules, GRANULE, address);
+    add_delegated(&mut checks, granules, OperandConditions::GRANULE, address);
     checks
 }

@@ -10,14 +10,7 @@ use granule_addr::{Gran, MOST_PAGES};
 use page_arena::PageStore;
 use rmm_granules::Granules;
 use rmm_model::{Condition, RmmGranuleState};
-
-// The conditions of an operand: of its alignment, its bound and its state.
-#[derive(Clone, Copy)]
-pub struct OperandConditions {
-    pub align: Condition,
-    pub bound: Condition,
-    pub state: Condition,
-}
+use rmm_reading::OperandConditions;
 
 // ---- granules
 
@@ -34,14 +27,6 @@ pub fn number_at<S: PageStore>(granules: &Granules<S>, address: u64) -> u64
     ensures { result ≡ number_of granules.now address }
 {
     address.saturating_sub(granules.settings().base) / 4096
-}
-
-// The granule that many after another.
-pub fn granule_after(first: Gran, k: u16) -> Gran
-    requires { first + k < 4096 }
-    ensures { result ≡ first + k }
-{
-    Gran::new(first.number() + k, MOST_PAGES).unwrap()
 }
 
 // The granule that an address lies in.

@@ -6,77 +6,12 @@ ghost use Rattle.rmm_model.specs.Command.PsciComplete as command;
 ghost use Rattle.rmm_checks.specs.Evaluated.{Adds, evaluated};
 
 use crate::EvaluatedChecks;
-use crate::operand::{OperandConditions, owner_at};
+use crate::operand::owner_at;
 use crate::rec::{add_rec, rec_at};
-use granule_addr::Gran;
 use page_arena::PageStore;
 use rmm_granules::Granules;
-use rmm_model::{Condition, PsciRequest};
-
-const PSCI_SUCCESS: u64 = 0;
-
-const PSCI_DENIED: u64 = 0xFFFF_FFFF_FFFF_FFFD;
-
-const CALLING: OperandConditions = OperandConditions {
-    align: Condition::CallingAlign,
-    bound: Condition::CallingBound,
-    state: Condition::CallingState,
-};
-
-const TARGET: OperandConditions = OperandConditions {
-    align: Condition::TargetAlign,
-    bound: Condition::TargetBound,
-    state: Condition::TargetState,
-};
-
-// Whether a request waits for the host.
-pub fn is_pending(request: PsciRequest) -> bool
-    ensures { result ≡ command.is_pending request }
-{
-    match request {
-        PsciRequest::CpuOn { .. } => true,
-        PsciRequest::AffinityInfo { .. } => true,
-        _ => false,
-    }
-}
-
-// The MPIDR that a request names.
-fn target_of(request: PsciRequest) -> u64
-    ensures { result ≡ command.target_of request }
-{
-    match request {
-        PsciRequest::CpuOn { target, .. } => target,
-        PsciRequest::AffinityInfo { target } => target,
-        _ => 0,
-    }
-}
-
-// Whether the host may deny a request.
-fn can_be_denied(request: PsciRequest) -> bool
-    ensures { result ≡ command.can_be_denied request }
-{
-    matches!(request, PsciRequest::CpuOn { .. })
-}
-
-// Whether the host may give that status.
-fn is_status(request: PsciRequest, status: u64) -> bool
-    ensures { result ≡ command.is_status request status }
-{
-    status == PSCI_SUCCESS || (status == PSCI_DENIED && can_be_denied(request))
-}
-
-// Whether two granules are of one realm.
-pub fn is_same_owner(a: Option<Gran>, b: Option<Gran>) -> bool
-    ensures { result ≡ command.is_same_owner a b }
-{
-    match a {
-        Some(first) => match b {
-            Some(second) => first == second,
-            None => false,
-        },
-        None => b.is_none(),
-    }
-}
+use rmm_model::Condition;
+use rmm_reading::{OperandConditions, is_pending, is_same_owner, is_status, target_of};
 
 // Whether a number is an address.
 fn is_same(a: u64, b: u64) -> bool
@@ -138,8 +73,8 @@ pub fn psci_complete<S: PageStore>(
 {
     let mut checks = EvaluatedChecks::new();
     checks.input(Condition::Alias, &[], is_same(calling, target));
-    add_rec(&mut checks, granules, CALLING, calling);
-    add_rec(&mut checks, granules, TARGET, target);
+    add_rec(&mut checks, granules, OperandConditions::CALLING, calling);
+    add_rec(&mut checks, granules, OperandConditions::TARGET, target);
     add_request(&mut checks, granules, calling, target, status);
     checks
 }

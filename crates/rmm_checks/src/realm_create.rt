@@ -3,29 +3,19 @@ ghost use Rattle.std.specs.Prelude.{◌≡◌, ◌+◌, ◌*◌, ◌%◌, ◌<�
 ghost use Rattle.rmi_abi.specs.declared.realm_params.RealmParams.{RealmParams as Params};
 ghost use Rattle.rmm_model.specs.declared.condition.Condition.TheVariants.{ParamsPas, ParamsSupp, RttNumLevel};
 ghost use Rattle.rmm_model.specs.declared.condition.Condition.TheVariants.{RttAlign};
-ghost use Rattle.rmm_model.specs.Machine.{granule_count, is_inside, number_of};
+ghost use Rattle.rmm_model.specs.Machine.{is_inside};
 ghost use Rattle.rmm_model.specs.Realm.{is_start as can_begin};
 ghost use Rattle.rmm_model.specs.Command.RealmCreate as command;
 ghost use Rattle.rmm_checks.specs.Evaluated.{Adds, evaluated, is_made, is_passed};
 
 use crate::EvaluatedChecks;
-use crate::operand::{OperandConditions, add_delegated, add_host, granule_after};
-use granule_addr::Gran;
+use crate::operand::{add_delegated, add_host};
 use page_arena::PageStore;
 use rmi_abi::{RealmParams, RmmSettings};
 use rmm_granules::Granules;
-use rmm_model::{Condition, entry_size, start_count};
-
-pub const PARAMS: OperandConditions = OperandConditions {
-    align: Condition::ParamsAlign,
-    bound: Condition::ParamsBound,
-    state: Condition::ParamsPas,
-};
-
-const RD: OperandConditions = OperandConditions {
-    align: Condition::RdAlign,
-    bound: Condition::RdBound,
-    state: Condition::RdState,
+use rmm_model::Condition;
+use rmm_reading::{
+    OperandConditions, can_start, is_start, is_start_table, is_supported, is_vmid_valid,
 };
 
 // ---- parameters
@@ -60,37 +50,6 @@ fn is_hash(code: u8) -> bool
     code <= 1
 }
 
-// Whether breakpoints, watchpoints and vectors are at most those of feature register 0.
-fn fits_features(settings: &RmmSettings, p: &RealmParams) -> bool
-    ensures { result ≡ command.fits_features settings.now p.now }
-{
-    p.num_bps <= settings.bps && p.num_wps <= settings.wps && p.sve_vl == 0
-}
-
-// Whether no flag is set, and the width is one that the RMM supports; the fields too, where they are checked.
-fn is_supported(settings: &RmmSettings, p: &RealmParams) -> bool
-    ensures { result ≡ command.is_supported settings.now p.now }
-{
-    p.flags == 0
-        && 32 <= p.s2sz
-        && p.s2sz <= settings.s2sz
-        && (!settings.checks_params || fits_features(settings, p))
-}
-
-// Whether the starting level and the number of starting tables serve the width.
-#[tactic(auto, unfolding(rmm_model::specs::Realm::is_start))]
-fn is_start(s2sz: u8, level: u64, count: u32) -> bool
-    requires { s2sz ≤ 48 }
-    ensures { result ≡ can_begin s2sz level count }
-{
-    if level > 3 {
-        return false;
-    }
-    entry_size(level as u8) < 1 << s2sz
-        && count <= 16
-        && count as u64 == start_count(s2sz, level as u8)
-}
-
 // Whether the starting tables of parameters serve their width, where that has at most 48 bits.
 fn is_served(p: &RealmParams) -> bool
     ensures { p.now.s2sz ≤ 48
@@ -109,15 +68,6 @@ fn is_base_aligned(p: &RealmParams) -> bool
         return false;
     }
     p.rtt_base % size == 0
-}
-
-// Whether an address is that of a starting table.
-fn is_start_table(p: &RealmParams, rd: u64) -> bool
-    ensures { result ≡ command.is_start_table p.now rd }
-{
-    p.rtt_base <= rd
-        && rd - p.rtt_base < p.rtt_num_start as u64 * 4096
-        && (rd - p.rtt_base) % 4096 == 0
 }
 
 // Adds the checks of parameters of a realm that there can be, whose RD is none of its starting tables.
@@ -147,51 +97,6 @@ fn add_params(checks: &mut EvaluatedChecks, settings: &RmmSettings, p: &RealmPar
 
 // ---- what the realm takes
 
-// Whether that many granules from an address on are granules of the machine.
-fn is_range_inside<S: PageStore>(granules: &Granules<S>, base: u64, count: u32) -> bool
-    ensures value { result ≡ command.is_range_inside granules.now base count }
-    ensures few { granule_count granules.now ≤ 4096 }
-    ensures fits { result ≡ true → number_of granules.now base + count ≤ granule_count granules.now }
-{
-    let most = granules.count() as u64;
-    granules.is_inside(base) && granules.number_of(base).number() as u64 + count as u64 <= most
-}
-
-// Whether that many granules from one on are all DELEGATED.
-fn are_delegated<S: PageStore>(granules: &Granules<S>, first: Gran, count: u16) -> bool
-    requires inside { first + count ≤ granule_count granules.now }
-    requires few { granule_count granules.now ≤ 4096 }
-    ensures { result ≡ command.are_delegated granules.now first count }
-{
-    for k in 0..count {
-        if !granules.is_delegated(granule_after(first, k)) {
-            return false;
-        }
-    }
-    true
-}
-
-// Whether each starting table is a DELEGATED granule of the machine.
-#[tactic(auto, unfolding(rmm_model::specs::Command::RealmCreate::can_start))]
-fn can_start<S: PageStore>(granules: &Granules<S>, p: &RealmParams) -> bool
-    ensures value { result ≡ command.can_start granules.now p.now }
-    ensures few { granule_count granules.now ≤ 4096 }
-{
-    if !is_range_inside(granules, p.rtt_base, p.rtt_num_start) {
-        return false;
-    }
-    let first = granules.number_of(p.rtt_base);
-    are_delegated(granules, first, p.rtt_num_start as u16)
-}
-
-// Whether the RMM has a VMID, and no realm does.
-#[tactic(auto, unfolding(rmm_model::specs::Command::RealmCreate::is_vmid_valid))]
-fn is_vmid_valid<S: PageStore>(granules: &Granules<S>, vmid: u16) -> bool
-    ensures { result ≡ command.is_vmid_valid granules.now vmid }
-{
-    (vmid as u64) < 1 << granules.settings().vmid_bits && !granules.is_vmid_used(vmid)
-}
-
 // Adds the checks of starting tables that can be used, and of a VMID that is free.
 fn add_free<S: PageStore>(checks: &mut EvaluatedChecks, granules: &Granules<S>, p: &RealmParams)
     requires room { length checks.old + 2 ≤ 18 }
@@ -211,11 +116,11 @@ pub fn realm_create<S: PageStore>(granules: &Granules<S>, rd: u64, params: u64) 
     ensures { result ≡ evaluated (command.realm_create rd params granules.now).checks }
 {
     let mut checks = EvaluatedChecks::new();
-    add_host(&mut checks, granules, PARAMS, params);
+    add_host(&mut checks, granules, OperandConditions::PARAMS, params);
     let p = params_at(granules, params);
     let settings = granules.settings();
     add_params(&mut checks, settings, &p, rd);
-    add_delegated(&mut checks, granules, RD, rd);
+    add_delegated(&mut checks, granules, OperandConditions::RD, rd);
     add_free(&mut checks, granules, &p);
     checks
 }

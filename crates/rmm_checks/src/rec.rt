@@ -7,16 +7,11 @@ ghost use Rattle.rmm_model.specs.Command.RecDestroy.{rec_destroy as destroying};
 ghost use Rattle.rmm_checks.specs.Evaluated.{Adds, evaluated};
 
 use crate::EvaluatedChecks;
-use crate::operand::{OperandConditions, add_address, state_at};
+use crate::operand::{add_address, state_at};
 use page_arena::PageStore;
 use rmm_granules::Granules;
 use rmm_model::{Condition, RmmRec};
-
-pub const REC: OperandConditions = OperandConditions {
-    align: Condition::RecAlign,
-    bound: Condition::RecBound,
-    state: Condition::RecGranState,
-};
+use rmm_reading::OperandConditions;
 
 // The REC at an address.
 pub fn rec_named<S: PageStore>(granules: &Granules<S>, address: u64) -> Option<RmmRec>
@@ -63,7 +58,7 @@ pub fn rec_destroy<S: PageStore>(granules: &Granules<S>, rec: u64) -> EvaluatedC
     ensures { result ≡ evaluated (destroying rec granules.now).checks }
 {
     let mut checks = EvaluatedChecks::new();
-    add_rec(&mut checks, granules, REC, rec);
+    add_rec(&mut checks, granules, OperandConditions::REC, rec);
     let found = rec_at(granules, rec);
     checks.rec(
         Condition::RecState,

@@ -1,27 +1,23 @@
 //! RMI_REC_CREATE.
-ghost use Rattle.std.specs.Prelude.{◌≡◌, ◌^◌, ◌+◌, ◌<◌, ◌≤◌, nat_eq, nat_lt, true, false, [], ◌∷◌, length};
+ghost use Rattle.std.specs.Prelude.{◌≡◌, ◌^◌, ◌+◌, ◌≤◌, nat_eq, nat_lt, true, false, [], ◌∷◌, length};
 ghost use Rattle.rmm_model.specs.declared.condition.Condition.TheVariants.{ParamsPas, ParamsValid, NumAux};
 ghost use Rattle.rmm_model.specs.declared.condition.Condition.TheVariants.{AuxAlign, AuxBound};
-ghost use Rattle.rmm_model.specs.Machine.{is_aligned as begins, is_inside, number_of, page_in};
+ghost use Rattle.rmm_model.specs.Machine.{is_inside, number_of, page_in};
 ghost use Rattle.rmm_model.specs.Command.Operand.{realm_at};
 ghost use Rattle.rmm_model.specs.Command.RecCreate as command;
 ghost use Rattle.rmm_checks.specs.Evaluated.{Adds, evaluated, is_made, is_passed};
-ghost use Rattle.rmm_checks.specs.NewRec.{aux_address_passes, facts_in, aux_rows, number_rows};
+ghost use Rattle.rmm_checks.specs.NewRec.{facts_in, aux_rows, number_rows};
 ghost use Rattle.rmm_checks.specs.declared.rec_create.RecFacts.{RecFacts as Facts};
 
 use crate::EvaluatedChecks;
-use crate::operand::{OperandConditions, add_delegated, add_host};
+use crate::operand::{add_delegated, add_host};
 use crate::realm::{add_rd, is_new_at, realm_named};
-use crate::realm_create::PARAMS;
 use page_arena::PageStore;
 use rmi_abi::{RecParams, is_mpidr, rec_number};
 use rmm_granules::Granules;
 use rmm_model::Condition;
-
-const NEW_REC: OperandConditions = OperandConditions {
-    align: Condition::RecAlign,
-    bound: Condition::RecBound,
-    state: Condition::RecState,
+use rmm_reading::{
+    OperandConditions, are_aux_aligned, are_aux_apart, are_aux_delegated, are_aux_inside,
 };
 
 // Facts of the parameters of a REC, as checks ask for them.
@@ -36,101 +32,6 @@ pub struct RecFacts {
     pub number: u64,
 }
 
-// ---- auxiliary granules
-
-// A test of the address of an auxiliary granule.
-#[derive(Clone, Copy)]
-pub enum AuxAddressTest {
-    Aligned,
-    Inside,
-    Delegated,
-    Not(u64),
-}
-
-// Whether an address passes a test.
-fn passes<S: PageStore>(granules: &Granules<S>, test: AuxAddressTest, address: u64) -> bool
-    ensures { result ≡ aux_address_passes granules.now test address }
-{
-    match test {
-        AuxAddressTest::Aligned => address % 4096 == 0,
-        AuxAddressTest::Inside => granules.is_inside(address),
-        AuxAddressTest::Delegated => {
-            granules.is_inside(address) && granules.is_delegated(granules.number_of(address))
-        }
-        AuxAddressTest::Not(other) => address != other,
-    }
-}
-
-// Whether each of the first auxiliary granules that parameters name passes a test.
-fn all_aux<S: PageStore>(
-    granules: &Granules<S>,
-    page: &[u8],
-    test: AuxAddressTest,
-    count: u8,
-) -> bool
-    requires page { length page.now ≡ 4096 }
-    requires few { count ≤ 16 }
-    ensures { result ≡ command.all_aux (aux_address_passes granules.now test) page.now count }
-{
-    for k in 0..count {
-        if !passes(granules, test, RecParams::aux(page, k)) {
-            return false;
-        }
-    }
-    true
-}
-
-// Whether each of the first auxiliary granules is at a multiple of 4,096.
-fn are_aligned<S: PageStore>(granules: &Granules<S>, page: &[u8], count: u8) -> bool
-    requires page { length page.now ≡ 4096 }
-    requires few { count ≤ 16 }
-    ensures { result ≡ command.all_aux begins page.now count }
-{
-    all_aux(granules, page, AuxAddressTest::Aligned, count)
-}
-
-// Whether each of the first auxiliary granules is one of the machine.
-fn are_inside<S: PageStore>(granules: &Granules<S>, page: &[u8], count: u8) -> bool
-    requires page { length page.now ≡ 4096 }
-    requires few { count ≤ 16 }
-    ensures { result ≡ command.all_aux (is_inside granules.now) page.now count }
-{
-    all_aux(granules, page, AuxAddressTest::Inside, count)
-}
-
-// Whether each of the first auxiliary granules is a DELEGATED one of the machine.
-fn are_delegated<S: PageStore>(granules: &Granules<S>, page: &[u8], count: u8) -> bool
-    requires page { length page.now ≡ 4096 }
-    requires few { count ≤ 16 }
-    ensures { result ≡ command.all_aux (command.can_be_aux granules.now) page.now count }
-{
-    all_aux(granules, page, AuxAddressTest::Delegated, count)
-}
-
-// Whether auxiliary granule k is neither the REC nor one before it.
-fn is_apart<S: PageStore>(granules: &Granules<S>, page: &[u8], rec: u64, k: u8) -> bool
-    requires page { length page.now ≡ 4096 }
-    requires below { k < 16 }
-    ensures { result ≡ command.is_apart rec page.now k }
-{
-    let address = RecParams::aux(page, k);
-    address != rec && all_aux(granules, page, AuxAddressTest::Not(address), k)
-}
-
-// Whether no two of the REC and its auxiliary granules are one.
-fn are_apart<S: PageStore>(granules: &Granules<S>, page: &[u8], rec: u64, count: u8) -> bool
-    requires page { length page.now ≡ 4096 }
-    requires few { count ≤ 16 }
-    ensures { result ≡ command.all_from (command.is_apart rec page.now) 0 count }
-{
-    for k in 0..count {
-        if !is_apart(granules, page, rec, k) {
-            return false;
-        }
-    }
-    true
-}
-
 // ---- parameters
 
 // The facts of the parameters in a page.
@@ -142,10 +43,10 @@ fn facts_of<S: PageStore>(granules: &Granules<S>, page: &[u8], rec: u64) -> RecF
     let mpidr = RecParams::mpidr(page);
     RecFacts {
         has_count: RecParams::num_aux(page) == count as u64,
-        are_aligned: are_aligned(granules, page, count),
-        are_inside: are_inside(granules, page, count),
-        are_apart: are_apart(granules, page, rec, count),
-        are_delegated: are_delegated(granules, page, count),
+        are_aligned: are_aux_aligned(granules, page, count),
+        are_inside: are_aux_inside(granules, page, count),
+        are_apart: are_aux_apart(granules, page, rec, count),
+        are_delegated: are_aux_delegated(granules, page, count),
         is_mpidr: is_mpidr(mpidr),
         number: rec_number(mpidr),
     }
@@ -277,8 +178,8 @@ pub fn rec_create<S: PageStore>(
     ensures { result ≡ evaluated (command.rec_create rd rec params granules.now).checks }
 {
     let mut checks = EvaluatedChecks::new();
-    add_host(&mut checks, granules, PARAMS, params);
-    add_delegated(&mut checks, granules, NEW_REC, rec);
+    add_host(&mut checks, granules, OperandConditions::PARAMS, params);
+    add_delegated(&mut checks, granules, OperandConditions::NEW_REC, rec);
     add_rd(&mut checks, granules, rd);
     let facts = facts_at(granules, params, rec);
     add_aux(&mut checks, &facts);

@@ -1,44 +1,22 @@
 //! RMI_REC_ENTER.
 ghost use Rattle.std.specs.Prelude.{◌≡◌, ◌+◌, ◌≤◌, true, length};
-ghost use Rattle.rmi_abi.specs.Gic.{is_gicv3_lr};
 ghost use Rattle.rmi_abi.specs.RecRun.{flags_in};
-ghost use Rattle.rmm_model.specs.Granule.{realm_of};
 ghost use Rattle.rmm_model.specs.Realm as realms;
-ghost use Rattle.rmm_model.specs.Machine.{granule_at, is_inside, number_of, page_in};
-ghost use Rattle.rmm_model.specs.Command.RecCreate.{all_from};
+ghost use Rattle.rmm_model.specs.Machine.{is_inside, number_of, page_in};
 ghost use Rattle.rmm_model.specs.Command.RecEnter as command;
 ghost use Rattle.rmm_checks.specs.Evaluated.{Adds, evaluated};
 ghost use Rattle.rmm_checks.specs.Ready.{ready_checks};
 
 use crate::EvaluatedChecks;
-use crate::operand::{OperandConditions, add_host, owner_at};
-use crate::psci::is_pending;
-use crate::rec::{REC, add_rec, rec_at};
-use granule_addr::Gran;
+use crate::operand::{add_host, owner_at};
+use crate::rec::{add_rec, rec_at};
 use page_arena::PageStore;
-use rmi_abi::{EnterFlags, GicFields, RmmSettings, SmcResult, Word};
+use rmi_abi::{EnterFlags, SmcResult, Word};
 use rmm_granules::Granules;
-use rmm_model::{Condition, LastExit, RmmRealm, RmmRealmState, RmmRec};
-
-const RUN: OperandConditions = OperandConditions {
-    align: Condition::RunAlign,
-    bound: Condition::RunBound,
-    state: Condition::RunPas,
-};
+use rmm_model::{Condition, RmmRealm, RmmRealmState, RmmRec};
+use rmm_reading::{OperandConditions, is_no_mmio, is_pending, realm_in, refuses_gic, state_of};
 
 // ---- the realm of a REC
-
-// The realm of an RD.
-#[tactic(auto, using(crate::proofs::Outside::outside))]
-fn realm_in<S: PageStore>(granules: &Granules<S>, rd: Gran) -> Option<RmmRealm>
-    ensures { result ≡ realm_of (granule_at granules.now rd).state }
-{
-    if rd.number() < granules.count() {
-        granules.realm(rd)
-    } else {
-        None
-    }
-}
 
 // The realm that owns the granule at an address.
 fn owner_realm<S: PageStore>(granules: &Granules<S>, address: u64) -> Option<RmmRealm>
@@ -47,16 +25,6 @@ fn owner_realm<S: PageStore>(granules: &Granules<S>, address: u64) -> Option<Rmm
     match owner_at(granules, address) {
         Some(rd) => realm_in(granules, rd),
         None => None,
-    }
-}
-
-// The state of a realm; if there is none it counts as NEW.
-fn state_of(realm: Option<RmmRealm>) -> RmmRealmState
-    ensures { result ≡ command.state_of realm }
-{
-    match realm {
-        Some(realm) => realm.state,
-        None => RmmRealmState::New,
     }
 }
 
@@ -72,35 +40,6 @@ fn flags_at<S: PageStore>(granules: &Granules<S>, address: u64) -> u64
     } else {
         0
     }
-}
-
-// Whether the host emulates an access, and the last exit was none that can be emulated.
-fn is_no_mmio(rec: &RmmRec, flags: u64) -> bool
-    ensures { result ≡ command.is_no_mmio rec.now flags }
-{
-    EnterFlags::emulates_mmio(flags) && !matches!(rec.exit, LastExit::EmulatableAbort)
-}
-
-// Whether a host may set the list registers as a run page has them.
-fn are_lrs(num_lrs: u8, page: &[u8]) -> bool
-    requires { length page.now ≡ 4096 }
-    ensures { result ≡ all_from (is_gicv3_lr num_lrs page.now) 0 16 }
-{
-    for k in 0..16u8 {
-        if !GicFields::is_lr(num_lrs, page, k) {
-            return false;
-        }
-    }
-    true
-}
-
-// Whether the GIC fields of a run page are checked, and a host may not set them so.
-#[tactic(auto, unfolding(rmm_model::specs::Command::RecEnter::is_gic_wrong))]
-fn refuses_gic(settings: &RmmSettings, page: &[u8]) -> bool
-    requires { length page.now ≡ 4096 }
-    ensures { result ≡ command.is_gic_wrong settings.now page.now }
-{
-    settings.checks_gic && !(GicFields::is_hcr(GicFields::hcr(page)) && are_lrs(settings.lrs, page))
 }
 
 // Whether the GIC fields of the run page at an address are checked, and a host may not set them so.
@@ -170,8 +109,8 @@ pub fn rec_enter<S: PageStore>(granules: &Granules<S>, rec: u64, address: u64) -
     ensures { result ≡ evaluated (command.rec_enter rec address granules.now).checks }
 {
     let mut checks = EvaluatedChecks::new();
-    add_host(&mut checks, granules, RUN, address);
-    add_rec(&mut checks, granules, REC, rec);
+    add_host(&mut checks, granules, OperandConditions::RUN, address);
+    add_rec(&mut checks, granules, OperandConditions::REC, rec);
     let found = rec_at(granules, rec);
     let owner = owner_realm(granules, rec);
     let state = state_of(owner);

@@ -11,12 +11,12 @@ ghost use Rattle.rmm_checks.specs.Evaluated.{Adds, evaluated, is_made, is_passed
 use crate::EvaluatedChecks;
 use crate::operand::{is_aligned, number_at, owner_at};
 use crate::realm::{add_new, add_rd, is_multiple, is_protected};
-use crate::rec::{REC, add_rec, rec_at};
+use crate::rec::{add_rec, rec_at};
 use crate::walking::{Reached, reach};
 use page_arena::PageStore;
-use rmi_abi::RmmSettings;
 use rmm_granules::Granules;
-use rmm_model::{Changeable, Condition, RipasRequest, RmmRec, entry_size};
+use rmm_model::{Condition, RmmRec, entry_size};
+use rmm_reading::{OperandConditions, init_changeable, set_changeable};
 
 // ---- ranges
 
@@ -73,16 +73,6 @@ fn add_progress(
 }
 
 // ---- RMI_RTT_INIT_RIPAS
-
-// The entries that become RAM.
-fn init_changeable(settings: &RmmSettings) -> Changeable
-    ensures { result ≡ making.init_changeable settings.now }
-{
-    Changeable {
-        assigned: false,
-        destroyed: !settings.stops_at_destroyed,
-    }
-}
 
 // Adds the checks of a range of pages in the protected half of a NEW realm.
 #[tactic(auto, unfolding(rmm_model::specs::Command::RttInitRipas::range_checks))]
@@ -145,16 +135,6 @@ pub fn rtt_init_ripas<S: PageStore>(
 }
 
 // ---- RMI_RTT_SET_RIPAS
-
-// The entries that get the RIPAS that a REC asked for.
-fn set_changeable(request: &RipasRequest) -> Changeable
-    ensures { result ≡ setting.set_changeable request.now }
-{
-    Changeable {
-        assigned: true,
-        destroyed: request.changes_destroyed,
-    }
-}
 
 // Whether a range begins at the address that a REC has come to.
 fn begins_at(asking: &RmmRec, base: u64) -> bool
@@ -233,7 +213,7 @@ pub fn rtt_set_ripas<S: PageStore>(
     let mut checks = EvaluatedChecks::new();
     checks.input(Condition::Size, &[], is_empty(base, top));
     add_rd(&mut checks, granules, rd);
-    add_rec(&mut checks, granules, REC, rec);
+    add_rec(&mut checks, granules, OperandConditions::REC, rec);
     add_request(&mut checks, granules, rd, rec, base, top);
     let reached = reach(granules, rd, base, 3);
     let asking = rec_at(granules, rec);

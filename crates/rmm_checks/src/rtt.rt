@@ -6,19 +6,14 @@ ghost use Rattle.rmm_checks.specs.Evaluated.{evaluated};
 
 use crate::EvaluatedChecks;
 use crate::entry::{add_entry, is_live_below, low_level, rtt_top};
-use crate::operand::{OperandConditions, add_delegated};
+use crate::operand::add_delegated;
 use crate::realm::{add_ipa, add_rd, start_level_at};
-use crate::walking::{reach, table_below};
+use crate::walking::reach;
 use page_arena::PageStore;
 use rmi_abi::{SmcResult, Word};
 use rmm_granules::Granules;
 use rmm_model::Condition;
-
-const RTT: OperandConditions = OperandConditions {
-    align: Condition::RttAlign,
-    bound: Condition::RttBound,
-    state: Condition::RttState,
-};
+use rmm_reading::{OperandConditions, table_below};
 
 // RMI_RTT_CREATE
 pub fn rtt_create<S: PageStore>(
@@ -31,7 +26,7 @@ pub fn rtt_create<S: PageStore>(
     ensures { result ≡ evaluated (creating rd rtt ipa level granules.now).checks }
 {
     let mut checks = EvaluatedChecks::new();
-    add_delegated(&mut checks, granules, RTT, rtt);
+    add_delegated(&mut checks, granules, OperandConditions::RTT, rtt);
     add_rd(&mut checks, granules, rd);
     let least = start_level_at(granules, rd) + 1;
     add_ipa(&mut checks, granules, rd, least, level, 1, ipa);

@@ -12,26 +12,7 @@ use page_arena::PageStore;
 use rmi_abi::{RmmSettings, SmcResult, Word};
 use rmm_granules::Granules;
 use rmm_model::Condition;
-
-// Whether bits 9:8 of a descriptor are a shareability that the host may choose.
-fn is_shareability(settings: &RmmSettings, desc: u64) -> bool
-    ensures { result ≡ mapping.is_shareability settings.now desc }
-{
-    let sh = desc / 0x100 % 4;
-    sh == 0 || (settings.takes_shareability && sh != 1)
-}
-
-// Whether the bits of a descriptor but those of its address are ones that the host may choose.
-fn has_attributes(settings: &RmmSettings, desc: u64) -> bool
-    ensures { result ≡ mapping.has_attributes settings.now desc }
-{
-    desc < 0x1_0000_0000_0000
-        && desc % 4 == 0
-        && desc / 4 % 8 != 4
-        && desc / 0x20 % 2 == 0
-        && is_shareability(settings, desc)
-        && desc / 0x400 % 4 == 0
-}
+use rmm_reading::has_attributes;
 
 // Whether a number is a descriptor of a level.
 #[tactic(auto, unfolding(rmm_model::specs::Command::RttMapUnprotected::is_descriptor))]

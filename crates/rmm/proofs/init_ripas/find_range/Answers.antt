@@ -28,11 +28,11 @@ returns-in_err-check_progress-clause-refusal g c =
     let fails : Some c.in_err-check_progress.field-0.0 ≡ first_failing (rtt_init_ripas c.args.rd c.args.base c.args.top c.args.granules.now).checks =
     c.in_err-check_progress.ensures
     ∙ by_progress c.args.granules.now c.args.rd c.args.base c.args.top c.in_ok-check_size.ensures.refusal c.in_ok-owner.ensures.refusal c.in_ok-owner.owner.realm c.in_ok-owner.ensures.realm
-    c.in_ok-check_range.ensures.refusal c.walk-found.result c.walk-found.ensures.value c.settings.result.now c.settings.ensures.value c.changeable.result c.changeable.ensures in
+    c.in_ok-check_range.ensures.refusal c.walk-found.result c.walk-found.ensures.value c.settings.result.now c.settings.ensures.value c.init_changeable.result c.init_changeable.ensures in
     search rules
 
 pub returns-clause-refusal : goal.returns-clause-refusal
 returns-clause-refusal g c =
     c.in_ok-check_progress.ensures
     ∙ by_progress c.args.granules.now c.args.rd c.args.base c.args.top c.in_ok-check_size.ensures.refusal c.in_ok-owner.ensures.refusal c.in_ok-owner.owner.realm c.in_ok-owner.ensures.realm
-    c.in_ok-check_range.ensures.refusal c.walk-found.result c.walk-found.ensures.value c.settings.result.now c.settings.ensures.value c.changeable.result c.changeable.ensures
+    c.in_ok-check_range.ensures.refusal c.walk-found.result c.walk-found.ensures.value c.settings.result.now c.settings.ensures.value c.init_changeable.result c.init_changeable.ensures

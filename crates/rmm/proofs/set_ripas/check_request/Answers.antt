@@ -1,7 +1,7 @@
 use Rattle.std.proofs.Common.{◌≡◌, ◌-◌, ◌^◌, ◌||◌, Bool, true, false, not, nat_le, sym, ◌∙◌}
 use Rattle.std.proofs.lemmas.Bool.{and_parts, ltb-true}
 use Rattle.rmm_model.specs.Realm.{is_protected}
-use Rattle.rmm.proofs.Widths.{space_fits, half_fits}
+use Rattle.rmm_reading.proofs.Widths.{space_fits, half_fits}
 use Rattle.rmm.proofs.set_ripas.check_request.Goals as goal
 
 -- a range of a REC of the realm begins at a protected address

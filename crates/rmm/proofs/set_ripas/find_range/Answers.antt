@@ -36,7 +36,7 @@ returns-in_err-check_progress-clause-refusal g c =
     c.in_err-check_progress.ensures
     ∙ by_progress c.args.granules.now c.args.rd c.args.rec c.args.base c.args.top c.in_ok-check_size.ensures.refusal c.in_ok-owner.ensures.refusal c.in_ok-asking.ensures.refusal
     c.in_ok-owner.owner.realm c.in_ok-owner.ensures.realm c.in_ok-asking.asking.rec c.in_ok-asking.ensures.rec c.is_rec_of-is_owner.result c.is_rec_of-is_owner.ensures
-    c.in_ok-check_request.ensures.refusal c.walk-found.result c.walk-found.ensures.value c.changeable.result c.changeable.ensures in
+    c.in_ok-check_request.ensures.refusal c.walk-found.result c.walk-found.ensures.value c.set_changeable.result c.set_changeable.ensures in
     search rules
 
 pub returns-clause-refusal : goal.returns-clause-refusal
@@ -44,4 +44,4 @@ returns-clause-refusal g c =
     c.in_ok-check_progress.ensures
     ∙ by_progress c.args.granules.now c.args.rd c.args.rec c.args.base c.args.top c.in_ok-check_size.ensures.refusal c.in_ok-owner.ensures.refusal c.in_ok-asking.ensures.refusal
     c.in_ok-owner.owner.realm c.in_ok-owner.ensures.realm c.in_ok-asking.asking.rec c.in_ok-asking.ensures.rec c.is_rec_of-is_owner.result c.is_rec_of-is_owner.ensures
-    c.in_ok-check_request.ensures.refusal c.walk-found.result c.walk-found.ensures.value c.changeable.result c.changeable.ensures
+    c.in_ok-check_request.ensures.refusal c.walk-found.result c.walk-found.ensures.value c.set_changeable.result c.set_changeable.ensures

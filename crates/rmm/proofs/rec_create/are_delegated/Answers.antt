@@ -1,4 +1,0 @@
-use Rattle.rmm.proofs.rec_create.are_delegated.Goals as goal
-
-pub returns : goal.returns
-returns g c = c.all_aux.ensures

@@ -1,0 +1,30 @@
+//! Readings of a machine that the failure conditions of RMI commands need. RMM 1.0, RMI.
+//!
+//! They are granules by their addresses, walks and the entries where they end, pages of parameters, and requests of
+//! RECs. An RMM that ends at the first check that fails makes them, and a judge that evaluates all checks. Nothing
+//! changes the machine, and no call takes memory.
+#![tactic(auto)]
+
+mod descriptor;
+mod granule;
+mod operand;
+mod psci;
+mod realm;
+mod realm_params;
+mod rec_params;
+mod ripas;
+mod run_page;
+mod table;
+mod walking;
+
+pub use descriptor::has_attributes;
+pub use granule::{granule_after, granule_named, is_same_owner, realm_in};
+pub use operand::OperandConditions;
+pub use psci::{PSCI_SUCCESS, is_pending, is_status, target_of};
+pub use realm::{is_realm_live, start_table, state_of};
+pub use realm_params::{can_start, is_start, is_start_table, is_supported, is_vmid_valid};
+pub use rec_params::{are_aux_aligned, are_aux_apart, are_aux_delegated, are_aux_inside};
+pub use ripas::{init_changeable, set_changeable};
+pub use run_page::{is_no_mmio, refuses_gic};
+pub use table::{first_entry, is_block_too_high, is_homogeneous};
+pub use walking::{entry_at, memory_below, table_below, top, walk};

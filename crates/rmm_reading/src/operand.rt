@@ -1,0 +1,89 @@
+//! Operands that are addresses of granules.
+use rmm_model::Condition;
+
+/// The failure conditions of an operand that is the address of a granule: of its alignment, its bound and its state.
+#[derive(Clone, Copy)]
+pub struct OperandConditions {
+    pub align: Condition,
+    pub bound: Condition,
+    pub state: Condition,
+}
+
+impl OperandConditions {
+    /// The granule of RMI_GRANULE_DELEGATE and RMI_GRANULE_UNDELEGATE.
+    pub const GRANULE: OperandConditions = OperandConditions {
+        align: Condition::GranAlign,
+        bound: Condition::GranBound,
+        state: Condition::GranState,
+    };
+
+    /// An RD.
+    pub const RD: OperandConditions = OperandConditions {
+        align: Condition::RdAlign,
+        bound: Condition::RdBound,
+        state: Condition::RdState,
+    };
+
+    /// The page of the host with the parameters of a realm or a REC.
+    pub const PARAMS: OperandConditions = OperandConditions {
+        align: Condition::ParamsAlign,
+        bound: Condition::ParamsBound,
+        state: Condition::ParamsPas,
+    };
+
+    /// A new table.
+    pub const RTT: OperandConditions = OperandConditions {
+        align: Condition::RttAlign,
+        bound: Condition::RttBound,
+        state: Condition::RttState,
+    };
+
+    /// A new page of data.
+    pub const DATA: OperandConditions = OperandConditions {
+        align: Condition::DataAlign,
+        bound: Condition::DataBound,
+        state: Condition::DataState,
+    };
+
+    /// The page of the host that RMI_DATA_CREATE copies.
+    pub const SOURCE: OperandConditions = OperandConditions {
+        align: Condition::SrcAlign,
+        bound: Condition::SrcBound,
+        state: Condition::SrcPas,
+    };
+
+    /// A new REC.
+    pub const NEW_REC: OperandConditions = OperandConditions {
+        align: Condition::RecAlign,
+        bound: Condition::RecBound,
+        state: Condition::RecState,
+    };
+
+    /// A REC.
+    pub const REC: OperandConditions = OperandConditions {
+        align: Condition::RecAlign,
+        bound: Condition::RecBound,
+        state: Condition::RecGranState,
+    };
+
+    /// The run page of RMI_REC_ENTER.
+    pub const RUN: OperandConditions = OperandConditions {
+        align: Condition::RunAlign,
+        bound: Condition::RunBound,
+        state: Condition::RunPas,
+    };
+
+    /// The REC whose request RMI_PSCI_COMPLETE completes.
+    pub const CALLING: OperandConditions = OperandConditions {
+        align: Condition::CallingAlign,
+        bound: Condition::CallingBound,
+        state: Condition::CallingState,
+    };
+
+    /// The REC that this request names.
+    pub const TARGET: OperandConditions = OperandConditions {
+        align: Condition::TargetAlign,
+        bound: Condition::TargetBound,
+        state: Condition::TargetState,
+    };
+}

@@ -1,0 +1,27 @@
+//! Entries whose RIPAS a command changes.
+ghost use Rattle.std.specs.Prelude.{◌≡◌};
+ghost use Rattle.rmm_model.specs.Command.RttInitRipas as making;
+ghost use Rattle.rmm_model.specs.Command.RttSetRipas as setting;
+
+use rmi_abi::RmmSettings;
+use rmm_model::{Changeable, RipasRequest};
+
+/// The entries that RMI_RTT_INIT_RIPAS changes: UNASSIGNED ones, with those that are DESTROYED if settings say so.
+pub fn init_changeable(settings: &RmmSettings) -> Changeable
+    ensures { result ≡ making.init_changeable settings.now }
+{
+    Changeable {
+        assigned: false,
+        destroyed: !settings.stops_at_destroyed,
+    }
+}
+
+/// The entries that RMI_RTT_SET_RIPAS changes for a request.
+pub fn set_changeable(request: &RipasRequest) -> Changeable
+    ensures { result ≡ setting.set_changeable request.now }
+{
+    Changeable {
+        assigned: true,
+        destroyed: request.changes_destroyed,
+    }
+}

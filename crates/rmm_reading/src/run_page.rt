@@ -1,0 +1,37 @@
+//! Requests of the host in a run page. RMM 1.0, RMI_REC_ENTER.
+ghost use Rattle.std.specs.Prelude.{◌≡◌, length};
+ghost use Rattle.rmi_abi.specs.Gic.{is_gicv3_lr};
+ghost use Rattle.rmm_model.specs.Command.RecCreate.{all_from};
+ghost use Rattle.rmm_model.specs.Command.RecEnter as entering;
+
+use rmi_abi::{EnterFlags, GicFields, RmmSettings};
+use rmm_model::{LastExit, RmmRec};
+
+/// Whether flags say that the host emulates an access, and the last exit was none that can be emulated.
+pub fn is_no_mmio(rec: &RmmRec, flags: u64) -> bool
+    ensures { result ≡ entering.is_no_mmio rec.now flags }
+{
+    EnterFlags::emulates_mmio(flags) && !matches!(rec.exit, LastExit::EmulatableAbort)
+}
+
+// Whether a host may set the list registers as a run page has them.
+fn are_lrs(num_lrs: u8, page: &[u8]) -> bool
+    requires { length page.now ≡ 4096 }
+    ensures { result ≡ all_from (is_gicv3_lr num_lrs page.now) 0 16 }
+{
+    for k in 0..16u8 {
+        if !GicFields::is_lr(num_lrs, page, k) {
+            return false;
+        }
+    }
+    true
+}
+
+/// Whether the GIC fields of a run page are checked, and a host may not set them so.
+#[tactic(auto, unfolding(rmm_model::specs::Command::RecEnter::is_gic_wrong))]
+pub fn refuses_gic(settings: &RmmSettings, page: &[u8]) -> bool
+    requires { length page.now ≡ 4096 }
+    ensures { result ≡ entering.is_gic_wrong settings.now page.now }
+{
+    settings.checks_gic && !(GicFields::is_hcr(GicFields::hcr(page)) && are_lrs(settings.lrs, page))
+}

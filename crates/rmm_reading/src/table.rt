@@ -1,0 +1,46 @@
+//! Tables that are folded into an entry. RMM 1.0, RMI_RTT_FOLD.
+ghost use Rattle.std.specs.Prelude.{◌≡◌, ◌^◌, ◌<◌, ◌≤◌, length};
+ghost use Rattle.rmm_model.specs.Entry.{descriptor_of};
+ghost use Rattle.rmm_model.specs.Table.{entry_in_page};
+ghost use Rattle.rmm_model.specs.Command.RttFold as command;
+
+use page_arena::word_in;
+use rmi_abi::RmmSettings;
+use rmm_model::{RmmRttEntry, entry_from_word, entry_offset, has_parts};
+
+/// The first entry of a table, which is a page of 512 words.
+#[tactic(auto, unfolding(rmm_model::specs::Table::entry_in_page))]
+pub fn first_entry(page: &[u8]) -> RmmRttEntry
+    requires { length page.now ≡ 4096 }
+    ensures value { result ≡ entry_in_page page.now 0 }
+    ensures fits { descriptor_of result < 2 ^ 48 }
+{
+    entry_from_word(word_in(page, 0))
+}
+
+// Whether an entry can be one a level higher.
+fn is_aligned_above(entry: RmmRttEntry, level: u8) -> bool
+    requires { 1 ≤ level }
+    ensures { result ≡ command.is_aligned_above entry level }
+{
+    !entry.is_mapping() || entry_offset(level - 1, entry.descriptor() / 4096 * 4096) == 0
+}
+
+/// Whether a table of a level says the same as one entry above it.
+#[tactic(auto, unfolding(rmm_model::specs::Command::RttFold::is_homogeneous))]
+pub fn is_homogeneous(page: &[u8], level: u8) -> bool
+    requires page { length page.now ≡ 4096 }
+    requires level { 1 ≤ level }
+    ensures { result ≡ command.is_homogeneous page.now level }
+{
+    let first = first_entry(page);
+    !first.is_table() && is_aligned_above(first, level) && has_parts(page, first, level)
+}
+
+/// Whether a table of a level would become a block of a level at which there is none.
+pub fn is_block_too_high(settings: &RmmSettings, page: &[u8], level: u8) -> bool
+    requires { length page.now ≡ 4096 }
+    ensures { result ≡ command.is_block_too_high settings.now page.now level }
+{
+    first_entry(page).is_mapping() && level <= settings.block_level
+}
