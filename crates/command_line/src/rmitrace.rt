@@ -44,22 +44,22 @@ const ABOUT: &str =
     "Answers and checks traces of RMI calls, as a Realm Management Monitor (RMM 1.0).";
 
 const EXAMPLES: &str = "Examples:
-  rmitrace check traces/rmm/a-kvm-boot.trace
+  rmitrace check traces/rmm/kvm-boot.trace
   printf 'platform 0x80000000 64\\nrmi_features 0\\n' | rmitrace answer
   rmitrace names firmware.log | rmitrace check --skip rtte_ripas";
 
 const ANSWER: &str = "Print each line of a trace with its answer, as soon as it is read";
 
 const ANSWER_EXAMPLES: &str = "Examples:
-  rmitrace answer traces/rmm/a-kvm-boot.trace
+  rmitrace answer traces/rmm/kvm-boot.trace
   printf 'platform 0x80000000 64\\nrmi_features 0\\n' | rmitrace answer";
 
 const CHECK: &str = "Compare the answers of a trace, and print each that is not the same";
 
 const CHECK_EXAMPLES: &str = "Examples:
-  rmitrace check traces/rmm/a-kvm-boot.trace
+  rmitrace check traces/rmm/kvm-boot.trace
   rmitrace check --stop --skip rmi_rec_enter firmware.trace
-  rmitrace answer traces/rmm/a-kvm-boot.trace | rmitrace check";
+  rmitrace answer traces/rmm/kvm-boot.trace | rmitrace check";
 
 const STOP_HELP: &str = "Stop at the first line that is wrong";
 
@@ -76,7 +76,7 @@ const NAMES_EXAMPLES: &str = "Examples:
 const WHY: &str = "Print a trace with its answers, and explain each refusal";
 
 const WHY_EXAMPLES: &str = "Examples:
-  rmitrace why traces/rmm/b-refusals.trace | less";
+  rmitrace why traces/rmm/refusals.trace | less";
 
 const FILE: &str = "The trace; without FILE, or with -, read standard input";
 
