@@ -1,4 +1,5 @@
 mod Tails
+mod Refused
 mod Parts
 mod Kept
 mod Sessions

@@ -50,7 +50,7 @@ module _ (bytes : List ℕ) (lines : List (List ℕ)) (rest : List ℕ) (b : ℕ
 
 -- ---- a part without a line feed, and one that ends in a line feed
 
-abbrev HasNoFeed : List ℕ → Type 0
+abbrev pub HasNoFeed : List ℕ → Type 0
 HasNoFeed bytes = list_all (λ b. not (b == 10)) bytes ≡ true
 
 pub cut_part : (bytes part : List ℕ) (lines : List (List ℕ)) (rest : List ℕ) → HasNoFeed part → parts_of bytes ≡ lines ++ rest ∷ []
@@ -83,7 +83,7 @@ pub cut_some : (t after : List ℕ) → after_mark 10 t ≡ Some after → t ≡
 cut_some [] after is = absurd (cc)
 cut_some (b ∷ bs) after is =
     elim (b == 10) as (λ v. (b == 10) ≡ v → cond v (Some bs) (after_mark 10 bs) ≡ Some after → b ∷ bs ≡ (cond v [] (b ∷ before_mark 10 bs) ++ 10 ∷ []) ++ after) [
-      | true ↦ λ e same. let here : b ≡ 10 = true-eqb b 10 e in let rest : bs ≡ after = cc in rw (here, rest) refl
+      | true ↦ λ e same. let here : b ≡ 10 = true-eqb b 10 (sym e) in let rest : bs ≡ after = cc in rw (here, rest) refl
       | false ↦ λ e some. ap (λ (xs : List ℕ). b ∷ xs) (cut_some bs after some)
     ] refl is
 

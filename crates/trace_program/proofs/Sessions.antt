@@ -5,7 +5,7 @@ use Rattle.trace_program.specs.declared.session.Session.{Session}
 use Rattle.trace_program.specs.Session.{IsLineText, IsSession, after_line, is_done}
 
 -- a session that was done stays so
-not_both : (b : Bool) → b ≡ true → b ≡ false → ⊥
+pub not_both : (b : Bool) → b ≡ true → b ≡ false → ⊥
 not_both true e f = absurd (cc)
 not_both false e f = absurd (cc)
 

@@ -1,9 +1,10 @@
 -- The lengths of the parts of a line.
-use Rattle.std.proofs.Common.{◌≡◌, ℕ, ◌+◌, ◌≤◌, ◌==◌, Bool, true, false, cond, ◌&&◌, List, [], ◌∷◌, length, drop, codes, refl, arith, length-drop}
+use Rattle.std.proofs.Common.{◌≡◌, ℕ, ◌+◌, ◌≤◌, ◌==◌, Bool, true, false, cond, ◌&&◌, List, [], ◌∷◌, length, drop, codes, refl, arith, length-drop, drop-drop, ap, ◌∙◌}
 use Rattle.std.specs.Prelude.{nat_eq, Option, Some, None}
 use Rattle.std.specs.List.{starts_with}
 use Rattle.std.proofs.lemmas.Bool.{true≢false}
 use Rattle.rmm_trace.specs.Cuts.{before_mark}
+use Rattle.trace_program.specs.LineText.{tail_of}
 use Rattle.rmm_trace.specs.Lines.{is_blank, trimmed, before_trimmed, bare_text, before_answer, answer_in}
 
 before_short : (b : ℕ) (t : List ℕ) → length (before_trimmed b t) ≤ 1 + length t
@@ -56,11 +57,31 @@ cut_length (b ∷ bs) =
       | false ↦ λ is. omega (arith, cut_length bs)
     ] refl
 
--- ---- the end of a question and an answer
+-- ---- the end of a line
 
-pub end_with : (line question answer : List ℕ) → question ≡ before_answer (bare_text line) → answer_in (bare_text line) ≡ Some answer
-    → length question + 3 + length answer ≡ length (bare_text line)
-end_with line question answer is has = let all = cut_length (bare_text line) in let whole = rw has at all in rw is (omega (arith, whole))
+module _ (line question : List ℕ) (is : question ≡ before_answer (bare_text line)) where
+  all : length question + answer_length (answer_in (bare_text line)) ≡ length (bare_text line)
+  all = rw is (cut_length (bare_text line))
 
-pub end_without : (line question : List ℕ) → question ≡ before_answer (bare_text line) → answer_in (bare_text line) ≡ None → length question ≡ length (bare_text line)
-end_without line question is has = let all = cut_length (bare_text line) in let whole = rw has at all in rw is (omega (arith, whole))
+  pub question_short : length question ≤ length line
+  question_short = omega (arith, all, bare_short line)
+
+  pub tail_without : answer_in (bare_text line) ≡ None → drop (length question) line ≡ tail_of line
+  unfolding tail_of
+  tail_without none = let whole = rw none at all in let same : length question ≡ length (bare_text line) = omega (arith, whole) in rw same refl
+
+  module _ (answer : List ℕ) (has : answer_in (bare_text line) ≡ Some answer) where
+    whole : length question + (3 + length answer) ≡ length (bare_text line)
+    whole = rw has at all
+
+    pub sign_short : 3 ≤ length (drop (length question) line)
+    sign_short = omega (arith, whole, bare_short line, length-drop (length question) line)
+
+    pub answer_short : length answer ≤ length (drop 3 (drop (length question) line))
+    answer_short = omega (arith, whole, bare_short line, length-drop (length question) line, length-drop 3 (drop (length question) line))
+
+    pub tail_with : drop (length answer) (drop 3 (drop (length question) line)) ≡ tail_of line
+    unfolding tail_of
+    tail_with =
+        let end : length question + 3 + length answer ≡ length (bare_text line) = omega (arith, whole) in
+        ap (drop (length answer)) (drop-drop 3 (length question) line) ∙ drop-drop (length answer) (length question + 3) line ∙ ap (λ k. drop k line) end

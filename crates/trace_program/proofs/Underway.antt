@@ -48,6 +48,10 @@ front_longer old new text more w = record {
 whole_front : (old new : Option (List ℕ)) (text : List ℕ) → Appends old new text → AppendsFront old new text
 whole_front old new text written = record { front = text; rest = []; split = sym (append-nil text); grows = written }
 
+-- nothing was written of a text
+pub nothing_front : (old : Option (List ℕ)) (text : List ℕ) → AppendsFront old old text
+nothing_front old text = record { front = []; rest = text; split = refl; grows = appends_none old }
+
 module _ (asked : TraceSubcommand) (input left old new : Option (List ℕ)) where
   pub underway_none : is_done asked fresh ≡ false → Keeps input left → Keeps old new → IsUnderway asked input left old new fresh []
   underway_none going unread unwritten = record {

@@ -1,20 +1,17 @@
 -- The verdict on a line.
 use Rattle.std.specs.Prelude.{ℕ, ◌==◌, nat_le, Bool, true, false, not, ◌&&◌, ◌||◌, if◌then◌else◌, List, [], ◌∷◌, codes, Option, Some, None, unwrap_or}
-use Rattle.std.specs.List.{list_any, position_from}
+use Rattle.std.specs.List.{list_any}
 use Rattle.std.specs.Str.{bytes_eq}
 use Rattle.command_line.specs.declared.rmitrace.Comparison.{Comparison}
 use Rattle.command_line.specs.declared.rmitrace.NameSet.{NameSet}
 use Rattle.command_line.specs.Rmitrace.{is_name_in}
 use Rattle.rmm_model.specs.Machine.{Machine}
-use Rattle.rmm_trace.specs.declared.access.TheConstants.{FUNCTIONS}
 use Rattle.rmm_trace.specs.declared.line.RmmTraceLine.{RmmTraceLine}
 use Rattle.rmm_trace.specs.declared.line.RmmTraceLine.TheVariants.{Remark, Question, Neither}
-use Rattle.rmm_trace.specs.declared.place.TheConstants.{DASH, FIRST_CHECK, REPEAT, SMC}
+use Rattle.rmm_trace.specs.declared.place.TheConstants.{FIRST_CHECK, REPEAT}
 use Rattle.rmm_trace.specs.declared.word.Atom.{Atom}
 use Rattle.rmm_trace.specs.declared.word.Atom.TheVariants.{Name}
 use Rattle.rmm_trace.specs.declared.word.TraceWord.{TraceWord}
-use Rattle.rmm_trace.specs.Access.{operand_at}
-use Rattle.rmm_trace.specs.Compare.{place_of}
 use Rattle.rmm_answers.specs.declared.judging.Verdict.{Verdict}
 use Rattle.rmm_answers.specs.declared.judging.Verdict.TheVariants as answer
 use Rattle.rmm_answers.specs.declared.place.TheConstants.{NO, COMMAND}
@@ -22,7 +19,7 @@ use Rattle.rmm_answers.specs.declared.reply.TraceReply.{TraceReply}
 use Rattle.rmm_answers.specs.Judging.{judged}
 use Rattle.trace_program.specs.declared.counts.LineVerdict.{LineVerdict}
 use Rattle.trace_program.specs.declared.counts.LineVerdict.TheVariants.{NotCompared, Same, Allowed, Wrong}
-use Rattle.trace_program.specs.LineText.{read, written_in}
+use Rattle.trace_program.specs.LineText.{name_place, raw_call, read, written_in}
 
 -- ---- lines that are no command
 
@@ -63,20 +60,13 @@ repeated [] = []
 repeated (w ∷ []) = w ∷ []
 repeated (w ∷ times ∷ ws) = if is_name w REPEAT then ws else w ∷ times ∷ ws
 
--- the command with a function identifier; a raw call, if there is none
-abbrev pub function_place : ℕ → ℕ
-function_place function = unwrap_or (position_from (λ it. it == function) 0 FUNCTIONS) SMC
-
-abbrev pub name_place : List TraceWord → ℕ
-name_place [] = DASH
-name_place (w ∷ ws) = place_of w.value
-
-abbrev pub call_place : List TraceWord → ℕ
-call_place call = if name_place call == SMC then function_place (operand_at call 1 0) else name_place call
+abbrev pub call_place : Option (List TraceWord) → List TraceWord → ℕ
+call_place (Some call) question = name_place call
+call_place None question = name_place (repeated question)
 
 -- the name of a question, or of its command if it is a repeated or a raw call
 unfoldable pub command_place : List TraceWord → ℕ
-command_place question = call_place (repeated question)
+command_place question = call_place (raw_call question) question
 
 -- A line has the names of its question and of its command, and those of the checks in its answers.
 unfoldable pub is_named : NameSet → List TraceWord → List ℕ → TraceReply → Bool

@@ -4,7 +4,9 @@ use Rattle.std.specs.List.{slice_split}
 use Rattle.rmm_trace.specs.declared.line.RmmTraceLine.{RmmTraceLine}
 use Rattle.rmm_trace.specs.declared.line.RmmTraceLine.TheVariants.{Remark, Question, Neither}
 use Rattle.rmm_trace.specs.declared.table.TheConstants.{GROUPS, START}
+use Rattle.rmm_trace.specs.declared.place.TheConstants.{DASH, SMC}
 use Rattle.rmm_trace.specs.declared.word.TraceWord.{TraceWord}
+use Rattle.rmm_trace.specs.Compare.{place_of}
 use Rattle.rmm_trace.specs.Lines.{bare_text, before_answer, answer_in, line_in}
 use Rattle.rmm_trace.specs.Sentences.{sentence_text, words_in}
 use Rattle.rmm_answers.specs.declared.reply.TraceReply.{TraceReply}
@@ -42,9 +44,17 @@ answered_text bytes line reply = question_of bytes ++ sign_and_answer reply ++ (
 
 -- ---- names
 
+abbrev pub name_place : List TraceWord → ℕ
+name_place [] = DASH
+name_place (w ∷ ws) = place_of w.value
+
+-- the named call of a raw line
+abbrev pub raw_call : List TraceWord → Option (List TraceWord)
+raw_call question = if name_place question == SMC then named_question question else None
+
 -- the question of a raw line by names, if it is one
 abbrev pub question_named : RmmTraceLine → Option (List TraceWord)
-question_named (Question q) = named_question q.items
+question_named (Question q) = raw_call q.items
 question_named _ = None
 
 -- the answer of a raw line by names, if it can be named

@@ -45,10 +45,11 @@ after_line asks.Why s bytes = performed s (line_of bytes)
 
 -- ---- texts
 
--- the lines below an answer: there are none below a remark, and below a command that is not refused
+-- the lines below an answer: there are none below a remark, and below a question that is not refused
 abbrev pub AreReasons : RmmTraceLine → TraceReply → List ℕ → Type 0
 AreReasons Remark reply text = text ≡ []
-AreReasons line reply text = reply.refused ≡ None → is_no_command reply ≡ false → text ≡ []
+AreReasons (Question q) reply text = is_no_command reply ≡ false → reply.refused ≡ None → text ≡ []
+AreReasons Neither reply text = Unit {0}
 
 -- a line with its answer, and reasons below it
 pub record IsExplained (bytes : List ℕ) (reply : TraceReply) (text : List ℕ) : Type 0 where

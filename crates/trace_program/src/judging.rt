@@ -1,15 +1,15 @@
 //! The verdict on a line whose answer is written.
-ghost use Rattle.std.specs.Prelude.{◌≡◌, ◌==◌};
-ghost use Rattle.std.specs.List.{position_from};
+ghost use Rattle.std.specs.Prelude.{◌≡◌, option_map};
 ghost use Rattle.std.specs.Option.{option_copied};
 ghost use Rattle.trace_program.specs.Judged as specs;
+ghost use Rattle.trace_program.specs.LineText.{name_place, raw_call};
 
 use crate::LineVerdict;
 use command_line::rmitrace::{Comparison, NameSet};
 use rmm_answers::place::{COMMAND, NO};
-use rmm_answers::{TraceMachine, TraceReply, Verdict, judge};
+use rmm_answers::{TraceMachine, TraceReply, Verdict, judge, named_question};
 use rmm_trace::place::{DASH, FIRST_CHECK, REPEAT, SMC};
-use rmm_trace::{Atom, FUNCTIONS, RmmTraceLine, TraceWord, cut_line, operand, read_words};
+use rmm_trace::{Atom, RmmTraceLine, Sentence, TraceWord, cut_line, read_words};
 
 // Whether a word is a name.
 fn is_name(word: &TraceWord, name: usize) -> bool
@@ -61,28 +61,9 @@ fn repeated(question: &[TraceWord]) -> &[TraceWord]
     }
 }
 
-// The place of a function identifier among some.
-fn place_among(functions: &[u64], function: u64) -> Option<usize>
-    ensures { result ≡ position_from (λ it. it == function) 0 functions.now }
-{
-    for (place, it) in functions.iter().enumerate() {
-        if *it == function {
-            return Some(place);
-        }
-    }
-    None
-}
-
-// The place of the command with a function identifier; that of raw calls if there is none.
-fn function_place(function: u64) -> usize
-    ensures { result ≡ specs.function_place function }
-{
-    place_among(&FUNCTIONS, function).unwrap_or(SMC)
-}
-
 // The place of the first word's name.
 fn name_place(question: &[TraceWord]) -> usize
-    ensures { result ≡ specs.name_place question.now }
+    ensures { result ≡ name_place question.now }
 {
     match question {
         [first, ..] => match first.value {
@@ -93,17 +74,25 @@ fn name_place(question: &[TraceWord]) -> usize
     }
 }
 
+/// The named call of a raw line.
+pub(crate) fn raw_call(question: &[TraceWord]) -> Option<Sentence>
+    ensures { option_map (λ call. call.items) result ≡ raw_call question.now }
+{
+    if name_place(question) == SMC {
+        named_question(question)
+    } else {
+        None
+    }
+}
+
 /// The place of the name of a question, or of its command if it is a repeated or a raw call.
 #[tactic(auto, unfolding(crate::specs::Judged::command_place))]
 pub(crate) fn command_place(question: &[TraceWord]) -> usize
     ensures { result ≡ specs.command_place question.now }
 {
-    let call = repeated(question);
-    let place = name_place(call);
-    if place == SMC {
-        function_place(operand(call, 1, 0))
-    } else {
-        place
+    match raw_call(question) {
+        Some(call) => name_place(call.as_slice()),
+        None => name_place(repeated(question)),
     }
 }
 

@@ -114,9 +114,13 @@ pub(crate) fn tail(bytes: &[u8]) -> &[u8]
     ensures { result.now ≡ tail_of bytes.now }
 {
     let (question, written) = cut_line(bytes);
-    let end = match written {
-        Some(answer) => question.len() + 3 + answer.len(),
-        None => question.len(),
-    };
-    &bytes[end..]
+    let (_, rest) = bytes.split_at(question.len());
+    match written {
+        Some(answer) => {
+            let (_, after_sign) = rest.split_at(3);
+            let (_, after) = after_sign.split_at(answer.len());
+            after
+        }
+        None => rest,
+    }
 }

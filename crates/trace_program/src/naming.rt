@@ -2,8 +2,9 @@
 ghost use Rattle.std.specs.Prelude.{◌≡◌, ◌++◌, OnOk, option_map};
 ghost use Rattle.trace_program.specs.LineText.{answer_named, named_text, question_named};
 
+use crate::judging::raw_call;
 use crate::line_text::{LineTexts, tail};
-use rmm_answers::{named_answer, named_question};
+use rmm_answers::named_answer;
 use rmm_trace::{RmmTraceLine, Sentence, cut_line, read_words};
 use std::alloc::AllocError;
 
@@ -12,7 +13,7 @@ fn question_of(line: &RmmTraceLine) -> Option<Sentence>
     ensures { option_map (λ v. v.items) result ≡ question_named line.now }
 {
     match line {
-        RmmTraceLine::Question(question) => named_question(question.as_slice()),
+        RmmTraceLine::Question(question) => raw_call(question.as_slice()),
         _ => None,
     }
 }

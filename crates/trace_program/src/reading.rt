@@ -21,7 +21,9 @@ fn keep(line: &mut Vec<u8>, part: &[u8]) -> Result<(), AllocError>
     ensures { OnOk result ((rest : List ℕ) → line.old.items ≡ specs.kept_of_line rest → line.new.items ≡ specs.kept_of_line (rest ++ part.now)) }
 {
     let room = KEPT.saturating_sub(line.len());
-    line.extend_from_slice(&part[..part.len().min(room)])
+    let (kept, _) = part.split_at(room.min(part.len()));
+    line.extend_from_slice(kept)?;
+    Ok(())
 }
 
 // The request of a run, and the name of its trace.

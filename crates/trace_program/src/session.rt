@@ -1,5 +1,5 @@
 //! A session: the lines of a trace, one after another.
-ghost use Rattle.std.specs.Prelude.{◌≡◌, ◌++◌, ℕ, List, Err, IfOk, OnOk, string_bytes};
+ghost use Rattle.std.specs.Prelude.{◌≡◌, ◌++◌, ℕ, List, [], Err, None, IfOk, OnOk, string_bytes};
 ghost use Rattle.trace_program.specs.declared.fault.TraceError.TheVariants.{Device};
 ghost use Rattle.trace_program.specs.LineText.{answered_text, line_of};
 ghost use Rattle.trace_program.specs.Session as specs;
@@ -11,7 +11,7 @@ use crate::reasons::{checks_text, difference, heading, hint};
 use crate::{Counts, LineVerdict, TraceError};
 use command_line::rmitrace::{Comparison, TraceSubcommand};
 use rmm_answers::{TraceMachine, TraceReply};
-use rmm_trace::{RmmTraceLine, parse};
+use rmm_trace::{RmmTraceLine, TraceWord, parse};
 use std::alloc::{AllocError, Global};
 
 /// The state of a trace after some lines.
@@ -54,6 +54,16 @@ impl Session {
         }
     }
 
+    // The checks of a refused call; nothing if none is refused.
+    fn refusal(&self, alloc: Global, question: &[TraceWord]) -> Result<String, AllocError>
+        ensures { IfOk result (λ text. self.now.reply.refused ≡ None → string_bytes text ≡ []) }
+    {
+        match self.machine.checks(question, &self.reply) {
+            Some(checks) => checks_text(alloc, question, &checks),
+            None => Ok(String::new(alloc)),
+        }
+    }
+
     // The lines below an answer: the checks of a refused call, or the word that was probably meant.
     fn reasons(
         &self,
@@ -63,14 +73,15 @@ impl Session {
     ) -> Result<String, AllocError>
         ensures { IfOk result (λ text. specs.AreReasons line.now self.now.reply (string_bytes text)) }
     {
-        let question = match line {
-            RmmTraceLine::Remark => return Ok(String::new(alloc)),
-            RmmTraceLine::Question(question) if !is_no_command(&self.reply) => question.as_slice(),
-            _ => return hint(alloc, bytes, "    "),
-        };
-        match self.machine.checks(question, &self.reply) {
-            Some(checks) => checks_text(alloc, question, &checks),
-            None => Ok(String::new(alloc)),
+        match line {
+            RmmTraceLine::Remark => Ok(String::new(alloc)),
+            RmmTraceLine::Neither => hint(alloc, bytes, "    "),
+            RmmTraceLine::Question(question) => {
+                if is_no_command(&self.reply) {
+                    return hint(alloc, bytes, "    ");
+                }
+                self.refusal(alloc, question.as_slice())
+            }
         }
     }
 
