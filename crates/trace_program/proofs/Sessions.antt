@@ -2,7 +2,7 @@
 use Rattle.std.proofs.Common.{◌≡◌, ℕ, Bool, true, false, List, [], ◌∷◌, ◌++◌, refl, sym, ap, ◌∙◌, subst, append_assoc, append-nil, inl, inr}
 use Rattle.command_line.specs.declared.rmitrace.TraceSubcommand.{TraceSubcommand}
 use Rattle.trace_program.specs.declared.session.Session.{Session}
-use Rattle.trace_program.specs.Session.{IsLineText, IsSession, after_line, is_done}
+use Rattle.trace_program.specs.Session.{IsLineText, IsSession, after_line, is_check_done}
 
 -- a session that was done stays so
 pub not_both : (b : Bool) → b ≡ true → b ≡ false → ⊥
@@ -10,12 +10,12 @@ not_both true e f = absurd (cc)
 not_both false e f = absurd (cc)
 
 module _ (asked : TraceSubcommand) where
-  pub session_more : (old : Session) (lines : List (List ℕ)) (line text told : List ℕ) (mid : Session) → IsSession asked old lines text mid → is_done asked mid ≡ false
+  pub session_more : (old : Session) (lines : List (List ℕ)) (line text told : List ℕ) (mid : Session) → IsSession asked old lines text mid → is_check_done asked mid ≡ false
       → IsLineText asked line mid (after_line asked mid line) told → IsSession asked old (lines ++ line ∷ []) (text ++ told) (after_line asked mid line)
   session_more old [] line text told mid is going k =
       let same = is.1 in
       inr (
-        subst (λ (s : Session). is_done asked s ≡ false) same going,
+        subst (λ (s : Session). is_check_done asked s ≡ false) same going,
         (
           told,
           [],
@@ -26,7 +26,7 @@ module _ (asked : TraceSubcommand) where
       )
   session_more old (l ∷ ls) line text told mid is going k =
       elim is [
-        | inl done ↦ absurd (not_both (is_done asked old) done.0 (subst (λ (s : Session). is_done asked s ≡ false) done.2 going))
+        | inl done ↦ absurd (not_both (is_check_done asked old) done.0 (subst (λ (s : Session). is_check_done asked s ≡ false) done.2 going))
         | inr goes ↦
             let it = goes.1 in
             inr (
@@ -41,15 +41,15 @@ module _ (asked : TraceSubcommand) where
             )
       ]
 
-  done_more : (old : Session) (more : List (List ℕ)) → is_done asked old ≡ true → IsSession asked old more [] old
+  done_more : (old : Session) (more : List (List ℕ)) → is_check_done asked old ≡ true → IsSession asked old more [] old
   done_more old [] done = (refl, refl)
   done_more old (line ∷ more) done = inl (done, refl, refl)
 
   -- lines after it is done change nothing
-  pub session_done : (old : Session) (lines more : List (List ℕ)) (text : List ℕ) (last : Session) → IsSession asked old lines text last → is_done asked last ≡ true
+  pub session_done : (old : Session) (lines more : List (List ℕ)) (text : List ℕ) (last : Session) → IsSession asked old lines text last → is_check_done asked last ≡ true
       → IsSession asked old (lines ++ more) text last
   session_done old [] more text last is done =
-      rw (is.0) (subst (λ (s : Session). IsSession asked old more [] s) (sym is.1) (done_more old more (subst (λ (s : Session). is_done asked s ≡ true) is.1 done)))
+      rw (is.0) (subst (λ (s : Session). IsSession asked old more [] s) (sym is.1) (done_more old more (subst (λ (s : Session). is_check_done asked s ≡ true) is.1 done)))
   session_done old (l ∷ ls) more text last is done =
       elim is [
         | inl over ↦ inl over

@@ -9,8 +9,8 @@ use Rattle.checked_io.proofs.Read.{consumes_none, consumes_more}
 use Rattle.command_line.specs.declared.rmitrace.TraceSubcommand.{TraceSubcommand}
 use Rattle.trace_program.specs.declared.counts.TraceVerdict.{TraceVerdict}
 use Rattle.trace_program.specs.declared.session.Session.{Session}
-use Rattle.trace_program.specs.Session.{IsSession, fresh, is_done}
-use Rattle.trace_program.specs.Reading.{AreAllTaken, IsCutShort, IsOver, IsRun, IsTaken, IsUnderway, kept_of_line, last_text, taken_lines, verdict_asked}
+use Rattle.trace_program.specs.Session.{IsSession, fresh_session, is_check_done}
+use Rattle.trace_program.specs.Reading.{AreLinesTaken, IsCutShort, IsOver, IsTraceRun, IsLineTaken, IsUnderway, kept_of_line, last_text, taken_lines, verdict_asked}
 use Rattle.trace_program.proofs.Parts.{grows_more, lines_are}
 use Rattle.trace_program.proofs.Taken.{taken_none, lines_split, done_all}
 
@@ -53,7 +53,7 @@ pub nothing_front : (old : Option (List ℕ)) (text : List ℕ) → AppendsFront
 nothing_front old text = record { front = []; rest = text; split = refl; grows = appends_none old }
 
 module _ (asked : TraceSubcommand) (input left old new : Option (List ℕ)) where
-  pub underway_none : is_done asked fresh ≡ false → Keeps input left → Keeps old new → IsUnderway asked input left old new fresh []
+  pub underway_none : is_check_done asked fresh_session ≡ false → Keeps input left → Keeps old new → IsUnderway asked input left old new fresh_session []
   underway_none going unread unwritten = record {
     read = [];
     consumed = consumes_keeps input input left [] (consumes_none input) unread;
@@ -64,7 +64,7 @@ module _ (asked : TraceSubcommand) (input left old new : Option (List ℕ)) wher
 
   module _ (s : Session) (line : List ℕ) (u : IsUnderway asked input left old new s line) where
     pub underway_more : (left_after newer : Option (List ℕ)) (after : Session) (line_after part told : List ℕ) → Consumes left left_after part
-        → ((read written : List ℕ) → IsTaken asked read written s line [] → IsTaken asked (read ++ part) written after line_after told) → Appends new newer told
+        → ((read written : List ℕ) → IsLineTaken asked read written s line [] → IsLineTaken asked (read ++ part) written after line_after told) → Appends new newer told
         → IsUnderway asked input left_after old newer after line_after
     underway_more left_after newer after line_after part told consumed takes appended = let t = takes u.read u.written u.taken in record {
       read = u.read ++ part;
@@ -76,7 +76,7 @@ module _ (asked : TraceSubcommand) (input left old new : Option (List ℕ)) wher
         cut = t.cut;
         some = t.some;
         begun = t.begun;
-        session = subst (λ (x : List ℕ). IsSession asked fresh (map kept_of_line t.lines) x after) (sym (append-nil (u.written ++ told))) t.session;
+        session = subst (λ (x : List ℕ). IsSession asked fresh_session (map kept_of_line t.lines) x after) (sym (append-nil (u.written ++ told))) t.session;
       };
       appended = appends_more old new newer u.written told u.appended appended;
     }
@@ -84,7 +84,7 @@ module _ (asked : TraceSubcommand) (input left old new : Option (List ℕ)) wher
     -- ---- ends
 
     pub over_at_end : (left_after newer : Option (List ℕ)) (after : Session) (part told : List ℕ) → Consumes left left_after part → part ≡ [] → IsAtEnd left_after
-        → ((read written : List ℕ) → IsTaken asked read written s line [] → AreAllTaken asked read written after told) → Appends new newer told
+        → ((read written : List ℕ) → IsLineTaken asked read written s line [] → AreLinesTaken asked read written after told) → Appends new newer told
         → IsOver asked input left_after old newer after
     over_at_end left_after newer after part told consumed none end takes appended = record {
       read = u.read;
@@ -95,7 +95,7 @@ module _ (asked : TraceSubcommand) (input left old new : Option (List ℕ)) wher
       written = appends_more old new newer u.written told u.appended appended;
     }
 
-    pub over_when_done : is_done asked s ≡ true → IsOver asked input left old new s
+    pub over_when_done : is_check_done asked s ≡ true → IsOver asked input left old new s
     over_when_done done = record {
       read = u.read;
       consumed = u.consumed;
@@ -124,7 +124,7 @@ module _ (asked : TraceSubcommand) (input left old new : Option (List ℕ)) wher
         }
 
     pub cut_in_write : (left_after newer : Option (List ℕ)) (after : Session) (line_after part told : List ℕ) → Consumes left left_after part
-        → ((read written : List ℕ) → IsTaken asked read written s line [] → IsTaken asked (read ++ part) written after line_after told) → AppendsFront new newer told
+        → ((read written : List ℕ) → IsLineTaken asked read written s line [] → IsLineTaken asked (read ++ part) written after line_after told) → AppendsFront new newer told
         → IsCutShort asked input left_after old newer
     cut_in_write left_after newer after line_after part told consumed takes w = let t = takes u.read u.written u.taken in record {
       read = u.read ++ part;
@@ -139,7 +139,7 @@ module _ (asked : TraceSubcommand) (input left old new : Option (List ℕ)) wher
     }
 
     pub cut_at_end : (left_after newer : Option (List ℕ)) (after : Session) (part told : List ℕ) → Consumes left left_after part → part ≡ []
-        → ((read written : List ℕ) → IsTaken asked read written s line [] → AreAllTaken asked read written after told) → AppendsFront new newer told
+        → ((read written : List ℕ) → IsLineTaken asked read written s line [] → AreLinesTaken asked read written after told) → AppendsFront new newer told
         → IsCutShort asked input left_after old newer
     cut_at_end left_after newer after part told consumed none takes w = record {
       read = u.read;
@@ -157,7 +157,7 @@ module _ (asked : TraceSubcommand) (input left old new : Option (List ℕ)) wher
 
   module _ (s : Session) (o : IsOver asked input left old new s) where
     pub run_over : (newer : Option (List ℕ)) (verdict : TraceVerdict) → verdict ≡ verdict_asked asked s → Appends new newer (last_text asked s)
-        → IsRun asked input left old newer verdict
+        → IsTraceRun asked input left old newer verdict
     run_over newer verdict is written = record {
       read = o.read;
       consumed = o.consumed;

@@ -7,11 +7,11 @@ use Rattle.trace_program.specs.declared.counts.TraceVerdict.{TraceVerdict}
 use Rattle.trace_program.specs.declared.counts.TraceVerdict.TheVariants.{Agrees, NothingSame, Differs}
 
 -- the counts with a line more
-abbrev pub counted : Counts → LineVerdict → Counts
-counted c NotCompared = record c { lines = c.lines + 1 }
-counted c Same = record c { lines = c.lines + 1; same = c.same + 1 }
-counted c Allowed = record c { lines = c.lines + 1; allowed = c.allowed + 1 }
-counted c Wrong = record c { lines = c.lines + 1; wrong = c.wrong + 1 }
+abbrev pub with_line_counted : Counts → LineVerdict → Counts
+with_line_counted c NotCompared = record c { lines = c.lines + 1 }
+with_line_counted c Same = record c { lines = c.lines + 1; same = c.same + 1 }
+with_line_counted c Allowed = record c { lines = c.lines + 1; allowed = c.allowed + 1 }
+with_line_counted c Wrong = record c { lines = c.lines + 1; wrong = c.wrong + 1 }
 
 -- A trace agrees if a line is the same, and none is wrong.
 abbrev pub trace_verdict : Counts → TraceVerdict

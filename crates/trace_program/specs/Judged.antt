@@ -23,12 +23,12 @@ use Rattle.trace_program.specs.LineText.{name_place, raw_call, read, written_in}
 
 -- ---- lines that are no command
 
-abbrev pub is_place : Atom → ℕ → Bool
-is_place (Name place) name = place == name
-is_place _ name = false
+abbrev pub is_name_place : Atom → ℕ → Bool
+is_name_place (Name place) name = place == name
+is_name_place _ name = false
 
 abbrev pub is_name : TraceWord → ℕ → Bool
-is_name w name = is_place w.value name
+is_name w name = is_name_place w.value name
 
 abbrev pub are_no_command : List TraceWord → Bool
 are_no_command [] = false

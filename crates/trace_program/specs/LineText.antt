@@ -13,11 +13,11 @@ use Rattle.rmm_answers.specs.declared.reply.TraceReply.{TraceReply}
 use Rattle.rmm_answers.specs.Replies.{reply_text, is_unanswered}
 use Rattle.rmm_answers.specs.Naming.{named_question, named_answer}
 
-abbrev pub line_of : List ℕ → RmmTraceLine
-line_of bytes = line_in GROUPS START bytes
+abbrev pub trace_line_of : List ℕ → RmmTraceLine
+trace_line_of bytes = line_in GROUPS START bytes
 
-abbrev pub question_of : List ℕ → List ℕ
-question_of bytes = before_answer (bare_text bytes)
+abbrev pub question_in_line : List ℕ → List ℕ
+question_in_line bytes = before_answer (bare_text bytes)
 
 -- the answer that a line has
 abbrev pub written_in : List ℕ → Option (List ℕ)
@@ -40,7 +40,7 @@ sign_and_answer reply = if is_unanswered reply then [] else codes " = " ++ reply
 -- A line with an answer: the answer that it had is replaced. A remark is as it was.
 unfoldable pub answered_text : List ℕ → RmmTraceLine → TraceReply → List ℕ
 answered_text bytes Remark reply = bytes ++ 10 ∷ []
-answered_text bytes line reply = question_of bytes ++ sign_and_answer reply ++ (tail_of bytes ++ 10 ∷ [])
+answered_text bytes line reply = question_in_line bytes ++ sign_and_answer reply ++ (tail_of bytes ++ 10 ∷ [])
 
 -- ---- names
 

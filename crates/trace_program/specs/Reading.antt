@@ -9,7 +9,7 @@ use Rattle.trace_program.specs.declared.counts.TraceVerdict.{TraceVerdict}
 use Rattle.trace_program.specs.declared.counts.TraceVerdict.TheVariants.{Agrees}
 use Rattle.trace_program.specs.declared.session.Session.{Session}
 use Rattle.trace_program.specs.Counting.{summary_text, trace_verdict}
-use Rattle.trace_program.specs.Session.{IsSession, fresh, is_done}
+use Rattle.trace_program.specs.Session.{IsSession, fresh_session, is_check_done}
 
 -- The bytes of a line that are kept: one more than a question may have, so a line that is too long is seen to be.
 unfoldable pub kept_of_line : List ℕ → List ℕ
@@ -28,24 +28,24 @@ pub record HasRest (left : List (List ℕ)) (line : List ℕ) : Type 0 where
   pub is_kept : line ≡ kept_of_line rest
 
 -- The lines of the bytes that were read are taken, and their texts are written or are the text.
-pub record IsTaken (asked : TraceSubcommand) (read written : List ℕ) (s : Session) (line text : List ℕ) : Type 0 where
+pub record IsLineTaken (asked : TraceSubcommand) (read written : List ℕ) (s : Session) (line text : List ℕ) : Type 0 where
   pub lines : List (List ℕ)
   pub left : List (List ℕ)
   pub cut : parts_of read ≡ lines ++ left
   pub some : 0 < length left
-  pub begun : is_done asked s ≡ false → HasRest left line
-  pub session : IsSession asked fresh (map kept_of_line lines) (written ++ text) s
+  pub begun : is_check_done asked s ≡ false → HasRest left line
+  pub session : IsSession asked fresh_session (map kept_of_line lines) (written ++ text) s
 
 -- All lines of the bytes that were read are taken.
-abbrev pub AreAllTaken : TraceSubcommand → (read written : List ℕ) → Session → List ℕ → Type 0
-AreAllTaken asked read written s text = IsSession asked fresh (taken_lines read) (written ++ text) s
+abbrev pub AreLinesTaken : TraceSubcommand → (read written : List ℕ) → Session → List ℕ → Type 0
+AreLinesTaken asked read written s text = IsSession asked fresh_session (taken_lines read) (written ++ text) s
 
--- the same as `IsTaken`, of the bytes that a reader gave and a writer has
+-- the same as `IsLineTaken`, of the bytes that a reader gave and a writer has
 pub record IsUnderway (asked : TraceSubcommand) (input left old new : Option (List ℕ)) (s : Session) (line : List ℕ) : Type 0 where
   pub read : List ℕ
   pub consumed : Consumes input left read
   pub written : List ℕ
-  pub taken : IsTaken asked read written s line []
+  pub taken : IsLineTaken asked read written s line []
   pub appended : Appends old new written
 
 -- ---- ends
@@ -54,15 +54,15 @@ pub record IsUnderway (asked : TraceSubcommand) (input left old new : Option (Li
 pub record IsOver (asked : TraceSubcommand) (input left old new : Option (List ℕ)) (s : Session) : Type 0 where
   pub read : List ℕ
   pub consumed : Consumes input left read
-  pub ended : IsAtEnd left ⊎ (is_done asked s ≡ true)
+  pub ended : IsAtEnd left ⊎ (is_check_done asked s ≡ true)
   pub text : List ℕ
-  pub session : IsSession asked fresh (taken_lines read) text s
+  pub session : IsSession asked fresh_session (taken_lines read) text s
   pub written : Appends old new text
 
 -- there may be more to read, or not
-abbrev pub GoesOn : Bool → TraceSubcommand → (input left old new : Option (List ℕ)) → Session → List ℕ → Type 0
-GoesOn true asked input left old new s line = IsUnderway asked input left old new s line × (is_done asked s ≡ false)
-GoesOn false asked input left old new s line = IsOver asked input left old new s
+abbrev pub ReadsOn : Bool → TraceSubcommand → (input left old new : Option (List ℕ)) → Session → List ℕ → Type 0
+ReadsOn true asked input left old new s line = IsUnderway asked input left old new s line × (is_check_done asked s ≡ false)
+ReadsOn false asked input left old new s line = IsOver asked input left old new s
 
 -- the text after those of all lines: the counts of a check
 abbrev pub last_text : TraceSubcommand → Session → List ℕ
@@ -74,13 +74,13 @@ verdict_asked (asks.Check asked) s = trace_verdict s.counts
 verdict_asked _ s = Agrees
 
 -- A run: each line that was read is taken, until it is done. What is written is the text of each line, and the counts of a check.
-pub record IsRun (asked : TraceSubcommand) (input left old new : Option (List ℕ)) (verdict : TraceVerdict) : Type 0 where
+pub record IsTraceRun (asked : TraceSubcommand) (input left old new : Option (List ℕ)) (verdict : TraceVerdict) : Type 0 where
   pub read : List ℕ
   pub consumed : Consumes input left read
   pub last : Session
-  pub ended : IsAtEnd left ⊎ (is_done asked last ≡ true)
+  pub ended : IsAtEnd left ⊎ (is_check_done asked last ≡ true)
   pub text : List ℕ
-  pub session : IsSession asked fresh (taken_lines read) text last
+  pub session : IsSession asked fresh_session (taken_lines read) text last
   pub is_verdict : verdict ≡ verdict_asked asked last
   pub written : Appends old new (text ++ last_text asked last)
 
@@ -93,5 +93,5 @@ pub record IsCutShort (asked : TraceSubcommand) (input left old new : Option (Li
   pub split : taken_lines read ≡ lines ++ more
   pub last : Session
   pub text : List ℕ
-  pub session : IsSession asked fresh lines text last
+  pub session : IsSession asked fresh_session lines text last
   pub written : AppendsFront old new (text ++ last_text asked last)

@@ -12,13 +12,13 @@ use Rattle.trace_program.specs.declared.counts.Counts.{Counts}
 use Rattle.trace_program.specs.declared.counts.LineVerdict.{LineVerdict}
 use Rattle.trace_program.specs.declared.counts.LineVerdict.TheVariants.{NotCompared, Same, Allowed, Wrong}
 use Rattle.trace_program.specs.declared.session.Session.{Session}
-use Rattle.trace_program.specs.Counting.{counted}
+use Rattle.trace_program.specs.Counting.{with_line_counted}
 use Rattle.trace_program.specs.Judged.{is_no_command, line_verdict}
-use Rattle.trace_program.specs.LineText.{answered_text, line_of, named_text}
+use Rattle.trace_program.specs.LineText.{answered_text, trace_line_of, named_text}
 
 -- a session that has had no line
-abbrev pub fresh : Session
-fresh = record { machine = None; counts = record { lines = 0; same = 0; allowed = 0; wrong = 0 }; reply = no_answer }
+abbrev pub fresh_session : Session
+fresh_session = record { machine = None; counts = record { lines = 0; same = 0; allowed = 0; wrong = 0 }; reply = no_answer }
 
 -- ---- one line
 
@@ -30,18 +30,18 @@ performed s Neither = record s { reply = no_command }
 
 -- the verdict on a line that was performed
 abbrev pub verdict_on : Comparison → List ℕ → Session → LineVerdict
-verdict_on asked bytes s = line_verdict asked s.machine bytes (line_of bytes) s.reply
+verdict_on asked bytes s = line_verdict asked s.machine bytes (trace_line_of bytes) s.reply
 
 -- the session after a line that was performed is judged
 abbrev pub judged : Comparison → List ℕ → Session → Session
-judged asked bytes s = record s { counts = counted s.counts (verdict_on asked bytes s) }
+judged asked bytes s = record s { counts = with_line_counted s.counts (verdict_on asked bytes s) }
 
 -- The session after a line. Names of calls require no RMM.
 unfoldable pub after_line : TraceSubcommand → Session → List ℕ → Session
-after_line asks.Answer s bytes = performed s (line_of bytes)
-after_line (asks.Check asked) s bytes = judged asked bytes (performed s (line_of bytes))
+after_line asks.Answer s bytes = performed s (trace_line_of bytes)
+after_line (asks.Check asked) s bytes = judged asked bytes (performed s (trace_line_of bytes))
 after_line asks.Names s bytes = s
-after_line asks.Why s bytes = performed s (line_of bytes)
+after_line asks.Why s bytes = performed s (trace_line_of bytes)
 
 -- ---- texts
 
@@ -54,8 +54,8 @@ AreReasons Neither reply text = Unit {0}
 -- a line with its answer, and reasons below it
 pub record IsExplained (bytes : List ℕ) (reply : TraceReply) (text : List ℕ) : Type 0 where
   pub reasons : List ℕ
-  pub are_reasons : AreReasons (line_of bytes) reply reasons
-  pub whole : text ≡ answered_text bytes (line_of bytes) reply ++ reasons
+  pub are_reasons : AreReasons (trace_line_of bytes) reply reasons
+  pub whole : text ≡ answered_text bytes (trace_line_of bytes) reply ++ reasons
 
 -- the text on a line that is judged: there is none if it is the same, or not compared
 abbrev pub IsNote : LineVerdict → List ℕ → Type 0
@@ -66,9 +66,9 @@ IsNote Wrong text = Unit {0}
 
 -- The text for a line, by the session after it, and the verdict on it.
 abbrev pub IsLineText : TraceSubcommand → List ℕ → Session → Session → List ℕ → Type 0
-IsLineText asks.Answer bytes before after text = text ≡ answered_text bytes (line_of bytes) after.reply
-IsLineText (asks.Check asked) bytes before after text = IsNote (verdict_on asked bytes (performed before (line_of bytes))) text
-IsLineText asks.Names bytes before after text = text ≡ named_text bytes (line_of bytes)
+IsLineText asks.Answer bytes before after text = text ≡ answered_text bytes (trace_line_of bytes) after.reply
+IsLineText (asks.Check asked) bytes before after text = IsNote (verdict_on asked bytes (performed before (trace_line_of bytes))) text
+IsLineText asks.Names bytes before after text = text ≡ named_text bytes (trace_line_of bytes)
 IsLineText asks.Why bytes before after text = IsExplained bytes after.reply text
 
 -- the session and the text after a line
@@ -81,14 +81,14 @@ pub record TakesLine (asked : TraceSubcommand) (bytes : List ℕ) (before after 
 -- ---- lines in sequence
 
 -- No further line is taken: one is wrong, and the check stops there.
-abbrev pub is_done : TraceSubcommand → Session → Bool
-is_done (asks.Check asked) s = asked.stops && nat_lt 0 s.counts.wrong
-is_done _ s = false
+abbrev pub is_check_done : TraceSubcommand → Session → Bool
+is_check_done (asks.Check asked) s = asked.stops && nat_lt 0 s.counts.wrong
+is_check_done _ s = false
 
 -- The session and the text after lines, one after another, until it is done.
 abbrev pub IsSession : TraceSubcommand → Session → List (List ℕ) → List ℕ → Session → Type 0
 IsSession asked s [] text new = (text ≡ []) × (new ≡ s)
 IsSession asked s (bytes ∷ more) text new =
-    ((is_done asked s ≡ true) × (text ≡ []) × (new ≡ s))
-    ⊎ ((is_done asked s ≡ false) × ((first : List ℕ) × (rest : List ℕ) × IsLineText asked bytes s (after_line asked s bytes) first
+    ((is_check_done asked s ≡ true) × (text ≡ []) × (new ≡ s))
+    ⊎ ((is_check_done asked s ≡ false) × ((first : List ℕ) × (rest : List ℕ) × IsLineText asked bytes s (after_line asked s bytes) first
     × IsSession asked (after_line asked s bytes) more rest new × (text ≡ first ++ rest)))

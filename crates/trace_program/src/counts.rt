@@ -1,7 +1,7 @@
 //! The counts of the lines of a trace, and the verdict on it.
 ghost use Rattle.std.specs.Prelude.{◌≡◌, ◌+◌, IfErr, IfOk};
 ghost use Rattle.trace_program.specs.declared.fault.TraceError.TheVariants.{TooLong};
-ghost use Rattle.trace_program.specs.Counting.{counted, trace_verdict};
+ghost use Rattle.trace_program.specs.Counting.{with_line_counted, trace_verdict};
 
 use crate::TraceError;
 use std::fmt;
@@ -55,7 +55,7 @@ impl Counts {
 
     /// The counts with a line more.
     pub fn with(self, verdict: LineVerdict) -> Result<Counts, TraceError>
-        ensures ok { IfOk result (λ counts. counts ≡ counted self verdict) }
+        ensures ok { IfOk result (λ counts. counts ≡ with_line_counted self verdict) }
         ensures err { IfErr result (λ e. e ≡ TooLong) }
     {
         let lines = one_more(self.lines)?;

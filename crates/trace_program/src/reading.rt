@@ -3,7 +3,7 @@ ghost use Rattle.std.specs.Prelude.{◌≡◌, ◌++◌, ◌⊎◌, ◌↔◌, �
 ghost use Rattle.std.specs.Io.KnownBytes.{Appends};
 ghost use Rattle.checked_io.specs.Whole.{AppendsFront};
 ghost use Rattle.trace_program.specs.declared.fault.TraceError.TheVariants.{Device};
-ghost use Rattle.trace_program.specs.Session.{TakesLine, is_done};
+ghost use Rattle.trace_program.specs.Session.{TakesLine, is_check_done};
 ghost use Rattle.trace_program.specs.Reading as specs;
 
 use crate::line_text::LineTexts;
@@ -63,9 +63,9 @@ impl Reading {
 
     // Takes bytes of the input, up to the line that ends the run.
     fn take_part(&mut self, request: Request<'_>, part: &[u8]) -> Result<(), TraceError>
-        requires { is_done request.asked.now self.old.session ≡ false }
-        ensures ok { OnOk result ((read written : List ℕ) → specs.IsTaken request.entry.asked.now read written self.old.session self.old.line.items self.old.text
-            → specs.IsTaken request.entry.asked.now (read ++ part.now) written self.new.session self.new.line.items self.new.text) }
+        requires { is_check_done request.asked.now self.old.session ≡ false }
+        ensures ok { OnOk result ((read written : List ℕ) → specs.IsLineTaken request.entry.asked.now read written self.old.session self.old.line.items self.old.text
+            → specs.IsLineTaken request.entry.asked.now (read ++ part.now) written self.new.session self.new.line.items self.new.text) }
         ensures err { ¬ (result ≡ Err Device) }
     {
         let mut rest = part;
@@ -83,9 +83,9 @@ impl Reading {
 
     // Ends the last line, which has no line feed, unless it is empty.
     fn end(&mut self, request: Request<'_>) -> Result<(), TraceError>
-        requires { is_done request.asked.now self.old.session ≡ false }
-        ensures ok { OnOk result ((read written : List ℕ) → specs.IsTaken request.entry.asked.now read written self.old.session self.old.line.items self.old.text
-            → specs.AreAllTaken request.entry.asked.now read written self.new.session self.new.text) }
+        requires { is_check_done request.asked.now self.old.session ≡ false }
+        ensures ok { OnOk result ((read written : List ℕ) → specs.IsLineTaken request.entry.asked.now read written self.old.session self.old.line.items self.old.text
+            → specs.AreLinesTaken request.entry.asked.now read written self.new.session self.new.text) }
         ensures err { ¬ (result ≡ Err Device) }
     {
         if self.line.is_empty() {
@@ -125,9 +125,9 @@ impl Reading {
         requires readable { input.old.failed ≡ false }
         requires writable { output.old.failed ≡ false }
         requires empty { self.old.text ≡ [] }
-        requires going { is_done request.asked.now self.old.session ≡ false }
+        requires going { is_check_done request.asked.now self.old.session ≡ false }
         ensures ok { (begin start : Option (List ℕ)) → specs.IsUnderway request.entry.asked.now begin (R.remaining input.old.device) start (W.contents output.old.device) self.old.session self.old.line.items
-            → IfOk result (λ more. specs.GoesOn more request.entry.asked.now begin (R.remaining input.new.device) start (W.contents output.new.device) self.new.session self.new.line.items) }
+            → IfOk result (λ more. specs.ReadsOn more request.entry.asked.now begin (R.remaining input.new.device) start (W.contents output.new.device) self.new.session self.new.line.items) }
         ensures empty { OnOk result (self.new.text ≡ []) }
         ensures err { (begin start : Option (List ℕ)) → specs.IsUnderway request.entry.asked.now begin (R.remaining input.old.device) start (W.contents output.old.device) self.old.session self.old.line.items
             → OnErr result (specs.IsCutShort request.entry.asked.now begin (R.remaining input.new.device) start (W.contents output.new.device)) }
@@ -181,7 +181,7 @@ pub fn run<R: Read, W: Write>(
 ) -> Result<TraceVerdict, TraceError>
     requires readable { input.old.failed ≡ false }
     requires writable { output.old.failed ≡ false }
-    ensures ok { IfOk result (specs.IsRun asked.now (R.remaining input.old.device) (R.remaining input.new.device)
+    ensures ok { IfOk result (specs.IsTraceRun asked.now (R.remaining input.old.device) (R.remaining input.new.device)
         (W.contents output.old.device) (W.contents output.new.device)) }
     ensures err { OnErr result (specs.IsCutShort asked.now (R.remaining input.old.device) (R.remaining input.new.device)
         (W.contents output.old.device) (W.contents output.new.device)) }

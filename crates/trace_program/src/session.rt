@@ -1,7 +1,7 @@
 //! A session: the lines of a trace, one after another.
 ghost use Rattle.std.specs.Prelude.{◌≡◌, ◌++◌, ℕ, List, [], Err, None, IfOk, OnOk, string_bytes};
 ghost use Rattle.trace_program.specs.declared.fault.TraceError.TheVariants.{Device};
-ghost use Rattle.trace_program.specs.LineText.{answered_text, line_of};
+ghost use Rattle.trace_program.specs.LineText.{answered_text, trace_line_of};
 ghost use Rattle.trace_program.specs.Session as specs;
 
 use crate::judging::{is_no_command, line_verdict};
@@ -28,7 +28,7 @@ pub struct Session {
 impl Session {
     /// A session that has had no line.
     pub fn new() -> Session
-        ensures { result ≡ specs.fresh }
+        ensures { result ≡ specs.fresh_session }
     {
         Session {
             machine: TraceMachine::new(),
@@ -111,8 +111,8 @@ impl Session {
         bytes: &[u8],
         text: &mut LineTexts,
     ) -> Result<(), AllocError>
-        ensures session { OnOk result (self.new ≡ specs.performed self.old (line_of bytes.now)) }
-        ensures text { OnOk result (text.new ≡ text.old ++ answered_text bytes.now (line_of bytes.now) self.new.reply) }
+        ensures session { OnOk result (self.new ≡ specs.performed self.old (trace_line_of bytes.now)) }
+        ensures text { OnOk result (text.new ≡ text.old ++ answered_text bytes.now (trace_line_of bytes.now) self.new.reply) }
     {
         let line = parse(bytes);
         self.perform(alloc, &line)?;
@@ -126,7 +126,7 @@ impl Session {
         bytes: &[u8],
         text: &mut LineTexts,
     ) -> Result<(), AllocError>
-        ensures session { OnOk result (self.new ≡ specs.performed self.old (line_of bytes.now)) }
+        ensures session { OnOk result (self.new ≡ specs.performed self.old (trace_line_of bytes.now)) }
         ensures text { OnOk result ((more : List ℕ) × specs.IsExplained bytes.now self.new.reply more × (text.new ≡ text.old ++ more)) }
     {
         let line = parse(bytes);
@@ -143,8 +143,8 @@ impl Session {
         asked: &Comparison,
         bytes: &[u8],
     ) -> Result<LineVerdict, TraceError>
-        ensures verdict { IfOk result (λ it. it ≡ specs.verdict_on asked.now bytes.now (specs.performed self.old (line_of bytes.now))) }
-        ensures session { OnOk result (self.new ≡ specs.judged asked.now bytes.now (specs.performed self.old (line_of bytes.now))) }
+        ensures verdict { IfOk result (λ it. it ≡ specs.verdict_on asked.now bytes.now (specs.performed self.old (trace_line_of bytes.now))) }
+        ensures session { OnOk result (self.new ≡ specs.judged asked.now bytes.now (specs.performed self.old (trace_line_of bytes.now))) }
         ensures err { ¬ (result ≡ Err Device) }
     {
         let line = parse(bytes);
@@ -163,8 +163,8 @@ impl Session {
         bytes: &[u8],
         text: &mut LineTexts,
     ) -> Result<(), TraceError>
-        ensures session { OnOk result (self.new ≡ specs.judged asked.now bytes.now (specs.performed self.old (line_of bytes.now))) }
-        ensures text { OnOk result ((more : List ℕ) × specs.IsNote (specs.verdict_on asked.now bytes.now (specs.performed self.old (line_of bytes.now))) more
+        ensures session { OnOk result (self.new ≡ specs.judged asked.now bytes.now (specs.performed self.old (trace_line_of bytes.now))) }
+        ensures text { OnOk result ((more : List ℕ) × specs.IsNote (specs.verdict_on asked.now bytes.now (specs.performed self.old (trace_line_of bytes.now))) more
             × (text.new ≡ text.old ++ more)) }
         ensures err { ¬ (result ≡ Err Device) }
     {
@@ -201,7 +201,7 @@ impl Session {
 
     /// Whether no further line is taken: a line is wrong, and the check is to stop there.
     pub fn is_done(&self, asked: &TraceSubcommand) -> bool
-        ensures { result ≡ specs.is_done asked.now self.now }
+        ensures { result ≡ specs.is_check_done asked.now self.now }
     {
         match asked {
             TraceSubcommand::Check(comparison) => comparison.stops && self.counts.wrong > 0,
