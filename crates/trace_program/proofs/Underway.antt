@@ -10,7 +10,7 @@ use Rattle.command_line.specs.declared.rmitrace.TraceSubcommand.{TraceSubcommand
 use Rattle.trace_program.specs.declared.counts.TraceVerdict.{TraceVerdict}
 use Rattle.trace_program.specs.declared.session.Session.{Session}
 use Rattle.trace_program.specs.Session.{IsSession, fresh_session, is_check_done}
-use Rattle.trace_program.specs.Reading.{AreLinesTaken, IsCutShort, IsOver, IsTraceRun, IsLineTaken, IsUnderway, kept_of_line, last_text, taken_lines, verdict_asked}
+use Rattle.trace_program.specs.Reading.{AreTraceLinesTaken, IsCutShort, IsOver, IsTraceRun, IsTraceLineTaken, IsUnderway, kept_of_line, last_text, taken_lines, verdict_asked}
 use Rattle.trace_program.proofs.Parts.{grows_more, lines_are}
 use Rattle.trace_program.proofs.Taken.{taken_none, lines_split, done_all}
 
@@ -64,7 +64,7 @@ module _ (asked : TraceSubcommand) (input left old new : Option (List ℕ)) wher
 
   module _ (s : Session) (line : List ℕ) (u : IsUnderway asked input left old new s line) where
     pub underway_more : (left_after newer : Option (List ℕ)) (after : Session) (line_after part told : List ℕ) → Consumes left left_after part
-        → ((read written : List ℕ) → IsLineTaken asked read written s line [] → IsLineTaken asked (read ++ part) written after line_after told) → Appends new newer told
+        → ((read written : List ℕ) → IsTraceLineTaken asked read written s line [] → IsTraceLineTaken asked (read ++ part) written after line_after told) → Appends new newer told
         → IsUnderway asked input left_after old newer after line_after
     underway_more left_after newer after line_after part told consumed takes appended = let t = takes u.read u.written u.taken in record {
       read = u.read ++ part;
@@ -84,7 +84,7 @@ module _ (asked : TraceSubcommand) (input left old new : Option (List ℕ)) wher
     -- ---- ends
 
     pub over_at_end : (left_after newer : Option (List ℕ)) (after : Session) (part told : List ℕ) → Consumes left left_after part → part ≡ [] → IsAtEnd left_after
-        → ((read written : List ℕ) → IsLineTaken asked read written s line [] → AreLinesTaken asked read written after told) → Appends new newer told
+        → ((read written : List ℕ) → IsTraceLineTaken asked read written s line [] → AreTraceLinesTaken asked read written after told) → Appends new newer told
         → IsOver asked input left_after old newer after
     over_at_end left_after newer after part told consumed none end takes appended = record {
       read = u.read;
@@ -124,7 +124,7 @@ module _ (asked : TraceSubcommand) (input left old new : Option (List ℕ)) wher
         }
 
     pub cut_in_write : (left_after newer : Option (List ℕ)) (after : Session) (line_after part told : List ℕ) → Consumes left left_after part
-        → ((read written : List ℕ) → IsLineTaken asked read written s line [] → IsLineTaken asked (read ++ part) written after line_after told) → AppendsFront new newer told
+        → ((read written : List ℕ) → IsTraceLineTaken asked read written s line [] → IsTraceLineTaken asked (read ++ part) written after line_after told) → AppendsFront new newer told
         → IsCutShort asked input left_after old newer
     cut_in_write left_after newer after line_after part told consumed takes w = let t = takes u.read u.written u.taken in record {
       read = u.read ++ part;
@@ -139,7 +139,7 @@ module _ (asked : TraceSubcommand) (input left old new : Option (List ℕ)) wher
     }
 
     pub cut_at_end : (left_after newer : Option (List ℕ)) (after : Session) (part told : List ℕ) → Consumes left left_after part → part ≡ []
-        → ((read written : List ℕ) → IsLineTaken asked read written s line [] → AreLinesTaken asked read written after told) → AppendsFront new newer told
+        → ((read written : List ℕ) → IsTraceLineTaken asked read written s line [] → AreTraceLinesTaken asked read written after told) → AppendsFront new newer told
         → IsCutShort asked input left_after old newer
     cut_at_end left_after newer after part told consumed none takes w = record {
       read = u.read;

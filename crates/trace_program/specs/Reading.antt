@@ -28,7 +28,7 @@ pub record HasRest (left : List (List ℕ)) (line : List ℕ) : Type 0 where
   pub is_kept : line ≡ kept_of_line rest
 
 -- The lines of the bytes that were read are taken, and their texts are written or are the text.
-pub record IsLineTaken (asked : TraceSubcommand) (read written : List ℕ) (s : Session) (line text : List ℕ) : Type 0 where
+pub record IsTraceLineTaken (asked : TraceSubcommand) (read written : List ℕ) (s : Session) (line text : List ℕ) : Type 0 where
   pub lines : List (List ℕ)
   pub left : List (List ℕ)
   pub cut : parts_of read ≡ lines ++ left
@@ -37,15 +37,15 @@ pub record IsLineTaken (asked : TraceSubcommand) (read written : List ℕ) (s : 
   pub session : IsSession asked fresh_session (map kept_of_line lines) (written ++ text) s
 
 -- All lines of the bytes that were read are taken.
-abbrev pub AreLinesTaken : TraceSubcommand → (read written : List ℕ) → Session → List ℕ → Type 0
-AreLinesTaken asked read written s text = IsSession asked fresh_session (taken_lines read) (written ++ text) s
+abbrev pub AreTraceLinesTaken : TraceSubcommand → (read written : List ℕ) → Session → List ℕ → Type 0
+AreTraceLinesTaken asked read written s text = IsSession asked fresh_session (taken_lines read) (written ++ text) s
 
--- the same as `IsLineTaken`, of the bytes that a reader gave and a writer has
+-- the same as `IsTraceLineTaken`, of the bytes that a reader gave and a writer has
 pub record IsUnderway (asked : TraceSubcommand) (input left old new : Option (List ℕ)) (s : Session) (line : List ℕ) : Type 0 where
   pub read : List ℕ
   pub consumed : Consumes input left read
   pub written : List ℕ
-  pub taken : IsLineTaken asked read written s line []
+  pub taken : IsTraceLineTaken asked read written s line []
   pub appended : Appends old new written
 
 -- ---- ends

@@ -64,8 +64,8 @@ impl Reading {
     // Takes bytes of the input, up to the line that ends the run.
     fn take_part(&mut self, request: Request<'_>, part: &[u8]) -> Result<(), TraceError>
         requires { is_check_done request.asked.now self.old.session ≡ false }
-        ensures ok { OnOk result ((read written : List ℕ) → specs.IsLineTaken request.entry.asked.now read written self.old.session self.old.line.items self.old.text
-            → specs.IsLineTaken request.entry.asked.now (read ++ part.now) written self.new.session self.new.line.items self.new.text) }
+        ensures ok { OnOk result ((read written : List ℕ) → specs.IsTraceLineTaken request.entry.asked.now read written self.old.session self.old.line.items self.old.text
+            → specs.IsTraceLineTaken request.entry.asked.now (read ++ part.now) written self.new.session self.new.line.items self.new.text) }
         ensures err { ¬ (result ≡ Err Device) }
     {
         let mut rest = part;
@@ -84,8 +84,8 @@ impl Reading {
     // Ends the last line, which has no line feed, unless it is empty.
     fn end(&mut self, request: Request<'_>) -> Result<(), TraceError>
         requires { is_check_done request.asked.now self.old.session ≡ false }
-        ensures ok { OnOk result ((read written : List ℕ) → specs.IsLineTaken request.entry.asked.now read written self.old.session self.old.line.items self.old.text
-            → specs.AreLinesTaken request.entry.asked.now read written self.new.session self.new.text) }
+        ensures ok { OnOk result ((read written : List ℕ) → specs.IsTraceLineTaken request.entry.asked.now read written self.old.session self.old.line.items self.old.text
+            → specs.AreTraceLinesTaken request.entry.asked.now read written self.new.session self.new.text) }
         ensures err { ¬ (result ≡ Err Device) }
     {
         if self.line.is_empty() {
