@@ -12,7 +12,7 @@ use Rattle.rmm_model.specs.Call.{command_of}
 use Rattle.rmm_model.specs.Check.{first_failing}
 use Rattle.rmm_model.specs.Machine.{Machine}
 use Rattle.rmm_checks.specs.declared.evaluated.CheckOutcome.{CheckOutcome}
-use Rattle.rmm_checks.specs.declared.evaluated.CheckOutcome.TheVariants.{NotMade, Passed, Failed}
+use Rattle.rmm_checks.specs.declared.evaluated.CheckOutcome.TheVariants.{Failed}
 use Rattle.rmm_c.specs.declared.smc.SmcRegisters.{SmcRegisters}
 use Rattle.rmm_c.specs.Smc.{call_of}
 
