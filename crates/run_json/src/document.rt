@@ -4,40 +4,23 @@ ghost use Rattle.realm_plan.specs.PlanView.{plan_view};
 ghost use Rattle.run_json.specs.Document.{settings_of, AddsTurnItem, HasTurnItems, IsDocument};
 
 use crate::build_id::id_of;
-use crate::json::Field::Number;
-use crate::json::object;
 use crate::turn::{TurnItem, step_of, turn_item};
 use crate::world::{WorldItem, world_item};
 use page_arena::PageStore;
 use plan_replay::{PlanCursor, take_turn};
 use realm_host::Host;
 use realm_plan::Plan;
-use serde::{Described, Serialize, Serializer};
+use serde::Serialize;
 use std::alloc::{AllocError, Global};
 
 /// The machine of a plan, and the number of its builds.
-#[derive(Clone, Copy)]
+#[derive(Clone, Copy, Serialize)]
 pub struct MachineSettings {
     pub pages: u16,
     pub vmids: u8,
     pub aux: u8,
     pub history: u16,
     pub builds: usize,
-}
-
-impl Described for MachineSettings {}
-
-impl Serialize for MachineSettings {
-    fn serialize<W: Serializer>(&self, out: &mut W) -> Result<(), W::Error> {
-        let members = [
-            ("pages", Number(self.pages as u64)),
-            ("vmids", Number(self.vmids as u64)),
-            ("aux", Number(self.aux as u64)),
-            ("history", Number(self.history as u64)),
-            ("builds", Number(self.builds as u64)),
-        ];
-        object(out, &members)
-    }
 }
 
 /// A run: its machine, its turns, and the world at its end. `realmview` is the version of the format.

@@ -2,9 +2,10 @@
 ghost use Rattle.std.specs.Prelude.{◌≡◌, IfOk};
 ghost use Rattle.run_json.specs.Items.{granule_item, row_item, IsRecItem, page_item};
 
-use crate::json::Field::{Granules, Null, Number, Text};
-use crate::json::object;
-use crate::words::{build_number, entry_state_word, granule_number, rec_state_word, ripas_word};
+use crate::json::member;
+use crate::words::{
+    GranuleNumbers, build_number, entry_state_word, granule_number, rec_state_word, ripas_word,
+};
 use granule_addr::{BuildId, Gran, Level, RecNo};
 use page_arena::PageStore;
 use realm_host::{GranuleView, Host, RowView};
@@ -24,13 +25,12 @@ impl Described for GranuleItem {}
 
 impl Serialize for GranuleItem {
     fn serialize<W: Serializer>(&self, out: &mut W) -> Result<(), W::Error> {
-        let members = [
-            ("granule", Number(self.granule.number() as u64)),
-            ("state", Text(state_word(self.view.state))),
-            ("build", build_number(self.view.build)),
-            ("realm", granule_number(self.view.realm)),
-        ];
-        object(out, &members)
+        out.begin_map(Some(4))?;
+        member(out, "granule", &self.granule.number())?;
+        member(out, "state", &state_word(self.view.state))?;
+        member(out, "build", &build_number(self.view.build))?;
+        member(out, "realm", &granule_number(self.view.realm))?;
+        out.end_map()
     }
 }
 
@@ -54,15 +54,14 @@ impl Described for RowItem {}
 impl Serialize for RowItem {
     fn serialize<W: Serializer>(&self, out: &mut W) -> Result<(), W::Error> {
         let entry = self.row.entry;
-        let members = [
-            ("level", Number(self.row.level.number() as u64)),
-            ("first", Number(self.row.first.number() as u64)),
-            ("count", Number(self.count as u64)),
-            ("state", Text(entry_state_word(entry.state))),
-            ("ripas", Text(ripas_word(entry.ripas))),
-            ("granule", granule_number(entry.granule)),
-        ];
-        object(out, &members)
+        out.begin_map(Some(6))?;
+        member(out, "level", &self.row.level.number())?;
+        member(out, "first", &self.row.first.number())?;
+        member(out, "count", &self.count)?;
+        member(out, "state", &entry_state_word(entry.state))?;
+        member(out, "ripas", &ripas_word(entry.ripas))?;
+        member(out, "granule", &granule_number(entry.granule))?;
+        out.end_map()
     }
 }
 
@@ -99,19 +98,17 @@ impl Described for RecItem {}
 
 impl Serialize for RecItem {
     fn serialize<W: Serializer>(&self, out: &mut W) -> Result<(), W::Error> {
-        let number = ("number", Number(self.number.number() as u64));
+        out.begin_map(None)?;
+        member(out, "number", &self.number.number())?;
         match &self.rec {
             Some(rec) => {
-                let members = [
-                    number,
-                    ("state", Text(rec_state_word(rec.state))),
-                    ("granule", Number(rec.granule.number() as u64)),
-                    ("auxiliaries", Granules(&rec.auxiliaries)),
-                ];
-                object(out, &members)
+                member(out, "state", &rec_state_word(rec.state))?;
+                member(out, "granule", &rec.granule.number())?;
+                member(out, "auxiliaries", &GranuleNumbers(&rec.auxiliaries))?;
             }
-            None => object(out, &[number, ("state", Null)]),
+            None => member(out, "state", &())?,
         }
+        out.end_map()
     }
 }
 
@@ -150,11 +147,10 @@ impl Described for PageItem {}
 
 impl Serialize for PageItem {
     fn serialize<W: Serializer>(&self, out: &mut W) -> Result<(), W::Error> {
-        let members = [
-            ("granule", Number(self.granule.number() as u64)),
-            ("sum", Number(self.sum as u64)),
-        ];
-        object(out, &members)
+        out.begin_map(Some(2))?;
+        member(out, "granule", &self.granule.number())?;
+        member(out, "sum", &self.sum)?;
+        out.end_map()
     }
 }
 

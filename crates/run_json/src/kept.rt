@@ -2,11 +2,11 @@
 ghost use Rattle.std.specs.Prelude.{◌≡◌};
 ghost use Rattle.run_json.specs.Items.{build_kept};
 
-use crate::json::Field::{Flag, Null, Number};
-use crate::json::Member;
+use crate::json::member;
 use granule_addr::BuildId;
 use page_arena::PageStore;
 use realm_host::Host;
+use serde::Serializer;
 
 /// How many operations a build had open at its mark, and whether it is in abort.
 #[derive(Clone, Copy)]
@@ -16,13 +16,10 @@ pub struct BuildKept {
 }
 
 impl BuildKept {
-    /// The two members.
-    pub(crate) fn members(&self) -> [Member<'static>; 2] {
-        let mark = match self.mark {
-            Some(mark) => Number(mark as u64),
-            None => Null,
-        };
-        [("mark", mark), ("aborting", Flag(self.aborting))]
+    // Writes the two members.
+    pub(crate) fn write<W: Serializer>(&self, out: &mut W) -> Result<(), W::Error> {
+        member(out, "mark", &self.mark)?;
+        member(out, "aborting", &self.aborting)
     }
 }
 

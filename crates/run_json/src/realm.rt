@@ -2,8 +2,8 @@
 ghost use Rattle.std.specs.Prelude.{◌≡◌};
 ghost use Rattle.run_json.specs.Items.{realm_item};
 
-use crate::json::Field::{Digits, Number, Text};
-use crate::json::{Member, object};
+use crate::json::{Shown, member};
+use crate::words::HexDigits;
 use granule_addr::{BuildId, Gran, RecNo, Root, Vmid};
 use page_arena::PageStore;
 use realm_host::Host;
@@ -23,18 +23,17 @@ pub struct RealmItem {
 }
 
 impl RealmItem {
-    /// The members of the realm.
-    pub(crate) fn members(&self) -> [Member<'_>; 8] {
-        [
-            ("rd", Number(self.rd.number() as u64)),
-            ("state", Text(realm_word(self.state))),
-            ("vmid", Number(self.vmid.number() as u64)),
-            ("width", Number(self.root.width.number() as u64)),
-            ("table", Number(self.root.first.number() as u64)),
-            ("tables", Number(self.root.width.start_count() as u64)),
-            ("next_rec", Number(self.next_rec.number() as u64)),
-            ("measurement", Digits(self.measurement.as_slice())),
-        ]
+    // Writes the members of the realm.
+    pub(crate) fn write<W: Serializer>(&self, out: &mut W) -> Result<(), W::Error> {
+        member(out, "rd", &self.rd.number())?;
+        member(out, "state", &realm_word(self.state))?;
+        member(out, "vmid", &self.vmid.number())?;
+        member(out, "width", &self.root.width.number())?;
+        member(out, "table", &self.root.first.number())?;
+        member(out, "tables", &self.root.width.start_count())?;
+        member(out, "next_rec", &self.next_rec.number())?;
+        let digits = HexDigits(self.measurement.as_slice());
+        member(out, "measurement", &Shown(digits))
     }
 }
 
@@ -42,7 +41,9 @@ impl Described for RealmItem {}
 
 impl Serialize for RealmItem {
     fn serialize<W: Serializer>(&self, out: &mut W) -> Result<(), W::Error> {
-        object(out, &self.members())
+        out.begin_map(Some(8))?;
+        self.write(out)?;
+        out.end_map()
     }
 }
 

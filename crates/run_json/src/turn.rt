@@ -6,11 +6,11 @@ ghost use Rattle.run_json.specs.Turns.{granules_after, rows_after, IsRecAfter, r
 use crate::answer::{is_accepted_answer, numbers_of};
 use crate::changed::{Changed, changes_realm, granules_of, level_above, rec_named_by};
 use crate::items::{GranuleItem, RecItem, RowItem, granule_item, rec_item, row_item};
-use crate::json::Field::{Answer, Event as Line, Flag, Null, Number, Numbers, Text};
-use crate::json::{member, members};
+use crate::json::{Shown, member};
 use crate::kept::{BuildKept, build_kept};
 use crate::realm::{RealmItem, realm_item};
 use granule_addr::{BuildId, Gran, Level};
+use history_text::EventText;
 use page_arena::PageStore;
 use plan_replay::TurnAnswer;
 use realm_host::Host;
@@ -51,35 +51,28 @@ pub struct TurnItem {
 
 // ---- in JSON
 
-// Writes the members of a step and its answer; null if there is no step.
-fn write_step<W: Serializer>(out: &mut W, step: &Option<StepItem>) -> Result<(), W::Error> {
-    let Some(step) = step else {
-        let none = [
-            ("place", Null),
-            ("step", Null),
-            ("answer", Null),
-            ("accepted", Null),
-            ("numbers", Numbers(&[])),
-        ];
-        return members(out, &none);
-    };
+// Writes the members of a step and its answer.
+fn write_step<W: Serializer>(out: &mut W, step: &StepItem) -> Result<(), W::Error> {
     let numbers = numbers_of(&step.answer);
-    let some = [
-        ("place", Number(step.place as u64)),
-        ("step", Text(step.step.as_str())),
-        ("answer", Answer(step.answer)),
-        ("accepted", Flag(is_accepted_answer(&step.answer))),
-        ("numbers", Numbers(numbers.as_slice())),
-    ];
-    members(out, &some)
+    member(out, "place", &step.place)?;
+    member(out, "step", &step.step)?;
+    member(out, "answer", &Shown(step.answer))?;
+    member(out, "accepted", &is_accepted_answer(&step.answer))?;
+    member(out, "numbers", &numbers.as_slice())
 }
 
-// Writes the members of an event, or null. RMM objects that it does not change have none.
-fn write_event<W: Serializer>(out: &mut W, event: &Option<EventItem>) -> Result<(), W::Error> {
-    let Some(item) = event else {
-        return members(out, &[("event", Null)]);
-    };
-    members(out, &[("event", Line(&item.event))])?;
+// Writes the members of a turn with no step.
+fn write_idle<W: Serializer>(out: &mut W) -> Result<(), W::Error> {
+    member(out, "place", &())?;
+    member(out, "step", &())?;
+    member(out, "answer", &())?;
+    member(out, "accepted", &())?;
+    member(out, "numbers", &[0u8; 0])
+}
+
+// Writes the members of an event. RMM objects that it does not change have none.
+fn write_event<W: Serializer>(out: &mut W, item: &EventItem) -> Result<(), W::Error> {
+    member(out, "event", &Shown(EventText(&item.event)))?;
     if !item.granules.is_empty() {
         member(out, "granules", &item.granules)?;
     }
@@ -100,11 +93,17 @@ impl Described for TurnItem {}
 impl Serialize for TurnItem {
     fn serialize<W: Serializer>(&self, out: &mut W) -> Result<(), W::Error> {
         out.begin_map(None)?;
-        members(out, &[("build", Number(self.build.number() as u64))])?;
-        write_step(out, &self.step)?;
-        write_event(out, &self.event)?;
-        members(out, &[("open", Number(self.open as u64))])?;
-        members(out, &self.kept.members())?;
+        member(out, "build", &self.build.number())?;
+        match &self.step {
+            Some(step) => write_step(out, step)?,
+            None => write_idle(out)?,
+        }
+        match &self.event {
+            Some(event) => write_event(out, event)?,
+            None => member(out, "event", &())?,
+        }
+        member(out, "open", &self.open)?;
+        self.kept.write(out)?;
         out.end_map()
     }
 }

@@ -1,7 +1,8 @@
 //! The words and numbers by which JSON names what the host says. RMM 1.0, REC state, RTT entry state, RIPAS.
-use crate::json::Field;
 use granule_addr::{BuildId, Gran};
 use realm_model::{EntryState, RecState, Ripas};
+use serde::{Described, Serialize, Serializer};
+use std::fmt;
 
 /// The state of a REC.
 pub fn rec_state_word(state: RecState) -> &'static str {
@@ -30,17 +31,46 @@ pub fn ripas_word(ripas: Ripas) -> &'static str {
 }
 
 /// The number of a build, if there is one.
-pub(crate) fn build_number(build: Option<BuildId>) -> Field<'static> {
+pub fn build_number(build: Option<BuildId>) -> Option<u8> {
     match build {
-        Some(build) => Field::Number(build.number() as u64),
-        None => Field::Null,
+        Some(build) => Some(build.number()),
+        None => None,
     }
 }
 
 /// The number of a granule, if there is one.
-pub(crate) fn granule_number(granule: Option<Gran>) -> Field<'static> {
+pub fn granule_number(granule: Option<Gran>) -> Option<u16> {
     match granule {
-        Some(granule) => Field::Number(granule.number() as u64),
-        None => Field::Null,
+        Some(granule) => Some(granule.number()),
+        None => None,
+    }
+}
+
+/// The numbers of granules.
+#[derive(Clone, Copy)]
+pub struct GranuleNumbers<'a>(pub &'a [Gran]);
+
+impl Described for GranuleNumbers<'_> {}
+
+impl Serialize for GranuleNumbers<'_> {
+    fn serialize<W: Serializer>(&self, out: &mut W) -> Result<(), W::Error> {
+        out.begin_seq(Some(self.0.len()))?;
+        for granule in self.0 {
+            granule.number().serialize(out)?;
+        }
+        out.end_seq()
+    }
+}
+
+/// Bytes as hexadecimal digits, two for each byte.
+#[derive(Clone, Copy)]
+pub struct HexDigits<'a>(pub &'a [u8]);
+
+impl fmt::Display for HexDigits<'_> {
+    fn fmt<W: fmt::Write>(&self, f: &mut fmt::Formatter<W>) -> fmt::Result {
+        for byte in self.0 {
+            write!(f, "{:02x}", *byte)?;
+        }
+        Ok(())
     }
 }

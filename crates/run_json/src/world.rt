@@ -5,8 +5,7 @@ ghost use Rattle.run_json.specs.Worlds.{all_granules, page_items, open_lines, Ar
 
 use crate::build_id::id_of;
 use crate::items::{GranuleItem, PageItem, RecItem, RowItem, page_item, rec_item};
-use crate::json::Field::Number;
-use crate::json::{member, members};
+use crate::json::member;
 use crate::kept::{BuildKept, build_kept};
 use crate::realm::{RealmItem, realm_item};
 use crate::rows::rows_of;
@@ -44,7 +43,7 @@ impl Described for RealmWorld {}
 impl Serialize for RealmWorld {
     fn serialize<W: Serializer>(&self, out: &mut W) -> Result<(), W::Error> {
         out.begin_map(Some(10))?;
-        members(out, &self.realm.members())?;
+        self.realm.write(out)?;
         member(out, "rows", &self.rows)?;
         member(out, "recs", &self.recs)?;
         out.end_map()
@@ -66,8 +65,8 @@ impl Described for BuildItem {}
 impl Serialize for BuildItem {
     fn serialize<W: Serializer>(&self, out: &mut W) -> Result<(), W::Error> {
         out.begin_map(Some(6))?;
-        members(out, &[("build", Number(self.build.number() as u64))])?;
-        members(out, &self.kept.members())?;
+        member(out, "build", &self.build.number())?;
+        self.kept.write(out)?;
         member(out, "open", &self.open)?;
         member(out, "pages", &self.pages)?;
         member(out, "realm", &self.realm)?;
