@@ -4,7 +4,7 @@ use Rattle.std.specs.List.{list_all, list_any, range_with_len}
 use Rattle.host_commands.specs.declared.refusal.Refusal.TheVariants.{NoBlock}
 use Rattle.realm_model.specs.World.{free_set}
 use Rattle.host_ledger.specs.View.{HostView, world_of}
-use Rattle.explain.specs.declared.host_facts.HostFact.TheVariants as host_fact
+use Rattle.explain.specs.declared.host_facts.RoomFact.TheVariants as room_fact
 use Rattle.explain.specs.declared.check.Fact.TheVariants as fact
 use Rattle.explain.specs.declared.check.Check.{Check}
 
@@ -25,7 +25,7 @@ has_block host order = list_any (is_free_at host order) (range_with_len 0 host.l
 
 abbrev pub block_check : HostView → ℕ → Check
 block_check host order = record {
-  fact = fact.Host (host_fact.Block order (length (free_set (world_of host))));
+  fact = fact.Room (room_fact.Block order (length (free_set (world_of host))));
   fails = not (has_block host order);
   refusal = NoBlock order;
 }

@@ -9,29 +9,30 @@ use Rattle.host_commands.specs.declared.refusal.Refusal.TheVariants.{NoBuild, Ab
 use Rattle.host_ledger.specs.View.{HostView, world_of, open_of, pages_of_build, granule_of_page, used, is_aborting}
 use Rattle.host_ledger.specs.Vmids.{lowest_vmid}
 use Rattle.realm_model.specs.Places.{rd_of}
-use Rattle.explain.specs.declared.host_facts.HostFact.TheVariants as host_fact
+use Rattle.explain.specs.declared.host_facts.BuildFact.TheVariants as build_fact
+use Rattle.explain.specs.declared.host_facts.RoomFact.TheVariants as room_fact
 use Rattle.explain.specs.declared.check.Fact.TheVariants as fact
 use Rattle.explain.specs.declared.check.Check.{Check}
 
 -- 1 and 2
 abbrev pub build_there : HostView → ℕ → Check
-build_there host build = record { fact = fact.Host (host_fact.There host.limits.builds); fails = nat_le host.limits.builds build; refusal = NoBuild }
+build_there host build = record { fact = fact.Build (build_fact.There host.limits.builds); fails = nat_le host.limits.builds build; refusal = NoBuild }
 
 abbrev pub not_aborting : HostView → ℕ → Check
-not_aborting host build = record { fact = fact.Host host_fact.NotAborting; fails = is_aborting host build; refusal = Aborting }
+not_aborting host build = record { fact = fact.Build build_fact.NotAborting; fails = is_aborting host build; refusal = Aborting }
 
 abbrev pub checks_of_build : HostView → ℕ → List Check
 checks_of_build host build = build_there host build ∷ not_aborting host build ∷ []
 
 -- 3
 abbrev pub checks_of_order : Cmd → List Check
-checks_of_order (Take order) = record { fact = fact.Host (host_fact.Order order); fails = nat_lt 9 order; refusal = BadOrder } ∷ []
+checks_of_order (Take order) = record { fact = fact.Build (build_fact.Order order); fails = nat_lt 9 order; refusal = BadOrder } ∷ []
 checks_of_order _ = []
 
 -- 4
 abbrev pub page_there : HostView → ℕ → ℕ → Check
 page_there host build page = record {
-  fact = fact.Host (host_fact.Page page (granule_of_page host build page) (length (pages_of_build host build)));
+  fact = fact.Build (build_fact.Page page (granule_of_page host build page) (length (pages_of_build host build)));
   fails = is_none (granule_of_page host build page);
   refusal = NotLeased page;
 }
@@ -39,12 +40,12 @@ page_there host build page = record {
 -- 5 and 6
 abbrev pub checks_of_realm : HostView → ℕ → RealmRequirement → List Check
 checks_of_realm host build Either = []
-checks_of_realm host build NoneOf = record { fact = fact.Host (host_fact.NoRealm (rd_of build (world_of host))); fails = is_some (rd_of build (world_of host)); refusal = RealmThere } ∷ []
-checks_of_realm host build ARealm = record { fact = fact.Host (host_fact.Realm (rd_of build (world_of host))); fails = not (is_some (rd_of build (world_of host))); refusal = NoRealm } ∷ []
+checks_of_realm host build NoneOf = record { fact = fact.Build (build_fact.NoRealm (rd_of build (world_of host))); fails = is_some (rd_of build (world_of host)); refusal = RealmThere } ∷ []
+checks_of_realm host build ARealm = record { fact = fact.Build (build_fact.Realm (rd_of build (world_of host))); fails = not (is_some (rd_of build (world_of host))); refusal = NoRealm } ∷ []
 
 -- 9
 abbrev pub checks_of_journal : HostView → ℕ → Bool → List Check
-checks_of_journal host build true = record { fact = fact.Host (host_fact.Journal (length (open_of host build))); fails = nat_le 512 (length (open_of host build)); refusal = JournalFull } ∷ []
+checks_of_journal host build true = record { fact = fact.Room (room_fact.Journal (length (open_of host build))); fails = nat_le 512 (length (open_of host build)); refusal = JournalFull } ∷ []
 checks_of_journal host build false = []
 
 -- how much of its room a build has left; nothing where there is no such build
@@ -53,11 +54,11 @@ room_left host build = if nat_lt build host.limits.builds then host.capacity - u
 
 -- 10
 abbrev pub room_check : HostView → ℕ → ℕ → Check
-room_check host build needed = record { fact = fact.Host (host_fact.History (room_left host build) needed); fails = nat_lt (room_left host build) needed; refusal = HistoryFull }
+room_check host build needed = record { fact = fact.Room (room_fact.History (room_left host build) needed); fails = nat_lt (room_left host build) needed; refusal = HistoryFull }
 
 -- 12
 abbrev pub checks_of_vmid : HostView → Bool → List Check
-checks_of_vmid host true = record { fact = fact.Host (host_fact.Vmid (lowest_vmid host)); fails = not (is_some (lowest_vmid host)); refusal = NoVmid } ∷ []
+checks_of_vmid host true = record { fact = fact.Room (room_fact.Vmid (lowest_vmid host)); fails = not (is_some (lowest_vmid host)); refusal = NoVmid } ∷ []
 checks_of_vmid host false = []
 
 -- those that apply to a command on these pages, in the order of their numbers

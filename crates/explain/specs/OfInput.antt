@@ -8,13 +8,13 @@ use Rattle.realm_model.specs.declared.states.GranuleState.TheVariants.{Undelegat
 use Rattle.host_commands.specs.declared.refusal.Refusal.TheVariants.{Rmi}
 use Rattle.host_ledger.specs.View.{HostView, world_of, granule_of_page}
 use Rattle.realm_host.specs.Readings.{row_of}
-use Rattle.explain.specs.declared.rmi_facts.RmiFact.{RmiFact}
-use Rattle.explain.specs.declared.rmi_facts.RmiFact.TheVariants as rmi_fact
+use Rattle.explain.specs.declared.rmi_facts.InputFact.TheVariants as input
+use Rattle.explain.specs.declared.check.Fact.{Fact}
 use Rattle.explain.specs.declared.check.Fact.TheVariants as fact
 use Rattle.explain.specs.declared.check.Check.{Check}
 
-abbrev pub input_check : RmiFact → Bool → Check
-input_check asks fails = record { fact = fact.Rmi asks; fails = fails; refusal = Rmi error_input }
+abbrev pub input_check : Fact → Bool → Check
+input_check asks fails = record { fact = asks; fails = fails; refusal = Rmi error_input }
 
 -- ---- pages
 
@@ -30,13 +30,17 @@ abbrev pub is_undelegated_state : Option GranuleState → Bool
 is_undelegated_state (Some Undelegated) = true
 is_undelegated_state _ = false
 
+-- a check of the state that was found, against the one that is required
+abbrev pub page_check : ℕ → Option GranuleState → GranuleState → Bool → Check
+page_check page found wanted fails = input_check (fact.Input (input.Page page wanted found)) fails
+
 abbrev pub page_delegated : HostView → ℕ → ℕ → Check
 page_delegated host build page =
-    input_check (rmi_fact.Page page Delegated (state_of_page host build page)) (not (is_delegated_state (state_of_page host build page)))
+    input_check (fact.Input (input.Page page Delegated (state_of_page host build page))) (not (is_delegated_state (state_of_page host build page)))
 
 abbrev pub page_undelegated : HostView → ℕ → ℕ → Check
 page_undelegated host build page =
-    input_check (rmi_fact.Page page Undelegated (state_of_page host build page)) (not (is_undelegated_state (state_of_page host build page)))
+    input_check (fact.Input (input.Page page Undelegated (state_of_page host build page))) (not (is_undelegated_state (state_of_page host build page)))
 
 -- ---- IPAs
 
@@ -45,18 +49,18 @@ abbrev pub width_of : HostView → ℕ → ℕ
 width_of host build = unwrap_or (option_map (λ (realm : RealmRow). realm.root.width) (row_of (world_of host) build)) 0
 
 abbrev pub protected : HostView → ℕ → ℕ → Check
-protected host build ipa = input_check (rmi_fact.Protected ipa (width_of host build)) (not (is_protected_at ipa (width_of host build)))
+protected host build ipa = input_check (fact.Input (input.Protected ipa (width_of host build))) (not (is_protected_at ipa (width_of host build)))
 
 -- a level that a table may have, and an IPA granule that it may begin at
 abbrev pub table_level : ℕ → Check
-table_level level = input_check (rmi_fact.Level level) (not (level == 2 || level == 3))
+table_level level = input_check (fact.Input (input.Level level)) (not (level == 2 || level == 3))
 
 abbrev pub table_start : ℕ → ℕ → Check
-table_start ipa level = input_check (rmi_fact.Start ipa level) (not (ipa % (if level == 2 then 262144 else 512) == 0))
+table_start ipa level = input_check (fact.Input (input.Start ipa level)) (not (ipa % (if level == 2 then 262144 else 512) == 0))
 
 -- the count of pages may become RAM at once, and they lie in one table
 abbrev pub run_count : ℕ → Check
-run_count count = input_check (rmi_fact.Count count) (not (nat_le 1 count && nat_le count 512))
+run_count count = input_check (fact.Input (input.Count count)) (not (nat_le 1 count && nat_le count 512))
 
 abbrev pub one_table : ℕ → ℕ → Check
-one_table ipa count = input_check (rmi_fact.OneTable ipa count) (not (ipa / 512 == (ipa + count - 1) / 512))
+one_table ipa count = input_check (fact.Input (input.OneTable ipa count)) (not (ipa / 512 == (ipa + count - 1) / 512))

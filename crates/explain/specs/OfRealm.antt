@@ -5,11 +5,13 @@ use Rattle.granule_addr.specs.Ipa.{is_width}
 use Rattle.realm_model.specs.Command.Check.{error_realm, is_in}
 use Rattle.realm_model.specs.declared.states.RealmState.{RealmState}
 use Rattle.realm_model.specs.declared.states.RealmState.TheVariants.{New, Active}
+use Rattle.host_commands.specs.declared.refusal.Refusal.TheVariants.{Rmi}
 use Rattle.host_ledger.specs.View.{HostView, world_of}
 use Rattle.realm_host.specs.Readings.{realm_at}
 use Rattle.explain.specs.RmiChecks.{rmi_check}
 use Rattle.explain.specs.OfInput.{input_check, page_delegated}
-use Rattle.explain.specs.declared.rmi_facts.RmiFact.TheVariants as rmi_fact
+use Rattle.explain.specs.declared.rmi_facts.RealmFact.TheVariants as realm_fact
+use Rattle.explain.specs.declared.check.Fact.TheVariants as fact
 use Rattle.explain.specs.declared.check.Check.{Check}
 
 -- ---- the state
@@ -25,11 +27,23 @@ abbrev pub is_active_state : Option RealmState → Bool
 is_active_state (Some Active) = true
 is_active_state _ = false
 
+-- a check of the state that was found, against the one that is required
+abbrev pub state_check : Option RealmState → RealmState → Bool → Check
+state_check found wanted fails = rmi_check (fact.Realm (realm_fact.State wanted found)) fails error_realm
+
 abbrev pub realm_new : HostView → ℕ → Check
-realm_new host build = rmi_check (rmi_fact.Realm New (state_of_realm host build)) (not (is_new_state (state_of_realm host build))) error_realm
+realm_new host build = record {
+  fact = fact.Realm (realm_fact.State New (state_of_realm host build));
+  fails = not (is_new_state (state_of_realm host build));
+  refusal = Rmi error_realm;
+}
 
 abbrev pub realm_active : HostView → ℕ → Check
-realm_active host build = rmi_check (rmi_fact.Realm Active (state_of_realm host build)) (not (is_active_state (state_of_realm host build))) error_realm
+realm_active host build = record {
+  fact = fact.Realm (realm_fact.State Active (state_of_realm host build));
+  fails = not (is_active_state (state_of_realm host build));
+  refusal = Rmi error_realm;
+}
 
 -- ---- a realm that is to be made
 
@@ -49,16 +63,16 @@ begins_right [] = true
 begins_right (first ∷ rest) = first % length (first ∷ rest) == 0
 
 abbrev pub width_check : ℕ → Check
-width_check width = input_check (rmi_fact.Width width) (not (is_width width))
+width_check width = input_check (fact.Realm (realm_fact.Width width)) (not (is_width width))
 
 abbrev pub apart_check : ℕ → List ℕ → Check
-apart_check rd tables = input_check rmi_fact.Apart (is_in rd tables)
+apart_check rd tables = input_check (fact.Realm realm_fact.Apart) (is_in rd tables)
 
 -- the checks of the starting tables, but for their states
 abbrev pub start_checks : ℕ → List ℕ → List Check
 start_checks rd tables =
-    input_check rmi_fact.Adjacent (not (are_adjacent tables))
-    ∷ input_check (rmi_fact.Multiple (length tables)) (not (begins_right tables))
+    input_check (fact.Realm realm_fact.Adjacent) (not (are_adjacent tables))
+    ∷ input_check (fact.Realm (realm_fact.Multiple (length tables))) (not (begins_right tables))
     ∷ apart_check rd tables ∷ []
 
 -- All checks of RMI_REALM_CREATE have one answer, so the order of these is this profile's own.

@@ -4,20 +4,22 @@ use Rattle.std.specs.Prelude.{ℕ, ◌-◌, ◌==◌, List, [], ◌∷◌, ◌++
 use Rattle.realm_model.specs.Command.Check.{error_rec, are_distinct}
 use Rattle.realm_model.specs.declared.states.RecState.{RecState}
 use Rattle.realm_model.specs.declared.states.RecState.TheVariants.{Ready, Running}
+use Rattle.host_commands.specs.declared.refusal.Refusal.TheVariants.{Rmi}
 use Rattle.host_ledger.specs.View.{HostView, world_of}
 use Rattle.realm_host.specs.Readings.{rec_at}
 use Rattle.explain.specs.RmiChecks.{rmi_check}
 use Rattle.explain.specs.OfInput.{input_check, page_delegated}
 use Rattle.explain.specs.OfRealm.{realm_new}
-use Rattle.explain.specs.declared.rmi_facts.RmiFact.TheVariants as rmi_fact
+use Rattle.explain.specs.declared.rmi_facts.RecFact.TheVariants as rec_fact
+use Rattle.explain.specs.declared.check.Fact.TheVariants as fact
 use Rattle.explain.specs.declared.check.Check.{Check}
 
 -- the checks of RMI_REC_CREATE, of the pages of the REC and its auxiliaries, and their granules
 unfoldable pub rec_create_checks : HostView → ℕ → List ℕ → List ℕ → List Check
 rec_create_checks host build pages granules =
     map (page_delegated host build) pages
-    ++ (input_check rmi_fact.Distinct (not (are_distinct granules))
-    ∷ input_check (rmi_fact.Auxiliaries (length granules - 1) host.limits.aux) (not (length granules - 1 == host.limits.aux))
+    ++ (input_check (fact.Rec rec_fact.Distinct) (not (are_distinct granules))
+    ∷ input_check (fact.Rec (rec_fact.Auxiliaries (length granules - 1) host.limits.aux)) (not (length granules - 1 == host.limits.aux))
     ∷ realm_new host build ∷ [])
 
 -- ---- a REC that is there
@@ -34,10 +36,22 @@ is_running_state (Some Running) = true
 is_running_state _ = false
 
 abbrev pub rec_there : HostView → ℕ → ℕ → Check
-rec_there host build number = input_check (rmi_fact.RecThere number) (is_none (state_of_rec host build number))
+rec_there host build number = input_check (fact.Rec (rec_fact.There number)) (is_none (state_of_rec host build number))
+
+-- a check of the state that was found, against the one that is required
+abbrev pub rec_check : ℕ → Option RecState → RecState → Bool → Check
+rec_check number found wanted fails = rmi_check (fact.Rec (rec_fact.State number wanted found)) fails error_rec
 
 abbrev pub rec_ready : HostView → ℕ → ℕ → Check
-rec_ready host build number = rmi_check (rmi_fact.Rec number Ready (state_of_rec host build number)) (not (is_ready_state (state_of_rec host build number))) error_rec
+rec_ready host build number = record {
+  fact = fact.Rec (rec_fact.State number Ready (state_of_rec host build number));
+  fails = not (is_ready_state (state_of_rec host build number));
+  refusal = Rmi error_rec;
+}
 
 abbrev pub rec_is_running : HostView → ℕ → ℕ → Check
-rec_is_running host build number = rmi_check (rmi_fact.Rec number Running (state_of_rec host build number)) (not (is_running_state (state_of_rec host build number))) error_rec
+rec_is_running host build number = record {
+  fact = fact.Rec (rec_fact.State number Running (state_of_rec host build number));
+  fails = not (is_running_state (state_of_rec host build number));
+  refusal = Rmi error_rec;
+}

@@ -9,13 +9,13 @@ use Rattle.host_ledger.specs.View.{HostView, world_of}
 use Rattle.realm_host.specs.Readings.{row_at}
 use Rattle.realm_host.specs.declared.reading.RowView.{RowView}
 use Rattle.explain.specs.OfInput.{input_check}
-use Rattle.explain.specs.declared.rmi_facts.RmiFact.{RmiFact}
-use Rattle.explain.specs.declared.rmi_facts.RmiFact.TheVariants as rmi_fact
+use Rattle.explain.specs.declared.rmi_facts.WalkFact.{WalkFact}
+use Rattle.explain.specs.declared.rmi_facts.WalkFact.TheVariants as walk
 use Rattle.explain.specs.declared.check.Fact.TheVariants as fact
 use Rattle.explain.specs.declared.check.Check.{Check}
 
-abbrev pub rtt_check : RmiFact → Bool → ℕ → Check
-rtt_check asks fails level = record { fact = fact.Rmi asks; fails = fails; refusal = Rmi (error_rtt level) }
+abbrev pub rtt_check : WalkFact → Bool → ℕ → Check
+rtt_check asks fails level = record { fact = fact.Walk asks; fails = fails; refusal = Rmi (error_rtt level) }
 
 -- ---- the row where a walk ends: its level, 0 where it ends nowhere, its state and its granule
 
@@ -45,27 +45,27 @@ is_table_entry _ = false
 abbrev pub walk_ends : HostView → ℕ → ℕ → ℕ → Check
 walk_ends host build ipa to =
     let ended = level_of (row_at (world_of host) build ipa to) in
-    rtt_check (rmi_fact.Walk ipa to ended) (not (ended == to)) ended
+    rtt_check (walk.Walk ipa to ended) (not (ended == to)) ended
 
 abbrev pub entry_unassigned : HostView → ℕ → ℕ → Check
 entry_unassigned host build ipa =
     let row = row_at (world_of host) build ipa 3 in
-    rtt_check (rmi_fact.Entry (level_of row) Unassigned (state_of row)) (not (is_unassigned_entry (state_of row))) (level_of row)
+    rtt_check (walk.Entry (level_of row) Unassigned (state_of row)) (not (is_unassigned_entry (state_of row))) (level_of row)
 
 abbrev pub entry_assigned : HostView → ℕ → ℕ → Check
 entry_assigned host build ipa =
     let row = row_at (world_of host) build ipa 3 in
-    rtt_check (rmi_fact.Entry (level_of row) Assigned (state_of row)) (not (is_assigned_entry (state_of row))) (level_of row)
+    rtt_check (walk.Entry (level_of row) Assigned (state_of row)) (not (is_assigned_entry (state_of row))) (level_of row)
 
 abbrev pub entry_no_table : HostView → ℕ → ℕ → ℕ → Check
 entry_no_table host build ipa to =
     let row = row_at (world_of host) build ipa to in
-    rtt_check (rmi_fact.NoTable (level_of row) (state_of row)) (is_table_entry (state_of row)) (level_of row)
+    rtt_check (walk.NoTable (level_of row) (state_of row)) (is_table_entry (state_of row)) (level_of row)
 
 abbrev pub entry_leads : HostView → ℕ → ℕ → Check
 entry_leads host build ipa =
     let granule = granule_of_row (row_at (world_of host) build ipa 3) in
-    input_check (rmi_fact.Leads granule) (is_none granule)
+    input_check (fact.Walk (walk.Leads granule)) (is_none granule)
 
 -- the entry of level 3 of an IPA granule is UNASSIGNED
 abbrev pub is_free_entry : HostView → ℕ → ℕ → Bool
@@ -77,4 +77,4 @@ are_free host build ipa count = list_all (is_free_entry host build) (range_with_
 
 abbrev pub entries_free : HostView → ℕ → ℕ → ℕ → Check
 entries_free host build ipa count =
-    rtt_check (rmi_fact.Free ipa count) (not (nat_le (ipa + count) 4294967296 && are_free host build ipa count)) 3
+    rtt_check (walk.Free ipa count) (not (nat_le (ipa + count) 4294967296 && are_free host build ipa count)) 3

@@ -13,7 +13,7 @@ use Rattle.realm_host.specs.Marked.{way_back}
 use Rattle.plan_replay.specs.declared.place.PlanCursor.{PlanCursor}
 use Rattle.explain.specs.OfBuild.{build_there, checks_of_build}
 use Rattle.explain.specs.Commands.{command_checks}
-use Rattle.explain.specs.declared.host_facts.HostFact.TheVariants as host_fact
+use Rattle.explain.specs.declared.host_facts.UndoFact.TheVariants as undo
 use Rattle.explain.specs.declared.check.Fact.TheVariants as fact
 use Rattle.explain.specs.declared.check.Check.{Check}
 
@@ -22,8 +22,8 @@ use Rattle.explain.specs.declared.check.Check.{Check}
 abbrev pub undo_checks : HostView → ℕ → List Check
 undo_checks host build =
     build_there host build
-    ∷ record { fact = fact.Host (host_fact.Open (length (open_of host build))); fails = nat_lt (length (open_of host build)) 1; refusal = NothingToUndo }
-    ∷ record { fact = fact.Host host_fact.NewestRests; fails = refusals.is_newest_running host build; refusal = RecRunning } ∷ []
+    ∷ record { fact = fact.Undo (undo.Open (length (open_of host build))); fails = nat_lt (length (open_of host build)) 1; refusal = NothingToUndo }
+    ∷ record { fact = fact.Undo undo.NewestRests; fails = refusals.is_newest_running host build; refusal = RecRunning } ∷ []
 
 -- ---- an abort that begins
 
@@ -34,7 +34,7 @@ running_of host build = if nat_lt build host.limits.builds then running_count (r
 abbrev pub begin_checks : HostView → ℕ → List Check
 begin_checks host build =
     checks_of_build host build
-    ++ record { fact = fact.Host (host_fact.AllRest (running_of host build)); fails = nat_lt 0 (running_of host build); refusal = RecRunning } ∷ []
+    ++ record { fact = fact.Undo (undo.AllRest (running_of host build)); fails = nat_lt 0 (running_of host build); refusal = RecRunning } ∷ []
 
 -- ---- a way back to a mark
 
@@ -47,14 +47,14 @@ is_refused_by_running (Err RecRunning) = true
 is_refused_by_running _ = false
 
 abbrev pub mark_checks : Bool → List Check
-mark_checks fails = record { fact = fact.Host host_fact.Mark; fails = fails; refusal = NothingToUndo } ∷ []
+mark_checks fails = record { fact = fact.Undo undo.Mark; fails = fails; refusal = NothingToUndo } ∷ []
 
 abbrev pub back_checks : HostView → ℕ → Option Mark → List Check
 back_checks host build None = mark_checks true
 back_checks host build (Some mark) =
     checks_of_build host build
     ++ (mark_checks (is_nothing (way_back host build mark))
-    ++ record { fact = fact.Host host_fact.AboveRests; fails = is_refused_by_running (way_back host build mark); refusal = RecRunning } ∷ [])
+    ++ record { fact = fact.Undo undo.AboveRests; fails = is_refused_by_running (way_back host build mark); refusal = RecRunning } ∷ [])
 
 -- ---- the turn of a step
 

@@ -3,16 +3,21 @@ ghost use Rattle.std.specs.Prelude.{◌≡◌, ◌∷◌, ◌++◌, [], OnOk};
 ghost use Rattle.std.specs.List.{cons_option};
 ghost use Rattle.explain.specs.RmiChecks.{rmi_check};
 
-use crate::host_facts::HostFact;
-use crate::rmi_facts::RmiFact;
+use crate::host_facts::{BuildFact, RoomFact, UndoFact};
+use crate::rmi_facts::{InputFact, RealmFact, RecFact, WalkFact};
 use realm_host::{Refusal, Rmi};
 use std::alloc::AllocError;
 
 /// The fact that a check requires, and the numbers that it reads.
 #[derive(Clone, Copy)]
 pub enum Fact {
-    Host(HostFact),
-    Rmi(RmiFact),
+    Build(BuildFact),
+    Room(RoomFact),
+    Undo(UndoFact),
+    Input(InputFact),
+    Realm(RealmFact),
+    Rec(RecFact),
+    Walk(WalkFact),
 }
 
 /// A check: the fact that it requires, whether it fails, and the refusal that it gives then.
@@ -24,11 +29,11 @@ pub struct Check {
 }
 
 /// A check of the RMM, with its answer if the check fails.
-pub(crate) fn rmi_check(fact: RmiFact, fails: bool, rmi: Rmi) -> Check
+pub(crate) fn rmi_check(fact: Fact, fails: bool, rmi: Rmi) -> Check
     ensures { result ≡ rmi_check fact fails rmi }
 {
     Check {
-        fact: Fact::Rmi(fact),
+        fact,
         fails,
         refusal: Refusal::Rmi(rmi),
     }

@@ -1,12 +1,11 @@
 //! Recorded events that cannot be applied, in the words of the check that refuses them.
 use crate::check::Check;
-use crate::error_host::newest_error;
+use crate::error::{error_of, newest_error, push_error};
 use crate::of_build::build_there;
 use crate::of_step::step_checks;
 use crate::phrase::Value::Number;
-use crate::phrase::{Phrase, Value, say};
+use crate::phrase::{Phrase, one, plain, three, two};
 use crate::readings::{newest_rec, next_rec, page_of};
-use crate::words::{error_of, push_error};
 use arrayvec::ArrayVec;
 use granule_addr::{BuildId, Gran, Order};
 use host_commands::{Cmd, Step};
@@ -54,9 +53,9 @@ fn reverse_error<S: PageStore>(host: &Host<S>, build: BuildId) -> Phrase {
     match newest_rec(host, build) {
         Some(number) if host.is_newest_running(build) => newest_error(number),
         _ if host.open_acts(build).is_empty() => {
-            say!("its build must have an operation to reverse; it has none")
+            plain("its build must have an operation to reverse; it has none")
         }
-        _ => say!("it must reverse the newest open operation of its build; it reverses another"),
+        _ => plain("it must reverse the newest open operation of its build; it reverses another"),
     }
 }
 
@@ -69,11 +68,11 @@ fn push_act<S: PageStore>(
     build: BuildId,
     act: &Act,
 ) -> Result<(), AllocError> {
-    if let Some(cmd) = command_of(host, build, act) {
+    if let Some(cmd) = command_of(alloc, host, build, act)? {
         let step = Step::Ask(cmd);
         let checks = step_checks(alloc, host, build, &PlanCursor::first(), &step)?;
-        for check in &checks {
-            if check.fails && !matches!(check.refusal, Refusal::NoBlock(_)) {
+        if let Some(check) = checks.iter().find(|check| check.fails) {
+            if !matches!(check.refusal, Refusal::NoBlock(_)) {
                 return push_check(text, host, build, &step, check);
             }
         }
@@ -84,38 +83,36 @@ fn push_act<S: PageStore>(
     }
 }
 
-// The first of these granules that the build does not lease.
-fn first_foreign<S: PageStore>(host: &Host<S>, build: BuildId, granules: &[Gran]) -> Option<Gran> {
-    for granule in granules {
-        if page_of(host, build, *granule).is_none() {
-            return Some(*granule);
-        }
-    }
-    None
-}
-
 // The first granule of an operation that the build does not lease. A block that is taken is nobody's yet.
 fn foreign_granule<S: PageStore>(host: &Host<S>, build: BuildId, act: &Act) -> Option<Gran> {
+    let is_foreign = |granule: &Gran| page_of(host, build, *granule).is_none();
     match act {
         Act::Fill { granule, .. }
         | Act::Peek { granule, .. }
         | Act::Delegate { granule }
         | Act::Rtt { granule, .. }
-        | Act::Unknown { granule, .. } => first_foreign(host, build, &[*granule]),
+        | Act::Unknown { granule, .. } => Some(*granule).filter(is_foreign),
         Act::Data {
             granule,
             source,
             ..
-        } => first_foreign(host, build, &[*granule, *source]),
-        Act::Realm { rd, root, .. } => first_foreign(host, build, &[*rd, root.first]),
+        } => {
+            Some(*granule)
+                .filter(is_foreign)
+                .or(Some(*source).filter(is_foreign))
+        }
+        Act::Realm { rd, root, .. } => {
+            Some(*rd)
+                .filter(is_foreign)
+                .or(Some(root.first).filter(is_foreign))
+        }
         Act::Rec {
             granule,
             auxiliaries,
             ..
-        } => {
-            let first = first_foreign(host, build, &[*granule]);
-            first.or(first_foreign(host, build, auxiliaries.as_slice()))
-        }
+        } => Some(*granule)
+            .filter(is_foreign)
+            .or(auxiliaries.as_slice().iter().copied().find(is_foreign)),
         _ => None,
     }
 }
@@ -127,13 +124,13 @@ fn foreign_error<S: PageStore>(host: &Host<S>, build: BuildId, granule: Gran) ->
         Number(build.number() as u64),
     );
     match host.ledger().holder(granule) {
-        Some(holder) => say!(
+        Some(holder) => three(
             "granule {} must be leased by build {}; build {} leases it",
             number,
             build,
             Number(holder.number() as u64),
         ),
-        None => say!(
+        None => two(
             "granule {} must be leased by build {}; nobody leases it",
             number,
             build,
@@ -146,8 +143,8 @@ fn number_of<S: PageStore>(host: &Host<S>, build: BuildId, granule: Gran) -> u16
     page_of(host, build, granule).unwrap_or(0)
 }
 
-// The command of an operation, on pages of the build. A reverse has none.
-fn command_of<S: PageStore>(host: &Host<S>, build: BuildId, act: &Act) -> Option<Cmd> {
+// The command of an operation on a page alone.
+fn page_command<S: PageStore>(host: &Host<S>, build: BuildId, act: &Act) -> Option<Cmd> {
     let cmd = match act {
         Act::Take { order, .. } => Cmd::Take {
             order: order.number(),
@@ -167,6 +164,14 @@ fn command_of<S: PageStore>(host: &Host<S>, build: BuildId, act: &Act) -> Option
         Act::Delegate { granule } => Cmd::Delegate {
             page: number_of(host, build, *granule),
         },
+        _ => return None,
+    };
+    Some(cmd)
+}
+
+// The command of an operation that makes a realm or its tables, or activates it.
+fn realm_command<S: PageStore>(host: &Host<S>, build: BuildId, act: &Act) -> Option<Cmd> {
+    let cmd = match act {
         Act::Realm { rd, root, .. } => Cmd::Realm {
             rd: number_of(host, build, *rd),
             root: number_of(host, build, root.first),
@@ -182,6 +187,14 @@ fn command_of<S: PageStore>(host: &Host<S>, build: BuildId, act: &Act) -> Option
             ipa: ipa.number(),
             level: level.number(),
         },
+        _ => return None,
+    };
+    Some(cmd)
+}
+
+// The command of an operation on a realm's memory.
+fn memory_command<S: PageStore>(host: &Host<S>, build: BuildId, act: &Act) -> Option<Cmd> {
+    let cmd = match act {
         Act::Ripas { ipa, count } => Cmd::Ripas {
             ipa: ipa.number(),
             count: *count,
@@ -199,14 +212,14 @@ fn command_of<S: PageStore>(host: &Host<S>, build: BuildId, act: &Act) -> Option
             page: number_of(host, build, *granule),
             ipa: ipa.number(),
         },
-        Act::Rec {
-            granule,
-            auxiliaries,
-            ..
-        } => Cmd::Rec {
-            page: number_of(host, build, *granule),
-            auxiliaries: numbers_of(host, build, auxiliaries.as_slice()),
-        },
+        _ => return None,
+    };
+    Some(cmd)
+}
+
+// The command of an operation on a REC that exists.
+fn rec_command(act: &Act) -> Option<Cmd> {
+    let cmd = match act {
         Act::Enter { number } => Cmd::Enter { number: *number },
         Act::Exit { number } => Cmd::Exit { number: *number },
         Act::Poke {
@@ -225,26 +238,42 @@ fn command_of<S: PageStore>(host: &Host<S>, build: BuildId, act: &Act) -> Option
     Some(cmd)
 }
 
-// The numbers of a build's pages.
-fn numbers_of<S: PageStore>(
+// The command of an operation, on pages of the build. A reverse has none.
+fn command_of<S: PageStore>(
+    alloc: Global,
     host: &Host<S>,
     build: BuildId,
-    granules: &[Gran],
-) -> ArrayVec<u16, 16> {
-    let mut pages = ArrayVec::new();
-    for granule in granules {
-        if !pages.is_full() {
-            pages.push(number_of(host, build, *granule));
-        }
-    }
-    pages
+    act: &Act,
+) -> Result<Option<Cmd>, AllocError> {
+    let Act::Rec {
+        granule,
+        auxiliaries,
+        ..
+    } = act
+    else {
+        return Ok(
+            page_command(host, build, act)
+                .or(realm_command(host, build, act))
+                .or(memory_command(host, build, act))
+                .or(rec_command(act)),
+        );
+    };
+    let numbers = auxiliaries
+        .as_slice()
+        .iter()
+        .map(|it| number_of(host, build, *it));
+    let pages: ArrayVec<u16, 16> = numbers.collect(alloc)?;
+    Ok(Some(Cmd::Rec {
+        page: number_of(host, build, *granule),
+        auxiliaries: pages,
+    }))
 }
 
 // A block that cannot be leased.
 fn block_error<S: PageStore>(host: &Host<S>, order: Order, first: Gran) -> Option<Phrase> {
     let (size, first) = (order.size(), first.number());
     if first % size != 0 {
-        return Some(say!(
+        return Some(three(
             "a block of {} granules must begin at a multiple of {}; granule {} is none",
             Number(size as u64),
             Number(size as u64),
@@ -254,14 +283,14 @@ fn block_error<S: PageStore>(host: &Host<S>, order: Order, first: Gran) -> Optio
     let pages = host.pages();
     for number in first..first.saturating_add(size) {
         let Some(granule) = Gran::new(number, pages) else {
-            return Some(say!(
+            return Some(two(
                 "a block must lie within the machine's {} granules; granule {} does not",
                 Number(pages as u64),
                 Number(number as u64),
             ));
         };
         if let Some(holder) = host.ledger().holder(granule) {
-            return Some(say!(
+            return Some(two(
                 "granule {} must be free; build {} leases it",
                 Number(number as u64),
                 Number(holder.number() as u64),
@@ -275,16 +304,16 @@ fn block_error<S: PageStore>(host: &Host<S>, order: Order, first: Gran) -> Optio
 fn recorded_error<S: PageStore>(host: &Host<S>, build: BuildId, act: &Act) -> Option<Phrase> {
     match act {
         Act::Take { order, first } => block_error(host, *order, *first),
-        Act::Peek { offset, byte, .. } => Some(say!(
+        Act::Peek { offset, byte, .. } => Some(two(
             "byte {} of the granule must be {}; it is another",
             Number(offset.number() as u64),
             Number(*byte as u64),
         )),
-        Act::Realm { vmid, .. } => Some(say!(
+        Act::Realm { vmid, .. } => Some(one(
             "VMID {} must be one of the machine's and free; it is not",
             Number(vmid.number() as u64),
         )),
-        Act::Rec { number, .. } => Some(say!(
+        Act::Rec { number, .. } => Some(two(
             "the number of the REC must be {}; it is {}",
             Number(next_rec(host, build) as u64),
             Number(number.number() as u64),

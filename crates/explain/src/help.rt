@@ -1,9 +1,10 @@
 //! A step that helps where a step is refused, in the words of plans.
 use crate::check::Fact;
-use crate::help_host::host_help;
-use crate::help_rmi::rmi_help;
+use crate::help_host::{build_help, room_help, undo_help};
+use crate::help_input::input_help;
+use crate::help_realm::{realm_help, rec_help, walk_help};
 use crate::phrase::Value::Number;
-use crate::phrase::{Phrase, Value, page_or, say};
+use crate::phrase::{Phrase, one, page_or};
 use crate::readings::{has_rec, named_pages, next_rec, other_pages};
 use granule_addr::BuildId;
 use host_commands::Step;
@@ -26,6 +27,18 @@ pub(crate) enum Help {
     Rec(&'static str),
 }
 
+fn help_of<S: PageStore>(host: &Host<S>, build: BuildId, step: &Step, fact: Fact) -> Help {
+    match fact {
+        Fact::Build(fact) => build_help(host, build, step, fact),
+        Fact::Room(fact) => room_help(host, fact),
+        Fact::Undo(fact) => undo_help(host, build, fact),
+        Fact::Input(fact) => input_help(host, build, step, fact),
+        Fact::Realm(fact) => realm_help(host, build, step, fact),
+        Fact::Rec(fact) => rec_help(host, build, step, fact),
+        Fact::Walk(fact) => walk_help(host, build, step, fact),
+    }
+}
+
 /// Appends what helps where a check of a step fails, or nothing.
 pub(crate) fn push_help<S: PageStore>(
     text: &mut String,
@@ -34,11 +47,7 @@ pub(crate) fn push_help<S: PageStore>(
     step: &Step,
     fact: Fact,
 ) -> Result<(), AllocError> {
-    let help = match fact {
-        Fact::Host(fact) => host_help(host, build, step, fact),
-        Fact::Rmi(fact) => rmi_help(host, build, step, fact),
-    };
-    match help {
+    match help_of(host, build, step, fact) {
         Help::Nothing => Ok(()),
         Help::Say(words) => words.push(text),
         Help::Both(words, more) => {
@@ -72,7 +81,7 @@ fn push_exits<S: PageStore>(
     let mut words = first;
     for number in 0..next_rec(host, build) {
         if has_rec(host, build, number, true) {
-            say!(words, Number(number as u64)).push(text)?;
+            one(words, Number(number as u64)).push(text)?;
             words = next;
         }
     }
@@ -89,7 +98,7 @@ fn push_undos<S: PageStore>(
     push_exits(text, host, build, "`exit {}`, then ", "`exit {}`, then ")?;
     match count {
         1 => text.push_str("`undo`"),
-        count => say!("`undo` {} times", Number(count as u64)).push(text),
+        count => one("`undo` {} times", Number(count as u64)).push(text),
     }
 }
 
@@ -109,7 +118,7 @@ fn push_rec<S: PageStore>(
             Some(more) => others.as_slice().get(more),
             None => named.as_slice().get(place),
         };
-        say!(" {}", page_or(page.copied(), "P")).push(text)?;
+        one(" {}", page_or(page.copied(), "P")).push(text)?;
     }
     text.push_str(if named.len() + others.len() < wanted {
         "`, with a DELEGATED page for each P"

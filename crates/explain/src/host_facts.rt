@@ -1,9 +1,9 @@
 //! Facts that the host checks before it calls the RMM.
 use granule_addr::{Gran, Vmid};
 
-/// The facts of refusals 1 to 12.
+/// The facts of refusals 1 to 6.
 #[derive(Clone, Copy)]
-pub enum HostFact {
+pub enum BuildFact {
     /// The build is one of that many builds.
     There(u8),
     /// The build is not in abort.
@@ -16,6 +16,24 @@ pub enum HostFact {
     Realm(Option<Gran>),
     /// The build has no realm.
     NoRealm(Option<Gran>),
+}
+
+/// The facts of refusals 9 to 12.
+#[derive(Clone, Copy)]
+pub enum RoomFact {
+    /// Fewer than 512 operations of the build are open; that many are.
+    Journal(usize),
+    /// Enough of the build's capacity is left: the entries that are left, and those that are needed.
+    History(u16, u16),
+    /// A VMID is free; the lowest of them is this.
+    Vmid(Option<Vmid>),
+    /// An aligned block of that order is free; that many pages are.
+    Block(u8, u16),
+}
+
+/// The facts of refusals 7 and 8.
+#[derive(Clone, Copy)]
+pub enum UndoFact {
     /// The build has operations open; that many.
     Open(usize),
     /// The newest open operation created no REC that is RUNNING.
@@ -26,12 +44,4 @@ pub enum HostFact {
     Mark,
     /// No operation above the mark created a REC that is RUNNING.
     AboveRests,
-    /// Fewer than 512 operations of the build are open; that many are.
-    Journal(usize),
-    /// Enough of the build's capacity is left: the entries that are left, and those that are needed.
-    History(u16, u16),
-    /// A VMID is free; the lowest of them is this.
-    Vmid(Option<Vmid>),
-    /// An aligned block of that order is free; that many pages are.
-    Block(u8, u16),
 }

@@ -3,20 +3,19 @@
 //! A `Check` of a step's turn has the fact that it requires, whether it fails on the host as it is, and the refusal
 //! that it gives then. `step_checks` makes the checks of a step in their order. `law` says for which refusals the first
 //! that fails is the one that the host gives. `explain_turns` runs a plan as `plan_replay` does, and keeps the checks
-//! of each turn that is refused, up to the first that fails. These are proved. The words are tested: `words`, `help` and
-//! `event` choose phrases, and `phrase` writes them.
+//! of each turn that is refused, up to the first that fails. These are proved. The words are tested: `error`, `help`,
+//! `passed` and `event` choose phrases, and `phrase` writes them.
 #![tactic(auto)]
 
 mod check;
-mod error_host;
-mod error_rmi;
+mod error;
 mod event;
 mod explained;
 mod explaining;
 mod help;
 mod help_host;
-mod help_rmi;
-mod help_walk;
+mod help_input;
+mod help_realm;
 mod host_facts;
 pub mod law;
 mod names;
@@ -41,8 +40,8 @@ pub use check::{Check, Fact};
 pub use event::event_words;
 pub use explained::{ExplainedTurn, Explanation};
 pub use explaining::explain_turns;
-pub use host_facts::HostFact;
+pub use host_facts::{BuildFact, RoomFact, UndoFact};
 pub use of_step::step_checks;
-pub use rmi_facts::RmiFact;
+pub use rmi_facts::{InputFact, RealmFact, RecFact, WalkFact};
 pub use unfinished::{UnfinishedAbort, unfinished_aborts, unfinished_lines};
 pub use words::reason_lines;

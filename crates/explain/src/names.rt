@@ -1,33 +1,51 @@
 //! Refusals and states by their names. RMM 1.0 names the states and the RMI results.
-use crate::phrase::{Phrase, Value, say};
-use realm_host::{EntryState, RecState, Refusal};
+use crate::phrase::Value::Number;
+use crate::phrase::{Phrase, one, plain};
+use realm_host::{EntryState, GranuleState, RealmState, RecState, Refusal, Rmi};
 use realm_model::Status;
+use realm_plan::{realm_word, state_word};
 
-/// A refusal by its name: that of the host, or the result of the RMI command, and with RMI_ERROR_RTT its index.
+// The result of an RMI command, and with RMI_ERROR_RTT its index.
+fn rmi_name(rmi: Rmi) -> Phrase {
+    match rmi.status {
+        Status::Input => plain("RMI_ERROR_INPUT"),
+        Status::Realm => plain("RMI_ERROR_REALM"),
+        Status::Rec => plain("RMI_ERROR_REC"),
+        Status::Rtt => one("RMI_ERROR_RTT, index {}", Number(rmi.index as u64)),
+    }
+}
+
+/// A refusal by its name: that of the host, or the result of the RMI command.
 pub(crate) fn refusal_name(refusal: Refusal) -> Phrase {
-    let name = match refusal {
-        Refusal::NoBuild => "NoBuild",
-        Refusal::Aborting => "Aborting",
-        Refusal::BadOrder => "BadOrder",
-        Refusal::NotLeased(_) => "NotLeased",
-        Refusal::RealmThere => "RealmThere",
-        Refusal::NoRealm => "NoRealm",
-        Refusal::NothingToUndo => "NothingToUndo",
-        Refusal::RecRunning => "RecRunning",
-        Refusal::JournalFull => "JournalFull",
-        Refusal::HistoryFull => "HistoryFull",
-        Refusal::NoBlock(_) => "NoBlock",
-        Refusal::NoVmid => "NoVmid",
-        Refusal::Rmi(rmi) => match rmi.status {
-            Status::Input => "RMI_ERROR_INPUT",
-            Status::Realm => "RMI_ERROR_REALM",
-            Status::Rec => "RMI_ERROR_REC",
-            Status::Rtt => {
-                return say!("RMI_ERROR_RTT, index {}", Value::Number(rmi.index as u64));
-            }
-        },
-    };
-    say!(name)
+    match refusal {
+        Refusal::NoBuild => plain("NoBuild"),
+        Refusal::Aborting => plain("Aborting"),
+        Refusal::BadOrder => plain("BadOrder"),
+        Refusal::NotLeased(_) => plain("NotLeased"),
+        Refusal::RealmThere => plain("RealmThere"),
+        Refusal::NoRealm => plain("NoRealm"),
+        Refusal::NothingToUndo => plain("NothingToUndo"),
+        Refusal::RecRunning => plain("RecRunning"),
+        Refusal::JournalFull => plain("JournalFull"),
+        Refusal::HistoryFull => plain("HistoryFull"),
+        Refusal::NoBlock(_) => plain("NoBlock"),
+        Refusal::NoVmid => plain("NoVmid"),
+        Refusal::Rmi(rmi) => rmi_name(rmi),
+    }
+}
+
+pub(crate) fn granule_state(state: Option<GranuleState>) -> &'static str {
+    match state {
+        Some(state) => state_word(state),
+        None => "missing",
+    }
+}
+
+pub(crate) fn realm_state(state: Option<RealmState>) -> &'static str {
+    match state {
+        Some(state) => realm_word(state),
+        None => "missing",
+    }
 }
 
 pub(crate) fn rec_state(state: Option<RecState>) -> &'static str {

@@ -3,7 +3,7 @@ ghost use Rattle.std.specs.Prelude.{◌≡◌, ◌+◌, ◌<◌, ◌≤◌};
 ghost use Rattle.explain.specs.OfBlock.{is_unleased, are_unleased, is_free_at, has_block, block_check};
 
 use crate::check::{Check, Fact};
-use crate::host_facts::HostFact;
+use crate::host_facts::RoomFact;
 use granule_addr::{Gran, Order};
 use page_arena::PageStore;
 use realm_host::{Host, Refusal};
@@ -61,7 +61,7 @@ pub(crate) fn block_check<S: PageStore>(host: &Host<S>, order: Order) -> Check
 {
     let free = host.free_count();
     Check {
-        fact: Fact::Host(HostFact::Block(order.number(), free)),
+        fact: Fact::Room(RoomFact::Block(order.number(), free)),
         fails: !has_block(host, order),
         refusal: Refusal::NoBlock(order),
     }

@@ -4,7 +4,7 @@ ghost use Rattle.std.specs.List.{cons_option};
 ghost use Rattle.explain.specs.OfBuild.{build_there, not_aborting, checks_of_build, checks_of_order, page_there, checks_of_realm, checks_of_journal, room_left, room_check, checks_of_vmid, needs_checks};
 
 use crate::check::{Check, Fact, add, add_some};
-use crate::host_facts::HostFact;
+use crate::host_facts::{BuildFact, RoomFact};
 use granule_addr::BuildId;
 use host_commands::{BuildsView, Needs, RealmRequirement};
 use page_arena::PageStore;
@@ -18,7 +18,7 @@ pub(crate) fn build_there<S: PageStore>(host: &Host<S>, build: BuildId) -> Check
 {
     let builds = host.build_count();
     Check {
-        fact: Fact::Host(HostFact::There(builds)),
+        fact: Fact::Build(BuildFact::There(builds)),
         fails: build.number() >= builds,
         refusal: Refusal::NoBuild,
     }
@@ -29,7 +29,7 @@ pub(crate) fn not_aborting<S: PageStore>(host: &Host<S>, build: BuildId) -> Chec
     ensures { result ≡ not_aborting host.now build }
 {
     Check {
-        fact: Fact::Host(HostFact::NotAborting),
+        fact: Fact::Build(BuildFact::NotAborting),
         fails: host.is_aborting(build),
         refusal: Refusal::Aborting,
     }
@@ -48,7 +48,7 @@ fn order_check(cmd: &Cmd) -> Option<Check>
 {
     match cmd {
         Cmd::Take { order } => Some(Check {
-            fact: Fact::Host(HostFact::Order(*order)),
+            fact: Fact::Build(BuildFact::Order(*order)),
             fails: *order > 9,
             refusal: Refusal::BadOrder,
         }),
@@ -62,7 +62,7 @@ fn page_there<S: PageStore>(host: &Host<S>, build: BuildId, page: u16) -> Check
 {
     let granule = host.page_granule(build, page);
     Check {
-        fact: Fact::Host(HostFact::Page(page, granule, host.page_count(build))),
+        fact: Fact::Build(BuildFact::Page(page, granule, host.page_count(build))),
         fails: granule.is_none(),
         refusal: Refusal::NotLeased(page),
     }
@@ -95,12 +95,12 @@ fn realm_check<S: PageStore>(
     match wants {
         RealmRequirement::Either => None,
         RealmRequirement::NoRealm => Some(Check {
-            fact: Fact::Host(HostFact::NoRealm(rd)),
+            fact: Fact::Build(BuildFact::NoRealm(rd)),
             fails: rd.is_some(),
             refusal: Refusal::RealmThere,
         }),
         RealmRequirement::Realm => Some(Check {
-            fact: Fact::Host(HostFact::Realm(rd)),
+            fact: Fact::Build(BuildFact::Realm(rd)),
             fails: !rd.is_some(),
             refusal: Refusal::NoRealm,
         }),
@@ -116,7 +116,7 @@ fn journal_check<S: PageStore>(host: &Host<S>, build: BuildId, paired: bool) -> 
     }
     let open = host.open_acts(build).len();
     Some(Check {
-        fact: Fact::Host(HostFact::Journal(open)),
+        fact: Fact::Room(RoomFact::Journal(open)),
         fails: open >= JOURNAL_ROOM as usize,
         refusal: Refusal::JournalFull,
     })
@@ -139,7 +139,7 @@ fn room_check<S: PageStore>(host: &Host<S>, build: BuildId, needed: u16) -> Chec
 {
     let left = room_left(host, build);
     Check {
-        fact: Fact::Host(HostFact::History(left, needed)),
+        fact: Fact::Room(RoomFact::History(left, needed)),
         fails: left < needed,
         refusal: Refusal::HistoryFull,
     }
@@ -154,7 +154,7 @@ fn vmid_check<S: PageStore>(host: &Host<S>, wanted: bool) -> Option<Check>
     }
     let lowest = host.ledger().lowest_vmid();
     Some(Check {
-        fact: Fact::Host(HostFact::Vmid(lowest)),
+        fact: Fact::Room(RoomFact::Vmid(lowest)),
         fails: !lowest.is_some(),
         refusal: Refusal::NoVmid,
     })

@@ -1,34 +1,41 @@
 //! Input checks of pages and of IPAs. RMM 1.0, RMI command conditions.
 ghost use Rattle.std.specs.Prelude.{◌≡◌, ◌++◌, OnOk, map, unwrap_or, option_map};
-ghost use Rattle.explain.specs.OfInput.{input_check, page_delegated, page_undelegated, width_of, protected, table_level, table_start, run_count, one_table};
+ghost use Rattle.explain.specs.OfInput.{input_check, page_check, state_of_page, page_delegated, page_undelegated, width_of, protected, table_level, table_start, run_count, one_table};
 ghost use Rattle.granule_addr.specs.Ipa.{is_protected_at};
 
 use crate::check::{Check, Fact, add};
-use crate::rmi_facts::RmiFact;
+use crate::rmi_facts::InputFact;
 use granule_addr::BuildId;
 use page_arena::PageStore;
-use realm_host::{Host, Refusal, Rmi};
+use realm_host::{GranuleState, Host, Refusal, Rmi};
 use realm_model::GranuleState::{Delegated, Undelegated};
 use std::alloc::AllocError;
 
 /// A check of an input.
-pub(crate) fn input_check(fact: RmiFact, fails: bool) -> Check
+pub(crate) fn input_check(fact: Fact, fails: bool) -> Check
     ensures { result ≡ input_check fact fails }
 {
     Check {
-        fact: Fact::Rmi(fact),
+        fact,
         fails,
         refusal: Refusal::Rmi(Rmi::INPUT),
     }
+}
+
+// A check of the state of a page's granule that was found, against the one that is required.
+fn page_check(page: u16, found: Option<GranuleState>, wanted: GranuleState, fails: bool) -> Check
+    ensures { result ≡ page_check page found wanted fails }
+{
+    let fact = InputFact::Page(page, wanted, found);
+    input_check(Fact::Input(fact), fails)
 }
 
 /// The granule of a build's page is DELEGATED.
 pub(crate) fn page_delegated<S: PageStore>(host: &Host<S>, build: BuildId, page: u16) -> Check
     ensures { result ≡ page_delegated host.now build page }
 {
-    let found = host.page_state(build, page);
-    let fact = RmiFact::Page(page, Delegated, found);
-    input_check(fact, !matches!(found, Some(Delegated)))
+    let now = host.page_state(build, page);
+    page_check(page, now, Delegated, !matches!(now, Some(Delegated)))
 }
 
 /// Adds that the granules of a build's pages are DELEGATED.
@@ -50,9 +57,8 @@ pub(crate) fn add_delegated<S: PageStore>(
 pub(crate) fn page_undelegated<S: PageStore>(host: &Host<S>, build: BuildId, page: u16) -> Check
     ensures { result ≡ page_undelegated host.now build page }
 {
-    let found = host.page_state(build, page);
-    let fact = RmiFact::Page(page, Undelegated, found);
-    input_check(fact, !matches!(found, Some(Undelegated)))
+    let now = host.page_state(build, page);
+    page_check(page, now, Undelegated, !matches!(now, Some(Undelegated)))
 }
 
 // The IPA width of a build's realm; 0 where it has none.
@@ -81,14 +87,20 @@ pub(crate) fn protected<S: PageStore>(host: &Host<S>, build: BuildId, ipa: u32) 
     ensures { result ≡ protected host.now build ipa }
 {
     let width = width_of(host, build);
-    input_check(RmiFact::Protected(ipa, width), !is_protected_at(ipa, width))
+    input_check(
+        Fact::Input(InputFact::Protected(ipa, width)),
+        !is_protected_at(ipa, width),
+    )
 }
 
 /// A table may have the level.
 pub(crate) fn table_level(level: u8) -> Check
     ensures { result ≡ table_level level }
 {
-    input_check(RmiFact::Level(level), !(level == 2 || level == 3))
+    input_check(
+        Fact::Input(InputFact::Level(level)),
+        !(level == 2 || level == 3),
+    )
 }
 
 /// A table of the level may begin at the IPA granule.
@@ -96,14 +108,20 @@ pub(crate) fn table_start(ipa: u32, level: u8) -> Check
     ensures { result ≡ table_start ipa level }
 {
     let served = if level == 2 { 262_144 } else { 512 };
-    input_check(RmiFact::Start(ipa, level), !(ipa % served == 0))
+    input_check(
+        Fact::Input(InputFact::Start(ipa, level)),
+        !(ipa % served == 0),
+    )
 }
 
 /// `count` pages may become RAM at once.
 pub(crate) fn run_count(count: u16) -> Check
     ensures { result ≡ run_count count }
 {
-    input_check(RmiFact::Count(count), !(1 <= count && count <= 512))
+    input_check(
+        Fact::Input(InputFact::Count(count)),
+        !(1 <= count && count <= 512),
+    )
 }
 
 /// The `count` pages from the IPA granule on lie in one table.
@@ -112,7 +130,7 @@ pub(crate) fn one_table(ipa: u32, count: u16) -> Check
 {
     let behind = ipa as u64 + count as u64;
     input_check(
-        RmiFact::OneTable(ipa, count),
+        Fact::Input(InputFact::OneTable(ipa, count)),
         !(ipa as u64 / 512 == behind.saturating_sub(1) / 512),
     )
 }

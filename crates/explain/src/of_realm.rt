@@ -1,11 +1,11 @@
 //! Checks of a realm that is to be made, and of the state of one that is there. RMM 1.0, RMI_REALM_CREATE, Realm
 //! attributes.
 ghost use Rattle.std.specs.Prelude.{◌≡◌, ◌++◌, ◌∷◌, ◌≤◌, OnOk, length};
-ghost use Rattle.explain.specs.OfRealm.{state_of_realm, realm_new, realm_active, follow, are_adjacent, begins_right, width_check, apart_check, start_checks, realm_create_checks};
+ghost use Rattle.explain.specs.OfRealm.{state_of_realm, state_check, realm_new, realm_active, follow, are_adjacent, begins_right, width_check, apart_check, start_checks, realm_create_checks};
 
-use crate::check::{Check, add, rmi_check};
+use crate::check::{Check, Fact, add, rmi_check};
 use crate::of_input::{add_delegated, input_check};
-use crate::rmi_facts::RmiFact;
+use crate::rmi_facts::RealmFact;
 use granule_addr::{BuildId, Gran, IpaWidth};
 use page_arena::PageStore;
 use realm_host::{Host, RealmState, Rmi};
@@ -22,13 +22,20 @@ fn state_of_realm<S: PageStore>(host: &Host<S>, build: BuildId) -> Option<RealmS
     }
 }
 
+// A check of the state that was found, against the one that is required.
+fn state_check(found: Option<RealmState>, wanted: RealmState, fails: bool) -> Check
+    ensures { result ≡ state_check found wanted fails }
+{
+    let fact = Fact::Realm(RealmFact::State(wanted, found));
+    rmi_check(fact, fails, Rmi::REALM)
+}
+
 /// The realm of a build is NEW.
 pub(crate) fn realm_new<S: PageStore>(host: &Host<S>, build: BuildId) -> Check
     ensures { result ≡ realm_new host.now build }
 {
     let found = state_of_realm(host, build);
-    let fact = RmiFact::Realm(New, found);
-    rmi_check(fact, !matches!(found, Some(New)), Rmi::REALM)
+    state_check(found, New, !matches!(found, Some(New)))
 }
 
 /// The realm of a build is ACTIVE.
@@ -36,8 +43,7 @@ pub(crate) fn realm_active<S: PageStore>(host: &Host<S>, build: BuildId) -> Chec
     ensures { result ≡ realm_active host.now build }
 {
     let found = state_of_realm(host, build);
-    let fact = RmiFact::Realm(Active, found);
-    rmi_check(fact, !matches!(found, Some(Active)), Rmi::REALM)
+    state_check(found, Active, !matches!(found, Some(Active)))
 }
 
 // Whether the granules are the one with number `first` and those after it, in rising sequence.
@@ -81,14 +87,17 @@ fn begins_right(tables: &[Gran]) -> bool
 fn width_check(width: u8) -> Check
     ensures { result ≡ width_check width }
 {
-    input_check(RmiFact::Width(width), IpaWidth::new(width).is_none())
+    input_check(
+        Fact::Realm(RealmFact::Width(width)),
+        IpaWidth::new(width).is_none(),
+    )
 }
 
 // The RD is not one of the starting tables.
 fn apart_check(rd: Gran, tables: &[Gran]) -> Check
     ensures { result ≡ apart_check rd tables.now }
 {
-    input_check(RmiFact::Apart, tables.contains(&rd))
+    input_check(Fact::Realm(RealmFact::Apart), tables.contains(&rd))
 }
 
 // The checks of the starting tables, but for their states.
@@ -96,8 +105,11 @@ fn add_tables(rd: Gran, tables: &[Gran], checks: &mut Vec<Check>) -> Result<(), 
     ensures { OnOk result (checks.new.items ≡ checks.old.items ++ start_checks rd tables.now) }
 {
     checks.extend_from_slice(&[
-        input_check(RmiFact::Adjacent, !are_adjacent(tables)),
-        input_check(RmiFact::Multiple(tables.len()), !begins_right(tables)),
+        input_check(Fact::Realm(RealmFact::Adjacent), !are_adjacent(tables)),
+        input_check(
+            Fact::Realm(RealmFact::Multiple(tables.len())),
+            !begins_right(tables),
+        ),
         apart_check(rd, tables),
     ])
 }

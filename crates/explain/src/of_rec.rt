@@ -1,12 +1,12 @@
 //! Checks of a REC that is to be made, and of one that is there. RMM 1.0, RMI_REC_CREATE, REC attributes.
 ghost use Rattle.std.specs.Prelude.{◌≡◌, ◌++◌, ◌∷◌, ◌≤◌, OnOk, length};
 ghost use Rattle.realm_model.specs.Command.Check.{are_distinct};
-ghost use Rattle.explain.specs.OfRec.{state_of_rec, rec_there, rec_ready, rec_is_running, rec_create_checks};
+ghost use Rattle.explain.specs.OfRec.{state_of_rec, rec_check, rec_there, rec_ready, rec_is_running, rec_create_checks};
 
-use crate::check::{Check, rmi_check};
+use crate::check::{Check, Fact, rmi_check};
 use crate::of_input::{add_delegated, input_check};
 use crate::of_realm::realm_new;
-use crate::rmi_facts::RmiFact;
+use crate::rmi_facts::RecFact;
 use granule_addr::{BuildId, Gran, RecNo};
 use page_arena::PageStore;
 use realm_host::{Host, RecState, Rmi};
@@ -42,9 +42,9 @@ pub(crate) fn add_rec_create<S: PageStore>(
     let given = granules.len().saturating_sub(1);
     add_delegated(host, build, pages, checks)?;
     checks.extend_from_slice(&[
-        input_check(RmiFact::Distinct, !are_distinct(granules)),
+        input_check(Fact::Rec(RecFact::Distinct), !are_distinct(granules)),
         input_check(
-            RmiFact::Auxiliaries(given, wanted),
+            Fact::Rec(RecFact::Auxiliaries(given, wanted)),
             given != wanted as usize,
         ),
         realm_new(host, build),
@@ -66,7 +66,15 @@ pub(crate) fn rec_there<S: PageStore>(host: &Host<S>, build: BuildId, number: Re
     ensures { result ≡ rec_there host.now build number }
 {
     let found = state_of_rec(host, build, number);
-    input_check(RmiFact::RecThere(number), found.is_none())
+    input_check(Fact::Rec(RecFact::There(number)), found.is_none())
+}
+
+// A check of the state of a REC that was found, against the one that is required.
+fn rec_check(number: RecNo, found: Option<RecState>, wanted: RecState, fails: bool) -> Check
+    ensures { result ≡ rec_check number found wanted fails }
+{
+    let fact = Fact::Rec(RecFact::State(number, wanted, found));
+    rmi_check(fact, fails, Rmi::REC)
 }
 
 /// The REC is READY.
@@ -74,8 +82,7 @@ pub(crate) fn rec_ready<S: PageStore>(host: &Host<S>, build: BuildId, number: Re
     ensures { result ≡ rec_ready host.now build number }
 {
     let found = state_of_rec(host, build, number);
-    let fact = RmiFact::Rec(number, Ready, found);
-    rmi_check(fact, !matches!(found, Some(Ready)), Rmi::REC)
+    rec_check(number, found, Ready, !matches!(found, Some(Ready)))
 }
 
 /// The REC is RUNNING.
@@ -83,6 +90,5 @@ pub(crate) fn rec_is_running<S: PageStore>(host: &Host<S>, build: BuildId, numbe
     ensures { result ≡ rec_is_running host.now build number }
 {
     let found = state_of_rec(host, build, number);
-    let fact = RmiFact::Rec(number, Running, found);
-    rmi_check(fact, !matches!(found, Some(Running)), Rmi::REC)
+    rec_check(number, found, Running, !matches!(found, Some(Running)))
 }

@@ -3,7 +3,7 @@ ghost use Rattle.std.specs.Prelude.{◌≡◌, ◌∷◌, ◌++◌, [], OnOk, If
 ghost use Rattle.explain.specs.Steps.{undo_checks, running_of, begin_checks, mark_checks, back_checks, step_checks};
 
 use crate::check::{Check, Fact, add};
-use crate::host_facts::HostFact;
+use crate::host_facts::UndoFact;
 use crate::of_build::{build_there, checks_of_build, not_aborting};
 use crate::of_command::add_command;
 use granule_addr::BuildId;
@@ -21,12 +21,12 @@ fn undo<S: PageStore>(host: &Host<S>, build: BuildId) -> [Check; 3]
     [
         build_there(host, build),
         Check {
-            fact: Fact::Host(HostFact::Open(open)),
+            fact: Fact::Undo(UndoFact::Open(open)),
             fails: open < 1,
             refusal: Refusal::NothingToUndo,
         },
         Check {
-            fact: Fact::Host(HostFact::NewestRests),
+            fact: Fact::Undo(UndoFact::NewestRests),
             fails: host.is_newest_running(build),
             refusal: Refusal::RecRunning,
         },
@@ -53,7 +53,7 @@ fn begin<S: PageStore>(host: &Host<S>, build: BuildId) -> [Check; 3]
         build_there(host, build),
         not_aborting(host, build),
         Check {
-            fact: Fact::Host(HostFact::AllRest(running)),
+            fact: Fact::Undo(UndoFact::AllRest(running)),
             fails: 0 < running,
             refusal: Refusal::RecRunning,
         },
@@ -65,7 +65,7 @@ fn has_mark(fails: bool) -> Check
     ensures { result ∷ [] ≡ mark_checks fails }
 {
     Check {
-        fact: Fact::Host(HostFact::Mark),
+        fact: Fact::Undo(UndoFact::Mark),
         fails,
         refusal: Refusal::NothingToUndo,
     }
@@ -81,7 +81,7 @@ fn back<S: PageStore>(host: &Host<S>, build: BuildId, mark: Mark) -> [Check; 4]
         not_aborting(host, build),
         has_mark(matches!(answer, Err(Refusal::NothingToUndo))),
         Check {
-            fact: Fact::Host(HostFact::AboveRests),
+            fact: Fact::Undo(UndoFact::AboveRests),
             fails: matches!(answer, Err(Refusal::RecRunning)),
             refusal: Refusal::RecRunning,
         },

@@ -6,18 +6,18 @@ ghost use Rattle.explain.specs.OfWalk.{entry_assigned, entry_no_table, entry_lea
 
 use crate::check::{Check, Fact};
 use crate::of_input::input_check;
-use crate::rmi_facts::RmiFact;
+use crate::rmi_facts::WalkFact;
 use granule_addr::{BuildId, Gran, Level};
 use page_arena::PageStore;
 use realm_host::{EntryState, Host, Refusal, Rmi, RowView};
 use realm_model::Status;
 
 // A check of tables, and the level that it is refused with.
-fn rtt_check(fact: RmiFact, fails: bool, level: u8) -> Check
+fn rtt_check(fact: WalkFact, fails: bool, level: u8) -> Check
     ensures { result ≡ rtt_check fact fails level }
 {
     Check {
-        fact: Fact::Rmi(fact),
+        fact: Fact::Walk(fact),
         fails,
         refusal: Refusal::Rmi(Rmi {
             status: Status::Rtt,
@@ -60,7 +60,7 @@ pub(crate) fn walk_ends<S: PageStore>(host: &Host<S>, build: BuildId, ipa: u32, 
 {
     let ended = level_of(host.row(build, ipa, to));
     let to = to.number();
-    rtt_check(RmiFact::Walk(ipa, to, ended), !(ended == to), ended)
+    rtt_check(WalkFact::Walk(ipa, to, ended), !(ended == to), ended)
 }
 
 /// The entry where the walk to level 3 ends is UNASSIGNED.
@@ -69,7 +69,7 @@ pub(crate) fn entry_unassigned<S: PageStore>(host: &Host<S>, build: BuildId, ipa
 {
     let row = host.row(build, ipa, Level::last());
     let (level, found) = (level_of(row), state_of(row));
-    let fact = RmiFact::Entry(level, EntryState::Unassigned, found);
+    let fact = WalkFact::Entry(level, EntryState::Unassigned, found);
     rtt_check(fact, !matches!(found, Some(EntryState::Unassigned)), level)
 }
 
@@ -79,7 +79,7 @@ pub(crate) fn entry_assigned<S: PageStore>(host: &Host<S>, build: BuildId, ipa: 
 {
     let row = host.row(build, ipa, Level::last());
     let (level, found) = (level_of(row), state_of(row));
-    let fact = RmiFact::Entry(level, EntryState::Assigned, found);
+    let fact = WalkFact::Entry(level, EntryState::Assigned, found);
     rtt_check(fact, !matches!(found, Some(EntryState::Assigned)), level)
 }
 
@@ -95,7 +95,7 @@ pub(crate) fn entry_no_table<S: PageStore>(
     let row = host.row(build, ipa, to);
     let (level, found) = (level_of(row), state_of(row));
     rtt_check(
-        RmiFact::NoTable(level, found),
+        WalkFact::NoTable(level, found),
         matches!(found, Some(EntryState::Table)),
         level,
     )
@@ -106,7 +106,7 @@ pub(crate) fn entry_leads<S: PageStore>(host: &Host<S>, build: BuildId, ipa: u32
     ensures { result ≡ entry_leads host.now build ipa }
 {
     let granule = granule_of_row(host.row(build, ipa, Level::last()));
-    input_check(RmiFact::Leads(granule), granule.is_none())
+    input_check(Fact::Walk(WalkFact::Leads(granule)), granule.is_none())
 }
 
 // Whether the entry of level 3 of an IPA granule is UNASSIGNED.
@@ -141,5 +141,5 @@ pub(crate) fn entries_free<S: PageStore>(
 {
     let behind = ipa as u64 + count as u64;
     let free = behind <= 4_294_967_296 && are_free(host, build, ipa, count);
-    rtt_check(RmiFact::Free(ipa, count), !free, 3)
+    rtt_check(WalkFact::Free(ipa, count), !free, 3)
 }

@@ -23,39 +23,43 @@ pub(crate) enum Value {
 /// Words, with a value for each `{}` among them.
 #[derive(Clone, Copy)]
 pub(crate) struct Phrase {
-    pub words: &'static str,
-    pub first: Value,
-    pub second: Value,
-    pub third: Value,
-    pub fourth: Value,
+    words: &'static str,
+    first: Value,
+    second: Value,
+    third: Value,
+    fourth: Value,
 }
 
-/// A phrase of words and up to four values.
-macro_rules! say {
-    ($words:expr $(,)?) => {
-        say!($words, Value::Word(""))
-    };
-    ($words:expr, $a:expr $(,)?) => {
-        say!($words, $a, Value::Word(""))
-    };
-    ($words:expr, $a:expr, $b:expr $(,)?) => {
-        say!($words, $a, $b, Value::Word(""))
-    };
-    ($words:expr, $a:expr, $b:expr, $c:expr $(,)?) => {
-        say!($words, $a, $b, $c, Value::Word(""))
-    };
-    ($words:expr, $a:expr, $b:expr, $c:expr, $d:expr $(,)?) => {
-        Phrase {
-            words: $words,
-            first: $a,
-            second: $b,
-            third: $c,
-            fourth: $d,
-        }
-    };
+pub(crate) fn four(words: &'static str, a: Value, b: Value, c: Value, d: Value) -> Phrase {
+    Phrase {
+        words,
+        first: a,
+        second: b,
+        third: c,
+        fourth: d,
+    }
 }
 
-pub(crate) use say;
+pub(crate) fn three(words: &'static str, a: Value, b: Value, c: Value) -> Phrase {
+    four(words, a, b, c, Value::Word(""))
+}
+
+pub(crate) fn two(words: &'static str, a: Value, b: Value) -> Phrase {
+    three(words, a, b, Value::Word(""))
+}
+
+pub(crate) fn one(words: &'static str, a: Value) -> Phrase {
+    two(words, a, Value::Word(""))
+}
+
+pub(crate) fn plain(words: &'static str) -> Phrase {
+    one(words, Value::Word(""))
+}
+
+/// A number of pages.
+pub(crate) fn pages(count: u16) -> Value {
+    Value::Many(count as usize, "page", "pages")
+}
 
 /// The number of a page, or the letter in its place.
 pub(crate) fn page_or(page: Option<u16>, letter: &'static str) -> Value {
@@ -63,6 +67,24 @@ pub(crate) fn page_or(page: Option<u16>, letter: &'static str) -> Value {
         Some(page) => Value::Number(page as u64),
         None => Value::Word(letter),
     }
+}
+
+fn push_number(text: &mut String, number: u64) -> Result<(), AllocError> {
+    write!(text, "{number}")
+}
+
+// Appends a number, and the noun of what is counted.
+fn push_many(text: &mut String, count: usize, noun: &str) -> Result<(), AllocError> {
+    push_number(text, count as u64)?;
+    text.push_str(" ")?;
+    text.push_str(noun)
+}
+
+// Appends a role, the noun of what has it, and its number.
+fn push_named(text: &mut String, role: &str, noun: &str, number: u16) -> Result<(), AllocError> {
+    text.push_str(role)?;
+    text.push_str(noun)?;
+    push_number(text, number as u64)
 }
 
 impl Value {
@@ -78,50 +100,47 @@ impl Value {
     }
 
     fn push(self, text: &mut String) -> Result<(), AllocError> {
-        let (role, noun, number, after) = match self {
-            Value::Word(word) => return text.push_str(word),
-            Value::Number(number) => ("", "", number, ""),
-            Value::Many(1, one, _) => ("", "", 1, one),
-            Value::Many(count, _, more) => ("", "", count as u64, more),
-            Value::Page(role, page) => (role, "page ", page as u64, ""),
-            Value::Granule(role, granule) => (role, "granule ", granule as u64, ""),
-        };
-        text.push_str(role)?;
-        text.push_str(noun)?;
-        write!(text, "{number}")?;
-        if after.is_empty() {
-            return Ok(());
+        match self {
+            Value::Number(number) => push_number(text, number),
+            Value::Word(word) => text.push_str(word),
+            Value::Many(1, one, _) => push_many(text, 1, one),
+            Value::Many(count, _, more) => push_many(text, count, more),
+            Value::Page(role, page) => push_named(text, role, "page ", page),
+            Value::Granule(role, granule) => push_named(text, role, "granule ", granule),
         }
-        text.push_str(" ")?;
-        text.push_str(after)
     }
+}
+
+// Appends words, with the next of the values for each `{}`.
+fn fill(text: &mut String, words: &str, values: &[Value]) -> Result<(), AllocError> {
+    let mut rest = values;
+    for (place, part) in words.split("{}").enumerate() {
+        if place > 0 {
+            if let Some((value, others)) = rest.split_first() {
+                value.push(text)?;
+                rest = others;
+            }
+        }
+        text.push_str(part)?;
+    }
+    Ok(())
 }
 
 impl Phrase {
     /// The phrase with the granules of a build's pages in their places.
     pub(crate) fn in_granules<S: PageStore>(self, host: &Host<S>, build: BuildId) -> Phrase {
-        say!(
+        four(
             self.words,
             self.first.in_granules(host, build),
             self.second.in_granules(host, build),
             self.third.in_granules(host, build),
-            self.fourth.in_granules(host, build)
+            self.fourth.in_granules(host, build),
         )
     }
 
-    /// Appends the words, with the next of the values for each `{}`.
+    /// Appends the phrase.
     pub(crate) fn push(self, text: &mut String) -> Result<(), AllocError> {
         let values = [self.first, self.second, self.third, self.fourth];
-        let mut rest = values.as_slice();
-        for (place, part) in self.words.split("{}").enumerate() {
-            if place > 0 {
-                if let Some((value, others)) = rest.split_first() {
-                    value.push(text)?;
-                    rest = others;
-                }
-            }
-            text.push_str(part)?;
-        }
-        Ok(())
+        fill(text, self.words, &values)
     }
 }

@@ -64,11 +64,9 @@ fn are_tables<S: PageStore>(
     }
     for place in 0..count {
         let page = first.saturating_add(place);
-        let Some(granule) = host.page_granule(build, page) else {
-            return false;
-        };
+        let granule = host.page_granule(build, page).map(|it| it.number());
         if page == rd
-            || granule.number() != start.number().saturating_add(place)
+            || granule != start.number().checked_add(place)
             || host.page_state(build, page) != Some(GranuleState::Delegated)
         {
             return false;
@@ -84,12 +82,7 @@ pub(crate) fn first_of_tables<S: PageStore>(
     rd: u16,
     count: u16,
 ) -> Option<u16> {
-    for first in 0..host.page_count(build) {
-        if are_tables(host, build, rd, first, count) {
-            return Some(first);
-        }
-    }
-    None
+    (0..host.page_count(build)).find(|first| are_tables(host, build, rd, *first, count))
 }
 
 /// The page of a build that is a granule.
@@ -113,14 +106,6 @@ pub(crate) fn largest_free<S: PageStore>(host: &Host<S>) -> Option<Order> {
         }
     }
     largest
-}
-
-/// The number of pages of a block; 1 if there is no such order.
-pub(crate) fn size_of_order(order: u8) -> u16 {
-    match Order::new(order) {
-        Some(order) => order.size(),
-        None => 1,
-    }
 }
 
 /// The least order of which a block has that many pages.
@@ -209,6 +194,14 @@ pub(crate) fn count_of_recs<S: PageStore>(
     (count, last)
 }
 
+/// Whether the entry of level 3 of an IPA granule is UNASSIGNED.
+pub(crate) fn is_unassigned<S: PageStore>(host: &Host<S>, build: BuildId, ipa: u32) -> bool {
+    match host.row(build, ipa, Level::last()) {
+        Some(row) => row.level.number() == 3 && matches!(row.entry.state, EntryState::Unassigned),
+        None => false,
+    }
+}
+
 /// The first IPA granule from one on, in its table of level 3, whose entry is UNASSIGNED or not, as asked.
 pub(crate) fn first_entry<S: PageStore>(
     host: &Host<S>,
@@ -218,11 +211,7 @@ pub(crate) fn first_entry<S: PageStore>(
 ) -> Option<u32> {
     for more in 0..512 - from % 512 {
         let ipa = from.saturating_add(more);
-        let found = match host.row(build, ipa, Level::last()) {
-            Some(row) => row.level.number() == 3 && row.entry.state == EntryState::Unassigned,
-            None => false,
-        };
-        if found == unassigned {
+        if is_unassigned(host, build, ipa) == unassigned {
             return Some(ipa);
         }
     }

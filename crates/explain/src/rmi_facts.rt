@@ -2,9 +2,9 @@
 use granule_addr::{Gran, RecNo};
 use realm_model::{EntryState, GranuleState, RealmState, RecState};
 
-/// The facts of refusal 13. RMM 1.0, Realm attributes, REC attributes, RTT walk, RTT entry.
+/// A fact of pages or of IPAs.
 #[derive(Clone, Copy)]
-pub enum RmiFact {
+pub enum InputFact {
     /// The granule of the build's page is in the first state, which is required; the second is the one that was found.
     Page(u16, GranuleState, Option<GranuleState>),
     /// The IPA granule lies in the protected half of an address space of that width.
@@ -17,6 +17,11 @@ pub enum RmiFact {
     Count(u16),
     /// That many pages from the IPA granule on lie in one table.
     OneTable(u32, u16),
+}
+
+/// A fact of a realm that is to be created, or of one that is there. RMM 1.0, RMI_REALM_CREATE, Realm attributes.
+#[derive(Clone, Copy)]
+pub enum RealmFact {
     /// A realm may have that IPA width.
     Width(u8),
     /// The starting tables are adjacent granules, in the order of their pages.
@@ -26,15 +31,25 @@ pub enum RmiFact {
     /// The RD is not one of the starting tables.
     Apart,
     /// The realm is in the first state, which is required; the second is the one that was found.
-    Realm(RealmState, Option<RealmState>),
-    /// No granule of a REC is named twice.
+    State(RealmState, Option<RealmState>),
+}
+
+/// A fact of a REC that is to be created, or of one that is there. RMM 1.0, RMI_REC_CREATE, REC attributes.
+#[derive(Clone, Copy)]
+pub enum RecFact {
+    /// No granule is named twice.
     Distinct,
     /// As many auxiliary granules are named as a REC has: the number of those named, and of those a REC has.
     Auxiliaries(usize, u8),
     /// The realm has a REC of that number.
-    RecThere(RecNo),
+    There(RecNo),
     /// The REC is in the first state, which is required; the second is the one that was found.
-    Rec(RecNo, RecState, Option<RecState>),
+    State(RecNo, RecState, Option<RecState>),
+}
+
+/// A fact of the end of a walk. RMM 1.0, RTT walk, RTT entry.
+#[derive(Clone, Copy)]
+pub enum WalkFact {
     /// The walk of the IPA granule ends at the first level, which is required; the second is where it ends.
     Walk(u32, u8, u8),
     /// The entry of that level is in the first state, which is required; the second is the one that was found.

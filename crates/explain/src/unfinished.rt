@@ -5,7 +5,7 @@ ghost use Rattle.explain.specs.Unfinished.{unfinished_abort};
 
 use crate::explaining::id_of;
 use crate::phrase::Value::{Many, Number};
-use crate::phrase::{Phrase, Value, say};
+use crate::phrase::two;
 use granule_addr::BuildId;
 use page_arena::PageStore;
 use realm_host::Host;
@@ -65,9 +65,9 @@ pub fn unfinished_lines(alloc: Global, aborts: &[UnfinishedAbort]) -> Result<Str
         let build = Number(abort.build.number() as u64);
         let more = Many(abort.turns, "more turn", "more turns");
         let error = "    error: the abort of build {} needs {} in `order`\n";
-        say!(error, build, more).push(&mut text)?;
+        two(error, build, more).push(&mut text)?;
         let help = "    help: add {} of build {} to `order`; `realmview order` does it\n";
-        say!(help, more, build).push(&mut text)?;
+        two(help, more, build).push(&mut text)?;
     }
     Ok(text)
 }

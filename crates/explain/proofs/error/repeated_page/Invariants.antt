@@ -1,5 +1,5 @@
 use Rattle.std.proofs.Common.{length}
-use Rattle.explain.proofs.error_rmi.repeated_page.Given as goal
+use Rattle.explain.proofs.error.repeated_page.Given as goal
 
 abbrev pub decreases-pages : goal.decreases-pages
 decreases-pages l = length l.rest

@@ -1,0 +1,414 @@
+//! The check that refuses a step, in words: what must be, what is, and the name of the refusal.
+use crate::check::{Check, Fact};
+use crate::host_facts::{BuildFact, RoomFact, UndoFact};
+use crate::names::{entry_state, granule_state, realm_state, rec_state, refusal_name};
+use crate::phrase::Value::{self, Many, Number, Page, Word};
+use crate::phrase::{Phrase, four, one, pages, plain, three, two};
+use crate::readings::{count_of_recs, first_entry, ipa_of, newest_rec, page_of, served};
+use crate::rmi_facts::{InputFact, RealmFact, RecFact, WalkFact};
+use crate::roles::{role_by_state, role_of};
+use granule_addr::{BuildId, Gran, Order};
+use host_commands::{Cmd, Step};
+use page_arena::PageStore;
+use realm_host::{GranuleState, Host};
+use realm_plan::{realm_word, state_word};
+use std::alloc::AllocError;
+
+/// Appends the words for a check that fails: what must be and what is, and the name of the refusal.
+pub(crate) fn push_error(
+    text: &mut String,
+    words: Phrase,
+    step: &Step,
+    check: &Check,
+) -> Result<(), AllocError> {
+    words.push(text)?;
+    text.push_str(" (")?;
+    match (check.fact, access_of(step)) {
+        // A fill or a peek is no RMI command: the hardware refuses the access.
+        (Fact::Input(InputFact::Page(..)), Some(_)) => {
+            text.push_str("on hardware: a granule protection fault")?
+        }
+        _ => refusal_name(check.refusal).push(text)?,
+    }
+    text.push_str(")")
+}
+
+/// What must be, and what is, for a check of a step that fails.
+pub(crate) fn error_of<S: PageStore>(
+    host: &Host<S>,
+    build: BuildId,
+    step: &Step,
+    fact: Fact,
+) -> Phrase {
+    match fact {
+        Fact::Build(fact) => of_build(host, build, step, fact),
+        Fact::Room(fact) => of_room(host.pages(), fact),
+        Fact::Undo(fact) => of_undo(host, build, fact),
+        Fact::Input(fact) => of_input(step, fact),
+        Fact::Realm(fact) => of_realm(host, build, step, fact),
+        Fact::Rec(fact) => of_rec(host, build, step, fact),
+        Fact::Walk(fact) => of_walk(host, build, ipa_of(step), fact),
+    }
+}
+
+// ---- what the host checks
+
+// A build of another number, where there are so many builds.
+fn no_build(build: u8, count: u8) -> Phrase {
+    let words = if count == 1 {
+        "build {} does not exist; builds are numbered from 0 and there is {}"
+    } else {
+        "build {} does not exist; builds are numbered from 0 and there are {}"
+    };
+    two(words, Number(build as u64), Number(count as u64))
+}
+
+// A page that the build does not have.
+fn missing_page(step: &Step, page: u16, count: u16) -> Phrase {
+    let role = role_of(step, page);
+    let name = Page(role, page);
+    if role.is_empty() {
+        two("the build has no {}; it has {}", name, pages(count))
+    } else {
+        two("{} does not exist; the build has {}", name, pages(count))
+    }
+}
+
+// The RD of a realm that the build has already.
+fn second_realm<S: PageStore>(host: &Host<S>, build: BuildId, rd: Option<Gran>) -> Phrase {
+    match rd.and_then(|rd| page_of(host, build, rd)) {
+        Some(page) => one(
+            "the build must have no realm; it has one, with its RD in {}",
+            Page("", page),
+        ),
+        None => plain("the build must have no realm; it has one"),
+    }
+}
+
+fn of_build<S: PageStore>(host: &Host<S>, build: BuildId, step: &Step, fact: BuildFact) -> Phrase {
+    match fact {
+        BuildFact::There(count) => no_build(build.number(), count),
+        BuildFact::NotAborting => plain("the build must not be in abort; it is"),
+        BuildFact::Order(order) => one(
+            "the order of a block must be at most 9; it is {}",
+            Number(order as u64),
+        ),
+        BuildFact::Page(page, _, count) => missing_page(step, page, count),
+        BuildFact::Realm(_) => plain("the build must have a realm; it has none"),
+        BuildFact::NoRealm(rd) => second_realm(host, build, rd),
+    }
+}
+
+// A block that is not free, on a machine of that many pages.
+fn block_error(machine: u16, order: u8, free: u16) -> Phrase {
+    let size = Order::new(order).map_or(1, |order| order.size());
+    let wanted = Number(size as u64);
+    match free {
+        _ if size == 1 => plain("a page must be free; none is"),
+        _ if size > machine => two(
+            "an aligned block of {} pages must be free; the machine has {}",
+            wanted,
+            pages(machine),
+        ),
+        0 => one(
+            "an aligned block of {} pages must be free; no page is",
+            wanted,
+        ),
+        _ if free < size => two(
+            "an aligned block of {} pages must be free; {} free",
+            wanted,
+            Many(free as usize, "page is", "pages are"),
+        ),
+        _ => two(
+            "an aligned block of {} pages must be free; {} pages are, but not in one block",
+            wanted,
+            Number(free as u64),
+        ),
+    }
+}
+
+fn of_room(machine: u16, fact: RoomFact) -> Phrase {
+    match fact {
+        RoomFact::Journal(open) => one(
+            "fewer than 512 operations of the build must be open; {} are",
+            Number(open as u64),
+        ),
+        RoomFact::History(left, needed) => two(
+            "the build's history must have room for {}; it has room for {}",
+            Many(needed as usize, "more event", "more events"),
+            Number(left as u64),
+        ),
+        RoomFact::Vmid(_) => plain("a VMID must be free; all are in use"),
+        RoomFact::Block(order, free) => block_error(machine, order, free),
+    }
+}
+
+/// The newest operation of a build, which created a REC that is RUNNING.
+pub(crate) fn newest_error(number: u16) -> Phrase {
+    one(
+        "REC {}, the newest operation's, must be READY; it is RUNNING",
+        Number(number as u64),
+    )
+}
+
+// The RECs of a build that are RUNNING: words for one of them, and words for their number.
+fn running_error<S: PageStore>(
+    host: &Host<S>,
+    build: BuildId,
+    of_one: &'static str,
+    of_many: &'static str,
+) -> Phrase {
+    match count_of_recs(host, build, true) {
+        (1, only) => one(of_one, Number(only as u64)),
+        (count, _) => one(of_many, Number(count as u64)),
+    }
+}
+
+fn of_undo<S: PageStore>(host: &Host<S>, build: BuildId, fact: UndoFact) -> Phrase {
+    match fact {
+        UndoFact::Open(_) => plain("the build must have an operation to undo; it has none"),
+        UndoFact::NewestRests => match newest_rec(host, build) {
+            Some(number) => newest_error(number),
+            None => plain("the newest operation's REC must be READY; it is RUNNING"),
+        },
+        UndoFact::AllRest(_) => running_error(
+            host,
+            build,
+            "each REC of the build must be READY; REC {} is RUNNING",
+            "each REC of the build must be READY; {} RECs are RUNNING",
+        ),
+        UndoFact::Mark => plain("the build must have a mark to go back to; it has none"),
+        UndoFact::AboveRests => running_error(
+            host,
+            build,
+            "each REC created since the mark must be READY; REC {} is RUNNING",
+            "each REC created since the mark must be READY; {} RECs are RUNNING",
+        ),
+    }
+}
+
+// ---- what the RMM checks
+
+// How a step accesses a page, if it is no RMI command.
+fn access_of(step: &Step) -> Option<&'static str> {
+    match step {
+        Step::Ask(Cmd::Fill { .. }) => Some("written"),
+        Step::Ask(Cmd::Peek { .. }) => Some("read"),
+        _ => None,
+    }
+}
+
+// A page in another state.
+fn page_error(
+    step: &Step,
+    page: Value,
+    wanted: GranuleState,
+    found: Option<GranuleState>,
+) -> Phrase {
+    let (wanted, found) = (Word(state_word(wanted)), Word(granule_state(found)));
+    match access_of(step) {
+        Some(access) => four(
+            "{} must be {} to be {}; it is {}",
+            page,
+            wanted,
+            Word(access),
+            found,
+        ),
+        None => three("{} must be {}; it is {}", page, wanted, found),
+    }
+}
+
+fn of_input(step: &Step, fact: InputFact) -> Phrase {
+    match fact {
+        InputFact::Page(page, wanted, found) => {
+            let role = role_by_state(step, page, wanted);
+            page_error(step, Page(role, page), wanted, found)
+        }
+        InputFact::Protected(ipa, width) => three(
+            "IPA granule {} must be below {}, in the protected half at IPA width {}",
+            Number(ipa as u64),
+            Number(protected_end(width)),
+            Number(width as u64),
+        ),
+        InputFact::Level(level) => one(
+            "the level of a table must be 2 or 3; it is {}",
+            Number(level as u64),
+        ),
+        InputFact::Start(ipa, level) => three(
+            "a table of level {} must start at a multiple of {}; IPA granule {} is none",
+            Number(level as u64),
+            Number(served(level) as u64),
+            Number(ipa as u64),
+        ),
+        InputFact::Count(count) => one(
+            "the count of pages must be 1 to 512; it is {}",
+            Number(count as u64),
+        ),
+        InputFact::OneTable(ipa, count) => three(
+            "{} pages from IPA granule {} must lie in one table of level 3; the next begins at {}",
+            Number(count as u64),
+            Number(ipa as u64),
+            Number((ipa as u64 / 512 + 1) * 512),
+        ),
+    }
+}
+
+/// The number of IPA granules in the protected half of an address space of that width.
+pub(crate) fn protected_end(width: u8) -> u64 {
+    1 << width.saturating_sub(13).min(32)
+}
+
+// The pages that a step names for a realm: the RD, the first starting table, and the number of these.
+fn realm_pages(step: &Step) -> (u16, u16, u16) {
+    match step {
+        Step::Ask(Cmd::Realm { rd, root, width }) => {
+            (*rd, *root, host_commands::tables_named(*width))
+        }
+        _ => (0, 0, 0),
+    }
+}
+
+fn of_realm<S: PageStore>(host: &Host<S>, build: BuildId, step: &Step, fact: RealmFact) -> Phrase {
+    let (rd, root, count) = realm_pages(step);
+    match fact {
+        RealmFact::Width(width) => one(
+            "the IPA width must be 39 to 43; it is {}",
+            Number(width as u64),
+        ),
+        RealmFact::Adjacent => two(
+            "the {} starting tables from {} on must be adjacent granules; they are not",
+            Number(count as u64),
+            Page("", root),
+        ),
+        RealmFact::Multiple(count) => three(
+            "the first starting table, {}, must be at a multiple of {} granules; it is {}",
+            Page("", root),
+            Number(count as u64),
+            Page("", root).in_granules(host, build),
+        ),
+        RealmFact::Apart => one(
+            "the RD must not be a starting table; {} is both",
+            Page("", rd),
+        ),
+        RealmFact::State(wanted, found) => two(
+            "the realm must be {}; it is {}",
+            Word(realm_word(wanted)),
+            Word(realm_state(found)),
+        ),
+    }
+}
+
+// The page that a step for a REC names twice.
+fn repeated_page(step: &Step) -> Option<u16> {
+    let Step::Ask(Cmd::Rec { page, auxiliaries }) = step else {
+        return None;
+    };
+    if auxiliaries.as_slice().contains(page) {
+        return Some(*page);
+    }
+    let mut rest = auxiliaries.as_slice();
+    'pages: while let Some((page, others)) = rest.split_first() {
+        if others.contains(page) {
+            return Some(*page);
+        }
+        rest = others;
+    }
+    None
+}
+
+fn distinct_error<S: PageStore>(host: &Host<S>, build: BuildId, step: &Step) -> Phrase {
+    match repeated_page(step) {
+        Some(page) => one(
+            "the REC and its auxiliaries must differ; {} is named twice",
+            Page("", page),
+        ),
+        None => plain("the REC and its auxiliaries must differ"),
+    }
+}
+
+// A REC that the realm does not have, beside those that it has.
+fn no_rec_error<S: PageStore>(host: &Host<S>, build: BuildId, number: u16) -> Phrase {
+    let number = Number(number as u64);
+    match count_of_recs(host, build, false) {
+        (0, _) => one("the realm must have REC {}; it has none", number),
+        (1, only) => two(
+            "the realm must have REC {}; it has only REC {}",
+            number,
+            Number(only as u64),
+        ),
+        (count, _) => two(
+            "the realm must have REC {}; it has {} others",
+            number,
+            Number(count as u64),
+        ),
+    }
+}
+
+fn of_rec<S: PageStore>(host: &Host<S>, build: BuildId, step: &Step, fact: RecFact) -> Phrase {
+    match fact {
+        RecFact::Distinct => distinct_error(host, build, step),
+        RecFact::There(number) => no_rec_error(host, build, number.number()),
+        RecFact::Auxiliaries(given, wanted) => two(
+            "a REC must have {}; {} named",
+            Many(wanted as usize, "auxiliary page", "auxiliary pages"),
+            Many(given, "is", "are"),
+        ),
+        RecFact::State(number, wanted, found) => three(
+            "REC {} must be {}; it is {}",
+            Number(number.number() as u64),
+            Word(rec_state(Some(wanted))),
+            Word(rec_state(found)),
+        ),
+    }
+}
+
+// Entries that are not all UNASSIGNED.
+fn free_error<S: PageStore>(host: &Host<S>, build: BuildId, ipa: u32, count: u16) -> Phrase {
+    let (first, taken) = (Number(ipa as u64), first_entry(host, build, ipa, false));
+    match taken {
+        _ if count == 1 => one(
+            "the entry of IPA granule {} must be UNASSIGNED; it is ASSIGNED",
+            first,
+        ),
+        Some(taken) => three(
+            "the {} entries from IPA granule {} on must be UNASSIGNED; that of IPA granule {} is ASSIGNED",
+            Number(count as u64),
+            first,
+            Number(taken as u64),
+        ),
+        None => two(
+            "the {} entries from IPA granule {} on must be UNASSIGNED",
+            Number(count as u64),
+            first,
+        ),
+    }
+}
+
+fn of_walk<S: PageStore>(host: &Host<S>, build: BuildId, ipa: u32, fact: WalkFact) -> Phrase {
+    match fact {
+        WalkFact::Walk(ipa, to, ended) => three(
+            "the walk of IPA granule {} must end at level {}; it ends at level {}",
+            Number(ipa as u64),
+            Number(to as u64),
+            Number(ended as u64),
+        ),
+        WalkFact::Entry(level, wanted, found) => four(
+            "the entry of IPA granule {} at level {} must be {}; it is {}",
+            Number(ipa as u64),
+            Number(level as u64),
+            Word(entry_state(Some(wanted))),
+            Word(entry_state(found)),
+        ),
+        WalkFact::NoTable(level, _) => three(
+            "IPA granule {} must have no table below level {} yet; its entry at level {} is TABLE",
+            Number(ipa as u64),
+            Number(level as u64),
+            Number(level as u64),
+        ),
+        WalkFact::Leads(_) => one(
+            "the entry of IPA granule {} must lead to a page; it leads to none",
+            Number(ipa as u64),
+        ),
+        WalkFact::Free(ipa, count) => free_error(host, build, ipa, count),
+    }
+}

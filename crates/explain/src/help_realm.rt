@@ -1,0 +1,268 @@
+//! A step that helps where a realm, a REC or a translation is not as a step requires.
+use crate::help::Help;
+use crate::help_host::take_of;
+use crate::help_input::other_page;
+use crate::phrase::Value::{self, Number, Word};
+use crate::phrase::{Phrase, four, one, page_or, plain, three, two};
+use crate::readings::{
+    first_entry, first_of_tables, first_served, ipa_of, next_rec, other_pages, undos_of_realm,
+};
+use crate::rmi_facts::{RealmFact, RecFact, WalkFact};
+use granule_addr::BuildId;
+use host_commands::{Cmd, Step};
+use page_arena::PageStore;
+use realm_host::{EntryState, GranuleState, Host, RealmState, RecState};
+
+// ---- realms
+
+// A NEW realm for an ACTIVE one.
+fn new_again<S: PageStore>(host: &Host<S>, build: BuildId) -> Help {
+    match undos_of_realm(host, build) {
+        Some(count) => {
+            let words =
+                "put this step before `activate`; an ACTIVE realm becomes NEW only by undoing it: ";
+            Help::Undo(plain(words), count, "")
+        }
+        None => Help::Say(plain(
+            "put this step before `activate`; an ACTIVE realm becomes NEW only by undoing it",
+        )),
+    }
+}
+
+// Pages that can be the starting tables; or else a block that has such.
+fn other_tables<S: PageStore>(host: &Host<S>, build: BuildId, rd: u16, width: u8) -> Help {
+    let count = host_commands::tables_named(width);
+    if let Some(first) = first_of_tables(host, build, rd, count) {
+        let last = first.saturating_add(count.saturating_sub(1));
+        let (rd, first) = (Number(rd as u64), Number(first as u64));
+        return Help::Both(
+            two(
+                "pages {} to {} are adjacent and aligned: ",
+                first,
+                Number(last as u64),
+            ),
+            three("`realm {} {} {}`", rd, first, Number(width as u64)),
+        );
+    }
+    match take_of(host, build, count) {
+        Some(take) => Help::Both(
+            plain("the pages of one block are adjacent and aligned: "),
+            take,
+        ),
+        None => Help::Say(plain("the pages of one block are adjacent and aligned")),
+    }
+}
+
+// Another IPA width.
+fn other_width(rd: u16, root: u16, width: u8) -> Phrase {
+    let words = if width < 39 {
+        "leave the width out for 39: `realm {} {}`"
+    } else {
+        "`realm {} {} 43` is the widest, with 16 starting tables"
+    };
+    two(words, Number(rd as u64), Number(root as u64))
+}
+
+/// What helps where a realm, or what it is to be created of, is not as a step requires.
+pub(crate) fn realm_help<S: PageStore>(
+    host: &Host<S>,
+    build: BuildId,
+    step: &Step,
+    fact: RealmFact,
+) -> Help {
+    match (fact, step) {
+        (RealmFact::Width(width), Step::Ask(Cmd::Realm { rd, root, .. })) => {
+            Help::Say(other_width(*rd, *root, width))
+        }
+        (RealmFact::Adjacent | RealmFact::Multiple(_), Step::Ask(Cmd::Realm { rd, width, .. })) => {
+            other_tables(host, build, *rd, *width)
+        }
+        (RealmFact::Apart, _) => other_page(host, build, step),
+        (RealmFact::State(RealmState::Active, _), _) => Help::Say(plain("`activate` first")),
+        (RealmFact::State(RealmState::New, _), Step::Ask(Cmd::Activate)) => {
+            Help::Say(plain("leave this step out: the realm is ACTIVE already"))
+        }
+        (RealmFact::State(RealmState::New, _), _) => new_again(host, build),
+        _ => Help::Nothing,
+    }
+}
+
+// ---- RECs
+
+// A REC for one that a NEW realm does not have.
+fn missing_rec<S: PageStore>(host: &Host<S>, build: BuildId, number: u16) -> Help {
+    let next = next_rec(host, build);
+    if number > next {
+        return Help::Say(one(
+            "RECs are numbered in order of their creation: the next is REC {}",
+            Number(next as u64),
+        ));
+    }
+    Help::Rec("create it first: ")
+}
+
+/// What helps where a REC, or what it is to be created of, is not as a step requires.
+pub(crate) fn rec_help<S: PageStore>(
+    host: &Host<S>,
+    build: BuildId,
+    step: &Step,
+    fact: RecFact,
+) -> Help {
+    let is_new = matches!(host.realm_view(build), Some((RealmState::New, _)));
+    match fact {
+        RecFact::Distinct => other_page(host, build, step),
+        RecFact::Auxiliaries(..) => Help::Rec(""),
+        RecFact::There(number) if is_new => missing_rec(host, build, number.number()),
+        RecFact::There(_) => Help::Say(plain(
+            "RECs are created before `activate`, and numbered from 0",
+        )),
+        RecFact::State(number, wanted, _) => {
+            let words = match wanted {
+                RecState::Ready => "`exit {}` first",
+                RecState::Running if is_new => "`activate`, then `enter {}` first",
+                RecState::Running => "`enter {}` first",
+            };
+            Help::Say(one(words, Number(number.number() as u64)))
+        }
+    }
+}
+
+// ---- translations
+
+// One of the pages that a step is proposed with: one of the others, or a letter if these are fewer than it needs.
+fn page_at(others: &[u16], needed: usize, place: usize) -> Value {
+    let letter = match place {
+        0 => "P",
+        1 => "Q",
+        _ => "R",
+    };
+    match others.get(place) {
+        Some(page) if others.len() >= needed => page_or(Some(*page), letter),
+        _ => page_or(None, letter),
+    }
+}
+
+// The meaning of the letters of a step that is proposed.
+fn letters(others: &[u16], needed: usize) -> &'static str {
+    match needed {
+        _ if others.len() >= needed => "",
+        1 => ", with a DELEGATED page P",
+        2 => ", with DELEGATED pages P and Q",
+        _ => ", with DELEGATED pages P, Q and R",
+    }
+}
+
+// The tables that a walk to a level lacks.
+fn missing_tables<S: PageStore>(
+    host: &Host<S>,
+    build: BuildId,
+    step: &Step,
+    fact: (u32, u8, u8),
+) -> Help {
+    let (ipa, to, ended) = fact;
+    let needed = to.saturating_sub(ended) as usize;
+    let others = other_pages(host, build, step, GranuleState::Delegated);
+    let others = others.as_slice();
+    let first = page_at(others, needed, 0);
+    let level_2 = Number(first_served(ipa, 2) as u64);
+    let level_3 = Number(first_served(ipa, 3) as u64);
+    let words = match (ended, to) {
+        (0 | 1, 0..=2) => two(
+            "create the missing table first: `rtt {} {} 2`",
+            first,
+            level_2,
+        ),
+        (0 | 1, _) => four(
+            "create the missing tables first: `rtt {} {} 2`, then `rtt {} {} 3`",
+            first,
+            level_2,
+            page_at(others, needed, 1),
+            level_3,
+        ),
+        _ => two(
+            "create the missing table first: `rtt {} {} 3`",
+            first,
+            level_3,
+        ),
+    };
+    Help::Both(words, plain(letters(others, needed)))
+}
+
+// A page at an IPA granule where none is, for a guest that writes there.
+fn mapping<S: PageStore>(host: &Host<S>, build: BuildId, step: &Step, ipa: u32, ended: u8) -> Help {
+    let needed = 4usize.saturating_sub(ended as usize);
+    let others = other_pages(host, build, step, GranuleState::Delegated);
+    let others = others.as_slice();
+    let first = page_at(others, needed, 0);
+    let level_2 = Number(first_served(ipa, 2) as u64);
+    let level_3 = Number(first_served(ipa, 3) as u64);
+    let (tables, page) = match ended {
+        0 | 1 => {
+            let words = "map a page there first: `rtt {} {} 2`, then `rtt {} {} 3`, then ";
+            let second = page_at(others, needed, 1);
+            let tables = four(words, first, level_2, second, level_3);
+            (tables, page_at(others, needed, 2))
+        }
+        2 => {
+            let words = "map a page there first: `rtt {} {} 3`, then ";
+            (two(words, first, level_3), page_at(others, needed, 1))
+        }
+        _ => (plain("map a page there first: "), first),
+    };
+    let more = Word(letters(others, needed));
+    Help::Both(
+        tables,
+        three("`unknown {} {}`{}", page, Number(ipa as u64), more),
+    )
+}
+
+// Another IPA granule for a page.
+fn other_entry<S: PageStore>(host: &Host<S>, build: BuildId, step: &Step, ipa: u32) -> Help {
+    let Some(other) = first_entry(host, build, ipa, true) else {
+        return Help::Nothing;
+    };
+    let other = Number(other as u64);
+    match step {
+        Step::Ask(Cmd::Data { page, source, .. }) => Help::Say(four(
+            "IPA granule {} is UNASSIGNED: `data {} {} {}`",
+            other,
+            Number(*page as u64),
+            other,
+            Number(*source as u64),
+        )),
+        Step::Ask(Cmd::Unknown { page, .. }) => Help::Say(three(
+            "IPA granule {} is UNASSIGNED: `unknown {} {}`",
+            other,
+            Number(*page as u64),
+            other,
+        )),
+        _ => Help::Nothing,
+    }
+}
+
+/// What helps where a walk ends elsewhere, or at another entry, than a step requires.
+pub(crate) fn walk_help<S: PageStore>(
+    host: &Host<S>,
+    build: BuildId,
+    step: &Step,
+    fact: WalkFact,
+) -> Help {
+    match fact {
+        WalkFact::Walk(ipa, to, ended) => missing_tables(host, build, step, (ipa, to, ended)),
+        WalkFact::Entry(_, EntryState::Unassigned, _) => {
+            other_entry(host, build, step, ipa_of(step))
+        }
+        WalkFact::Entry(level, _, _) => mapping(host, build, step, ipa_of(step), level),
+        WalkFact::NoTable(..) => {
+            Help::Say(plain("leave this step out: the table is there already"))
+        }
+        WalkFact::Leads(_) => Help::Nothing,
+        WalkFact::Free(ipa, _) => match first_entry(host, build, ipa, false) {
+            Some(taken) => Help::Say(one(
+                "put this step before the one that maps IPA granule {}",
+                Number(taken as u64),
+            )),
+            None => Help::Nothing,
+        },
+    }
+}
