@@ -7,6 +7,7 @@ use Rattle.rmm_checks.specs.declared.evaluated.CheckOutcome.{CheckOutcome}
 use Rattle.rmm_checks.specs.declared.evaluated.CheckOutcome.TheVariants.{Failed}
 use Rattle.rmm_checks.specs.declared.evaluated.EvaluatedCheck.{EvaluatedCheck}
 use Rattle.rmm_checks.specs.Evaluated as evaluated
+use Rattle.rmm_model.specs.declared.answer.FailedCondition.{FailedCondition}
 use Rattle.rmm_model.specs.Machine.{Machine}
 use Rattle.rmm_trace.specs.declared.place.TheConstants.{DASH, RMI_SUCCESS}
 use Rattle.rmm_trace.specs.declared.word.Atom.{Atom}
@@ -25,13 +26,22 @@ abbrev pub allows : List EvaluatedCheck → Option Word → Bool
 allows rows (Some w) = evaluated.is_allowed rows w
 allows rows None = false
 
--- the word that X0 is read as is allowed
-abbrev pub allows_number : List EvaluatedCheck → ℕ → Bool
-allows_number rows x0 = allows rows (word_of x0)
+-- X0 is the word of the check that decided
+abbrev pub is_word_of : ℕ → Option FailedCondition → Bool
+is_word_of x0 (Some failed) = number failed.answer.word == x0
+is_word_of x0 None = false
 
-abbrev pub has_status : ℕ → CheckOutcome → Bool
-has_status status (Failed answer) = number answer.word % 256 == status
-has_status status _ = false
+abbrev pub is_ours : List EvaluatedCheck → ℕ → Bool
+is_ours rows x0 = is_word_of x0 (evaluated.first_failed rows)
+
+-- the word that X0 is read as is allowed, and is another one than ours
+abbrev pub allows_number : List EvaluatedCheck → ℕ → Bool
+allows_number rows x0 = allows rows (word_of x0) && not (is_ours rows x0)
+
+-- a check was made and failed, and its word has a status and is another one than ours
+abbrev pub has_status : List EvaluatedCheck → ℕ → CheckOutcome → Bool
+has_status rows status (Failed answer) = number answer.word % 256 == status && not (is_ours rows (number answer.word))
+has_status rows status _ = false
 
 abbrev pub allows_index : List EvaluatedCheck → ℕ → ℕ → Bool
 allows_index rows status index = nat_lt index 256 && allows_number rows (status + 256 * index)
@@ -39,7 +49,7 @@ allows_index rows status index = nat_lt index 256 && allows_number rows (status 
 -- `-` is each index
 abbrev pub allows_index_in : List EvaluatedCheck → ℕ → Atom → Bool
 allows_index_in rows status (Name place) =
-    if place == DASH then list_any (λ row. has_status status row.outcome) rows else allows_index rows status 0
+    if place == DASH then list_any (λ row. has_status rows status row.outcome) rows else allows_index rows status 0
 allows_index_in rows status (Decimal index) = allows_index rows status index
 allows_index_in rows status (Hexadecimal index) = allows_index rows status index
 
@@ -57,7 +67,7 @@ allows_first rows (Name place) ws = allows_name rows place ws
 allows_first rows (Decimal x0) ws = not (x0 == 0) && allows_number rows x0
 allows_first rows (Hexadecimal x0) ws = not (x0 == 0) && allows_number rows x0
 
--- A written answer refuses by a word that the checks allow.
+-- A written answer refuses by a word that the checks allow, and that is not ours.
 abbrev pub is_refusal_allowed : List TraceWord → List EvaluatedCheck → Bool
 is_refusal_allowed [] rows = false
 is_refusal_allowed (w ∷ ws) rows = allows_first rows w.value ws

@@ -17,33 +17,46 @@ pub enum Verdict {
     Wrong,
 }
 
-// Whether the checks allow the word that X0 is read as.
-fn allows_number(checks: &EvaluatedChecks, x0: u64) -> bool
-    ensures { result ≡ judging.allows_number checks.now x0 }
+// Whether X0 is the word of the check that decided.
+fn is_ours(checks: &EvaluatedChecks, x0: u64) -> bool
+    ensures { result ≡ judging.is_ours checks.now x0 }
 {
-    match Word::from_number(x0) {
-        Some(word) => checks.allows(word),
+    match checks.deciding() {
+        Some(failed) => failed.answer.word.number() == x0,
         None => false,
     }
 }
 
-// Whether a check was made and failed, and its word has a status.
-fn has_status(row: &EvaluatedCheck, status: u64) -> bool
-    ensures { result ≡ judging.has_status status row.now.outcome }
+// Whether the checks allow the word that X0 is read as, and it is another one than ours.
+fn allows_number(checks: &EvaluatedChecks, x0: u64) -> bool
+    ensures { result ≡ judging.allows_number checks.now x0 }
+{
+    match Word::from_number(x0) {
+        Some(word) => checks.allows(word) && !is_ours(checks, x0),
+        None => false,
+    }
+}
+
+// Whether a check was made and failed, and its word has a status and is another one than ours.
+fn has_status(checks: &EvaluatedChecks, row: &EvaluatedCheck, status: u64) -> bool
+    ensures { result ≡ judging.has_status checks.now status row.now.outcome }
 {
     match row.outcome {
-        CheckOutcome::Failed(answer) => answer.word.number() % 0x100 == status,
+        CheckOutcome::Failed(answer) => {
+            let x0 = answer.word.number();
+            x0 % 0x100 == status && !is_ours(checks, x0)
+        }
         CheckOutcome::NotMade => false,
         CheckOutcome::Passed => false,
     }
 }
 
 // Whether the checks allow a status with any index.
-fn allows_status(rows: &[EvaluatedCheck], status: u64) -> bool
-    ensures { result ≡ list_any (λ row. judging.has_status status row.outcome) rows.now }
+fn allows_status(checks: &EvaluatedChecks, rows: &[EvaluatedCheck], status: u64) -> bool
+    ensures { result ≡ list_any (λ row. judging.has_status checks.now status row.outcome) rows.now }
 {
     for row in rows {
-        if has_status(row, status) {
+        if has_status(checks, row, status) {
             return true;
         }
     }
@@ -68,7 +81,7 @@ fn allows_written(checks: &EvaluatedChecks, status: u64, rest: &[TraceWord]) -> 
         [index, ..] => match index.value {
             Atom::Name(place) => {
                 if place == DASH {
-                    allows_status(checks.rows(), status)
+                    allows_status(checks, checks.rows(), status)
                 } else {
                     allows_index(checks, status, 0)
                 }
@@ -89,8 +102,8 @@ fn allows_name(checks: &EvaluatedChecks, place: usize, rest: &[TraceWord]) -> bo
     allows_written(checks, (place - RMI_SUCCESS) as u64, rest)
 }
 
-/// Whether an answer that is written refuses the call by a word that evaluated checks allow. The word is the name of its
-/// status with an index, or X0.
+/// Whether an answer that is written refuses the call by a word that evaluated checks allow, and that is not the word of
+/// the check that decides. The word is the name of its status with an index, or X0.
 pub fn is_allowed(written: &[TraceWord], checks: &EvaluatedChecks) -> bool
     ensures { result ≡ judging.is_refusal_allowed written.now checks.now }
 {
@@ -119,8 +132,8 @@ fn is_text_allowed(checks: Option<EvaluatedChecks>, written: &[u8]) -> bool
 
 /// The verdict on an answer that is written to a question, by our reply and the machine after it.
 ///
-/// Both refuse the call if the answer is allowed, so both machines are those before it. Checks are evaluated only if the
-/// answer is not ours.
+/// Both refuse the call if the answer is allowed, so both machines are those before it. A right word with another check
+/// or another output is wrong. Checks are evaluated only if the answer is not ours.
 #[tactic(auto, unfolding(crate::specs::Judging::judged))]
 pub fn judge(
     machine: &TraceMachine,
