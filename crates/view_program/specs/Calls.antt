@@ -1,5 +1,5 @@
 -- The calls of a plan's run.
-use Rattle.std.specs.Prelude.{ℕ, List, Unit}
+use Rattle.std.specs.Prelude.{ℕ, List}
 use Rattle.realm_plan.specs.Plan.{Plan}
 
 -- The operations for an event are those of `actions_of`. That a text is what they are written as is tested, and in no
