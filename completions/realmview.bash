@@ -11,7 +11,7 @@ _realmview() {
         before=${COMP_WORDS[COMP_CWORD - 2]}
     fi
     for ((at = 1; at < COMP_CWORD; at++)); do
-        case ${COMP_WORDS[at]} in history | apply | json | page | why | explore | order | check | help) command=${COMP_WORDS[at]} && break ;; esac
+        case ${COMP_WORDS[at]} in history | apply | json | page | why | explore | order | calls | check | help) command=${COMP_WORDS[at]} && break ;; esac
     done
     case $command:$before in
         history:--erase) COMPREPLY=($(compgen -W '0 1 2 3 4 5 6 7' -- "$word")) ;;
@@ -19,6 +19,7 @@ _realmview() {
         explore:--most) compopt +o default 2> /dev/null ;;
         explore:--sample) compopt +o default 2> /dev/null ;;
         explore:--seed) compopt +o default 2> /dev/null ;;
+        calls:--base) compopt +o default 2> /dev/null ;;
         history:*) [[ $word == -* ]] && COMPREPLY=($(compgen -W '--erase -h --help' -- "$word")) ;;
         apply:*) [[ $word == -* ]] && COMPREPLY=($(compgen -W '--erase -h --help' -- "$word")) ;;
         json:*) [[ $word == -* ]] && COMPREPLY=($(compgen -W '-h --help' -- "$word")) ;;
@@ -26,9 +27,10 @@ _realmview() {
         why:*) [[ $word == -* ]] && COMPREPLY=($(compgen -W '--all -h --help' -- "$word")) ;;
         explore:*) [[ $word == -* ]] && COMPREPLY=($(compgen -W '--most --sample --seed -h --help' -- "$word")) ;;
         order:*) [[ $word == -* ]] && COMPREPLY=($(compgen -W '--one-by-one -h --help' -- "$word")) ;;
+        calls:*) [[ $word == -* ]] && COMPREPLY=($(compgen -W '--base -h --help' -- "$word")) ;;
         check:*) [[ $word == -* ]] && COMPREPLY=($(compgen -W '-h --help' -- "$word")) ;;
-        help:*) COMPREPLY=($(compgen -W 'history apply json page why explore order check' -- "$word")) ;;
-        :*) COMPREPLY=($(compgen -W 'history apply json page why explore order check help -h --help -V --version' -- "$word")) ;;
+        help:*) COMPREPLY=($(compgen -W 'history apply json page why explore order calls check' -- "$word")) ;;
+        :*) COMPREPLY=($(compgen -W 'history apply json page why explore order calls check help -h --help -V --version' -- "$word")) ;;
     esac
 }
 complete -o default -F _realmview realmview

@@ -7,6 +7,7 @@ complete -c realmview -n __fish_use_subcommand -a page -d 'Print a web page that
 complete -c realmview -n __fish_use_subcommand -a why -d 'Explain why steps of a plan are refused'
 complete -c realmview -n __fish_use_subcommand -a explore -d 'Run a plan in every order of its builds'\'' turns, and print what differs'
 complete -c realmview -n __fish_use_subcommand -a order -d 'Print a plan with an order that gives each build all the turns that it needs, in rotation'
+complete -c realmview -n __fish_use_subcommand -a calls -d 'Print a plan'\''s run as calls on an RMM, a trace for rmitrace'
 complete -c realmview -n __fish_use_subcommand -a check -d 'Check a plan, and print each mistake with its line'
 complete -c realmview -n __fish_use_subcommand -a help -d 'Print this message or the help of the given subcommand(s)'
 complete -c realmview -n '__fish_use_subcommand' -s h -l help -d 'Print help'
@@ -32,6 +33,9 @@ complete -c realmview -n '__fish_seen_subcommand_from explore' -F
 complete -c realmview -n '__fish_seen_subcommand_from order' -l one-by-one -d 'Give a build all its turns before the next build has one'
 complete -c realmview -n '__fish_seen_subcommand_from order' -s h -l help -d 'Print help'
 complete -c realmview -n '__fish_seen_subcommand_from order' -F
+complete -c realmview -n '__fish_seen_subcommand_from calls' -l base -x -d 'Place granule 0 at this address, a multiple of 0x1000 [default: 0x80000000]'
+complete -c realmview -n '__fish_seen_subcommand_from calls' -s h -l help -d 'Print help'
+complete -c realmview -n '__fish_seen_subcommand_from calls' -F
 complete -c realmview -n '__fish_seen_subcommand_from check' -s h -l help -d 'Print help'
 complete -c realmview -n '__fish_seen_subcommand_from check' -F
-complete -c realmview -n '__fish_seen_subcommand_from help' -a 'history apply json page why explore order check'
+complete -c realmview -n '__fish_seen_subcommand_from help' -a 'history apply json page why explore order calls check'
