@@ -1,16 +1,12 @@
 //! Answers to questions.
-ghost use Rattle.std.specs.Prelude.{◌≡◌, ◌++◌, IfOk, OnOk};
-ghost use Rattle.std.specs.String.{string_bytes};
+ghost use Rattle.std.specs.Prelude.{◌≡◌, ◌++◌, OnErr, OnOk};
 ghost use Rattle.std.specs.Str.{bytes_eq};
 ghost use Rattle.rmm_answers.specs.Replies as replies;
 
 use crate::place::{COMMAND, NO};
 use crate::put::put;
-use rmm_trace::{
-    Atom, Sentence, SentenceText, TraceWord, is_same, read_words, sha256_text, sha512_text,
-};
-use std::alloc::{AllocError, Global};
-use std::fmt::Write;
+use rmm_trace::{Atom, Sentence, TraceWord, is_same, read_words, sha256_text, sha512_text};
+use std::alloc::AllocError;
 
 /// The digest that a realm's initial measurement is.
 #[derive(Clone, Copy)]
@@ -39,13 +35,14 @@ impl Digest {
         }
     }
 
-    // The digits of the digest.
-    fn digits(&self, alloc: Global) -> Result<String, AllocError>
-        ensures { IfOk result (λ text. string_bytes text ≡ replies.digest_text self.now) }
+    /// Appends the digits of the digest. After an Err none of them is there.
+    pub fn push_digits(&self, text: &mut Vec<u8>) -> Result<(), AllocError>
+        ensures ok { OnOk result (text.new ≡ text.old ++ replies.digest_text self.now) }
+        ensures err { OnErr result (text.new ≡ text.old) }
     {
         match self {
-            Digest::Sha256(bytes) => hex::encode(alloc, bytes.as_slice()),
-            Digest::Sha512(bytes) => hex::encode(alloc, bytes.as_slice()),
+            Digest::Sha256(bytes) => text.extend_from_slice(sha256_text(bytes).as_slice()),
+            Digest::Sha512(bytes) => text.extend_from_slice(sha512_text(bytes).as_slice()),
         }
     }
 }
@@ -106,22 +103,6 @@ impl TraceReply {
         match &self.rim {
             Some(digest) => digest.is_text(written),
             None => are_words(question, written, self.words.as_slice()),
-        }
-    }
-
-    /// Appends the text of the answer.
-    pub fn push_text(&self, alloc: Global, text: &mut String) -> Result<(), AllocError>
-        ensures ok { OnOk result (string_bytes text.new ≡ string_bytes text.old ++ replies.reply_text self.now) }
-    {
-        match &self.rim {
-            Some(digest) => {
-                let digits = digest.digits(alloc)?;
-                text.push_str(digits.as_str())
-            }
-            None => {
-                write!(text, "{}", SentenceText(self.words.as_slice()))?;
-                Ok(())
-            }
         }
     }
 }

@@ -1,6 +1,7 @@
 //! The texts of lines with their answers.
 ghost use Rattle.std.specs.Prelude.{◌≡◌, ◌++◌, [], ◌∷◌, OnOk};
 ghost use Rattle.trace_program.specs.LineText.{answered_text, sign_and_answer, tail_of};
+ghost use Rattle.rmm_answers.specs.Replies.{reply_text};
 ghost use Rattle.rmm_trace.specs.Sentences.{sentence_text};
 
 use rmm_answers::TraceReply;
@@ -12,10 +13,9 @@ use std::marker::Model;
 /// The texts of lines that are not written yet. It is seen as its bytes.
 #[derive(Drop)]
 pub struct LineTexts {
-    alloc: Global,
     bytes: Vec<u8>,
-    // The text of an answer, on its way to the others.
-    answer: String,
+    // The text of words, on its way to the others.
+    words: String,
 }
 
 impl Model for LineTexts {
@@ -32,9 +32,8 @@ impl LineTexts {
         ensures { result ≡ [] }
     {
         LineTexts {
-            alloc,
             bytes: Vec::new(alloc),
-            answer: String::new(alloc),
+            words: String::new(alloc),
         }
     }
 
@@ -63,9 +62,19 @@ impl LineTexts {
     pub fn push_words(&mut self, words: &[TraceWord]) -> Result<(), AllocError>
         ensures { OnOk result (self.new ≡ self.old ++ sentence_text words.now) }
     {
-        self.answer.clear();
-        write!(self.answer, "{}", SentenceText(words))?;
-        self.bytes.extend_from_slice(self.answer.as_bytes())
+        self.words.clear();
+        write!(self.words, "{}", SentenceText(words))?;
+        self.bytes.extend_from_slice(self.words.as_bytes())
+    }
+
+    /// Appends the text of an answer.
+    pub fn push_answer(&mut self, reply: &TraceReply) -> Result<(), AllocError>
+        ensures { OnOk result (self.new ≡ self.old ++ reply_text reply.now) }
+    {
+        match &reply.rim {
+            Some(digest) => digest.push_digits(&mut self.bytes),
+            None => self.push_words(reply.words.as_slice()),
+        }
     }
 
     // Appends the sign before an answer, and the answer; nothing if there is none.
@@ -75,10 +84,8 @@ impl LineTexts {
         if reply.is_empty() {
             return Ok(());
         }
-        self.answer.clear();
-        reply.push_text(self.alloc, &mut self.answer)?;
-        self.bytes.extend_from_slice(b" = ")?;
-        self.bytes.extend_from_slice(self.answer.as_bytes())
+        self.push(b" = ")?;
+        self.push_answer(reply)
     }
 
     /// Appends a line, and the feed that ends it.

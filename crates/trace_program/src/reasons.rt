@@ -1,5 +1,6 @@
 //! The words for wrong lines and for refused calls. They are tested, not proved.
 use crate::judging::{command_place, is_no_command};
+use crate::line_text::LineTexts;
 use crate::nearest::nearest_word;
 use crate::phrases::requirement;
 use rmi_abi::Word;
@@ -99,7 +100,7 @@ pub(crate) fn heading(
     number: u64,
     verdict: &str,
 ) -> Result<String, AllocError> {
-    format!(in alloc; "{source}:{number}: {verdict}\n")
+    format!(in alloc; "{source}:{number}: {verdict}")
 }
 
 /// The lines on one that is allowed or wrong, after their heading: the line, our answer, and for a line that is no
@@ -109,18 +110,18 @@ pub(crate) fn difference(
     heading: &str,
     bytes: &[u8],
     reply: &TraceReply,
-) -> Result<Vec<u8>, AllocError> {
-    let mut text = Vec::from_slice(alloc, heading.as_bytes())?;
-    text.extend_from_slice(bytes)?;
-    let mut here = String::from_str(alloc, "\nhere: ")?;
+) -> Result<LineTexts, AllocError> {
+    let mut text = LineTexts::new(alloc);
+    text.push_line(heading.as_bytes())?;
+    text.push_line(bytes)?;
+    text.push(b"here: ")?;
     if reply.is_empty() {
-        here.push_str("no answer")?;
+        text.push(b"no answer")?;
     }
-    reply.push_text(alloc, &mut here)?;
-    here.push_str("\n")?;
+    text.push_answer(reply)?;
+    text.push_line(b"")?;
     if is_no_command(reply) {
-        here.push_str(hint(alloc, bytes, "")?.as_str())?;
+        text.push(hint(alloc, bytes, "")?.as_bytes())?;
     }
-    text.extend_from_slice(here.as_bytes())?;
     Ok(text)
 }

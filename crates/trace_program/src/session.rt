@@ -92,11 +92,11 @@ impl Session {
         source: &str,
         bytes: &[u8],
         verdict: LineVerdict,
-    ) -> Result<Vec<u8>, AllocError>
-        ensures { IfOk result (λ text. specs.IsNote verdict text.items) }
+    ) -> Result<LineTexts, AllocError>
+        ensures { IfOk result (λ text. specs.IsNote verdict text) }
     {
         let word = match verdict {
-            LineVerdict::NotCompared | LineVerdict::Same => return Ok(Vec::new(alloc)),
+            LineVerdict::NotCompared | LineVerdict::Same => return Ok(LineTexts::new(alloc)),
             LineVerdict::Allowed => "allowed",
             LineVerdict::Wrong => "wrong",
         };
@@ -170,7 +170,7 @@ impl Session {
     {
         let verdict = self.judge(alloc, asked, bytes)?;
         let note = self.note(alloc, source, bytes, verdict)?;
-        text.push(&note)?;
+        text.push(note.as_slice())?;
         Ok(())
     }
 
