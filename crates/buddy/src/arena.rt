@@ -4,13 +4,13 @@ ghost use Rattle.std.specs.Bool.{OnTrue, OnFalse};
 ghost use Rattle.granule_addr.specs.Page.{page_of, zero_page};
 ghost use Rattle.page_arena.specs.Page.{page_at, is_free, with_byte, IsSized};
 ghost use Rattle.page_arena.specs.Block.{IsFreeBlock, IsTakenBlock, with_run, with_taken, with_given};
-ghost use Rattle.page_arena.specs.Word.{with_word};
+ghost use Rattle.page_arena.specs.Word.{with_bytes, with_word};
 ghost use Rattle.buddy.specs.FirstBlock.{first_block};
 ghost use Rattle.buddy.specs.MaximalBlock.{IsMaximalBlock, TurnsUp};
 
 use crate::index::FreeIndex;
 use granule_addr::{Gran, MOST_PAGES, Order, PageOff};
-use page_arena::{BuildError, PageStore, RawPages, set_word_in, word_in};
+use page_arena::{BuildError, PageStore, RawPages, set_word_in, word_in, write_in};
 use std::alloc::Global;
 
 /// A store of pages in one allocation, with a list of free blocks for each order. The lists have the maximal free
@@ -174,6 +174,19 @@ impl PageStore for BuddyArena {
     {
         let page = self.pages.page_mut(granule.number() as usize);
         set_word_in(page, index as usize, word);
+    }
+
+    fn write(&mut self, granule: Gran, offset: u16, bytes: &[u8])
+        requires inside { granule < length self.old.pages }
+        requires taken { is_free self.old.index.flags granule ≡ false }
+        requires fits { offset + length bytes.now ≤ 4096 }
+        ensures written { self.new.pages
+            ≡ slice_set self.old.pages granule (with_bytes (page_at self.old.pages granule) offset bytes.now) }
+        ensures flags { self.new.index ≡ self.old.index }
+        ensures visits { self.new.visits ≡ self.old.visits }
+    {
+        let page = self.pages.page_mut(granule.number() as usize);
+        write_in(page, offset as usize, bytes);
     }
 
     ghost sized = { λ arena. arena.sized };

@@ -7,7 +7,7 @@ ghost use Rattle.page_arena.specs.LowestBlock.{lowest_block};
 mod flags;
 mod pages;
 
-use crate::words::{set_word_in, word_in};
+use crate::words::{set_word_in, word_in, write_in};
 use crate::{BuildError, PageStore};
 use flags::{find_block, is_run_free, set_run};
 use granule_addr::{Gran, MOST_PAGES, Order, PageOff};
@@ -110,6 +110,11 @@ impl PageStore for PlainStore {
     fn set_word(&mut self, granule: Gran, index: u16, word: u64) {
         let page = &mut self.pages[granule.number() as usize];
         set_word_in(page, index as usize, word);
+    }
+
+    fn write(&mut self, granule: Gran, offset: u16, bytes: &[u8]) {
+        let page = &mut self.pages[granule.number() as usize];
+        write_in(page, offset as usize, bytes);
     }
 
     ghost sized = { λ store. store.sized };

@@ -4,7 +4,7 @@ ghost use Rattle.std.specs.Bool.{OnTrue, OnFalse};
 ghost use Rattle.granule_addr.specs.Page.{page_of, zero_page};
 ghost use Rattle.page_arena.specs.Page.{page_at, is_free, with_byte, IsSized};
 ghost use Rattle.page_arena.specs.Block.{IsFreeBlock, IsTakenBlock, with_run, with_taken, with_given};
-ghost use Rattle.page_arena.specs.Word.{word_at, with_word};
+ghost use Rattle.page_arena.specs.Word.{word_at, with_bytes, with_word};
 
 use granule_addr::{Gran, Order, PageOff};
 use std::alloc::AllocError;
@@ -101,6 +101,15 @@ pub trait PageStore {
         requires taken { is_free (free_flags self.old) granule ≡ false }
         requires index { index < 512 }
         ensures written { page_bytes self.new ≡ with_word (page_bytes self.old) granule index word }
+        ensures flags { free_flags self.new ≡ free_flags self.old };
+
+    /// Writes bytes into a page, side by side from an offset on.
+    fn write(&mut self, granule: Gran, offset: u16, bytes: &[u8])
+        requires inside { granule < length (page_bytes self.old) }
+        requires taken { is_free (free_flags self.old) granule ≡ false }
+        requires fits { offset + length bytes.now ≤ 4096 }
+        ensures written { page_bytes self.new
+            ≡ slice_set (page_bytes self.old) granule (with_bytes (page_at (page_bytes self.old) granule) offset bytes.now) }
         ensures flags { free_flags self.new ≡ free_flags self.old };
 
     /// There are 1 to 4,096 pages, each has 4,096 bytes, and there is a flag for each.

@@ -1,6 +1,6 @@
 //! Words of a page's bytes.
-ghost use Rattle.std.specs.Prelude.{◌≡◌, ◌<◌, length};
-ghost use Rattle.page_arena.specs.Word.{word_of_page, page_with_word};
+ghost use Rattle.std.specs.Prelude.{◌≡◌, ◌+◌, ◌<◌, ◌≤◌, length};
+ghost use Rattle.page_arena.specs.Word.{with_bytes, word_of_page, page_with_word};
 
 /// Word `index` of a page's bytes.
 #[tactic(auto, unfolding(crate::specs::Word::word_of_page))]
@@ -22,4 +22,14 @@ pub fn set_word_in(page: &mut [u8], index: usize, word: u64)
     ensures { page.new ≡ page_with_word page.old index word }
 {
     page[8 * index..8 * index + 8].copy_from_slice(&word.to_le_bytes());
+}
+
+/// Writes bytes into a page's bytes, side by side from an offset on.
+#[tactic(auto, unfolding(crate::specs::Word::with_bytes))]
+pub fn write_in(page: &mut [u8], offset: usize, bytes: &[u8])
+    requires page { length page.old ≡ 4096 }
+    requires fits { offset + length bytes.now ≤ 4096 }
+    ensures { page.new ≡ with_bytes page.old offset bytes.now }
+{
+    page[offset..offset + bytes.len()].copy_from_slice(bytes);
 }

@@ -5,5 +5,6 @@ pub mod Pages
 pub mod Ranges
 pub mod RequestedRanges
 pub mod Runs
+pub mod SideBySide
 pub mod StatesDiffer
 pub mod WordEdits

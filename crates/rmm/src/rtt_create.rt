@@ -10,7 +10,7 @@ ghost use Rattle.rmm.specs.Found.{IsVacancy};
 use crate::operand::{check_entry, check_ipa, delegated, realm_of};
 use crate::walking::write;
 use granule_addr::Gran;
-use page_arena::PageStore;
+use page_arena::{PageStore, set_word_in};
 use rmi_abi::{SmcResult, Word};
 use rmm_granules::Granules;
 use rmm_model::{ChildWords, FailedCondition, RmmGranule, RmmGranuleState, RmmRttEntry, RttWalk};
@@ -39,10 +39,11 @@ fn write_mappings<S: PageStore>(
     ensures { granules.new ≡ with_page granules.old table (children_page parent level) }
 {
     let words = ChildWords::new(parent, level);
-    granules.fill(table, 0);
-    for index in 0..512 {
-        granules.set_word(table, index, words.word(index));
+    let mut page = [0; 4096];
+    for index in 0..512u16 {
+        set_word_in(&mut page, index as usize, words.word(index));
     }
+    granules.write(table, 0, &page);
 }
 
 // Writes the children of an entry to a table. Those of one that is not mapped are one byte throughout.

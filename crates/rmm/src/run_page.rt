@@ -92,9 +92,7 @@ fn clear_exit<S: PageStore>(granules: &mut Granules<S>, page: Gran)
     ensures whole { length (page_in granules.old page) ≡ 4096 }
     ensures count { granule_count granules.new ≡ granule_count granules.old }
 {
-    for k in 0..256u16 {
-        granules.set_word(page, 256 + k, 0);
-    }
+    granules.write(page, 2048, &[0; 2048]);
 }
 
 // Writes an exit into a page. Words that are no field of it are zero.

@@ -1,6 +1,7 @@
 //! Granules, their pages and their attributes.
 ghost use Rattle.std.specs.Prelude.{◌≡◌, ◌≢◌, ◌<◌, ◌≤◌, false, length, replicate, slice_set, IfErr, IfOk, IfSome, IsTrue};
 ghost use Rattle.granule_addr.specs.Page.{page_of};
+ghost use Rattle.page_arena.specs.Word.{with_bytes};
 ghost use Rattle.rmi_abi.specs.Settings.{IsPlatform};
 ghost use Rattle.rmm_model.specs.declared.granule.RmmGranuleState.TheVariants.{Undelegated};
 ghost use Rattle.rmm_model.specs.Granule.{of_no_realm, realm_of, rec_of, is_undelegated, is_delegated};
@@ -229,6 +230,18 @@ impl<S: PageStore> Granules<S> {
         ensures whole { length (page_in self.old granule) ≡ 4096 }
     {
         self.store.set_word(granule, index, word);
+    }
+
+    /// Writes bytes into a granule's page, side by side from an offset on.
+    pub fn write(&mut self, granule: Gran, offset: u16, bytes: &[u8])
+        requires inside { granule < granule_count self.old }
+        requires fits { offset + length bytes.now ≤ 4096 }
+        ensures written { self.new
+            ≡ machine.with_page self.old granule (with_bytes (page_in self.old granule) offset bytes.now) }
+        ensures page { granule < length self.old.pages }
+        ensures whole { length (page_in self.old granule) ≡ 4096 }
+    {
+        self.store.write(granule, offset, bytes);
     }
 
     /// Writes one byte of a granule's page.
