@@ -37,8 +37,8 @@ impl Digest {
 
     /// Appends the digits of the digest. After an Err none of them is there.
     pub fn push_digits(&self, text: &mut Vec<u8>) -> Result<(), AllocError>
-        ensures ok { OnOk result (text.new ≡ text.old ++ replies.digest_text self.now) }
-        ensures err { OnErr result (text.new ≡ text.old) }
+        ensures ok { OnOk result (text.new.items ≡ text.old.items ++ replies.digest_text self.now) }
+        ensures err { OnErr result (text.new.items ≡ text.old.items) }
     {
         match self {
             Digest::Sha256(bytes) => text.extend_from_slice(sha256_text(bytes).as_slice()),
