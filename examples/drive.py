@@ -463,7 +463,9 @@ class Report:
                 self.counts["left out"] += 1
                 here = None
             if self.is_log:
-                print(line.question + (f" = {here}" if here else "") + line.comment)
+                # (a line that is no command stays one)
+                told = here or (line.answer if line.answer == "no command" else None)
+                print(line.question + (f" = {told}" if told else "") + line.comment)
             if here and line.answer:
                 self.compared(f"{name}, line {place}", text.rstrip("\r\n"), line, here)
         self.driver.end()
