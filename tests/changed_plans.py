@@ -12,6 +12,8 @@ from pathlib import Path
 TOP = Path(__file__).resolve().parent.parent
 # Only short plans are changed: in a long one, most changes would meet one step of many that are alike.
 MOST_BYTES = 2000
+# How many plans with random changes the gate runs; `make fuzz` runs more.
+CHANGED_PLANS = 300
 # Beside the numbers below 9, which most pages, orders and levels have: both sides of limits.
 NUMBERS = (
     15, 16, 17, 38, 39, 40, 43, 44, 255, 256, 511, 512, 513, 1024, 4095, 4096, 4097, 16384, 65535, 65536, 262143, 262144,

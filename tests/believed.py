@@ -1,20 +1,19 @@
 #!/usr/bin/env python3
-"""Finds what must be believed of the headline: the definitions that the contracts of CONTRACTS name, and what these name in
+"""What must be believed of the headline: the definitions that the contracts of CONTRACTS name, and what these name in
 turn, by the `use` lines of each file. With a type comes what it is seen as, and with a field of a type the field's own type;
 of the types of WHOLE also what always holds of them. So from Host on, this leads from its memory to the world that contracts
 speak of.
 
-    tests/believed           holds DEFINITIONS.md and the documents' numbers against that
-    tests/believed --list    writes each file, and the definitions in it that are needed
-    tests/believed --text    writes the definitions themselves, with their comments; the types in src/ that they name are in --list
+tests/test_believed.py holds DEFINITIONS.md and the documents' numbers against that. As a program:
+
+    tests/believed.py --list    writes each file, and the definitions in it that are needed
+    tests/believed.py --text    writes the definitions themselves, with their comments; the types in src/ that they name are in --list
 
 Of DEFINITIONS.md, the part "What the headline needs" has to name each file that is needed, and no other; where only names
 stand in brackets behind a file, they are the definitions that are needed of it. Each other file of definitions is named below.
 
 A name that is bound in a definition counts as the definition of that name, where the file has one: so there may be a little
 too much, and nothing is left out. The library of the toolchain, and its ports, are not followed.
-
-Each finding is a line. The last line is `believed: N passed, M failed`, and the status is 1 where one failed.
 """
 import collections
 import functools
@@ -265,16 +264,9 @@ def main(words):
             print(f"{path.relative_to(TOP)}: {' '.join(files[path])}")
     elif words == ["--text"]:
         write_text(files)
-    elif words:
+    else:
         print(__doc__.split("\n\n", 1)[1], end="", file=sys.stderr)
         return 2
-    else:
-        found = [*of_list(files), *of_the_rest(files), *of_numbers(files)]
-        for finding in filter(None, found):
-            print(finding)
-        failed = sum(1 for it in found if it)
-        print(f"believed: {len(found) - failed} passed, {failed} failed")
-        return 1 if failed else 0
     return 0
 
 

@@ -1,5 +1,4 @@
-#!/usr/bin/env python3
-"""Reads the documents, *.md here and below docs/, and looks whether what they name is there.
+"""The documents, *.md here and below docs/, against what they name.
 
   links   the file of a relative link exists, and so does the heading that it leads to
   paths   a path that begins with a folder of the repository or with the name of a crate exists. In backticks, one that
@@ -21,16 +20,19 @@ and what is in build/ not at all.
 
 What this cannot tell: whether a contract says what its row says; which of several functions of one name a row means;
 whether an output that a document shows is that of the program; and whether a crate is gone whose name is still a word of
-the code. Each finding is a line. The last line is `documents: N passed, M failed`, and the status is 1 where one failed.
+the code.
 """
 import collections
 import functools
 import os
 import re
-import sys
-from pathlib import Path
 
-TOP = Path(__file__).resolve().parent.parent
+import pytest
+
+from changed_plans import CHANGED_PLANS
+from programs import TOP
+
+DOCUMENTS = [*sorted(TOP.glob("*.md")), *sorted((TOP / "docs").rglob("*.md"))]
 BELOW_CRATES = TOP / "crates"
 # Each crate with its libraries, which are crates too or those of the toolchain.
 STANDS_ON = {
@@ -327,7 +329,7 @@ COUNTS = {
     r"(?:each of|over) the (\w+) (?:acts|operations)\b": lambda: variants("realm_model/src/act.rt", "Act"),
     r"`make test` tries (\w+) mutants?\b": lambda: len(list(BELOW_CRATES.glob("*/must-fail/*.edit"))),
     r"^## (\w+) examples": lambda: len(list(BELOW_CRATES.glob("example_*"))),
-    r"(\w+) plans with random changes get": lambda: int(re.search(r"^CHANGED_PLANS = (\d+)", (TOP / "tests/program").read_text(), re.M)[1]),
+    r"(\w+) plans with random changes get": lambda: CHANGED_PLANS,
 }
 
 
@@ -369,19 +371,16 @@ def of_profile(document):
             yield line, None if name in remarked else f"{name} has no comment on the profile"
 
 
-def main():
-    documents = [*sorted(TOP.glob("*.md")), *sorted((TOP / "docs").rglob("*.md"))]
-    kinds = (of_links, of_paths, of_rows, of_crates, of_names, of_quotes, of_stands, of_counts, of_profile)
-    found = [it for document in documents for kind in kinds for it in kind(document)]
-    texts = [line.text for document in documents for line in lines_of(document)]
+KINDS = (of_links, of_paths, of_rows, of_crates, of_names, of_quotes, of_stands, of_counts, of_profile)
+
+
+@pytest.mark.parametrize("kind", KINDS, ids=lambda it: it.__name__.removeprefix("of_"))
+def test_documents(check, kind):
+    found = [it for document in DOCUMENTS for it in kind(document)]
+    check.findings(finding and f"{line.place}: {finding}" for line, finding in found)
+
+
+def test_each_sentence_is_there(check):
+    texts = [line.text for document in DOCUMENTS for line in lines_of(document)]
     missing = [pattern for pattern in COUNTS if not any(re.search(pattern, text) for text in texts)]
-    found += [(Line("tests/documents", "", False, []), f"no document has a sentence with {pattern}") for pattern in missing]
-    for line, finding in found:
-        if finding:
-            print(f"{line.place}: {finding}")
-    failed = sum(1 for _, finding in found if finding)
-    print(f"documents: {len(found) - failed} passed, {failed} failed")
-    return 1 if failed else 0
-
-
-sys.exit(main())
+    check("sentences of COUNTS that are in no document", missing, [])

@@ -1,5 +1,5 @@
 #!/usr/bin/env python3
-"""Measures how the documents read, *.md here, below docs/ and in examples/, and the comments of each crate's src/ and specs/.
+"""Measures of how the documents read, *.md here, below docs/ and in examples/, and the comments of each crate's src/ and specs/.
 
   paragraph  has at most 70 words; an item of a list is a paragraph, and so is a cell of a table
   sentence   has at most 30 words; it ends with a full stop, a question mark or an exclamation mark before a space
@@ -18,13 +18,14 @@ abbreviation in README.md is a term of the glossary, or one of KNOWN. docs/READM
 tests/prose.txt has, for each document or crate that is not clean, how many findings of each kind it may have. One that
 has no line there has to be clean. The numbers can only fall.
 
-    tests/prose              holds documents and crates against these bounds
-    tests/prose --list FILE  prints each finding of a document, or of a crate: crates/NAME
-    tests/prose --lower      writes lower numbers into tests/prose.txt, and never a higher one
+tests/test_prose.py holds documents and crates against these bounds. As a program:
+
+    tests/prose.py --list FILE  prints each finding of a document, or of a crate: crates/NAME
+    tests/prose.py --lower      writes lower numbers into tests/prose.txt, and never a higher one
 
 It cannot see whether a sentence is true, clear or needed, whether a word means the term that it is spelled like, or
 whether two sentences say the same. Nor does it find every use of a word that PHRASES replaces: an order of turns is a
-schedule, an order of a block is not. The last line is `prose: N passed, M failed`, and the status is 1 if one failed.
+schedule, an order of a block is not.
 """
 import collections
 import re
@@ -184,6 +185,11 @@ def documents():
     return [*sorted(TOP.glob("*.md")), *sorted(TOP.glob("docs/**/*.md")), *sorted(TOP.glob("examples/*.md"))]
 
 
+def names():
+    """The names of all documents and crates."""
+    return [str(it.relative_to(TOP)) for it in [*documents(), *crates()]]
+
+
 def crates():
     return sorted(it.parent for it in TOP.glob("crates/*/src"))
 
@@ -206,23 +212,25 @@ def stored():
     return found
 
 
-def of_counts():
-    """For each document and crate, what is wrong with its counts, or none."""
-    allowed, names = stored(), [str(it.relative_to(TOP)) for it in [*documents(), *crates()]]
-    for name in names:
-        found, bound = counted(TOP / name), allowed.get(name, {})
-        for kind in KINDS:
-            has, may = found[kind], bound.get(kind, 0)
-            said = f"{name}: {kind}: {has} findings, and {may} are in tests/prose.txt: tests/prose"
-            yield f"{said} --list {name}" if has > may else f"{said} --lower" if has < may else None
-    for name in sorted(set(allowed) - set(names)):
-        yield f"tests/prose.txt has {name}, which is not there: tests/prose --lower"
-    yield "README.md is in tests/prose.txt: it has to be clean" if "README.md" in allowed else None
+def of_counts(name):
+    """For each kind of finding, what is wrong with the count of a document or crate, or none."""
+    found, bound = counted(TOP / name), stored().get(name, {})
+    for kind in KINDS:
+        has, may = found[kind], bound.get(kind, 0)
+        said = f"{name}: {kind}: {has} findings, and {may} are in tests/prose.txt: tests/prose.py"
+        yield f"{said} --list {name}" if has > may else f"{said} --lower" if has < may else None
+
+
+def of_stored(names):
+    """For each name in tests/prose.txt that is no document and no crate, that it is not there."""
+    for name in sorted(set(stored()) - set(names)):
+        yield f"tests/prose.txt has {name}, which is not there: tests/prose.py --lower"
+    yield "README.md is in tests/prose.txt: it has to be clean" if "README.md" in stored() else None
 
 
 HEAD = """\
-# How many findings of each kind a document or a crate may have: tests/prose. One that is not here has none.
-# `tests/prose --lower` writes this file. It never raises a number.
+# How many findings of each kind a document or a crate may have: tests/prose.py. One that is not here has none.
+# `tests/prose.py --lower` writes this file. It never raises a number.
 """
 
 
@@ -302,20 +310,13 @@ def of_index():
 def main(words):
     if words == ["--lower"]:
         lower()
-        return 0
-    if len(words) == 2 and words[0] == "--list":
+    elif len(words) == 2 and words[0] == "--list":
         for it in sorted(findings_in(Path(words[1])), key=lambda it: (str(it.number).partition(":")[0], it.number)):
             print(f"{words[1]}:{it.number}: {it.kind}: {it.said}")
-        return 0
-    if words:
+    else:
         print(__doc__.split("\n\n", 1)[1], end="", file=sys.stderr)
         return 2
-    found = [*of_counts(), *of_readme(), *of_terms(), *of_index()]
-    for finding in filter(None, found):
-        print(finding)
-    failed = sum(1 for it in found if it)
-    print(f"prose: {len(found) - failed} passed, {failed} failed")
-    return 1 if failed else 0
+    return 0
 
 
 if __name__ == "__main__":

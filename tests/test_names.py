@@ -1,5 +1,4 @@
-#!/usr/bin/env python3
-"""Checks that the name of a public definition or type is used for one thing. In the files of crates/*/specs each name stands for
+"""The name of a public definition or type is used for one thing. In the files of crates/*/specs each name stands for
 one definition, type or law that others may cite. Names of fields and of constructors are read with their type, and are not
 meant. In the files of crates/*/src each name stands for one public type of the repository, with no exception.
 
@@ -9,16 +8,16 @@ group in crates.txt are compared among themselves.
 A name that is used twice on purpose has a line in tests/names.txt: the name, the crates that define it, and the reason. A line
 there fails where its name is no longer used in just these crates, or where it gives no reason.
 
-Each name that is used twice without such a line, and each line that is not right, is printed. The last line is
-`names: N passed, M failed`, and the status is 1 where one failed.
+Each name that is used twice without such a line, and each line that is not right, is shown.
 """
 import collections
 import itertools
 import re
-import sys
-from pathlib import Path
 
-TOP = Path(__file__).resolve().parent.parent
+import pytest
+
+from programs import TOP
+
 ALLOWED = TOP / "tests/names.txt"
 DEFINITION = re.compile(r"^(?:abbrev |unfoldable |opaque )*pub (?:record |data )?(?!mod |record |data )([^\s:({.]+)", re.M)
 TYPE = re.compile(r"^\s*pub (?:unsafe )?(?:struct|enum|trait|union|type) (\w+)", re.M)
@@ -73,14 +72,8 @@ def findings(crates, allowed):
         yield f"tests/names.txt has {name}, which is not defined"
 
 
-def main():
+@pytest.mark.parametrize("kind", ["profile", "registers", "types"])
+def test_each_name_has_one_meaning(check, kind):
     by_registers, others = definitions()
-    found = [*findings(others, allowed()), *findings(by_registers, {}), *findings(types(), {})]
-    for finding in filter(None, found):
-        print(finding)
-    failed = sum(1 for it in found if it)
-    print(f"names: {len(found) - failed} passed, {failed} failed")
-    return 1 if failed else 0
-
-
-sys.exit(main())
+    names = {"profile": others, "registers": by_registers, "types": types()}[kind]
+    check.findings(findings(names, allowed() if kind == "profile" else {}))
