@@ -103,7 +103,7 @@ def pytest_terminal_summary(terminalreporter):
     told = collections.defaultdict(lambda: [0, 0])
     for kind in ("passed", "failed", "error"):
         for report in terminalreporter.stats.get(kind, []):
-            passed, failed = dict(report.user_properties).get("checks") or (int(kind == "passed"), 0)
+            passed, failed = dict(getattr(report, "user_properties", ())).get("checks") or (int(kind == "passed"), 0)
             it = told[Path(report.nodeid.split("::")[0]).stem.removeprefix("test_")]
             it[0] += passed
             it[1] += failed or int(kind != "passed")
@@ -115,6 +115,7 @@ def pytest_terminal_summary(terminalreporter):
 
 
 def pytest_configure(config):
+    config.addinivalue_line("markers", "long: the test takes minutes, and runs where `-m` asks for it")
     config.addinivalue_line("markers", "needs(program, ..): the test runs these programs, as `make build` or `make test` puts them into bin/")
 
 

@@ -29,7 +29,7 @@ import re
 
 import pytest
 
-from changed_plans import CHANGED_PLANS
+from random_plans import CHANGED_PLANS
 from programs import TOP
 
 DOCUMENTS = [*sorted(TOP.glob("*.md")), *sorted((TOP / "docs").rglob("*.md"))]
