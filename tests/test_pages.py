@@ -1,5 +1,4 @@
-#!/usr/bin/env python3
-"""Compares the man pages and the completions with what the built programs and docs/ say.
+"""Man pages and completions against what the built programs and docs/ say.
 
 man/NAME.1 has the version of the program, which CHANGELOG.md and include/rmm.pc have too; a part for each of its
 subcommands with the very options of that, and what --help says of each. Its statuses are those that docs/ has, and those
@@ -8,7 +7,7 @@ to say of the page.
 man/NAME.5 is a format: it lists the very keys, steps, commands and events that the tables of docs/ have, by LISTS. Its
 command lines are run too.
 completions/ is what tools/completions writes, and bash, fish and zsh, where they are there, take it: bash and fish complete
-the words of --help and no others. The last line is `pages: N passed, M failed`.
+the words of --help and no others.
 """
 import collections
 import importlib.machinery
@@ -18,15 +17,13 @@ import os
 import re
 import shutil
 import subprocess
-import sys
-from pathlib import Path
 
-TOP = Path(__file__).resolve().parent.parent
-sys.dont_write_bytecode = True
-sys.path.insert(0, str(TOP / "tools"))
+import pytest
+
 from help_text import PROGRAMS, program_of, version_of
+from programs import HOST, SECONDS, TOP, TRACER, VIEW, needs
 
-SECONDS = 60
+pytestmark = needs(HOST, TRACER, VIEW)
 STATUSES = TOP / "docs/reference/STATUSES.md"
 # Of a page of section 5, each part that is a list: the document and the head of the table that has the same entries,
 # and whether an entry is the whole text or its first word.
@@ -54,7 +51,7 @@ def module_of(path):
     return module
 
 
-def run(words, **how):
+def printed(words, **how):
     """Status, and all that is printed."""
     if "input" not in how:
         how.setdefault("stdin", subprocess.DEVNULL)
@@ -116,22 +113,22 @@ def of_page(name):
     yield "the version of CHANGELOG.md", f"\n## {version_of(name).split()[-1]}\n" in (TOP / "CHANGELOG.md").read_text()
     yield "the version of include/rmm.pc", f"Version: {version_of(name).split()[-1]}\n" in (TOP / "include/rmm.pc").read_text()
     yield "what the program is", says(sections["DESCRIPTION"], program.said)
-    yield "its subcommands", [it.split()[0] for it in commands] == [it.name for it in program.commands]
-    yield "its options", options_in(sections["OPTIONS"]) == sorted(map(written, program.options))
+    yield "its subcommands", [it.split()[0] for it in commands], [it.name for it in program.commands]
+    yield "its options", options_in(sections["OPTIONS"]), sorted(map(written, program.options))
     for command, (head, part) in zip(program.commands, commands.items()):
         values = [f"[--{it.name} {it.value}]" if it.value else f"[--{it.name}]" for it in command.options if it.name != "help"]
         after = [f"[{command.argument.name}]"] if command.argument else []
-        yield f"the head of {command.name}", head == " ".join([command.name, *values, *after])
+        yield f"the head of {command.name}", head, " ".join([command.name, *values, *after])
         yield f"what {command.name} does", says(part, command.said)
-        yield f"the options of {command.name}", options_in(part) == sorted(map(written, command.options))
+        yield f"the options of {command.name}", options_in(part), sorted(map(written, command.options))
         yield f"what the options of {command.name} do", all(says(part, it.said) for it in command.options)
         yield f"the argument of {command.name}", command.argument is None or says(part, command.argument.said)
     statuses = set(re.findall(r"^\.TP\n\.B (\d+)$", sections["EXIT STATUS"], re.M))
-    yield f"its statuses {sorted(statuses)}", statuses == statuses_of_docs(name)
+    yield f"its statuses {sorted(statuses)}", statuses, statuses_of_docs(name)
     first, *_, last = [it.name for it in program.commands if it.name != "help"]
     tries = ([], {}), (["--help"], {}), ([last], {"input": "?"}), ([first], {"stdin": os.open(TOP, os.O_RDONLY)})
     for words, how in tries:
-        status, _ = run([TOP / "bin" / name, *words], **how)
+        status, _ = printed([TOP / "bin" / name, *words], **how)
         yield f"status {status} of {words}", str(status) in statuses
     yield from of_examples(sections)
 
@@ -140,7 +137,7 @@ def of_examples(sections):
     examples = re.findall(r"^\$ (.*)$", plain(sections["EXAMPLES"]), re.M)
     yield "that it has examples", bool(examples)
     for line in examples:
-        status, out = run(["bash", "-o", "pipefail", "-c", f'PATH="{TOP}/bin:$PATH"; {line}'])
+        status, out = printed(["bash", "-o", "pipefail", "-c", f'PATH="{TOP}/bin:$PATH"; {line}'])
         yield f"the example {line}", status == 0 and out != ""
 
 
@@ -160,14 +157,14 @@ def of_format(name):
         entry = (lambda it: it) if is_whole else (lambda it: it.split()[0])
         listed = {entry(plain(it)) for it in re.findall(r"^\.T[PQ]\n(\..*)$", sections[part], re.M)}
         wanted = {entry(it) for it in entries_of(document, head)}
-        yield f"its {part}, where {document} differs by {sorted(listed ^ wanted)}", listed == wanted
+        yield f"its {part}, where {document} differs by {sorted(listed ^ wanted)}", listed, wanted
     yield from of_examples(sections)
 
 
 def of_form(page):
     for words in ["mandoc", "-T", "lint", "-W", "warning"], ["groff", "-man", "-Tutf8", "-ww", "-z"]:
         if shutil.which(words[0]):
-            status, out = run([*words, f"man/{page}"])
+            status, out = printed([*words, f"man/{page}"])
             # That a page above is not installed is nothing of the page.
             found = [line for line in out.splitlines() if "referenced manual not found" not in line]
             yield f"what {words[0]} says: {found}", not found
@@ -189,14 +186,14 @@ def asked_of(name):
 
 def by_bash(name, words, begun):
     asked = f"COMP_WORDS=({' '.join([name, *words])} '{begun}'); COMP_CWORD={len(words) + 1}; _{name}"
-    return set(run(["bash", "-c", f'source completions/{name}.bash; {asked}; echo "${{COMPREPLY[@]}}"'])[1].split())
+    return set(printed(["bash", "-c", f'source completions/{name}.bash; {asked}; echo "${{COMPREPLY[@]}}"'])[1].split())
 
 
 def by_fish(name, words, is_value):
     """fish offers options where a word begins with their sign."""
     lines = [" ".join([name, *words, begun]) for begun in ("", "-", "--")[: 1 if is_value else 3]]
     asked = "; ".join(f"complete -C '{line}'" for line in lines)
-    out = run(["fish", "--no-config", "-c", f"source completions/{name}.fish; {asked}"])[1]
+    out = printed(["fish", "--no-config", "-c", f"source completions/{name}.fish; {asked}"])[1]
     return {row.split("\t")[0] for row in out.splitlines()}
 
 
@@ -204,36 +201,37 @@ def of_completions(name):
     files = {it.name for it in program_of(name).commands if it.argument and it.argument.name == "FILE"}
     for words, wanted in asked_of(name):
         is_file = len(words) == 1 and words[0] in files
-        yield f"bash completes {words}", by_bash(name, words, "-" if is_file else "") == wanted
-        yield f"bash leaves the file of {words} to the shell", not is_file or by_bash(name, words, "") == set()
+        yield f"bash completes {words}", by_bash(name, words, "-" if is_file else ""), wanted
+        yield f"bash leaves the file of {words} to the shell", not is_file or by_bash(name, words, ""), set()
         if shutil.which("fish"):
-            yield f"fish completes {words}", by_fish(name, words, "0" in wanted) == wanted
+            yield f"fish completes {words}", by_fish(name, words, "0" in wanted), wanted
     if shutil.which("zsh"):
-        yield "zsh reads it", run(["zsh", "-n", f"completions/_{name}"]) == (0, "")
+        yield "zsh reads it", printed(["zsh", "-n", f"completions/_{name}"]), (0, "")
 
 
-def main():
-    told = []
-    for name in PROGRAMS:
-        if not (TOP / "bin" / name).exists():
-            print(f"pages: bin/{name} is not built; `make build` builds it")
-            return 1
-    pages = [(it, f"{it}.1", of_page) for it in PROGRAMS] + [(it, f"{it}.5", of_format) for it in LISTS]
-    found = [(f"man/{page}", of(name)) for name, page, of in pages]
-    found += [(f"man/{page}", of_form(page)) for _, page, _ in pages]
-    found += [(f"completions of {name}", of_completions(name)) for name in PROGRAMS]
-    for where, them in found:
-        for what, is_well in them:
-            told.append(is_well)
-            if not is_well:
-                print(f"{where}: {what}: not as it has to be")
-    stale = module_of(TOP / "tools/completions").differing()
-    for name in stale:
-        print(f"completions/{name} is not what tools/completions writes")
-    told.append(not stale)
-    print(f"pages: {told.count(True)} passed, {told.count(False)} failed")
-    return 0 if all(told) else 1
+# ---- tests
 
 
-if __name__ == "__main__":
-    sys.exit(main())
+@pytest.mark.parametrize("name", PROGRAMS)
+def test_page(check, name):
+    check.all(of_page(name))
+
+
+@pytest.mark.parametrize("name", LISTS)
+def test_format(check, name):
+    check.all(of_format(name))
+
+
+@pytest.mark.skipif(not shutil.which("mandoc") and not shutil.which("groff"), reason="there is neither mandoc nor groff")
+@pytest.mark.parametrize("page", [*(f"{it}.1" for it in PROGRAMS), *(f"{it}.5" for it in LISTS)])
+def test_form(check, page):
+    check.all(of_form(page))
+
+
+@pytest.mark.parametrize("name", PROGRAMS)
+def test_completions(check, name):
+    check.all(of_completions(name))
+
+
+def test_stored_completions():
+    assert module_of(TOP / "tools/completions").differing() == [], "tools/completions writes them"
