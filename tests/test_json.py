@@ -1,5 +1,4 @@
-#!/usr/bin/env python3
-"""Runs the built realmview over plans, and holds the documents of `realmview json` against what other subcommands and programs say.
+"""The documents of `realmview json`, against what other subcommands and programs say of the same plans.
 
 Of each plan of plans/, plans/guide/ and tests/runs/: the schema realmview.schema.json accepts the document; its turns as
 lines, and behind them the map made of its last world, are what `realmhost replay` prints; its events are those of `realmview
@@ -9,31 +8,19 @@ in abort, is what the lines up to it give; and what each build has open in the e
 open. `realmview page` has this document in its data, and for each build the world to which the changes of the other builds alone
 lead. The rows of a realm are compared as lists: in their order, and in the items of REALMVIEW.md. A second monitor, in Python,
 accepts the events, and has behind each turn and in each of these worlds what the document says (tests/history_model.py). A plan
-with a fault has no document, and the program's devices fail as those of its other subcommands do. Where Python has no module
-`jsonschema`, that part is skipped, and a line says so.
-The last line is `json: N passed, M failed`.
+with a fault has no document, and the program's devices fail as those of its other subcommands do.
 """
 import json
 import os
 import re
 import resource
-import subprocess
-import sys
-from pathlib import Path
+
+import jsonschema
 
 from history_model import HistoryModel
+from programs import HOST, PLANS, RUNS, TOP, VIEW, Ran, needs, over, run
 
-try:
-    import jsonschema
-except ImportError:
-    jsonschema = None
-
-TOP = Path(__file__).resolve().parent.parent
-PROGRAM = TOP / "bin/realmview"
-HOST = TOP / "bin/realmhost"
-SCHEMA = TOP / "docs/reference/realmview.schema.json"
-SECONDS = 60
-FOLDERS = ("plans", "plans/guide", "tests/runs")
+pytestmark = needs(HOST, VIEW)
 # How many IPA granules a row of each level covers. RMM 1.0, RTT walk, with granules of 4 KiB.
 COVERED = {1: 512 * 512, 2: 512, 3: 1}
 # Each act that has a reverse, by the word of the reverse.
@@ -51,16 +38,8 @@ MEMBERS = {
 }
 
 
-def run(words, given=b"", program=PROGRAM, **how):
-    """Status, standard output and standard error."""
-    how = {"stdout": subprocess.PIPE, "stderr": subprocess.PIPE, "timeout": SECONDS, **how}
-    if given is not None:
-        how["input"] = given
-    try:
-        ran = subprocess.run([os.fsencode(program), *words], **how)
-    except subprocess.TimeoutExpired:
-        return (f"none within {SECONDS} seconds", b"", b"")
-    return (ran.returncode, ran.stdout or b"", ran.stderr or b"")
+VALIDATOR = jsonschema.Draft202012Validator(json.loads((TOP / "docs/reference/realmview.schema.json").read_text()))
+VALIDATOR.check_schema(VALIDATOR.schema)
 
 
 # ---- the lines of a replay
@@ -194,7 +173,7 @@ def is_there(turn, machine, model):
     )
 
 
-def of_model(name, document):
+def of_model(document):
     """The events on the second monitor: it accepts each; the changes lead, turn by turn, to what is there; so is the last world."""
     machine, model, faults = Replayed(document["settings"]), HistoryModel(document["settings"]), []
     for turn in (it for it in document["turns"] if it["event"]):
@@ -202,9 +181,9 @@ def of_model(name, document):
         model.take(turn["event"])
         if not is_there(turn, machine, model):
             faults.append(turn)
-    yield f"{name}: events on the second monitor", model.faults, []
-    yield f"{name}: changes on the second monitor", faults, []
-    yield f"{name}: the world of the second monitor", model.world(), of_machine(document["world"])
+    yield "events on the second monitor", model.faults, []
+    yield "changes on the second monitor", faults, []
+    yield "the world of the second monitor", model.world(), of_machine(document["world"])
 
 
 def of_machine(world):
@@ -229,103 +208,80 @@ def are_open(turns, build):
 # ---- cases
 
 
-def of_document(name, plan):
-    status, out, err = run(["json"], plan)
-    yield f"{name}: status", (status, err), (0, b"")
+def of_document(plan):
+    status, out, err = run(VIEW, ["json"], plan)
+    yield "status", (status, err), (0, b"")
     document = json.loads(out)
     turns, world = document["turns"], document["world"]
-    if jsonschema:
-        faults = [f"{fault.json_path}: {fault.message}" for fault in VALIDATOR.iter_errors(document)]
-        yield f"{name}: the schema", faults, []
+    yield "the schema", [f"{fault.json_path}: {fault.message}" for fault in VALIDATOR.iter_errors(document)], []
     told = "".join(line + "\n" for line in [*map(line_of, turns), *map_of(world)])
-    yield f"{name}: turns and map", (0, told.encode(), b""), run(["replay"], plan, HOST)
-    yield f"{name}: numbers", [turn["numbers"] for turn in turns], list(map(numbers_of, turns))
-    yield f"{name}: refusals", [turn["accepted"] for turn in turns], [turn["answer"] and not turn["answer"].startswith("no ") for turn in turns]
+    yield "turns and map", (0, told.encode(), b""), run(HOST, ["replay"], plan)
+    yield "numbers", [turn["numbers"] for turn in turns], list(map(numbers_of, turns))
+    yield "refusals", [turn["accepted"] for turn in turns], [turn["answer"] and not turn["answer"].startswith("no ") for turn in turns]
     s = document["settings"]
     history = [f"history 1 {s['pages']} {s['vmids']} {s['aux']} {s['history']} {s['builds']}", *(turn["event"] for turn in turns if turn["event"])]
-    yield f"{name}: events", (0, "".join(line + "\n" for line in history).encode(), b""), run(["history"], plan)
+    yield "events", (0, "".join(line + "\n" for line in history).encode(), b""), run(VIEW, ["history"], plan)
     members = [MEMBERS[turn["event"].split()[1]] if turn["event"] else set() for turn in turns]
-    yield f"{name}: members of change", list(map(members_of, turns)), members
-    yield f"{name}: what is kept", [(it["open"], it["mark"], it["aborting"]) for it in turns], list(kept(turns, s["builds"]))
+    yield "members of change", list(map(members_of, turns)), members
+    yield "what is kept", [(it["open"], it["mark"], it["aborting"]) for it in turns], list(kept(turns, s["builds"]))
     machine = Replayed(s)
     for turn in turns:
         machine.take(turn)
-    yield f"{name}: the changes lead to the last world", machine.told(), told_world(world)
-    yield from of_model(name, document)
-    yield from of_page(name, plan, document)
-    yield f"{name}: what is open", [it["open"] for it in world["builds"]], [are_open(turns, it["build"]) for it in world["builds"]]
+    yield "the changes lead to the last world", machine.told(), told_world(world)
+    yield from of_model(document)
+    yield from of_page(plan, document)
+    yield "what is open", [it["open"] for it in world["builds"]], [are_open(turns, it["build"]) for it in world["builds"]]
 
 
-def of_page(name, plan, document):
+def of_page(plan, document):
     """The data of a page: the document, and the world without each build, which the other builds' changes lead to."""
-    data = json.loads(DATA.search(run(["page"], plan)[1].decode())[1])
-    yield f"{name}: the data of the page", data["run"], document
+    data = json.loads(DATA.search(run(VIEW, ["page"], plan)[1].decode())[1])
+    yield "the data of the page", data["run"], document
     for build, world in enumerate(data["without"]):
         machine, model = Replayed(document["settings"]), HistoryModel(document["settings"])
         for turn in (it for it in document["turns"] if it["build"] != build):
             machine.take(turn)
             if turn["event"]:
                 model.take(turn["event"])
-        yield f"{name}: the world without build {build}", machine.told()[:4], told_world(world)[:4]
-        yield f"{name}: the world of the second monitor without build {build}", (model.faults, model.world()), ([], of_machine(world))
+        yield f"the world without build {build}", machine.told()[:4], told_world(world)[:4]
+        yield f"the world of the second monitor without build {build}", (model.faults, model.world()), ([], of_machine(world))
 
 
-def of_plans():
-    for folder in FOLDERS:
-        for path in sorted((TOP / folder).glob("*.toml")):
-            yield from of_document(path.stem, path.read_bytes())
-
-
-def of_the_largest():
-    """Eight builds with 16,384 turns, and a realm of the widest address space."""
-    steps = '["take 0", ' + ", ".join(f'"fill 0 {k % 256}"' for k in range(1023)) + "]"
-    order = ", ".join(str(k % 8) for k in range(16384))
-    yield from of_document("eight builds", f"pages = 8\nhistory = 2048\norder = [{order}]\n".encode() + f"[[build]]\nsteps = {steps}\n".encode() * 8)
-    wide = ["take 5", *(f"delegate {k}" for k in range(20)), "realm 0 16 43", "undo"]
-    yield from of_document("a misaligned realm", plan_of(32, wide))
+# ---- tests
 
 
 def plan_of(pages, steps):
     return f"pages = {pages}\n[[build]]\nsteps = {json.dumps(steps)}\n".encode()
 
 
-def of_the_surroundings():
+@over("path", *PLANS, RUNS)
+def test_document(check, path):
+    check.all(of_document(path.read_bytes()))
+
+
+def test_the_largest_document(check):
+    """Eight builds with 16,384 turns."""
+    steps = '["take 0", ' + ", ".join(f'"fill 0 {k % 256}"' for k in range(1023)) + "]"
+    order = ", ".join(str(k % 8) for k in range(16384))
+    check.all(of_document(f"pages = 8\nhistory = 2048\norder = [{order}]\n".encode() + f"[[build]]\nsteps = {steps}\n".encode() * 8))
+
+
+def test_a_misaligned_realm(check):
+    """A realm of the widest address space."""
+    check.all(of_document(plan_of(32, ["take 5", *(f"delegate {k}" for k in range(20)), "realm 0 16 43", "undo"])))
+
+
+def test_devices(check):
     plan = (TOP / "plans/first.toml").read_bytes()
-    yield "a full standard output", run(["json"], plan, stdout=open("/dev/full", "wb")), (5, b"", b"device\n")
-    yield "a folder as standard input", run(["json"], None, stdin=os.open(TOP, os.O_RDONLY)), (5, b"", b"device\n")
+    check("a full standard output", run(VIEW, ["json"], plan, stdout=open("/dev/full", "wb")), Ran(5, b"", b"device\n"))
+    check("a folder as standard input", run(VIEW, ["json"], None, stdin=os.open(TOP, os.O_RDONLY)), Ran(5, b"", b"device\n"))
     little = lambda: resource.setrlimit(resource.RLIMIT_AS, (1 << 24, 1 << 24))
-    large = plan_of(4096, ["take 0"])
-    yield "too little memory", run(["json"], large, preexec_fn=little), (3, b"", b"memory\n")
+    check("too little memory", run(VIEW, ["json"], plan_of(4096, ["take 0"]), preexec_fn=little), Ran(3, b"", b"memory\n"))
+
+
+def test_usage(check):
     for words in (["json", "--erase", "0"], ["json", "plan", "more"]):
-        status, out, err = run(words)
-        yield f"usage {words}", (status, out, err != b""), (2, b"", True)
-    status, out, err = run(["json", "--help"])
-    yield "help", (status, b"\nExamples:\n" in out, err), (0, True, b"")
-
-
-def is_as_wanted(name, got, wanted):
-    if got != wanted:
-        print(f"{name}: {got!r:.400}, and not {wanted!r:.400}")
-    return got == wanted
-
-
-VALIDATOR = jsonschema and jsonschema.Draft202012Validator(json.loads(SCHEMA.read_text()))
-CASES = (of_plans, of_the_largest, of_the_surroundings)
-
-
-def main():
-    for program in (PROGRAM, HOST):
-        if not program.exists():
-            print(f"json: {program.relative_to(TOP)} is not built; `make test` builds it")
-            return 1
-    if jsonschema:
-        jsonschema.Draft202012Validator.check_schema(VALIDATOR.schema)
-    else:
-        print("json: skipped: the schema, since Python has no module jsonschema")
-    told = [is_as_wanted(*it) for of in CASES for it in of()]
-    print(f"json: {told.count(True)} passed, {told.count(False)} failed")
-    return 0 if all(told) else 1
-
-
-if __name__ == "__main__":
-    sys.exit(main())
+        status, out, err = run(VIEW, words)
+        check(f"usage {words}", (status, out, err != b""), (2, b"", True))
+    status, out, err = run(VIEW, ["json", "--help"])
+    check("help", (status, b"\nExamples:\n" in out, err), (0, True, b""))
