@@ -1,23 +1,20 @@
-#!/usr/bin/env python3
-"""Runs the built realmview and rmitrace at a pseudo terminal, and into a pipe that nobody reads.
+"""The programs realmview and rmitrace at a pseudo terminal, and into a pipe that nobody reads.
 
 Standard input that is a terminal: a line on standard error says what is awaited, unless a FILE is given. Standard output or
 standard error that is a terminal: labels, carets, refused turns and the differences of a trace are painted, and nothing else,
 unless NO_COLOR is set and not empty. Without the colours the text is that of a pipe. A pipe that nobody reads: the program ends
 with status 141 and says nothing; realmhost says `device`, with status 5. A pipe that does not block is waited for.
-The last line is `terminal: N passed, M failed`.
 """
 import os
 import re
 import subprocess
-import sys
 import threading
 import time
 import tty
-from pathlib import Path
 
-TOP = Path(__file__).resolve().parent.parent
-SECONDS = 60
+from programs import HOST, SECONDS, TOP, TRACER, VIEW, needs
+
+pytestmark = needs(HOST, TRACER, VIEW)
 PLAN = "plans/failed-build.toml"
 TRACE = "traces/rmm/kvm-boot.trace"
 # What each label is painted with, and the end of each colour.
@@ -117,7 +114,7 @@ def plain(text):
     return re.sub(r"\x1b\[[0-9;]*m", "", text)
 
 
-def of_input():
+def test_input(check):
     """What is awaited is said at a terminal alone."""
     plan, trace = (TOP / PLAN).read_text(), "platform 0x80000000 64\nrmi_granule_delegate 0x80000000 = RMI_SUCCESS\n"
     history = run(["realmview", "history", PLAN])[1]
@@ -127,43 +124,43 @@ def of_input():
     for words, awaited, given in asked:
         status, out, err = run(words, given)
         line = f"{words[0]}: reading {awaited} from the terminal; end it with Ctrl-D\n"
-        yield f"{words} over a pipe", (status, err), (0, "")
-        yield f"{words} at a terminal", run(words, given, ["stdin"]), (0, out, line)
-        yield f"{words} - at a terminal", run([*words, "-"], given, ["stdin"]), (0, out, line)
-    yield "a FILE at a terminal", run(["realmview", "check", PLAN], at=["stdin"]), run(["realmview", "check", PLAN])
-    yield "help at a terminal", run(["realmview", "--help"], at=["stdin"]), run(["realmview", "--help"])
+        check(f"{words} over a pipe", (status, err), (0, ""))
+        check(f"{words} at a terminal", run(words, given, ["stdin"]), (0, out, line))
+        check(f"{words} - at a terminal", run([*words, "-"], given, ["stdin"]), (0, out, line))
+    check("a FILE at a terminal", run(["realmview", "check", PLAN], at=["stdin"]), run(["realmview", "check", PLAN]))
+    check("help at a terminal", run(["realmview", "--help"], at=["stdin"]), run(["realmview", "--help"]))
 
 
-def of_colours():
+def test_colours(check):
     for name, words, given in ("why", ["why", PLAN], ""), ("check", ["check", "-"], BROKEN), ("no mistake", ["check", PLAN], ""):
         status, out, err = run(["realmview", *words], given)
         wanted = (status, painted(out), err)
-        yield f"{name}: colours", run(["realmview", *words], given, ["stdout"]), wanted
-        yield f"{name}: some, unless there is no mistake", wanted[1] != out, name != "no mistake"
-        yield f"{name}: nothing but colours is added", plain(wanted[1]), out
-        yield f"{name}: NO_COLOR", run(["realmview", *words], given, ["stdout"], NO_COLOR="1"), (status, out, err)
-        yield f"{name}: an empty NO_COLOR", run(["realmview", *words], given, ["stdout"], NO_COLOR=""), wanted
+        check(f"{name}: colours", run(["realmview", *words], given, ["stdout"]), wanted)
+        check(f"{name}: some, unless there is no mistake", wanted[1] != out, name != "no mistake")
+        check(f"{name}: nothing but colours is added", plain(wanted[1]), out)
+        check(f"{name}: NO_COLOR", run(["realmview", *words], given, ["stdout"], NO_COLOR="1"), (status, out, err))
+        check(f"{name}: an empty NO_COLOR", run(["realmview", *words], given, ["stdout"], NO_COLOR=""), wanted)
     for words in ["json", PLAN], ["page", PLAN], ["history", PLAN], ["--help"], ["help", "why"]:
-        yield f"{words}: no colours", run(["realmview", *words], at=["stdout"]), run(["realmview", *words])
-    yield "differences", run(["rmitrace", "check"], WRONG), (1, DIFFERENCE, "")
-    yield "differences in colours", run(["rmitrace", "check"], WRONG, ["stdout"]), (1, painted_difference(DIFFERENCE), "")
-    yield "no difference", run(["rmitrace", "check", TRACE], at=["stdout"]), run(["rmitrace", "check", TRACE])
-    yield "answers", run(["rmitrace", "answer", TRACE], at=["stdout"]), run(["rmitrace", "answer", TRACE])
+        check(f"{words}: no colours", run(["realmview", *words], at=["stdout"]), run(["realmview", *words]))
+    check("differences", run(["rmitrace", "check"], WRONG), (1, DIFFERENCE, ""))
+    check("differences in colours", run(["rmitrace", "check"], WRONG, ["stdout"]), (1, painted_difference(DIFFERENCE), ""))
+    check("no difference", run(["rmitrace", "check", TRACE], at=["stdout"]), run(["rmitrace", "check", TRACE]))
+    check("answers", run(["rmitrace", "answer", TRACE], at=["stdout"]), run(["rmitrace", "answer", TRACE]))
     status, out, err = run(["rmitrace", "why", TRACE])
-    yield "reasons", run(["rmitrace", "why", TRACE], at=["stdout"]), (status, painted(out), err)
-    yield "some reasons have colours", painted(out) != out, True
+    check("reasons", run(["rmitrace", "why", TRACE], at=["stdout"]), (status, painted(out), err))
+    check("some reasons have colours", painted(out) != out, True)
 
 
-def of_messages():
+def test_messages(check):
     """Standard error is painted where it is a terminal, whatever standard output is."""
     for words in ["realmview", "look"], ["rmitrace", "look"], ["realmview", "why", "--erase", "0"]:
         status, out, err = run(words)
-        yield f"{words}: begins with a label", (status, out, err.startswith("error: ")), (2, "", True)
-        yield f"{words}: in colour", run(words, at=["stderr"]), (2, "", "\x1b[1;31merror:\x1b[0m" + err[len("error:"):])
-        yield f"{words}: NO_COLOR", run(words, at=["stderr"], NO_COLOR="1"), (2, "", err)
+        check(f"{words}: begins with a label", (status, out, err.startswith("error: ")), (2, "", True))
+        check(f"{words}: in colour", run(words, at=["stderr"]), (2, "", "\x1b[1;31merror:\x1b[0m" + err[len("error:"):]))
+        check(f"{words}: NO_COLOR", run(words, at=["stderr"], NO_COLOR="1"), (2, "", err))
     status, out, err = run(["realmview", "why"], BROKEN)
-    yield "a plan with a mistake", run(["realmview", "why"], BROKEN, ["stderr"]), (status, out, painted(err))
-    yield "a file that is not there", run(["realmview", "why", "no.toml"], at=["stderr"]), run(["realmview", "why", "no.toml"])
+    check("a plan with a mistake", run(["realmview", "why"], BROKEN, ["stderr"]), (status, out, painted(err)))
+    check("a file that is not there", run(["realmview", "why", "no.toml"], at=["stderr"]), run(["realmview", "why", "no.toml"]))
 
 
 def closed(words, given=None):
@@ -176,24 +173,24 @@ def closed(words, given=None):
     return ran.returncode, ran.stderr
 
 
-def of_closed_pipes():
+def test_closed_pipes(check):
     history = run(["realmview", "history", PLAN])[1]
     for command in "history", "json", "page", "why", "check":
-        yield f"{command} that nobody reads", closed(["realmview", command, PLAN]), (141, "")
-    yield "apply that nobody reads", closed(["realmview", "apply"], history), (141, "")
-    yield "explore that nobody reads", closed(["realmview", "explore", "--most", "1", PLAN]), (141, "")
-    yield "a mistake that nobody reads", closed(["realmview", "check"], BROKEN), (141, "")
+        check(f"{command} that nobody reads", closed(["realmview", command, PLAN]), (141, ""))
+    check("apply that nobody reads", closed(["realmview", "apply"], history), (141, ""))
+    check("explore that nobody reads", closed(["realmview", "explore", "--most", "1", PLAN]), (141, ""))
+    check("a mistake that nobody reads", closed(["realmview", "check"], BROKEN), (141, ""))
     for command in "answer", "check", "names", "why":
-        yield f"{command} that nobody reads", closed(["rmitrace", command, TRACE]), (141, "")
+        check(f"{command} that nobody reads", closed(["rmitrace", command, TRACE]), (141, ""))
     for words in ["realmview", "--help"], ["realmview", "help", "why"], ["rmitrace", "--version"]:
-        yield f"{words} that nobody reads", closed(words), (141, "")
-    yield "realmhost", closed(["realmhost", "replay"], (TOP / PLAN).read_text()), (5, "device\n")
+        check(f"{words} that nobody reads", closed(words), (141, ""))
+    check("realmhost", closed(["realmhost", "replay"], (TOP / PLAN).read_text()), (5, "device\n"))
     script = f"set -o pipefail; bin/realmview json {PLAN} | true; sleep 0; echo $?"
     ran = subprocess.run(["bash", "-c", script], cwd=TOP, capture_output=True, text=True, timeout=SECONDS)
-    yield "a pipe in a shell", (ran.stdout in ("141\n", "0\n"), ran.stderr), (True, "")
+    check("a pipe in a shell", (ran.stdout in ("141\n", "0\n"), ran.stderr), (True, ""))
 
 
-def of_pipes_that_do_not_block():
+def test_pipes_that_do_not_block(check):
     """Both ends wait: the input comes after a while, and the output is read after a while."""
     text = (TOP / TRACE).read_text()
     for command in "answer", "check":
@@ -211,26 +208,4 @@ def of_pipes_that_do_not_block():
         writer.join()
         _, err = ran.communicate(timeout=SECONDS)
         wanted = run(["rmitrace", command], 20 * text[:3000] + text)
-        yield f"{command} over pipes that do not block", (ran.returncode, out, err.decode()), wanted
-
-
-def is_as_wanted(name, got, wanted):
-    if got != wanted:
-        print(f"{name}: {got!r:.600}, and not {wanted!r:.600}")
-    return got == wanted
-
-
-CASES = (of_input, of_colours, of_messages, of_closed_pipes, of_pipes_that_do_not_block)
-
-
-def main():
-    for name in ("realmview", "rmitrace", "realmhost"):
-        if not (TOP / "bin" / name).exists():
-            print(f"terminal: bin/{name} is not built; `make test` builds it")
-            return 1
-    told = [is_as_wanted(*it) for of in CASES for it in of()]
-    print(f"terminal: {told.count(True)} passed, {told.count(False)} failed")
-    return 0 if all(told) else 1
-
-
-sys.exit(main())
+        check(f"{command} over pipes that do not block", (ran.returncode, out, err.decode()), wanted)
