@@ -1,5 +1,4 @@
-#!/usr/bin/env python3
-"""Runs the built realmview's `explore` over plans, and compares what it says with replays by realmhost of each order.
+"""The subcommands `explore` and `order` of realmview over plans, against replays by realmhost of each order.
 
 The orders of a plan are found here by replays alone: a build has a step left where its next turn is not idle. Of each order the
 lines of the replay tell how each step ended, and what the map is. From these the whole text of `explore` is made, and it has to
@@ -9,7 +8,6 @@ Of orders that are drawn, the numbers of xoshiro256++ are made here too. What is
 
 What `order` writes of a plan is replayed: no turn is idle, each build performs every step, and the builds take turns as they have
 to. The rest of the text is as it was. A few such texts are stored in tests/reordered.
-The last line is `orders: N passed, M failed`.
 """
 import math
 import os
@@ -17,17 +15,16 @@ import pty
 import random
 import re
 import subprocess
-import sys
 import threading
 import time
 import tomllib
 from collections import Counter
-from pathlib import Path
 
-TOP = Path(__file__).resolve().parent.parent
-VIEW = TOP / "bin/realmview"
-HOST = TOP / "bin/realmhost"
-SECONDS = 60
+import pytest
+
+from programs import HOST, PLANS, RUNS, SECONDS, TOP, VIEW, needs, over, run
+
+pytestmark = needs(HOST, VIEW)
 # How many orders of a plan are replayed here at most; `explore --most` is given the same.
 MOST = 40
 # How many plans of random steps.
@@ -39,15 +36,6 @@ MOST_BYTES = 1048576
 OUTSIDE = "with the turns that its builds need, the plan has more than 16384 turns or 1048576 bytes\n"
 # How many lines of progress there are in a second at most.
 LINES_A_SECOND = 5
-
-
-def run(program, words, given):
-    """Status, standard output and standard error, as text."""
-    try:
-        ran = subprocess.run([program, *words], input=given.encode(), capture_output=True, timeout=SECONDS)
-    except subprocess.TimeoutExpired:
-        return (f"none within {SECONDS} seconds", "", "")
-    return (ran.returncode, ran.stdout.decode(), ran.stderr.decode())
 
 
 def with_order(plan, order):
@@ -214,14 +202,13 @@ def random_steps(source, length):
     return steps + [source.choice(pool) for _ in range(length - len(steps))]
 
 
-def of_random_plans():
-    source = random.Random(7)
-    for number in range(RANDOM_PLANS):
-        builds = [random_steps(source, source.randrange(1, 7)) for _ in range(source.randrange(1, 4))]
-        plan = plan_of(builds, pages=source.choice([4, 8, 16]), vmids=source.choice([1, 2]))
-        yield from of_plan(f"random plan {number}", plan, len(builds))
-        if number < 5:
-            yield from of_sample(f"random plan {number}", plan, len(builds), 12, number * 1000003)
+def of_random_plan(number):
+    source = random.Random(number)
+    builds = [random_steps(source, source.randrange(1, 7)) for _ in range(source.randrange(1, 4))]
+    plan = plan_of(builds, pages=source.choice([4, 8, 16]), vmids=source.choice([1, 2]))
+    yield from of_plan("all orders", plan, len(builds))
+    if number < 5:
+        yield from of_sample("some orders", plan, len(builds), 12, number * 1000003)
 
 
 def of_options():
@@ -255,14 +242,6 @@ def of_alike_refusals():
     yield from of_plan("refusals alike", plan, 2)
     told = run(VIEW, ["explore"], plan)[1]
     yield "refusals alike, both told", [words in told for words in ("no 13 Rmi 4 1 in 6,", "no 13 Rmi 4 2 in 4,")], [True, True]
-
-
-def of_plans():
-    for folder in ("plans", "plans/guide"):
-        for path in sorted((TOP / folder).glob("*.toml")):
-            plan = path.read_text()
-            builds = plan.count("[[build]]")
-            yield from of_plan(path.stem, plan, builds, 6)
 
 
 def on_a_terminal(words, given):
@@ -361,13 +340,6 @@ def of_whole_order(name, plan, words):
     yield f"{name}, once more", run(VIEW, ["order", *words], text), (0, text, "")
 
 
-def of_orders_to_replay():
-    for folder in ("plans", "plans/guide", "tests/runs"):
-        for path in sorted((TOP / folder).glob("*.toml")):
-            for words in ([], ["--one-by-one"]):
-                yield from of_whole_order(path.stem, path.read_text(), words)
-
-
 def of_stored_orders():
     for path in sorted((TOP / "tests/reordered").glob("*.toml")):
         for words, suffix in ([], ".txt"), (["--one-by-one"], ".one-by-one.txt"):
@@ -387,28 +359,29 @@ def of_no_order():
         yield f"a plan of {len(text)} bytes", (status, err), wanted
 
 
-def cases():
-    yield from of_counts()
-    yield from of_progress()
-    yield from of_options()
-    yield from of_alike_refusals()
-    yield from of_stored_orders()
-    yield from of_orders_to_replay()
-    yield from of_no_order()
-    yield from of_random_plans()
-    yield from of_plans()
+# ---- tests
 
 
-def main():
-    passed = failed = 0
-    for name, got, wanted in cases():
-        if got == wanted:
-            passed += 1
-            continue
-        failed += 1
-        print(f"{name}:\n  got    {got!r}\n  wanted {wanted!r}")
-    print(f"orders: {passed} passed, {failed} failed")
-    sys.exit(failed != 0)
+ALONE = (of_counts, of_progress, of_options, of_alike_refusals, of_stored_orders, of_no_order)
 
 
-main()
+@pytest.mark.parametrize("cases", ALONE, ids=lambda it: it.__name__[3:])
+def test_orders(check, cases):
+    check.all(cases())
+
+
+@pytest.mark.parametrize("number", range(RANDOM_PLANS))
+def test_random_plan(check, number):
+    check.all(of_random_plan(number))
+
+
+@over("path", *PLANS)
+def test_plan(check, path):
+    plan = path.read_text()
+    check.all(of_plan(path.stem, plan, plan.count("[[build]]"), 6))
+
+
+@over("path", *PLANS, RUNS)
+def test_order_to_replay(check, path):
+    for words in ([], ["--one-by-one"]):
+        check.all(of_whole_order(path.stem, path.read_text(), words))
