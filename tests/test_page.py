@@ -1,6 +1,4 @@
-#!/usr/bin/env python3
-"""Opens pages of `realmview page` in a browser without a window, and compares what is shown with the texts of other
-programs.
+"""Pages of `realmview page` in a browser without a window: what is shown, against the texts of other programs.
 
 Of each plan: the page is the template, as crates/run_json/src/page/ has it, around data in JSON, whose `run` is the
 document of `realmview json`. Stepped through by the arrow key, it shows the lines of `realmhost replay`, in their
@@ -9,31 +7,29 @@ granules, the realms and the sums of the pages make the map of `realmhost replay
 build left out, those of the second grid make the map of `realmhost replay --erase B`, and the page says that there is
 a difference exactly if the build has something open. (Of long plans some of the turns.) Of one plan: links, keys,
 folded tables, words of refusals, roles; of machines of three sizes: room, contrast, speed. The colours of builds are
-told apart by the colour-blind. If there is no browser, the last line is `page: skipped: no browser`; else it is
-`page: N passed, M failed`.
+told apart by the colour-blind. If there is no browser, all but the colours is skipped.
 """
+import functools
 import itertools
 import json
 import math
 import re
-import subprocess
-import sys
 import tempfile
 import time
 import tomllib
 from pathlib import Path
 
-sys.dont_write_bytecode = True
+import pytest
+
 import browser
 import colours
 import page_plans
+from programs import HOST, TOP, VIEW, needs, run
 
-TOP = Path(__file__).resolve().parent.parent
-PROGRAM = TOP / "bin/realmview"
-HOST = TOP / "bin/realmhost"
 PAGE = TOP / "crates/run_json/src/page"
 AUDIT = (TOP / "tests/page_audit.js").read_text()
-PLANS = ("plans/failed-build.toml", "plans/two-realms.toml", "plans/refusals.toml", "plans/guide/recs.toml")
+# Plans of plans/, and plans of page_plans.py.
+PLANS = ("failed-build", "two-realms", "refusals", "guide/recs", "128-pages", "written-pages", "each-build")
 SECONDS = 300
 # Of a plan with more turns than this, some are looked at.
 MOST_TURNS = 80
@@ -45,12 +41,6 @@ STATES = ("undelegated", "delegated", "rd", "rec", "rec-aux", "data", "rtt")
 # Milliseconds of the processor in which a build is left out, with 4,096 pages and eight builds.
 MOST_OF_LEAVING_OUT = 1000
 TRIES = 5
-
-
-def run(words, given=b"", program=PROGRAM):
-    """Status, standard output and standard error."""
-    ran = subprocess.run([program, *words], input=given, capture_output=True, timeout=SECONDS)
-    return (ran.returncode, ran.stdout, ran.stderr)
 
 
 def template():
@@ -135,7 +125,7 @@ def cut(plan, turns):
 
 
 def replayed(plan, *words):
-    return run(["replay", *words], plan, HOST)[1].decode().splitlines()
+    return run(HOST, ["replay", *words], plan)[1].decode().splitlines()
 
 
 # ---- a plan, turn by turn
@@ -148,7 +138,7 @@ def of_template(name, plan, page):
         True,
         False,
     )
-    yield f"{name}: the document", json.loads(page[len(head) : -len(tail)])["run"], json.loads(run(["json"], plan)[1])
+    yield f"{name}: the document", json.loads(page[len(head) : -len(tail)])["run"], json.loads(run(VIEW, ["json"], plan).out)
     yield f"{name}: nothing is fetched", re.findall(r"(?:src|href)=|url\(|import |fetch\(|https?://", head + tail), []
 
 
@@ -161,7 +151,7 @@ def of_steps(name, plan, shown, turns):
     wanted = replayed(plan)[:turns]
     yield f"{name}: the lines", lines, wanted
     told = "[...document.querySelectorAll('#history button%s')].map((it) => it.lastChild.textContent)"
-    history = run(["history"], plan)[1].decode().splitlines()[1:]
+    history = run(VIEW, ["history"], plan)[1].decode().splitlines()[1:]
     yield f"{name}: the history", shown.value(told % ":not(.refused)"), history
     yield f"{name}: what was refused", shown.value(told % ".refused"), [line for line in wanted if " = no " in line]
 
@@ -190,7 +180,7 @@ def of_turn(name, plan, shown, document, turn):
 
 def of_why(name, plan, shown, data):
     """The words of refusals are those of `realmview why`, where the page has them."""
-    lines = run(["why"], plan)[1].decode().splitlines()
+    lines = run(VIEW, ["why"], plan)[1].decode().splitlines()
     told = [
         (line, [it.strip().replace("`", "") for it in lines[k + 1 : k + 3] if re.match(r" +(error|help): ", it)])
         for k, line in enumerate(lines)
@@ -212,11 +202,11 @@ def title_of(plan):
 
 
 def of_plan(at, name, plan):
-    status, out, err = run(["page"], plan)
+    status, out, err = run(VIEW, ["page"], plan)
     yield f"{name}: status", (status, err), (0, b"")
     page = out.decode()
     yield from of_template(name, plan, page)
-    document, data = json.loads(run(["json"], plan)[1]), json.loads(page[len(template()[0]) : -len(template()[1])])
+    document, data = json.loads(run(VIEW, ["json"], plan).out), json.loads(page[len(template()[0]) : -len(template()[1])])
     shown, turns = Shown(at, page), len(document["turns"])
     step = max(1, turns // 12)
     if turns <= MOST_TURNS:
@@ -544,52 +534,88 @@ def of_speed(at, data):
     at.call("Performance.disable")
 
 
-# ---- all
+# ---- tests
 
 
-def cases(at):
-    for path in PLANS:
-        yield from of_plan(at, Path(path).stem, (TOP / path).read_bytes())
-    for name in ("128-pages", "written-pages", "each-build"):
-        yield from of_plan(at, name, page_plans.PLANS[name]())
-    page = lambda plan: json.loads(run(["page"], plan)[1].decode()[len(template()[0]) : -len(template()[1])])
-    bare = lambda data: {key: it for key, it in data.items() if key not in ("title", "refused")}
-    failed, refusals = (bare(page((TOP / path).read_bytes())) for path in (PLANS[0], PLANS[2]))
-    for part in (of_keys, of_links, of_folds, of_roles):
-        yield from part(at, failed)
-    yield from of_verdicts(at, failed)
-    yield from of_words(at, failed, refusals)
-    middle, tiny = page(page_plans.of_128_pages()), page(page_plans.of_4096_pages())
-    for name, data, turn in (("16 pages", failed, 14), ("128 pages", middle, 120), ("4096 pages", tiny, 3000)):
-        yield from of_room(at, name, data, turn)
-        yield from of_contrast(at, name, data, turn)
-    yield from of_colours()
-    yield from of_builds(at, page(page_plans.of_each_build()))
-    yield from of_speed(at, tiny)
-    yield "the script stops nowhere", at.faults, []
-
-
-def is_as_wanted(name, got, wanted):
-    if got != wanted:
-        print(f"{name}: {got!r:.400}, and not {wanted!r:.400}")
-    return got == wanted
-
-
-def main():
-    for program in (PROGRAM, HOST):
-        if not program.exists():
-            print(f"page: {program.relative_to(TOP)} is not built; `make test` builds it")
-            return 1
+@pytest.fixture(scope="module")
+def opened():
     path = browser.found()
     if path is None:
-        print("page: skipped: no browser")
-        return 0
-    with browser.Browser(path, SECONDS) as at:
-        at.size(1280)
-        told = [is_as_wanted(*it) for it in cases(at)]
-    print(f"page: {told.count(True)} passed, {told.count(False)} failed")
-    return 0 if all(told) else 1
+        pytest.skip("there is no browser")
+    with browser.Browser(path, SECONDS) as it:
+        yield it
 
 
-if __name__ == "__main__":
-    sys.exit(main())
+@pytest.fixture
+def at(opened):
+    """A browser. The script of a page stops nowhere."""
+    opened.size(1280)
+    yield opened
+    faults, opened.faults = opened.faults, []
+    assert faults == []
+
+
+def plan_of(name):
+    return page_plans.PLANS[name]() if name in page_plans.PLANS else (TOP / f"plans/{name}.toml").read_bytes()
+
+
+@functools.cache
+def data_of(name):
+    """The data of a plan's page."""
+    head, tail = template()
+    return json.loads(run(VIEW, ["page"], plan_of(name)).out.decode()[len(head) : -len(tail)])
+
+
+def bare(name):
+    """The data of a plan's page, without its title and the words of its refusals."""
+    return {key: it for key, it in data_of(name).items() if key not in ("title", "refused")}
+
+
+def machine(name):
+    return bare(name) if name == "failed-build" else data_of(name)
+
+
+ON_MACHINES = pytest.mark.parametrize(("name", "turn"), [("failed-build", 14), ("128-pages", 120), ("4096-pages", 3000)])
+
+
+@needs(HOST, VIEW)
+@pytest.mark.parametrize("name", PLANS)
+def test_plan(check, at, name):
+    check.all(of_plan(at, name, plan_of(name)))
+
+
+@needs(VIEW)
+@pytest.mark.parametrize("part", [of_keys, of_links, of_folds, of_roles, of_verdicts], ids=lambda it: it.__name__[3:])
+def test_a_person_does(check, at, part):
+    check.all(part(at, bare("failed-build")))
+
+
+@needs(VIEW)
+def test_words(check, at):
+    check.all(of_words(at, bare("failed-build"), bare("refusals")))
+
+
+@needs(VIEW)
+@ON_MACHINES
+def test_room(check, at, name, turn):
+    check.all(of_room(at, name, machine(name), turn))
+
+
+@needs(VIEW)
+@ON_MACHINES
+def test_contrast(check, at, name, turn):
+    check.all(of_contrast(at, name, machine(name), turn))
+
+
+def test_colours(check):
+    check.all(of_colours())
+
+
+@needs(VIEW)
+def test_numbers_of_builds(check, at):
+    check.all(of_builds(at, data_of("each-build")))
+
+
+@needs(VIEW)
+def test_speed(check, at):
+    check.all(of_speed(at, data_of("4096-pages")))
