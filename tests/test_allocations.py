@@ -1,5 +1,4 @@
-#!/usr/bin/env python3
-"""Watches the built programs by tests/watch.c, which is loaded before the C library: what they take, give back and read.
+"""What the built programs take, give back and read, watched by tests/watch.c, which is loaded before the C library.
 
   refusals    each allocation of a run is refused in turn, until a run meets no refusal. A run that is refused one tells
               `memory` with status 3 and prints nothing (`rmitrace answer`: the first lines), or it prints the plain text
@@ -15,10 +14,8 @@
   threads     each build but one has a thread of its own; where no thread can be made, the text of `run` is as good
   blocks      a block that is named is taken as fast as one that the store picks, and in 4,096 pages as fast as in 512
 
-    tests/allocations [--all]       also over tests/runs, tests/faults and all traces, which takes some minutes
-
-A C compiler is needed, $CC or cc, and the C library of GNU; with no compiler nothing is done, and that is said. The last line is
-`allocations: N passed, M failed`.
+`make allocations` also has tests/runs, tests/faults and all traces, which takes some minutes. A C compiler is needed, $CC or cc, and
+the C library of GNU.
 """
 import collections
 import itertools
@@ -26,18 +23,15 @@ import os
 import re
 import shutil
 import subprocess
-import sys
-import tempfile
-from concurrent.futures import ThreadPoolExecutor
-from pathlib import Path
 
-from changed_plans import TURNS, fault_of_threads, map_of, without
+import pytest
 
-TOP = Path(__file__).resolve().parent.parent
-HOST, TRACE, VIEW, CALLS = (TOP / "bin" / name for name in ("realmhost", "rmitrace", "realmview", "test_memory"))
-SECONDS = 60
+from answers import TURNS, fault_of_threads, map_of, without
+from programs import HOST, MEMORY, RUNS, SECONDS, TOP, TRACER, VIEW, files, named, needs, over
+
+pytestmark = needs(HOST, TRACER, VIEW, MEMORY)
 PART, MOST_BYTES = 4096, 1 << 20
-MEMORY = (3, b"", b"memory\n")
+NO_MEMORY = (3, b"", b"memory\n")
 # Beside plans/: traces in which commands are accepted and refused, and faults of each kind.
 FEW_TRACES = ("granules", "measurement", "rec")
 FEW_CHECKS = ("all_at_once", "numbers_of_other_kinds", "steps_of_inline_tables", "toml_open_array", "warning_too_few_turns")
@@ -51,7 +45,7 @@ FEW_FAULTS = (
 TRIES, MOST_RATIO = 5, 3
 
 # `fits` says whether an outcome is one of a run that was refused nothing; `told` whether it is one of a run that says `memory`.
-Case = collections.namedtuple("Case", "name program words given fits told", defaults=[lambda outcome: outcome == MEMORY])
+Case = collections.namedtuple("Case", "name program words given fits told", defaults=[lambda outcome: outcome == NO_MEMORY])
 # An outcome is a status, standard output and standard error. A mark is what the program had taken when it wrote a line, and
 # its microseconds until then.
 Run = collections.namedtuple("Run", "outcome counts marks")
@@ -89,76 +83,63 @@ def builds_of(plan):
     return len(re.findall(rb"\bsteps = \[", plan))
 
 
-def plans_in(*folders):
+def plan_of(path):
     """Name, plan and text of its replay."""
-    for folder in folders:
-        for path in sorted((TOP / folder).glob("*.toml")):
-            yield f"{folder}/{path.stem}", path.read_bytes(), path.with_suffix(".txt").read_bytes()
+    return named(path), path.read_bytes(), path.with_suffix(".txt").read_bytes()
 
 
 def run_of(name, plan, text):
     """A plan in threads. Its text is stored where it is the same whatever the order of the builds."""
-    stored = TOP / f"{name}.run.txt"
+    stored = TOP / f"{'tests/' * name.startswith('runs/')}{name}.run.txt"
     fits = printed(stored.read_bytes()) if stored.exists() else lambda outcome: not fault_of_threads((0, text, b""), outcome)
     return Case(f"{name} run", HOST, [b"run"], plan, fits)
 
 
-def of_plans(*folders):
-    for name, plan, text in plans_in(*folders):
-        last = builds_of(plan) - 1
-        yield Case(f"{name} replay", HOST, [b"replay"], plan, printed(text))
-        yield Case(f"{name} --erase {last}", HOST, [b"replay", b"--erase", b"%d" % last], plan, printed(without(last, map_of(text))))
-        yield run_of(name, plan, text)
+def of_plan(path):
+    name, plan, text = plan_of(path)
+    last = builds_of(plan) - 1
+    yield Case("replay", HOST, [b"replay"], plan, printed(text))
+    yield Case(f"--erase {last}", HOST, [b"replay", b"--erase", b"%d" % last], plan, printed(without(last, map_of(text))))
+    yield run_of(name, plan, text)
 
 
-def of_views(*folders):
-    """The history of each plan, and the map that it leads to, whole and without its last build."""
-    for name, plan, text in plans_in(*folders):
-        last = builds_of(plan) - 1
-        history = subprocess.run([VIEW, "history"], input=plan, stdout=subprocess.PIPE, check=True).stdout
-        yield Case(f"{name} history", VIEW, [b"history"], plan, printed(history))
-        for words in [b"json"], [b"page"], [b"why"], [b"explore", b"--most", b"2"], [b"explore", b"--sample", b"1"]:
-            whole = subprocess.run([VIEW, *words], input=plan, stdout=subprocess.PIPE, check=True).stdout
-            yield Case(f"{name} {b' '.join(words).decode()}", VIEW, words, plan, printed(whole))
-        yield Case(f"{name} apply", VIEW, [b"apply"], history, printed(b"".join(map_of(text))))
-        yield Case(f"{name} apply --erase {last}", VIEW, [b"apply", b"--erase", b"%d" % last], history, printed(without(last, map_of(text))))
+def of_views(path):
+    """The history of a plan, and the map that it leads to, whole and without its last build."""
+    _, plan, text = plan_of(path)
+    last = builds_of(plan) - 1
+    history = subprocess.run([VIEW, "history"], input=plan, stdout=subprocess.PIPE, check=True).stdout
+    yield Case("history", VIEW, [b"history"], plan, printed(history))
+    for words in [b"json"], [b"page"], [b"why"], [b"explore", b"--most", b"2"], [b"explore", b"--sample", b"1"]:
+        whole = subprocess.run([VIEW, *words], input=plan, stdout=subprocess.PIPE, check=True).stdout
+        yield Case(b" ".join(words).decode(), VIEW, words, plan, printed(whole))
+    yield Case("apply", VIEW, [b"apply"], history, printed(b"".join(map_of(text))))
+    yield Case(f"apply --erase {last}", VIEW, [b"apply", b"--erase", b"%d" % last], history, printed(without(last, map_of(text))))
 
 
-def of_checks(names):
-    """The findings on plans and on what is none. Those on what is none come to standard error of `history`."""
-    for path in sorted((TOP / "tests/checks").glob("*.txt")):
-        head, out = path.read_bytes().split(b"\n", 1)
-        status, plan = int(head.split()[1]), path.with_suffix(".toml").read_bytes()
-        if path.stem in names:
-            yield Case(f"tests/checks/{path.stem}", VIEW, [b"check"], plan, lambda outcome, wanted=(status, out, b""): outcome == wanted)
-        if path.stem in names and status == 1:
-            yield Case(f"tests/checks/{path.stem} history", VIEW, [b"history"], plan, lambda outcome, wanted=(1, b"", out): outcome == wanted)
+def of_check(path):
+    """The findings on a plan, or on what is none. Those on what is none come to standard error of `history`."""
+    head, out = path.read_bytes().split(b"\n", 1)
+    status, plan = int(head.split()[1]), path.with_suffix(".toml").read_bytes()
+    yield Case("check", VIEW, [b"check"], plan, lambda outcome: outcome == (status, out, b""))
+    if status == 1:
+        yield Case("history", VIEW, [b"history"], plan, lambda outcome: outcome == (1, b"", out))
 
 
-def traces():
-    return {path.stem: path.read_bytes() for path in sorted((TOP / "traces").glob("*.trace"))}
+def of_trace(path):
+    text = path.read_bytes()
+    answers = sum(b" = " in line.split(b"#")[0] for line in text.splitlines())
+    # What was written when memory was refused is an answer to the first lines.
+    told = lambda it: (it[0], b"", it[2]) == NO_MEMORY and text.startswith(it[1]) and it[1][-1:] in (b"", b"\n")
+    yield Case("answer", TRACER, [b"answer"], text, printed(text), told)
+    yield Case("check", TRACER, [b"check"], text, printed(b"%d same, 0 allowed, 0 wrong\n" % answers))
 
 
-def of_traces(names):
-    for name, text in traces().items():
-        answers = sum(b" = " in line.split(b"#")[0] for line in text.splitlines())
-        agreed = printed(b"%d same, 0 allowed, 0 wrong\n" % answers)
-        # What was written when memory was refused is an answer to the first lines.
-        told = lambda it, text=text: (it[0], b"", it[2]) == MEMORY and text.startswith(it[1]) and it[1][-1:] in (b"", b"\n")
-        if name in names:
-            yield Case(f"{name}.trace answer", TRACE, [b"answer"], text, printed(text), told)
-            yield Case(f"{name}.trace check", TRACE, [b"check"], text, agreed)
-
-
-def of_faults(names):
-    for path in sorted((TOP / "tests/faults").glob("*.txt")):
-        head, err = path.read_bytes().split(b"\n", 1)
-        args, given = path.with_suffix(".args"), path.with_suffix(".toml")
-        words = args.read_bytes().split(b"\n")[:-1] if args.exists() else [b"replay"]
-        wanted = int(head.split()[1]), b"", err
-        if path.stem in names:
-            plan = given.read_bytes() if given.exists() else b""
-            yield Case(f"tests/faults/{path.stem}", HOST, words, plan, lambda outcome, wanted=wanted: outcome == wanted)
+def of_fault(path):
+    head, err = path.read_bytes().split(b"\n", 1)
+    args, given = path.with_suffix(".args"), path.with_suffix(".toml")
+    words = args.read_bytes().split(b"\n")[:-1] if args.exists() else [b"replay"]
+    plan = given.read_bytes() if given.exists() else b""
+    yield Case(b" ".join(words).decode(errors="replace"), HOST, words, plan, lambda outcome: outcome == (int(head.split()[1]), b"", err))
 
 
 def of_calls():
@@ -171,9 +152,9 @@ def of_calls():
         return (status, out.replace(b" at the second try", b""), err) == (0, text, b"") and again < 2
 
     def told(outcome):
-        return (outcome[0], b"", outcome[2]) == MEMORY and text.startswith(outcome[1])
+        return (outcome[0], b"", outcome[2]) == NO_MEMORY and text.startswith(outcome[1])
 
-    yield Case("every call of a host", CALLS, [], b"", fits, told)
+    yield Case("every call of a host", MEMORY, [], b"", fits, told)
 
 
 # ---- what is looked at
@@ -189,7 +170,7 @@ def refusals(library, it):
     plain = watched(library, it.program, it.words, it.given)
     if not it.fits(plain.outcome):
         yield f"with no refusal: {shown(plain.outcome)}"
-    if plain.outcome[0] < 2 and it.program != CALLS and plain.counts["reads"] != reads_of(it.given):
+    if plain.outcome[0] < 2 and it.program != MEMORY and plain.counts["reads"] != reads_of(it.given):
         yield f"{plain.counts['reads']} reads of {len(it.given)} bytes"
     told = 0
     for number in itertools.count(1):
@@ -243,9 +224,9 @@ def quiet_lines(library, name, text):
     for number, part in enumerate(re.split(rb"^(?=platform )", text, flags=re.M)[1:]):
         machine, lines = part.split(b"\n", 1)
         asked = [machine + b"\n" + rounds * lines for rounds in (4, 8)]
-        answered = [watched(library, TRACE, [b"answer"], given).outcome[1] for given in asked]
+        answered = [watched(library, TRACER, [b"answer"], given).outcome[1] for given in asked]
         for word, pair in (b"answer", asked), (b"check", answered):
-            few, many = (taken(library, TRACE, [word], given)[0] for given in pair)
+            few, many = (taken(library, TRACER, [word], given)[0] for given in pair)
             if few != many:
                 yield f"{name}.trace {word.decode()}, machine {number}: {many - few} blocks are taken by 4 more rounds of its lines"
 
@@ -253,7 +234,7 @@ def quiet_lines(library, name, text):
 def read_byte_by_byte(library):
     """Where each read gives one byte there is one read for each byte, and one for the end."""
     plan, text = (TOP / "plans/two-builds.toml").read_bytes(), (TOP / "plans/two-builds.txt").read_bytes()
-    trace = traces()["rec"]
+    trace = (TOP / "traces/rec.trace").read_bytes()
     longest = plan + b"#" * (MOST_BYTES - len(plan) - 1) + b"\n"
     left = without(1, map_of(text))
     for program, words, given, wanted, reads in (
@@ -261,7 +242,7 @@ def read_byte_by_byte(library):
         (HOST, [b"replay", b"--erase", b"1"], longest, (0, left, b""), MOST_BYTES + 1),
         (HOST, [b"replay"], b" " * MOST_BYTES, (1, b"", b"plan 21 key\n"), MOST_BYTES + 1),
         (HOST, [b"run"], b" " * (MOST_BYTES + 2), (1, b"", b"plan 24 limit\n"), MOST_BYTES + 1),
-        (TRACE, [b"answer"], trace, (0, trace, b""), len(trace) + 1),
+        (TRACER, [b"answer"], trace, (0, trace, b""), len(trace) + 1),
     ):
         run = watched(library, program, words, given, SHORT=1)
         if run.outcome != wanted or run.counts["reads"] != reads:
@@ -270,7 +251,7 @@ def read_byte_by_byte(library):
 
 def parts_of_calls(library):
     """For each line `quiet` of test_memory, the blocks and the microseconds until the next line."""
-    run = watched(library, CALLS, [], b"")
+    run = watched(library, MEMORY, [], b"")
     rows = zip(run.outcome[1].splitlines(), run.marks, run.marks[1:])
     return [(after[0] - before[0], after[1] - before[1]) for line, before, after in rows if line == b"quiet"]
 
@@ -289,49 +270,82 @@ def fast_blocks(library):
         yield f"microseconds: {picked} where blocks are picked, {named_in_few} by name in 512 pages, {named_in_many} by name in 4,096"
 
 
-def looks(library, is_all):
-    """Each look: a name, and a function that yields what is wrong."""
-    names = traces() if is_all else FEW_TRACES
-    faults = {path.stem for path in (TOP / "tests/faults").glob("*.txt")} if is_all else FEW_FAULTS
-    checks = {path.stem for path in (TOP / "tests/checks").glob("*.txt")} if is_all else FEW_CHECKS
-    folders = ("plans", "tests/runs") if is_all else ("plans",)
-    for it in (*of_calls(), *of_plans(*folders), *of_views(*folders), *of_checks(checks), *of_traces(names), *of_faults(faults)):
-        yield it.name, lambda it=it: refusals(library, it)
-    for name, plan, text in plans_in("plans", "tests/runs"):
-        yield f"{name} is quiet", lambda name=name, plan=plan: quiet_turns(library, name, plan)
-        yield f"{name} is quiet in threads", lambda name=name, plan=plan, text=text: quiet_threads(library, name, plan, text)
-    for name, text in traces().items():
-        yield f"{name}.trace is quiet", lambda name=name, text=text: quiet_lines(library, name, text)
-    yield "byte by byte", lambda: read_byte_by_byte(library)
-    yield "calls are quiet", lambda: quiet_calls(library)
+# ---- tests
 
 
-def tried(look):
-    name, find = look
-    found = list(find())
-    for it in found[:3]:
-        print(f"{name}: {it}", flush=True)
-    return not found
-
-
-def main(words):
+@pytest.fixture(scope="module")
+def library(tmp_path_factory):
     compiler = os.environ.get("CC", "cc")
     if not shutil.which(compiler):
-        print(f"allocations: there is no C compiler ({compiler}), and nothing is watched")
-        return 0
-    for program in HOST, TRACE, VIEW, CALLS:
-        if not program.exists():
-            print(f"allocations: {program.relative_to(TOP)} is not built; `make test` builds it")
-            return 1
-    with tempfile.TemporaryDirectory(prefix="allocations-") as room:
-        library = f"{room}/watch.so"
-        subprocess.run([compiler, "-std=gnu11", "-O1", "-shared", "-fPIC", "-o", library, TOP / "tests/watch.c"], check=True)
-        with ThreadPoolExecutor(os.cpu_count()) as pool:
-            told = list(pool.map(tried, looks(library, words == ["--all"])))
-        told.append(tried(("blocks are found at once", lambda: fast_blocks(library))))
-    print(f"allocations: {told.count(True)} passed, {told.count(False)} failed")
-    return 0 if all(told) else 1
+        pytest.skip(f"there is no C compiler ({compiler})")
+    made = tmp_path_factory.mktemp("watch") / "watch.so"
+    subprocess.run([compiler, "-std=gnu11", "-O1", "-shared", "-fPIC", "-o", made, TOP / "tests/watch.c"], check=True)
+    return os.fspath(made)
 
 
-if __name__ == "__main__":
-    sys.exit(main(sys.argv[1:]))
+def some(paths, names):
+    """A test for each file. Those of other names are long."""
+    marks = lambda path: () if path.stem in names else pytest.mark.long
+    return pytest.mark.parametrize("path", [pytest.param(it, id=named(it), marks=marks(it)) for it in paths])
+
+
+PLANS = {it.stem for it in files("plans")}
+over_plans, over_traces = some(files("plans", RUNS), PLANS), some(files("traces", suffix="trace"), FEW_TRACES)
+
+
+def refused(check, library, cases):
+    for it in cases:
+        check(it.name, list(refusals(library, it))[:3], [])
+
+
+@over_plans
+def test_refusals_of_plan(check, library, path):
+    refused(check, library, of_plan(path))
+
+
+@over_plans
+def test_refusals_of_views(check, library, path):
+    refused(check, library, of_views(path))
+
+
+@some(files("tests/checks", suffix="txt"), FEW_CHECKS)
+def test_refusals_of_check(check, library, path):
+    refused(check, library, of_check(path))
+
+
+@over_traces
+def test_refusals_of_trace(check, library, path):
+    refused(check, library, of_trace(path))
+
+
+@some(files("tests/faults", suffix="txt"), FEW_FAULTS)
+def test_refusals_of_fault(check, library, path):
+    refused(check, library, of_fault(path))
+
+
+def test_refusals_of_calls(check, library):
+    refused(check, library, of_calls())
+
+
+@over("path", "plans", RUNS)
+def test_plan_is_quiet(check, library, path):
+    name, plan, text = plan_of(path)
+    check("turn by turn", list(quiet_turns(library, name, plan)), [])
+    check("in threads", list(quiet_threads(library, name, plan, text)), [])
+
+
+@over("path", "traces", suffix="trace")
+def test_trace_is_quiet(library, path):
+    assert list(quiet_lines(library, path.stem, path.read_bytes())) == []
+
+
+def test_calls_are_quiet(library):
+    assert list(quiet_calls(library)) == []
+
+
+def test_reads_byte_by_byte(library):
+    assert list(read_byte_by_byte(library)) == []
+
+
+def test_blocks_are_found_at_once(library):
+    assert list(fast_blocks(library)) == []
