@@ -78,7 +78,7 @@ test: ## the whole gate from nothing: proofs, tests, what the built programs pri
 	@mkdir -p bin
 	@for it in $(PROGRAMS) test_memory; do install -m 755 crates/$$it/out/$$it bin/$$it || exit 1; done
 	@! command -v $(CC) > /dev/null || tools/rmm-library
-	@tools/at_once tests/commands tests/program tests/traces tests/rules tests/rmm_traces tests/rmm_rules tests/planted_rmm tests/rmm_freedoms tests/view tests/terminal tests/orders tests/json tests/page tests/allocations tests/rmm-c tests/examples "tools/pytest -q -n auto" tests/pages tests/schema "tools/pictures --check" "tools/calls --check" "tools/commands_index --check" "tools/page_template --check"
+	@tools/at_once tests/traces tests/rmm_traces tests/rmm_rules tests/planted_rmm tests/rmm_freedoms tests/rmm-c tests/examples "tools/pytest -q -n auto"
 
 mutants: ## tries the mutants of CRATE or all: the prover has to refuse each
 	@tests/mutants $(if $(JOBS),--jobs $(JOBS)) $(if $(SINCE),--since $(SINCE)) $(CRATE)
@@ -88,7 +88,7 @@ planted: ## tries edits that are no mutants, after a change of tests/mutants or 
 
 allocations: ## refuses each allocation of the programs in turn, over all plans and traces; `make test` has the first of them
 	@tools/build $(PROGRAMS) test_memory
-	@tests/allocations --all
+	@tools/pytest -q -n auto -m "" tests/test_allocations.py
 
 memcheck: build ## runs the programs under valgrind's memcheck
 	@tests/memcheck

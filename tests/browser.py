@@ -1,4 +1,4 @@
-"""A Chromium without a window, driven by the DevTools protocol over a pipe, for `tests/page`."""
+"""A Chromium without a window, driven by the DevTools protocol over a pipe, for `tests/test_page.py`."""
 import base64
 import json
 import os

@@ -1,4 +1,4 @@
-"""Colours of a style sheet: their contrast, and how far apart they look, for `tests/page`.
+"""Colours of a style sheet: their contrast, and how far apart they look, for `tests/test_page.py`.
 
 Contrast: WCAG 2.1, relative luminance and contrast ratio. Colour blindness: Machado, Oliveira and Fernandes 2009,
 severity 1. Distance: CIEDE2000 (Sharma, Wu and Dalal 2005).
