@@ -1,6 +1,5 @@
 """What all tests share: checks that are counted, differences that are shown as a diff, and a word where a program is not built."""
 import collections
-import difflib
 import os
 import sys
 from pathlib import Path
@@ -8,37 +7,14 @@ from pathlib import Path
 import hypothesis
 import pytest
 
+from differences import difference
+
 sys.dont_write_bytecode = True
-# How many lines of a difference are shown, and how many characters of what is no text.
-MOST_LINES, MOST_CHARACTERS = 40, 600
-# `make fuzz` chooses `more`: other inputs at each run. In the gate the same inputs are made each time.
+# In the gate the same inputs are drawn each time. `make fuzz` sets COUNT, and draws other ones at each run.
+COUNT = int(os.environ.get("COUNT") or 0)
 hypothesis.settings.register_profile("gate", derandomize=True, database=None, deadline=None, print_blob=False)
-hypothesis.settings.register_profile("more", deadline=None, max_examples=int(os.environ.get("COUNT") or 2000), print_blob=True)
-hypothesis.settings.load_profile(os.environ.get("HYPOTHESIS_PROFILE", "gate"))
-
-
-# ---- differences
-
-
-def lines_of(it):
-    if isinstance(it, bytes):
-        it = it.decode(errors="backslashreplace")
-    return it.splitlines() if isinstance(it, str) else [f"{item!r}" for item in it]
-
-
-def difference(got, wanted):
-    """The lines that show how two values differ."""
-    if isinstance(got, tuple) and isinstance(wanted, tuple) and len(got) == len(wanted):
-        names = getattr(got, "_fields", None) or getattr(wanted, "_fields", None) or range(len(got))
-        parts = [(name, one, other) for name, one, other in zip(names, got, wanted) if one != other]
-        return [line for name, one, other in parts for line in (f"{name}:", *difference(one, other))]
-    has_lines = lambda it: isinstance(it, (str, bytes, list)) and len(lines_of(it)) > 1
-    if has_lines(got) or has_lines(wanted) and isinstance(got, (str, bytes, list)):
-        if isinstance(wanted, (str, bytes, list)) and lines_of(got) != lines_of(wanted):
-            found = list(difflib.unified_diff(lines_of(wanted), lines_of(got), "wanted", "got", n=2, lineterm=""))
-            return [f"  {it}" for it in found[:MOST_LINES]] + ([f"  .. {len(found)} lines"] if len(found) > MOST_LINES else [])
-    shown = lambda it: f"{it!r}" if len(f"{it!r}") <= MOST_CHARACTERS else f"{it!r:.{MOST_CHARACTERS}}.."
-    return [f"  got    {shown(got)}", f"  wanted {shown(wanted)}"]
+hypothesis.settings.register_profile("more", deadline=None, max_examples=COUNT or 100)
+hypothesis.settings.load_profile("more" if COUNT else "gate")
 
 
 def pytest_assertrepr_compare(op, left, right):
@@ -115,6 +91,7 @@ def pytest_terminal_summary(terminalreporter):
 
 
 def pytest_configure(config):
+    config.addinivalue_line("markers", "random: the test draws inputs, of which `make fuzz` draws more")
     config.addinivalue_line("markers", "long: the test takes minutes, and runs where `-m` asks for it")
     config.addinivalue_line("markers", "needs(program, ..): the test runs these programs, as `make build` or `make test` puts them into bin/")
 
@@ -122,5 +99,5 @@ def pytest_configure(config):
 def pytest_runtest_setup(item):
     lacking = [it for mark in item.iter_markers("needs") for it in mark.args if not it.exists()]
     for it in lacking[:1]:
-        by = "make test" if it.stem == "test_memory" else "make build"
+        by = {"test_memory": "make test", "librmm": "make c-library"}.get(it.name.split(".")[0], "make build")
         pytest.fail(f"{it.parent.name}/{it.name} is not built: {by}", pytrace=False)

@@ -1,5 +1,7 @@
 """The built programs, the repository's plans, and how the tests run them."""
 import os
+import shlex
+import shutil
 import subprocess
 from pathlib import Path
 from typing import NamedTuple
@@ -8,10 +10,14 @@ import pytest
 
 TOP = Path(__file__).resolve().parent.parent
 HOST, VIEW, TRACER = (TOP / "bin" / name for name in ("realmhost", "realmview", "rmitrace"))
+# The library for C, as `make c-library` puts it into build/.
+STATIC, SHARED = TOP / "build/librmm.a", TOP / "build/librmm.so.0"
 # A program of the gate alone: plans over the plain store, and every call of a host.
 MEMORY = TOP / "bin/test_memory"
 # The folders with plans that have the text of their run beside them.
 PLANS, RUNS = ("plans", "plans/guide"), "tests/runs"
+# What judges the log of an RMM; JUDGE names another program, as `python3 tests/second_rmm check`.
+JUDGE = shlex.split(os.environ.get("JUDGE", "")) or [os.fspath(TRACER), "check"]
 SECONDS = 60
 
 
@@ -55,3 +61,15 @@ def over(name, *folders, suffix="toml"):
 def needs(*programs):
     """A mark of tests that run these programs."""
     return pytest.mark.needs(*programs)
+
+
+def parts(*checks):
+    """A test for each function that checks a part. Each comes alone, or with the programs that it needs: without these it is
+    skipped."""
+    found = []
+    for it in checks:
+        check, *words = it if isinstance(it, tuple) else (it,)
+        lacking = [word for word in words if not shutil.which(word)]
+        mark = pytest.mark.skipif(bool(lacking), reason=f"there is no {', '.join(lacking)}")
+        found.append(pytest.param(check, id=check.__name__, marks=mark))
+    return pytest.mark.parametrize("part", found)

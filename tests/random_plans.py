@@ -5,6 +5,7 @@
 import os
 import re
 
+import pytest
 from hypothesis import settings
 from hypothesis import strategies as st
 
@@ -26,9 +27,11 @@ MARKS = (b'"', b"[", b"]", b"[[", b",", b"=", b"#", b".", b"{", b"}", b" ", b"\t
 LETTERS = b"abcdefghijklmnopqrstuvwxyzABCXYZ_0189 "
 
 
-def examples(count):
-    """How many inputs a test draws in the gate, and in `make fuzz` as many as COUNT says."""
-    return settings(max_examples=int(os.environ.get("COUNT") or count))
+def examples(count, share=1):
+    """How many inputs a test draws in the gate. In `make fuzz`, which runs the tests with the mark `random`, these are COUNT times a
+    share."""
+    drawn = int(os.environ.get("COUNT") or 0) * share or count
+    return lambda test: pytest.mark.random(settings(max_examples=drawn)(test))
 
 
 def short_plans(*folders):

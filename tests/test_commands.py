@@ -28,14 +28,14 @@ NOT_RUN = {
     "make bench": "it needs rustc, and idle processors",
     "make c-library": "the gate has built it where there is a C compiler",
     "make c-test": "it needs a C compiler, and the gate has run most of it",
-    "cc": "it needs a C compiler, and tests/rmm-c does the same",
-    "PYTHONPATH=python python3 mine.py": "it is a file of the reader's, and tests/rmm-c does the same",
+    "cc": "it needs a C compiler, and tests/test_c_library.py does the same",
+    "PYTHONPATH=python python3 mine.py": "it is a file of the reader's, and tests/test_c_library.py does the same",
     "export": "it is for the line below it",
     "make allocations": "it needs a C compiler, and the gate has run the first of it",
     "make memcheck": "it needs valgrind",
     "make fuzz": "it takes minutes, and more inputs take longer",
     "make install": "it writes outside of the repository",
-    "make install-c-library": "it writes outside of the repository, and tests/examples does the same",
+    "make install-c-library": "it writes outside of the repository, and tests/test_examples.py does the same",
 }
 
 

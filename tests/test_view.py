@@ -233,7 +233,7 @@ def test_check_agrees_with_a_replay(path):
     assert fault_of(path.read_bytes()) is None
 
 
-@examples(CHANGED_PLANS)
+@examples(CHANGED_PLANS, 5)
 @given(broken_plans())
 def test_check_of_broken_plans(plan):
     assert fault_of(plan) is None

@@ -1,5 +1,4 @@
-#!/usr/bin/env python3
-"""Tries the examples, those in C and C++ over build/librmm.a, and those in Python over build/librmm.so.0.
+"""The examples: those in C and C++ over build/librmm.a, and those in Python over build/librmm.so.0.
 
   calls      the calls of smccc.h pass on their registers, and return the results
   first      the program of LINK-A-HOST.md prints what the tutorial shows, and has the code that it shows
@@ -14,11 +13,8 @@
   log        what `drive.py --log` prints is right, says the second model
   table      the tables of `drive.py --c` run without a difference, and their output is right, says the second model
 
-    tests/examples [--all]     also all tables, larger images, the sanitizers and valgrind; and CMake and Meson build the
-                               examples over the installed package, and run them
-
-It needs a C compiler, and says what it leaves out for want of another program. The last line is
-`examples: N passed, M failed`.
+`make c-test` also has all tables, larger images, the sanitizers and valgrind; and CMake and Meson build the examples over the
+installed package, and run them. A C compiler is needed.
 """
 import os
 import re
@@ -26,13 +22,14 @@ import resource
 import shutil
 import subprocess
 import sys
-import tempfile
 from pathlib import Path
 
-sys.dont_write_bytecode = True
-TOP = Path(__file__).resolve().parent.parent
-BUILD, HERE, EXAMPLES, TRACES = TOP / "build", TOP / "tests/examples_c", TOP / "examples", TOP / "traces/rmm"
-STATIC, SHARED = BUILD / "librmm.a", BUILD / "librmm.so.0"
+import pytest
+
+from differences import same
+from programs import SHARED, STATIC, TOP, needs, parts
+
+HERE, EXAMPLES, TRACES = TOP / "tests/examples_c", TOP / "examples", TOP / "traces/rmm"
 FLAGS = ["-O1", "-g", "-Wall", "-Wextra", "-Wconversion", "-Wno-sign-conversion", "-Werror", f"-I{TOP}/include"]
 SANITIZERS = ["-fsanitize=address,undefined", "-fno-sanitize-recover=all"]
 COMPILERS, SECONDS, LEAKS = ("gcc", "clang"), 900, 5
@@ -67,22 +64,13 @@ off: 0 granules are in use
 RIM = "3dfd809fc28200386ed791bc6d4dec892afae01d89a16dd888612e84f1673fa8"
 
 
-class Failed(Exception):
-    """What is not as it has to be."""
-
-
 def run(words, status=0, **how):
     """Runs a program. Its status has to be this one. Returns what it prints on both streams."""
     words = [os.fspath(word) for word in words]
     it = subprocess.run(words, stdout=subprocess.PIPE, stderr=subprocess.STDOUT, timeout=SECONDS, text=True, **how)
     if it.returncode != status:
-        raise Failed(f"{Path(words[0]).name}: status {it.returncode}, and not {status}: {it.stdout[-2000:]}")
+        raise AssertionError(f"{Path(words[0]).name}: status {it.returncode}, and not {status}: {it.stdout[-2000:]}")
     return it.stdout
-
-
-def same(what, got, expected):
-    if got != expected:
-        raise Failed(f"{what} is {got!r}, and not {expected!r}"[:3000])
 
 
 def judged(log):
@@ -271,7 +259,7 @@ def mistakes(room):
     same("that a mistake is found", counts["wrong"] > 0, True)
     try:
         driven(Breaks(), [boot])
-        raise Failed("an error of an entry is not raised")
+        raise AssertionError("an error of an entry is not raised")
     except ConnectionError:
         pass
     changed = life.read_text().replace("top 0x", "top 0x1", 1)
@@ -327,10 +315,6 @@ def installed(room):
 
 
 def builds(room):
-    for tool in "cmake", "meson", "pkg-config":
-        if not shutil.which(tool):
-            print(f"examples: there is no {tool}, and what needs it is left out", flush=True)
-            return
     prefix = installed(room)
     source = prefix / "share/realmhost/examples/c"
     paths = {"PKG_CONFIG_PATH": str(prefix / "lib/pkgconfig"), "LD_LIBRARY_PATH": str(prefix / "lib")}
@@ -347,7 +331,7 @@ def builds(room):
     run(["meson", "test", "-C", out], **how)
 
 
-# ---- with --all
+# ---- what takes long
 
 
 def sanitized(room):
@@ -365,33 +349,26 @@ def in_valgrind(room):
     run([*memcheck, room.compiled("boot-memcheck", [EXAMPLES / "c/boot.c", *HOST]), "4"])
 
 
-def main(words):
-    is_all = words == ["--all"]
+# ---- tests
+
+
+pytestmark = [pytest.mark.skipif(not compilers(), reason="there is no C compiler"), needs(STATIC, SHARED)]
+
+
+@pytest.fixture(scope="module")
+def room(tmp_path_factory, request):
     # (a program that ends by a fault leaves no file)
-    resource.setrlimit(resource.RLIMIT_CORE, (0, 0))
-    if not compilers():
-        print("examples: there is no C compiler, and the examples are not tried")
-        return 0
-    for made in STATIC, SHARED:
-        if not made.exists():
-            print(f"examples: there is no {made.relative_to(TOP)}; `tools/rmm-library` builds it")
-            return 1
-    checks = [calls, first, boot, fail_each, window, lives, drive, mistakes, log, table]
-    checks += [builds] * is_all
-    checks += [sanitized] * (is_all and bool(shutil.which("clang")))
-    checks += [in_valgrind] * (is_all and bool(shutil.which("valgrind")))
-    passed = 0
-    with tempfile.TemporaryDirectory(prefix="examples-") as folder:
-        room = Room(folder, is_all)
-        for check in checks:
-            try:
-                check(room)
-                passed += 1
-            except (Failed, OSError, subprocess.SubprocessError) as error:
-                print(f"{check.__name__}: {error}", flush=True)
-    print(f"examples: {passed} passed, {len(checks) - passed} failed")
-    return int(passed < len(checks))
+    resource.setrlimit(resource.RLIMIT_CORE, (0, resource.getrlimit(resource.RLIMIT_CORE)[1]))
+    return Room(tmp_path_factory.mktemp("examples"), getattr(request, "param", False))
 
 
-if __name__ == "__main__":
-    sys.exit(main(sys.argv[1:]))
+@parts(calls, first, boot, fail_each, window, lives, drive, mistakes, log, table)
+def test_example(room, part):
+    part(room)
+
+
+@pytest.mark.long
+@pytest.mark.parametrize("room", [True], ids=["all"], indirect=True)
+@parts(fail_each, drive, table, (builds, "cmake", "meson", "pkg-config"), (sanitized, "clang"), (in_valgrind, "valgrind"))
+def test_all_of_the_examples(room, part):
+    part(room)

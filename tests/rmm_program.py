@@ -1,11 +1,11 @@
 #!/usr/bin/env python3
-"""Performs the traces by an RMM that takes raw operations: of the library for C, or bench/plain_rmm in plain Rust.
+"""The traces by an RMM that takes raw operations: of the library for C, or bench/plain_rmm in plain Rust.
 
 tests/rmm_lines.py turns each trace into raw operations. Each result that a trace has is compared with the program's.
 
-    tests/rmm_program PROGRAM [WORD ..]      the last line is `rmm_program: N passed, M failed`
+    tests/rmm_program.py PROGRAM [WORD ..]      the last line is `rmm_program: N passed, M failed`
 
-Plain Rust is tried by `tests/rmm_program bench/out/cargo/release/plain_rmm lines`, once bench/rmm has built it.
+Plain Rust is tried by `tests/rmm_program.py bench/out/cargo/release/plain_rmm lines`, once bench/rmm has built it.
 """
 import subprocess
 import sys

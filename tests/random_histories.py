@@ -1,13 +1,11 @@
 #!/usr/bin/env python3
-"""Compares rmitrace with the second model, over random histories of calls, of the host's memory and of guests.
-
-    tests/fuzz_rmm [COUNT [FIRST]]      the histories FIRST to FIRST + COUNT - 1 (2,000 from 0 on), and what they met
-    tests/fuzz_rmm --met [COUNT]        what histories meet, by the second model alone
-    tests/fuzz_rmm --show NUMBER        a history: its lines, each with the second model's answer
+"""Random histories of calls, of the host's memory and of guests, by rmitrace and by the second model.
 
 tests/random_rmm makes the histories; `rmitrace check` compares each answer. Of a history with an answer that is another,
-the shortest lines are printed that were found to give it. In 2,000 histories or more each command has to succeed in one,
-and each check to decide in one. The last line is `fuzz_rmm: N passed, M failed`.
+the shortest lines are shown that were found to give it. `make fuzz` compares them.
+
+    tests/random_histories.py met [COUNT]     what histories meet, by the second model alone
+    tests/random_histories.py show NUMBER     a history: its lines, each with the second model's answer
 """
 import os
 import re
@@ -25,7 +23,7 @@ from second_rmm.bench import Bench
 from second_rmm.command import COMMANDS, LOST, names_of_checks
 
 PROGRAM = Path(__file__).resolve().parent.parent / "bin/rmitrace"
-COUNT, CHUNK, JOBS, SECONDS = 2000, 20, os.cpu_count(), 600
+CHUNK, JOBS, SECONDS = 20, os.cpu_count(), 600
 DIFFERENCE = re.compile(r"trace:(\d+): (?:allowed|wrong)\n.*\n(here: .*)")
 
 
@@ -111,37 +109,27 @@ def met_text(met: Counter[str]) -> Iterator[str]:
     yield from (f"never met: {it}" for it in wanted() if not met[it])
 
 
-def compared(first: int, count: int) -> tuple[Counter[str], int, int]:
-    """What histories met, how many lines were compared, and how many histories differ. Prints what differs."""
-    met, lines, failed = Counter(), 0, 0
-    begins = range(first, first + count, CHUNK)
-    sizes = [min(CHUNK, first + count - begin) for begin in begins]
+def compared(count: int) -> tuple[Counter[str], int, list[str]]:
+    """What histories met, how many lines were compared, and what differs."""
+    met, lines, findings = Counter(), 0, []
+    begins = range(0, count, CHUNK)
+    sizes = [min(CHUNK, count - begin) for begin in begins]
     with ProcessPoolExecutor(JOBS) as pool:
-        for of_it, many, findings in pool.map(of_chunk, sizes, begins):
-            met, lines, failed = met + of_it, lines + many, failed + len(findings)
-            for it in findings:
-                print(it, flush=True)
-    return met, lines, failed
+        for of_it, many, found in pool.map(of_chunk, sizes, begins):
+            met, lines, findings = met + of_it, lines + many, findings + found
+    return met, lines, findings
 
 
 def main(words: list[str]) -> int:
-    numbers = [int(it) for it in words if it.isdigit()]
-    if words[:1] == ["--show"]:
-        print("\n".join(history(numbers[0]).lines))
-        return 0
-    count, first = [*numbers, *[COUNT, 0][len(numbers) :]]
-    if words[:1] == ["--met"]:
-        print("\n".join(met_text(sum(map(met_alone, range(first, first + count)), Counter()))))
-        return 0
-    if not PROGRAM.exists():
-        print("fuzz_rmm: bin/rmitrace is not built; `make build` builds it")
-        return 1
-    met, lines, failed = compared(first, count)
-    print("\n".join(met_text(met)))
-    never = sum(not met[it] for it in wanted()) if count >= COUNT else 0
-    print(f"{lines} lines were compared")
-    print(f"fuzz_rmm: {count - failed} passed, {failed + never} failed")
-    return 1 if failed or never else 0
+    number = int(words[1]) if len(words) > 1 else 2000
+    if words[:1] == ["show"]:
+        print("\n".join(history(number).lines))
+    elif words[:1] == ["met"]:
+        print("\n".join(met_text(sum(map(met_alone, range(number)), Counter()))))
+    else:
+        print(__doc__, file=sys.stderr)
+        return 2
+    return 0
 
 
 if __name__ == "__main__":

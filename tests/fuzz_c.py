@@ -1,20 +1,17 @@
 #!/usr/bin/env python3
-"""Random calls of the RMM for C, as it is in build/: tests/rmm_c/fuzz.c says what is checked after each call.
+"""Random calls of the RMM for C, as it is in build/: tests/rmm_c/fuzz.c says what is checked after each call. `make fuzz` makes them.
 
   random     libFuzzer makes inputs for some seconds, with the sanitizers of addresses and of undefined behaviour
   reached    these inputs reach enough pairs of a command and the check that decides it; with 20 seconds or more
   memory     valgrind finds nothing in the largest of them
   planted    each of the wrong libraries in fuzz.c is found; with 20 seconds or more
 
-    tests/fuzz_c [SECONDS]      60 seconds
-    tests/fuzz_c FILE ..        performs the inputs of these files once more
+    tests/fuzz_c.py FILE ..     performs the inputs of these files once more
 
-An input in which something is wrong is kept as build/fuzz_c-crash-*. It needs clang with libFuzzer, and says so if there
-is none. The last line is `fuzz_c: N passed, M failed`.
+An input in which something is wrong is kept as build/fuzz_c-crash-*. clang with libFuzzer is needed.
 """
 import os
 import re
-import shutil
 import subprocess
 import sys
 import tempfile
@@ -29,7 +26,7 @@ FUZZER = ["-fsanitize=fuzzer,address,undefined", "-fno-sanitize-recover=all"]
 MEMCHECK = ["valgrind", "--quiet", "--error-exitcode=99", "--leak-check=full", "--show-leak-kinds=all"]
 # The length of inputs in bytes, how many of them valgrind performs, and how many there are at first.
 MOST_BYTES, MOST_INPUTS, FIRST_INPUTS = 1000, 20, 16
-SECONDS, LONG, EACH_PLANTED = 60, 20, 60
+LONG, EACH_PLANTED = 20, 60
 # The pairs of a command and its deciding check that inputs of LONG seconds reach at least.
 PAIRS = 100
 PLANTED = range(1, 5)
@@ -102,47 +99,6 @@ def planted(room):
             raise AssertionError(f"wrong library {number}: {said[-1000:]}")
 
 
-def checks(seconds):
-    """Each check, and the program that it needs beside clang."""
-    yield random, None
-    if seconds >= LONG:
-        yield reached, None
-    yield memory, "valgrind"
-    if seconds >= LONG:
-        yield planted, None
-
-
-def passes(check, room):
-    try:
-        check(room)
-    except (AssertionError, OSError, subprocess.SubprocessError) as error:
-        print(f"{check.__name__}: {error}", flush=True)
-        return False
-    return True
-
-
-def main(words):
-    if not shutil.which("clang"):
-        print("fuzz_c: there is no clang, and no random calls are made")
-        return 0
-    if not STATIC.exists():
-        print(f"fuzz_c: there is no {STATIC.relative_to(TOP)}; `make c-library` builds it")
-        return 1
-    seconds = SECONDS if not words else int(words[0]) if words[0].isdigit() else 0
-    results = []
-    with tempfile.TemporaryDirectory(prefix="fuzz-c-") as folder:
-        room = Room(folder, seconds)
-        if not seconds:
-            print(ran([room.compiled("fuzz", *FUZZER), *words]), end="")
-            return 0
-        for check, needs in checks(seconds):
-            if needs and not shutil.which(needs):
-                print(f"fuzz_c: there is no {needs}, and {check.__name__} is left out", flush=True)
-            else:
-                results.append(passes(check, room))
-    print(f"fuzz_c: {results.count(True)} passed, {results.count(False)} failed")
-    return 0 if all(results) else 1
-
-
 if __name__ == "__main__":
-    sys.exit(main(sys.argv[1:]))
+    with tempfile.TemporaryDirectory(prefix="fuzz-c-") as it:
+        print(ran([Room(it, 0).compiled("fuzz", *FUZZER), *sys.argv[1:]]), end="")

@@ -1,7 +1,7 @@
 #!/usr/bin/env python3
-"""Tries the edits of the crates: mutants, each of which the prover has to refuse. Several share a check.
+"""The edits of the crates: mutants, each of which the prover has to refuse. Several share a check.
 
-    tests/mutants [--jobs N] [--since COMMIT] [CRATE ..]        of these crates (all)
+    tests/mutants.py [--jobs N] [--since COMMIT] [CRATE ..]        of these crates (all)
 
 The edits are those of crates/NAME/must-fail/ and crates/NAME/mutants/. Each gets one line:
   refused      the prover refuses that very function for its own sake

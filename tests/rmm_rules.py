@@ -1,13 +1,12 @@
 #!/usr/bin/env python3
-"""Checks that the lines of RMI-RULES.md pin their checks: without its check, a row's line has another answer.
+"""The lines of RMI-RULES.md that pin checks: without its check, a row's line has another answer.
 
 The model without a check is that of tests/second_rmm. The lines before a row's line are performed with all checks. Each
 check of each command has to have a row, and each row a check. A row of the last section has the name of a check that
 another repeats: the line names the check, and without it the word is the same. CHECKS.md has each check of the model, with
 its status, the checks that it comes after, and whether its name is compared.
 
-    tests/rmm_rules                  the last line is `rmm_rules: N passed, M failed`
-    tests/rmm_rules COMMAND CHECK    the first line of each trace that is answered otherwise without this check
+    tests/rmm_rules.py COMMAND CHECK    the first line of each trace that is answered otherwise without this check
 """
 import re
 import sys
@@ -118,14 +117,13 @@ def modelled() -> list[OfTable]:
     return rows
 
 
-def findings() -> Iterator[str | None]:
-    """For each row, each check and each name, what is wrong with it, or none."""
-    text, checks = RULES.read_text(), all_checks()
-    rows = list(rows_of(text))
-    ours, theirs = table(), modelled()
-    yield None if ours == theirs else f"CHECKS.md has other rows than the model: {sorted(set(ours) ^ set(theirs))[:4]}"
-    yield from (finding(it) for it in rows if (it.command, it.check) in checks)
-    named = {(it.command, it.check) for it in rows}
+def rows() -> list[Row]:
+    return list(rows_of(RULES.read_text()))
+
+
+def of_names() -> Iterator[str | None]:
+    """For each check and each name in a row, that it has no row or is no check, or none."""
+    checks, named = all_checks(), {(it.command, it.check) for it in rows()}
     for name in sorted(checks | named):
         is_there = "no command has this check" if name not in checks else "RMI-RULES.md has no row for it"
         yield None if name in checks and name in named else f"{' '.join(name)}: {is_there}"
@@ -147,16 +145,7 @@ def first_differences(name: tuple[str, str]) -> int:
     return 0
 
 
-def main(words: list[str]) -> int:
-    if words:
-        return first_differences(tuple(words[:2]))
-    found = list(findings())
-    for it in filter(None, found):
-        print(it)
-    failed = sum(1 for it in found if it)
-    print(f"rmm_rules: {len(found) - failed} passed, {failed} failed")
-    return 1 if failed else 0
-
-
 if __name__ == "__main__":
-    sys.exit(main(sys.argv[1:]))
+    if len(sys.argv) != 3:
+        sys.exit(__doc__)
+    sys.exit(first_differences(tuple(sys.argv[1:])))

@@ -1,5 +1,4 @@
-#!/usr/bin/env python3
-"""Tries the second model of the RMI, in tests/second_rmm, over the traces of traces/ and traces/rmm.
+"""The second model of the RMI, in tests/second_rmm, over the traces of traces/ and traces/rmm.
 
     traces    each answer is the model's, with the answers and without them; another answer is found
     refusals  a call that is refused leaves the machine as it was
@@ -8,18 +7,17 @@
     verdicts  what the judge says of a line: same, allowed or wrong
     rim       the chain of four measurements, from their definition and from the model
     raw       the raw operations that tests/rmm_lines.py makes of a trace have the trace's answers
-
-The last line is `rmm_traces: N passed, M failed`.
 """
 import copy
 import hashlib
 import re
-import sys
 from collections.abc import Iterator
 from dataclasses import replace
 from pathlib import Path
 
-sys.dont_write_bytecode = True
+import pytest
+
+from programs import TOP, named
 from rmm_cases import AFTER_ENTRY, ALIKE, COMMENTS, ENTRY, NO_COMMANDS, NO_COMMANDS_EITHER, REALM, VERDICTS
 from rmm_laws import of_entries, of_roles, of_teardown
 from rmm_lines import differences, raw
@@ -31,7 +29,6 @@ from second_rmm.judge import WRONG, judge, report
 from second_rmm.machine import Machine
 from second_rmm.reading import parts_of
 
-TOP = Path(__file__).resolve().parent.parent
 # How many traces are searched for refusals that change something, and of how many one is taken for the laws.
 SEARCHED, EACH = 20, 3
 # What a case says is wrong, or none.
@@ -46,28 +43,26 @@ def answered(text: str) -> str:
 # ---- traces
 
 
-def of_traces() -> Iterator[Finding]:
-    for path in paths():
-        text, name = path.read_text(), path.relative_to(TOP)
-        bare = without_answers(text)
-        count = sum(parts_of(line).answer is not None for line in text.splitlines())
-        yield None if text.isascii() and count > 10 else f"{name}: {count} answers"
-        yield None if answered(bare) == text else f"{name} is answered otherwise: tests/second_rmm check < {name}"
-        if path.parent.name != "random":
-            said = f"{count} same, 0 allowed, 0 wrong"
-            yield None if answered(text) == text else f"{name} is answered otherwise with its answers"
-            yield None if report(text.splitlines()) == ([said], 0) else f"{name}: the report is not {said!r}"
+def of_trace(path: Path) -> Iterator[Finding]:
+    text, name = path.read_text(), path.relative_to(TOP)
+    bare = without_answers(text)
+    count = sum(parts_of(line).answer is not None for line in text.splitlines())
+    yield None if text.isascii() and count > 10 else f"{name}: {count} answers"
+    yield None if answered(bare) == text else f"{name} is answered otherwise: tests/second_rmm check < {name}"
+    if path.parent.name != "random":
+        said = f"{count} same, 0 allowed, 0 wrong"
+        yield None if answered(text) == text else f"{name} is answered otherwise with its answers"
+        yield None if report(text.splitlines()) == ([said], 0) else f"{name}: the report is not {said!r}"
 
 
-def of_other_answers() -> Iterator[Finding]:
-    """In the traces that are not random, each answer is turned into another, and that line alone is wrong."""
-    for path in (it for it in paths() if it.parent.name != "random"):
-        lines = path.read_text().splitlines()
-        turned = [re.sub(r" = [^#]*", " = another ", line) if parts_of(line).answer else line for line in lines]
-        verdicts = {it.number: it.verdict for it in judge(turned)}
-        wanted = {k for k, line in enumerate(lines, 1) if parts_of(line).answer}
-        is_well = verdicts == dict.fromkeys(wanted, WRONG)
-        yield None if is_well else f"{path.name}: an answer that is another is not found"
+def of_other_answers(path: Path) -> Iterator[Finding]:
+    """Each answer is turned into another, and that line alone is wrong."""
+    lines = path.read_text().splitlines()
+    turned = [re.sub(r" = [^#]*", " = another ", line) if parts_of(line).answer else line for line in lines]
+    verdicts = {it.number: it.verdict for it in judge(turned)}
+    wanted = {k for k, line in enumerate(lines, 1) if parts_of(line).answer}
+    is_well = verdicts == dict.fromkeys(wanted, WRONG)
+    yield None if is_well else f"{path.name}: an answer that is another is not found"
 
 
 def snapshot(machine: Machine) -> list[tuple[object, ...]]:
@@ -76,25 +71,24 @@ def snapshot(machine: Machine) -> list[tuple[object, ...]]:
     return [(it.state, it.page, (*it.table,), it.realm and replace(it.realm), rec(it.rec)) for it in machine.granules]
 
 
-def of_refusals() -> Iterator[Finding]:
-    for path in paths()[:SEARCHED]:
-        bench = Bench()
-        for number, line in enumerate(path.read_text().splitlines(), 1):
-            question = parts_of(line).question
-            before = snapshot(bench.here) if question.split(" ")[0] in COMMANDS else []
-            bench.line(line)
-            if before and bench.outcome and bench.outcome.word not in (SUCCESS, RUNNING):
-                is_kept = before == snapshot(bench.here)
-                yield None if is_kept else f"{path.name}, line {number}: {question} is refused, and changes something"
+def of_refusals(path: Path) -> Iterator[Finding]:
+    bench = Bench()
+    for number, line in enumerate(path.read_text().splitlines(), 1):
+        question = parts_of(line).question
+        before = snapshot(bench.here) if question.split(" ")[0] in COMMANDS else []
+        bench.line(line)
+        if before and bench.outcome and bench.outcome.word not in (SUCCESS, RUNNING):
+            is_kept = before == snapshot(bench.here)
+            yield None if is_kept else f"{path.name}, line {number}: {question} is refused, and changes something"
+    yield None if bench.outcome else f"{path.name}: no call is made"
 
 
-def of_laws() -> Iterator[Finding]:
-    for path in paths()[::EACH]:
-        bench = Bench()
-        for line in path.read_text().splitlines():
-            bench.line(line)
-        for it in of_roles(bench.machine), of_entries(bench.machine), of_teardown(bench):
-            yield it and f"{path.name}: {it}"
+def of_laws(path: Path) -> Iterator[Finding]:
+    bench = Bench()
+    for line in path.read_text().splitlines():
+        bench.line(line)
+    for it in of_roles(bench.machine), of_entries(bench.machine), of_teardown(bench):
+        yield it and f"{path.name}: {it}"
 
 
 # ---- lines
@@ -190,26 +184,50 @@ def of_rim() -> Iterator[Finding]:
 # ---- raw operations
 
 
-def of_raw() -> Iterator[Finding]:
-    for path in (it for it in paths() if it.parent.name != "random"):
-        operations = list(raw(path.read_text().splitlines()))
-        for number, operation, came in differences(operations):
-            yield f"{path.name}, operation {number}: {operation}, and by the model {came}"
-        other = lambda it: f"{it.partition(' = ')[0]} = 1234567"
-        turned = [it if it.startswith(("#", "platform")) else other(it) for it in operations]
-        found, wanted = len(list(differences(turned))), sum(it.endswith(" = 1234567") for it in turned)
-        yield None if found == wanted else f"{path.name}: {found} of {wanted} operations that differ are found"
+def of_raw(path: Path) -> Iterator[Finding]:
+    operations = list(raw(path.read_text().splitlines()))
+    for number, operation, came in differences(operations):
+        yield f"{path.name}, operation {number}: {operation}, and by the model {came}"
+    other = lambda it: f"{it.partition(' = ')[0]} = 1234567"
+    turned = [it if it.startswith(("#", "platform")) else other(it) for it in operations]
+    found, wanted = len(list(differences(turned))), sum(it.endswith(" = 1234567") for it in turned)
+    yield None if found == wanted else f"{path.name}: {found} of {wanted} operations that differ are found"
 
 
-def main() -> int:
-    kinds = (of_traces, of_other_answers, of_refusals, of_laws, of_lines, of_verdicts, of_rim, of_raw)
-    found = [it for kind in kinds for it in kind()]
-    for it in filter(None, found):
-        print(it)
-    failed = sum(1 for it in found if it)
-    print(f"rmm_traces: {len(found) - failed} passed, {failed} failed")
-    return 1 if failed else 0
+# ---- tests
+
+OF_A_SUBJECT = [it for it in paths() if it.parent.name != "random"]
 
 
-if __name__ == "__main__":
-    sys.exit(main())
+def over(files: list[Path]) -> pytest.MarkDecorator:
+    return pytest.mark.parametrize("path", files, ids=named)
+
+
+@over(paths())
+def test_trace(check, path):
+    check.findings(of_trace(path))
+
+
+@over(OF_A_SUBJECT)
+def test_other_answers(check, path):
+    check.findings(of_other_answers(path))
+
+
+@over(paths()[:SEARCHED])
+def test_refusals(check, path):
+    check.findings(of_refusals(path))
+
+
+@over(paths()[::EACH])
+def test_laws(check, path):
+    check.findings(of_laws(path))
+
+
+@over(OF_A_SUBJECT)
+def test_raw_operations(check, path):
+    check.findings(of_raw(path))
+
+
+@pytest.mark.parametrize("cases", [of_lines, of_verdicts, of_rim], ids=lambda it: it.__name__[3:])
+def test_model(check, cases):
+    check.findings(cases())

@@ -1,5 +1,4 @@
-#!/usr/bin/env python3
-"""Runs the built rmitrace over the traces of traces/, and over lines that are no commands.
+"""The program rmitrace over the traces of traces/, and over lines that are no commands.
 
     files      `check` finds each answer the same, and another one wrong; `answer` repeats the file, with its answers and without
     model      `check` prints of wrong answers what the judge in Python prints of them; so it does of each case of rmm_cases.py
@@ -8,20 +7,23 @@
     reasons    `why` has below each refused call the checks that the model in Python makes, in its sequence
     choices    --stop, --only and --skip
     around     files, pipes, devices that fail, too little memory, and answers that come at once
-
-The last line is `traces: N passed, M failed`.
+    changed    traces with random changes: each answer is that of the second model
 """
 import os
 import re
 import resource
 import subprocess
-import sys
 import tempfile
 from collections.abc import Iterator
-from concurrent.futures import ThreadPoolExecutor
 from pathlib import Path
 
-sys.dont_write_bytecode = True
+import pytest
+from hypothesis import given
+
+from changed_traces import changed_traces, findings
+from differences import differing, shown
+from programs import TOP, TRACER, Ran, named as name_of, needs, run
+from random_plans import examples
 from rmm_cases import AFTER_ENTRY, ALIKE, COMMENTS, ENTRY, NO_COMMANDS, NO_COMMANDS_EITHER, REALM, VERDICTS
 from rmm_logs import FIDS, log_of, paths, raw_calls, without_answers
 from second_rmm.bench import Bench
@@ -31,35 +33,19 @@ from second_rmm.judge import answer_of, report
 from second_rmm.printing import word_text
 from second_rmm.reading import PSCI_NAMES, named, parts_of
 
-TOP = Path(__file__).resolve().parent.parent
-PROGRAM = TOP / "bin/rmitrace"
-SECONDS, MOST_LINE = 60, 65536
+pytestmark = needs(TRACER)
+MOST_LINE = 65536
 # What a case says is wrong, or none.
 Finding = str | None
-# Status, standard output and standard error.
-Outcome = tuple[int | str, bytes, bytes]
 
 
-def ran(words: str, given: bytes | None = b"", **how: object) -> Outcome:
-    how = {"stdout": subprocess.PIPE, "stderr": subprocess.PIPE, "timeout": SECONDS, **how}
-    if given is not None:
-        how["input"] = given
-    try:
-        it = subprocess.run([PROGRAM, *words.split()], **how)
-    except subprocess.TimeoutExpired:
-        return f"none within {SECONDS} seconds", b"", b""
-    return it.returncode, it.stdout or b"", it.stderr or b""
+def ran(words: str, given: bytes | None = b"", **how: object) -> Ran:
+    return run(TRACER, words.split(), given, **how)
 
 
-def shown(part: object) -> str:
-    return f"{part[:400]!r}.." if isinstance(part, bytes) and len(part) > 400 else repr(part)
-
-
-def differing(name: str, came: Outcome, status: int, out: bytes = b"", err: bytes = b"") -> Finding:
+def differs(name: str, came: Ran, status: int, out: bytes = b"", err: bytes = b"") -> Finding:
     """What differs in an outcome, or none."""
-    parts = zip(("status", "standard output", "standard error"), came, (status, out, err))
-    found = [f"{part} is {shown(got)}, and not {shown(wanted)}" for part, got, wanted in parts if got != wanted]
-    return f"{name}: {'; '.join(found)}" if found else None
+    return differing(name, came, status, out, err)
 
 
 def counted(same: int, allowed: int = 0, wrong: int = 0) -> bytes:
@@ -78,21 +64,16 @@ def of_file(path: Path) -> Iterator[Finding]:
     lines = text.decode().splitlines()
     answers = [k for k, line in enumerate(lines) if parts_of(line).answer is not None]
     bare = without_answers(text.decode()).encode()
-    yield differing(f"check {name}", ran(f"check {path}"), 0, counted(len(answers)))
-    yield differing(f"answer {name} without its answers", ran("answer", bare), 0, text)
+    yield differs(f"check {name}", ran(f"check {path}"), 0, counted(len(answers)))
+    yield differs(f"answer {name} without its answers", ran("answer", bare), 0, text)
     if path.parent.name == "random":
         return
-    yield differing(f"answer {name}", ran(f"answer {path}"), 0, text)
+    yield differs(f"answer {name}", ran(f"answer {path}"), 0, text)
     for k in sorted({answers[0], answers[len(answers) // 2], answers[-1]}):
         question, answer, comment = parts_of(lines[k])
         turned = f"{question} = another{comment}"
         said = f"trace:{k + 1}: wrong\n{turned}\nhere: {answer}\n".encode() + counted(len(answers) - 1, 0, 1)
-        yield differing(f"{name}, another answer in line {k + 1}", ran("check", bytes_of([*lines[:k], turned, *lines[k + 1 :]])), 1, said)
-
-
-def of_files(pool: ThreadPoolExecutor) -> Iterator[Finding]:
-    for found in pool.map(lambda path: list(of_file(path)), paths()):
-        yield from found
+        yield differs(f"{name}, another answer in line {k + 1}", ran("check", bytes_of([*lines[:k], turned, *lines[k + 1 :]])), 1, said)
 
 
 def of_model() -> Iterator[Finding]:
@@ -101,14 +82,14 @@ def of_model() -> Iterator[Finding]:
         lines = path.read_text().splitlines()
         turned = [re.sub(r"RMI_ERROR_INPUT( \(\w+\))?", "RMI_ERROR_REALM", it).replace("queued", "full") for it in lines]
         said, status = report(turned)
-        yield differing(f"{path.name} with other words", ran("check", bytes_of(turned)), status, bytes_of(said))
+        yield differs(f"{path.name} with other words", ran("check", bytes_of(turned)), status, bytes_of(said))
     for before, cases in (REALM, VERDICTS), ((*REALM, *ENTRY), AFTER_ENTRY):
         for question, answer, wanted in (it.split(" | ") for it in cases.strip().splitlines()):
             given = [*before, f"{question} = {answer}"]
             said, status = report(given)
             is_wanted = said[-1] == f"{int(wanted == 'same')} same, {int(wanted == 'allowed')} allowed, {int(wanted == 'wrong')} wrong"
             yield None if is_wanted else f"{question} = {answer} is not {wanted} in Python"
-            yield differing(f"{question} = {answer}", ran("check", bytes_of(given)), status, bytes_of(said))
+            yield differs(f"{question} = {answer}", ran("check", bytes_of(given)), status, bytes_of(said))
 
 
 # ---- lines
@@ -133,25 +114,24 @@ def of_lines() -> Iterator[Finding]:
     answered = [f"{it} = no command" for it in no_commands]
     bench = Bench()
     realm = [bench.line(it) for it in REALM]
-    yield differing("no commands", ran("answer", bytes_of([*REALM, *no_commands])), 0, bytes_of([*realm, *answered]))
-    yield differing("no commands that say so", ran("check", bytes_of([*REALM, *answered])), 0, counted(len(answered)))
+    yield differs("no commands", ran("answer", bytes_of([*REALM, *no_commands])), 0, bytes_of([*realm, *answered]))
+    yield differs("no commands that say so", ran("check", bytes_of([*REALM, *answered])), 0, counted(len(answered)))
     for line in no_commands:
         said, status = report([*REALM, line])
         came = ran("check", bytes_of([*REALM, line]))
         without_hint = came[0], re.sub(rb"help: did you mean \S+\n", b"", came[1]), came[2]
-        yield differing(f"{line!r} without an answer", without_hint, status, bytes_of(said))
+        yield differs(f"{line!r} without an answer", without_hint, status, bytes_of(said))
     for one, other in (it.split(" | ") for it in ALIKE.strip().splitlines()):
         answers = [answer_after(REALM, question) for question in (one, other)]
         for question, answer in zip((one, other), answers):
             line = f"{question} = {answer}"
-            yield differing(line, ran("check", bytes_of([*REALM, line])), 0, counted(1))
+            yield differs(line, ran("check", bytes_of([*REALM, line])), 0, counted(1))
         yield None if answers[0] == answers[1] else f"{one!r} and {other!r} have two answers"
     for line, wanted in COMMENTS.items():
-        yield differing(f"{line!r}", ran("answer", bytes_of([*REALM, line])), 0, bytes_of([*realm, wanted]))
+        yield differs(f"{line!r}", ran("answer", bytes_of([*REALM, line])), 0, bytes_of([*realm, wanted]))
     for line, meant in HINTS.items():
         said = bytes_of(["trace:2: wrong", line, "here: no command", f"help: did you mean {meant}?"]) + counted(0, 0, 1)
-        yield differing(f"{line!r}", ran("check", bytes_of([PLATFORM, line])), 1, said)
-    yield from of_whole_texts()
+        yield differs(f"{line!r}", ran("check", bytes_of([PLATFORM, line])), 1, said)
 
 
 def of_whole_texts() -> Iterator[Finding]:
@@ -170,7 +150,7 @@ def of_whole_texts() -> Iterator[Finding]:
         ("a line of the greatest length", longest + b"\n", longest + b"\n"),
         ("a longer line", b"0" * 65538 + b"\n", b"0" * 65537 + b" = no command\n"),
     ):
-        yield differing(f"answer: {name}", ran("answer", text), 0, out)
+        yield differs(f"answer: {name}", ran("answer", text), 0, out)
     for name, text, same, wrong in (
         ("nothing", b"", 0, 0), ("a comment", b"# a = b\n", 0, 0), ("a platform", some, 0, 0), ("a call", some + b"rmi_version 0x10000\n", 0, 0),
         ("no line feed at the end", some + state, 1, 0), ("a carriage return", some + state + b"\r\n", 1, 0),
@@ -185,15 +165,14 @@ def of_whole_texts() -> Iterator[Finding]:
 # ---- names, reasons, choices
 
 
-def of_names(pool: ThreadPoolExecutor) -> Iterator[Finding]:
-    def named(path: Path) -> Finding:
-        lines = path.read_text().splitlines()
-        raw, by_name = list(log_of(lines, Bench(), is_raw=True)), list(raw_calls(lines, Bench()))
-        found = differing(f"names of {path.name}", ran("names", bytes_of(raw)), 0, bytes_of(by_name))
-        same = counted(sum(parts_of(it).answer is not None for it in by_name))
-        return found or differing(f"{path.name} by names", ran("check", bytes_of(by_name)), 0, same)
+def of_names(path: Path) -> Iterator[Finding]:
+    lines = path.read_text().splitlines()
+    raw, by_name = list(log_of(lines, Bench(), is_raw=True)), list(raw_calls(lines, Bench()))
+    yield differs("names", ran("names", bytes_of(raw)), 0, bytes_of(by_name))
+    yield differs("by names", ran("check", bytes_of(by_name)), 0, counted(sum(parts_of(it).answer is not None for it in by_name)))
 
-    yield from pool.map(named, paths()[:60])
+
+def of_named_lines() -> Iterator[Finding]:
     for line, wanted in {
         "smc 0xc4000151 0x80000000 = 0x0": "rmi_granule_delegate 0x80000000 = RMI_SUCCESS",
         "smc 0xc4000151 0x80000000 = 0x1 # twice": "rmi_granule_delegate 0x80000000 = RMI_ERROR_INPUT # twice",
@@ -201,7 +180,7 @@ def of_names(pool: ThreadPoolExecutor) -> Iterator[Finding]:
         "smc 0xc4000200 0x1 = 0xffffffffffffffff": "smc 0xc4000200 0x1 = 0xffffffffffffffff",
         "# smc 0xc4000151 0x80000000 = 0x0": "# smc 0xc4000151 0x80000000 = 0x0", "state 0x80000000 = RD": "state 0x80000000 = RD",
     }.items():
-        yield differing(f"names of {line!r}", ran("names", bytes_of([line])), 0, bytes_of([wanted]))
+        yield differs(f"names of {line!r}", ran("names", bytes_of([line])), 0, bytes_of([wanted]))
 
 
 def last_call(question: str, answer: str) -> tuple[str, list[int]]:
@@ -231,24 +210,24 @@ def made(bench: Bench, name: str, values: list[int]) -> list[tuple[str, str, str
 REASON = re.compile(r"    (error|also|ok): (\w+): (.+?)(?: \((RMI_ERROR_\w+(?: \d)?)\))?")
 
 
-def of_reasons() -> Iterator[Finding]:
-    for path in (it for it in paths() if it.parent.name != "random"):
-        lines, bench, wanted = path.read_text().splitlines(), Bench(), []
-        for line in lines:
-            wanted.append(bench.line(line))
-            # A call that is refused changes nothing: its checks are those of the machine before it.
-            is_call = bench.outcome is not None and not line.startswith(("#", "interrupt"))
-            if line and is_call and bench.outcome.word & 0xFF in range(1, len(STATUSES)):
-                wanted += made(bench, *last_call(parts_of(line).question, parts_of(wanted[-1]).answer or ""))
-        status, out, err = ran(f"why {path}")
-        lines = [it for it in out.decode().splitlines() if not it.startswith("    help: ")]
-        said = [REASON.fullmatch(it) if it.startswith("    ") else it for it in lines]
-        came = [it if isinstance(it, str) else it and (it[1], it[2], it[4] or "") for it in said]
-        odd = next(((a, b) for a, b in zip(came, wanted) if a != b), (len(came), len(wanted)))
-        is_well = (status, came, err) == (0, wanted, b"")
-        yield None if is_well else f"why {path.name}: {status}, {shown(err)}, first {odd}"
+def of_reasons(path: Path) -> Iterator[Finding]:
+    lines, bench, wanted = path.read_text().splitlines(), Bench(), []
+    for line in lines:
+        wanted.append(bench.line(line))
+        # A call that is refused changes nothing: its checks are those of the machine before it.
+        is_call = bench.outcome is not None and not line.startswith(("#", "interrupt"))
+        if line and is_call and bench.outcome.word & 0xFF in range(1, len(STATUSES)):
+            wanted += made(bench, *last_call(parts_of(line).question, parts_of(wanted[-1]).answer or ""))
+    status, out, err = ran(f"why {path}")
+    lines = [it for it in out.decode().splitlines() if not it.startswith("    help: ")]
+    said = [REASON.fullmatch(it) if it.startswith("    ") else it for it in lines]
+    came = [it if isinstance(it, str) else it and (it[1], it[2], it[4] or "") for it in said]
+    yield differing("why", Ran(status, came, err), 0, wanted, b"")
+
+
+def of_no_reason() -> Iterator[Finding]:
     wrong = f"{PLATFORM}\nrmi_rec_entre 1\n".encode()
-    yield differing("why of no command", ran("why", wrong), 0, wrong[:-1] + b" = no command\n    help: did you mean rmi_rec_enter?\n")
+    yield differs("why of no command", ran("why", wrong), 0, wrong[:-1] + b" = no command\n    help: did you mean rmi_rec_enter?\n")
 
 
 CHOSEN = [PLATFORM, "rmi_granule_delegate 0x80000800 = RMI_SUCCESS", "rmi_version 0x10000 = RMI_SUCCESS", "smc 0xc4000150 0x10000 = 0x1",
@@ -275,19 +254,19 @@ def of_a_file() -> Iterator[Finding]:
     path = TOP / "traces/granules.trace"
     text = path.read_bytes()
     answers = counted(sum(parts_of(it).answer is not None for it in text.decode().splitlines()))
-    yield differing("check -", ran("check -", text), 0, answers)
-    yield differing("answer -", ran("answer -", text), 0, text)
+    yield differs("check -", ran("check -", text), 0, answers)
+    yield differs("answer -", ran("answer -", text), 0, text)
     wrong = text.replace(b"RMI_SUCCESS", b"RMI_ERROR_REC", 1)
     said, status = report(wrong.decode().splitlines())
-    yield differing("a difference of standard input", ran("check", wrong), status, bytes_of(said))
+    yield differs("a difference of standard input", ran("check", wrong), status, bytes_of(said))
     with tempfile.NamedTemporaryFile(suffix=".trace") as file:
         file.write(wrong)
         file.flush()
         said, status = report(wrong.decode().splitlines(), name=file.name)
-        yield differing("a difference of a FILE", ran(f"check {file.name}"), status, bytes_of(said))
+        yield differs("a difference of a FILE", ran(f"check {file.name}"), status, bytes_of(said))
     for word in ("answer", "check", "names", "why"):
-        yield differing(f"{word} of no file", ran(f"{word} no.trace"), 5, err=b"rmitrace: no.trace: No such file or directory\n")
-        yield differing(f"{word} of a folder", ran(f"{word} {TOP}"), 5, err=b"rmitrace: %s: Is a directory\n" % os.fsencode(TOP))
+        yield differs(f"{word} of no file", ran(f"{word} no.trace"), 5, err=b"rmitrace: no.trace: No such file or directory\n")
+        yield differs(f"{word} of a folder", ran(f"{word} {TOP}"), 5, err=b"rmitrace: %s: Is a directory\n" % os.fsencode(TOP))
         status, out, err = ran(f"{word} one two")
         yield None if (status, out) == (2, b"") and b"'two'" in err else f"{word} of two files: {status}, {shown(err)}"
 
@@ -295,14 +274,14 @@ def of_a_file() -> Iterator[Finding]:
 def of_surroundings() -> Iterator[Finding]:
     some = f"{PLATFORM}\nstate 0x80000000 = RD\n".encode()
     for word in ("answer", "check", "names", "why"):
-        yield differing(f"{word}: a folder as standard input", ran(word, None, stdin=os.open(TOP, os.O_RDONLY)), 5, err=b"device\n")
-        yield differing(f"{word}: a full standard output", ran(word, some, stdout=open("/dev/full", "wb")), 5, err=b"device\n")
-        yield differing(f"{word}: a closed standard output", ran(word, some, preexec_fn=lambda: os.close(1)), 5, err=b"device\n")
-        yield differing(f"{word}: a closed standard input", ran(word, None, preexec_fn=lambda: os.close(0)), 5, err=b"device\n")
+        yield differs(f"{word}: a folder as standard input", ran(word, None, stdin=os.open(TOP, os.O_RDONLY)), 5, err=b"device\n")
+        yield differs(f"{word}: a full standard output", ran(word, some, stdout=open("/dev/full", "wb")), 5, err=b"device\n")
+        yield differs(f"{word}: a closed standard output", ran(word, some, preexec_fn=lambda: os.close(1)), 5, err=b"device\n")
+        yield differs(f"{word}: a closed standard input", ran(word, None, preexec_fn=lambda: os.close(0)), 5, err=b"device\n")
     for word in ("answer", "check", "why"):
         # The pages alone take all of these 16 MiB.
         little = lambda: resource.setrlimit(resource.RLIMIT_AS, (1 << 24, 1 << 24))
-        yield differing(f"{word}: too little memory", ran(word, b"platform 0x80000000 4096\n", preexec_fn=little), 3, err=b"memory\n")
+        yield differs(f"{word}: too little memory", ran(word, b"platform 0x80000000 4096\n", preexec_fn=little), 3, err=b"memory\n")
     status, out, _ = ran("--version")
     yield None if (status, out[:9]) == (0, b"rmitrace ") else f"--version: {status}, {out!r}"
     for word in ("", "replay"):
@@ -313,7 +292,7 @@ def of_surroundings() -> Iterator[Finding]:
 def of_a_pipe() -> Iterator[Finding]:
     """Each answer comes before the next line is written."""
     how = {"stdin": subprocess.PIPE, "stdout": subprocess.PIPE, "bufsize": 0}
-    with subprocess.Popen([PROGRAM, "answer"], **how) as bench:
+    with subprocess.Popen([TRACER, "answer"], **how) as bench:
         told = []
         for line in (PLATFORM, "fill 0x80002000 7", "load 0x80002008"):
             bench.stdin.write(line.encode() + b"\n")
@@ -325,21 +304,34 @@ def of_a_pipe() -> Iterator[Finding]:
     yield None if is_well else f"a bench on a pipe: {told!r}, then {rest!r}, status {bench.returncode}"
 
 
-def main() -> int:
-    if not PROGRAM.exists():
-        print(f"traces: {PROGRAM.relative_to(TOP)} is not built; `make build` builds it")
-        return 1
-    with ThreadPoolExecutor(os.cpu_count()) as pool:
-        kinds = (
-            of_files(pool), of_model(), of_lines(), of_names(pool), of_reasons(), of_choices(), of_a_file(), of_surroundings(), of_a_pipe(),
-        )
-        found = [it for kind in kinds for it in kind]
-    for it in filter(None, found):
-        print(it)
-    failed = sum(1 for it in found if it)
-    print(f"traces: {len(found) - failed} passed, {failed} failed")
-    return 1 if failed else 0
+# ---- tests
+
+OF_A_SUBJECT = [it for it in paths() if it.parent.name != "random"]
+ALONE = (of_model, of_lines, of_whole_texts, of_named_lines, of_no_reason, of_choices, of_a_file, of_surroundings, of_a_pipe)
 
 
-if __name__ == "__main__":
-    sys.exit(main())
+@pytest.mark.parametrize("path", paths(), ids=name_of)
+def test_file(check, path):
+    check.findings(of_file(path))
+
+
+@pytest.mark.parametrize("path", paths()[:60], ids=name_of)
+def test_names(check, path):
+    check.findings(of_names(path))
+
+
+@pytest.mark.parametrize("path", OF_A_SUBJECT, ids=name_of)
+def test_reasons(check, path):
+    check.findings(of_reasons(path))
+
+
+@pytest.mark.parametrize("cases", ALONE, ids=lambda it: it.__name__[3:])
+def test_program(check, cases):
+    check.findings(cases())
+
+
+@examples(40)
+@given(changed_traces())
+def test_changed_traces(lines):
+    ask = lambda words, text: run(TRACER, words, text, preexec_fn=lambda: resource.setrlimit(resource.RLIMIT_CPU, (1, 1)))
+    assert list(findings(ask, lines)) == []

@@ -1,11 +1,10 @@
 #!/usr/bin/env python3
-"""Checks that traces find mistakes of an RMM: each mistake of tests/rmm_mistakes.py, planted in the second model.
+"""Mistakes of an RMM that traces find: each mistake of tests/rmm_mistakes.py, planted in the second model.
 
 RMI-RULES.md has for each mistake a line of a trace. The model with the mistake answers the trace, and `rmitrace check`
 reads that log. The first line that it says is wrong has to be the line of the row; without the mistake none is.
 
-    tests/planted_rmm [PROGRAM [WORD ..]]    the last line is `planted_rmm: N passed, M failed`
-    tests/planted_rmm --rows                 the rows, of the first trace that finds each mistake
+    tests/planted_rmm.py    the rows, of the first trace that finds each mistake
 """
 import re
 import subprocess
@@ -25,7 +24,7 @@ from second_rmm.reading import parts_of
 
 TOP = Path(__file__).resolve().parent.parent
 TRACES, RULES = TOP / "traces", TOP / "docs/reference/RMI-RULES.md"
-JUDGE, SECONDS = [str(TOP / "bin/rmitrace"), "check"], 60
+SECONDS = 60
 ROW = re.compile(r"\| (RMI_\w+|a walk) \| (.*) \| `(\w+)` \| ([\w/-]+) \| (\d+) \| `(.*)` \|")
 VERDICT = re.compile(r"trace:(\d+): wrong")
 
@@ -81,13 +80,6 @@ def rows() -> list[Row]:
     return [Row(*it.groups()[:4], int(it[5]), it[6]) for it in found if it]
 
 
-def findings(program: list[str]) -> Iterator[str | None]:
-    named = rows()
-    yield from (finding(program, it) for it in named)
-    for name in sorted(set(MISTAKES) ^ {it.name for it in named}):
-        yield f"{name}: RMI-RULES.md has no row for it"
-
-
 def first_row(name: str, it: Mistake) -> str:
     """The row of a mistake: the first line of the first trace that finds it, by the judge in Python."""
     for path in paths():
@@ -100,20 +92,5 @@ def first_row(name: str, it: Mistake) -> str:
     return f"| {it.command} | {it.text} | `{name}` | not found |"
 
 
-def main(words: list[str]) -> int:
-    if words == ["--rows"]:
-        print("\n".join(first_row(name, it) for name, it in MISTAKES.items()))
-        return 0
-    if not words and not Path(JUDGE[0]).exists():
-        print("planted_rmm: bin/rmitrace is not built; `make build` builds it")
-        return 1
-    found = list(findings(words or JUDGE))
-    for it in filter(None, found):
-        print(it)
-    failed = sum(1 for it in found if it)
-    print(f"planted_rmm: {len(found) - failed} passed, {failed} failed")
-    return 1 if failed else 0
-
-
 if __name__ == "__main__":
-    sys.exit(main(sys.argv[1:]))
+    print("\n".join(first_row(name, it) for name, it in MISTAKES.items()))

@@ -1,5 +1,4 @@
-#!/usr/bin/env python3
-"""Tries the RMM for C, C++ and Python, as it is in build/.
+"""The RMM for C, C++ and Python, as it is in build/.
 
   header     each function that the crate exports is declared in include/rmm.h with the same types, and no other is; its
              structures have the crate's fields; each function says what its caller has to guarantee. The libraries
@@ -17,22 +16,21 @@
   C++        both headers are C++11
   document   the first programs of C.md do what they say, and are linked by what pkg-config says, also installed
 
-    tests/rmm-c [--all]     also with the sanitizers and valgrind, and with more histories
-
-It needs a C compiler, $CC or cc, and says what it leaves out for want of another program. The last line is
-`rmm-c: N passed, M failed`.
+`make c-test` also has the sanitizers and valgrind, and more histories. A C compiler is needed, $CC or cc.
 """
 import os
 import re
 import shutil
 import subprocess
 import sys
-import tempfile
 from functools import cached_property
 from pathlib import Path
 
-sys.dont_write_bytecode = True
-TOP = Path(__file__).resolve().parent.parent
+import pytest
+
+from differences import same
+from programs import SHARED, STATIC, TOP, needs, parts
+
 BUILD, HERE, CRATE = TOP / "build", TOP / "tests/rmm_c", TOP / "crates/rmm_c"
 sys.path += [os.fspath(HERE), os.fspath(TOP / "python")]
 from judging import judged
@@ -40,12 +38,11 @@ from random_rmm.lives import history
 from rmm_lines import NOT_COMPARED, raw
 
 TRACES = TOP / "traces/rmm"
-STATIC, SHARED = BUILD / "librmm.a", BUILD / "librmm.so.0"
 HEADERS = [TOP / "include/rmm.h", TOP / "include/rmm_commands.h"]
 COMPILER = os.environ.get("CC", "cc")
 FLAGS = ["-O2", "-Wall", "-Wextra", "-Wconversion", "-Werror", f"-I{TOP}/include"]
 SECONDS = 600
-# Random histories, and those with --all. Without it Python performs a part of the traces.
+# Random histories, and those of `make c-test`. Without it Python performs a part of the traces.
 FEW, MANY = 10, 60
 
 # What the first program of C.md prints.
@@ -67,11 +64,6 @@ def ran(words, status=0, **how):
         said = it.stdout.decode(errors="replace")[-2000:]
         raise AssertionError(f"{Path(words[0]).name}: status {it.returncode}, and not {status}: {said}")
     return it.stdout.decode()
-
-
-def same(what, got, wanted):
-    if got != wanted:
-        raise AssertionError(f"{what} is {got!r}, and not {wanted!r}"[:2000])
 
 
 def last_line(text, form):
@@ -367,7 +359,7 @@ def installed(room):
     same("the program in Python", said, "65536\n")
 
 
-# ---- with --all
+# ---- what takes long
 
 
 def sanitized(room):
@@ -383,46 +375,33 @@ def in_valgrind(room):
     ran([*memcheck, room.compiled("no_memory", *WRAPPED, as_name="no_memory_memcheck")])
 
 
-def checks(is_all):
-    """Each check, and the programs that it needs beside the C compiler."""
-    of_programs = traces_of_c, traces_of_python, histories, handles, memory, threads, python, of_the_document
-    yield from ((check, []) for check in (header, defaults, names, numbers, *of_programs))
-    yield from ((in_cpp, [os.environ.get("CXX", "c++")]), (by_pkg_config, ["pkg-config"]))
-    if shutil.which("make"):
-        yield installed, ["pkg-config"]
-    if is_all:
-        yield from ((sanitized, ["clang"]), (in_valgrind, ["valgrind"]))
+# ---- tests
 
 
-def passes(check, room):
-    try:
-        check(room)
-    except (AssertionError, OSError, subprocess.SubprocessError) as error:
-        print(f"{check.__name__}: {error}", flush=True)
-        return False
-    return True
+def traces(room):
+    traces_of_c(room)
+    traces_of_python(room)
 
 
-def main(words):
-    if not shutil.which(COMPILER):
-        print(f"rmm-c: there is no C compiler ({COMPILER}), and the RMM for C is not tried")
-        return 0
-    for made in STATIC, SHARED:
-        if not made.exists():
-            print(f"rmm-c: there is no {made.relative_to(TOP)}; `make c-library` builds it")
-            return 1
-    results = []
-    with tempfile.TemporaryDirectory(prefix="rmm-c-") as folder:
-        room = Room(folder, words == ["--all"])
-        for check, needs in checks(room.is_all):
-            missing = [it for it in needs if not shutil.which(it)]
-            if missing:
-                print(f"rmm-c: there is no {missing[0]}, and {check.__name__} is left out", flush=True)
-            else:
-                results.append(passes(check, room))
-    print(f"rmm-c: {results.count(True)} passed, {results.count(False)} failed")
-    return 0 if all(results) else 1
+PARTS = header, defaults, names, numbers, traces, histories, handles, memory, threads, python, of_the_document
+CXX = os.environ.get("CXX", "c++")
 
 
-if __name__ == "__main__":
-    sys.exit(main(sys.argv[1:]))
+pytestmark = [pytest.mark.skipif(not shutil.which(COMPILER), reason=f"there is no C compiler ({COMPILER})"), needs(STATIC, SHARED)]
+
+
+@pytest.fixture(scope="module")
+def room(tmp_path_factory, request):
+    return Room(tmp_path_factory.mktemp("c"), getattr(request, "param", False))
+
+
+@parts(*PARTS, (in_cpp, CXX), (by_pkg_config, "pkg-config"), (installed, "make", "pkg-config"))
+def test_library(room, part):
+    part(room)
+
+
+@pytest.mark.long
+@pytest.mark.parametrize("room", [True], ids=["all"], indirect=True)
+@parts(traces, histories, (sanitized, "clang"), (in_valgrind, "valgrind"))
+def test_all_of_the_library(room, part):
+    part(room)
