@@ -35,7 +35,7 @@ BUILD, HERE, CRATE = TOP / "build", TOP / "tests/rmm_c", TOP / "crates/rmm_c"
 sys.path += [os.fspath(HERE), os.fspath(TOP / "python")]
 from judging import judged
 from random_rmm.lives import history
-from rmm_lines import NOT_COMPARED, raw
+from rmm_lines import is_met, raw
 
 TRACES = TOP / "traces/rmm"
 HEADERS = [TOP / "include/rmm.h", TOP / "include/rmm_commands.h"]
@@ -209,13 +209,7 @@ def names(_room):
 
 def differences(operations, results):
     """The operations whose result is another one than what is written."""
-    for operation, came in zip(operations, results, strict=True):
-        asked, is_written, wanted = operation.partition(" = ")
-        words, got = wanted.split(" "), came.split(" ")
-        are_alike = all(NOT_COMPARED in (a, b) or a == b for a, b in zip(words, got))
-        is_whole = len(words) == len(got) or asked.startswith("smc ") and len(words) < len(got)
-        if is_written and not asked.startswith("#") and not (are_alike and is_whole):
-            yield f"{operation} came as {came}"
+    return (f"{it} came as {came}" for it, came in zip(operations, results, strict=True) if not is_met(it, came))
 
 
 class Room:
