@@ -308,11 +308,7 @@ def of_links(at, data):
         followed = shown.wait(f"audit.shown().turn === {turn} && audit.shown().without === '{without}'")
         told = f"#turn={turn}" + (f"&without={without}" if without else "")
         is_told = shown.wait(f"location.hash.replace('&theme=dark', '') === '{told}'")
-        yield f"links: {link} in an open tab", (followed, is_told, part()), (
-            True,
-            True,
-            {"turn": turn, "without": without},
-        )
+        yield f"links: {link} in an open tab", (followed, is_told, part()), (True, True, {"turn": turn, "without": without})
     yield "links: the theme", shown.value("document.documentElement.dataset.theme"), "dark"
     shown.press("ArrowLeft", "Escape")
     yield "links: the address follows", shown.wait("location.hash === '#turn=7&theme=dark'"), True
@@ -327,14 +323,8 @@ def of_folds(at, data):
     before = shown.value(opened % "realms")
     shown.value("document.querySelectorAll('#realms summary')[1].click(); 0")
     after = shown.value(opened % "realms")
-    shown.press(
-        "ArrowRight", "ArrowRight", "ArrowRight", "ArrowLeft", "ArrowLeft", "ArrowLeft", "ArrowLeft", "ArrowRight"
-    )
-    yield "folds: they stay", (before, after, shown.value(opened % "realms")), (
-        [True, True],
-        [True, False],
-        [True, False],
-    )
+    shown.press("ArrowRight", "ArrowRight", "ArrowRight", "ArrowLeft", "ArrowLeft", "ArrowLeft", "ArrowLeft", "ArrowRight")
+    yield "folds: they stay", (before, after, shown.value(opened % "realms")), ([True, True], [True, False], [True, False])
     shown.press("1")
     yield "folds: also with a build left out", shown.value(opened % "run-realms"), [True, False]
     shown.press("Escape")
@@ -477,13 +467,9 @@ def of_colours():
             nearest = colours.nearest({it: found[it] for it in STATES}, eyes)
             yield f"colours: states, {theme}, {eyes}: {nearest}", nearest[0] >= LEAST_OF_STATES, True
         for ground in ("paper", "panel"):
-            faint = [
-                it for it in ("ink", "soft", "wrong", "accent") if colours.contrast(found[it], found[ground]) < 4.5
-            ]
+            faint = [it for it in ("ink", "soft", "wrong", "accent") if colours.contrast(found[it], found[ground]) < 4.5]
             yield f"colours: texts, {theme}, {ground}", faint, []
-        faint = [
-            it for it in (*builds, "line", "accent", "new", "wrong") if colours.contrast(found[it], found["paper"]) < 3
-        ]
+        faint = [it for it in (*builds, "line", "accent", "new", "wrong") if colours.contrast(found[it], found["paper"]) < 3]
         yield f"colours: borders, {theme}", faint, []
         faint = [it for it in (*builds, *STATES) if colours.contrast(found[it], found[f"on-{it}"]) < 4.5]
         yield f"colours: what is on them, {theme}", faint, []
