@@ -43,18 +43,6 @@ def answered(text: str) -> str:
 # ---- traces
 
 
-def of_trace(path: Path) -> Iterator[Finding]:
-    text, name = path.read_text(), path.relative_to(TOP)
-    bare = without_answers(text)
-    count = sum(parts_of(line).answer is not None for line in text.splitlines())
-    yield None if text.isascii() and count > 10 else f"{name}: {count} answers"
-    yield None if answered(bare) == text else f"{name} is answered otherwise: tests/second_rmm check < {name}"
-    if path.parent.name != "random":
-        said = f"{count} same, 0 allowed, 0 wrong"
-        yield None if answered(text) == text else f"{name} is answered otherwise with its answers"
-        yield None if report(text.splitlines()) == ([said], 0) else f"{name}: the report is not {said!r}"
-
-
 def of_other_answers(path: Path) -> Iterator[Finding]:
     """Each answer is turned into another, and that line alone is wrong."""
     lines = path.read_text().splitlines()
@@ -206,7 +194,13 @@ def over(files: list[Path]) -> pytest.MarkDecorator:
 
 @over(paths())
 def test_trace(check, path):
-    check.findings(of_trace(path))
+    text = path.read_text()
+    count = sum(parts_of(line).answer is not None for line in text.splitlines())
+    check("more than 10 answers, in ASCII", text.isascii() and count > 10)
+    check(f"tests/second_rmm answer < {path.relative_to(TOP)}", answered(without_answers(text)), text)
+    if path.parent.name != "random":
+        check("with its answers", answered(text), text)
+        check("the report", report(text.splitlines()), ([f"{count} same, 0 allowed, 0 wrong"], 0))
 
 
 @over(OF_A_SUBJECT)
