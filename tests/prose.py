@@ -214,11 +214,12 @@ def stored():
 
 def of_counts(name):
     """For each kind of finding, what is wrong with the count of a document or crate, or none."""
-    found, bound = counted(TOP / name), stored().get(name, {})
+    found, bound = list(findings_in(TOP / name)), stored().get(name, {})
     for kind in KINDS:
-        has, may = found[kind], bound.get(kind, 0)
-        said = f"{name}: {kind}: {has} findings, and {may} are in tests/prose.txt: tests/prose.py"
-        yield f"{said} --list {name}" if has > may else f"{said} --lower" if has < may else None
+        them, may = [it for it in found if it.kind == kind], bound.get(kind, 0)
+        said = f"{name}: {kind}: {len(them)} findings, and {may} are in tests/prose.txt"
+        listed = "".join(f"\n  {name}:{it.number}: {it.said}" for it in them)
+        yield f"{said}:{listed}" if len(them) > may else f"{said}: tests/prose.py --lower" if len(them) < may else None
 
 
 def of_stored(names):
