@@ -18,7 +18,7 @@ hypothesis.settings.load_profile("more" if COUNT else "gate")
 
 
 def pytest_assertrepr_compare(op, left, right):
-    return ["the values differ:", *difference(left, right)] if op == "==" else None
+    return ["they differ (- is wanted, + came):", *difference(left, right)] if op == "==" else None
 
 
 # ---- checks

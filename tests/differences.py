@@ -1,8 +1,10 @@
-"""Lines that show how two values differ: of texts and of lists a diff, of outcomes the parts that are not alike."""
+"""Lines that show how two values differ: of texts and of lists a diff, in which `-` is wanted and `+` is what came; of outcomes the
+parts that are not alike.
+"""
 import difflib
 
-# How many lines of a difference are shown, and how many characters of what is no text.
-MOST_LINES, MOST_CHARACTERS = 40, 600
+# How many lines of a difference are shown, with how many equal ones around them, and how many characters of what is no text.
+MOST_LINES, CONTEXT, MOST_CHARACTERS = 40, 1, 600
 
 
 def lines_of(it):
@@ -27,7 +29,8 @@ def difference(got, wanted):
         return [line for name, one, other in parts for line in (f"{name}:", *difference(one, other))]
     ours, theirs = (lines_of(it) if is_text(it) else [] for it in (got, wanted))
     if is_text(got) and is_text(wanted) and ours != theirs and max(len(ours), len(theirs)) > 1:
-        found = [f"  {it}" for it in difflib.unified_diff(theirs, ours, "wanted", "got", n=2, lineterm="")]
+        # (the first two lines name files)
+        found = [f"  {it}" for it in [*difflib.unified_diff(theirs, ours, n=CONTEXT, lineterm="")][2:]]
         return found[:MOST_LINES] + [f"  .. {len(found) - MOST_LINES} more lines"] * (len(found) > MOST_LINES)
     return [f"  got    {shown(got)}", f"  wanted {shown(wanted)}"]
 
