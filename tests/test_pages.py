@@ -202,7 +202,7 @@ def of_completions(name):
     for words, wanted in asked_of(name):
         is_file = len(words) == 1 and words[0] in files
         yield f"bash completes {words}", by_bash(name, words, "-" if is_file else ""), wanted
-        yield f"bash leaves the file of {words} to the shell", not is_file or by_bash(name, words, ""), set()
+        yield f"bash leaves the file of {words} to the shell", not is_file or by_bash(name, words, "") == set()
         if shutil.which("fish"):
             yield f"fish completes {words}", by_fish(name, words, "0" in wanted), wanted
     if shutil.which("zsh"):
