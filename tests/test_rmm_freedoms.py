@@ -21,8 +21,7 @@ from second_rmm.facts import VALUES, Settings
 
 pytestmark = needs(TRACER)
 COUNTS = re.compile(r"(\d+) same, (\d+) allowed, (\d+) wrong")
-# The logs of all traces with a freedom are compared in so many parts.
-SECONDS, PARTS = 300, 8
+SECONDS = 300
 # One random trace of so many is answered with each freedom but the first, and of so many with each setting alone.
 SHARE, SHARE_OF_SETTINGS, FIRST = 4, 8, 3
 # The other value of each setting that has two.
@@ -81,12 +80,11 @@ def some(share: int) -> list[Path]:
     return [*(it for it in paths() if not is_drawn(it)), *drawn[FIRST::share]]
 
 
-@pytest.mark.parametrize("part", range(PARTS))
 @pytest.mark.parametrize("freedom", FREEDOMS, ids=str)
-def test_freedom(freedom, part):
+def test_freedom(freedom):
     """The judge says of no answer of an RMM with a freedom that it is wrong."""
     files = paths() if freedom is FREEDOMS[0] else some(SHARE)
-    text = logs(files[part::PARTS], freedom)
+    text = logs(files, freedom)
     counts = judged(text)
     assert (counts.wrong, sum(counts)) == (0, text.count(" = "))
     assert counts.allowed > 0
