@@ -31,6 +31,8 @@ NOT_RUN = {
     "cc": "it needs a C compiler, and tests/test_c_library.py does the same",
     "PYTHONPATH=python python3 mine.py": "it is a file of the reader's, and tests/test_c_library.py does the same",
     "export": "it is for the line below it",
+    "sed 's/^platform": "it prints a whole trace",
+    "bin/rmitrace check --skip rtte_ripas": "my.trace is a file of the reader's",
     "make allocations": "it needs a C compiler, and the gate has run the first of it",
     "make memcheck": "it needs valgrind",
     "make fuzz": "it takes minutes, and more inputs take longer",
