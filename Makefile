@@ -35,9 +35,7 @@ c-library: ## proves the RMM as a library for C, and puts it into build/
 	@tools/rmm-library
 
 c-test: c-library ## tries the library from C, C++ and Python, with sanitizers, valgrind and random calls (needs a C compiler)
-	@tests/rmm-c --all
-	@tests/examples --all
-	@tests/fuzz_c 2
+	@FUZZ_SECONDS=2 tools/pytest -q -m "" tests/test_c_library.py tests/test_examples.py tests/test_fuzz_c.py
 
 docs-html: ## makes a site of the documents in build/html, which can be read offline (needs pandoc)
 	@tools/docs_html
@@ -78,26 +76,24 @@ test: ## the whole gate from nothing: proofs, tests, what the built programs pri
 	@mkdir -p bin
 	@for it in $(PROGRAMS) test_memory; do install -m 755 crates/$$it/out/$$it bin/$$it || exit 1; done
 	@! command -v $(CC) > /dev/null || tools/rmm-library
-	@tools/at_once tests/commands tests/program tests/traces tests/rules tests/rmm_traces tests/rmm_rules tests/planted_rmm tests/rmm_freedoms tests/view tests/terminal tests/orders tests/json tests/page tests/allocations tests/rmm-c tests/examples tests/documents tests/prose tests/believed tests/names tests/pages tests/schema "tools/pictures --check" "tools/calls --check" "tools/commands_index --check" "tools/page_template --check"
+	@tools/pytest -q -n auto
 
 mutants: ## tries the mutants of CRATE or all: the prover has to refuse each
-	@tests/mutants $(if $(JOBS),--jobs $(JOBS)) $(if $(SINCE),--since $(SINCE)) $(CRATE)
+	@tests/mutants.py $(if $(JOBS),--jobs $(JOBS)) $(if $(SINCE),--since $(SINCE)) $(CRATE)
 
-planted: ## tries edits that are no mutants, after a change of tests/mutants or of the toolchain
-	@tests/mutants $(if $(JOBS),--jobs $(JOBS)) --planted $(CRATE)
+planted: ## tries edits that are no mutants, after a change of tests/mutants.py or of the toolchain
+	@tests/mutants.py $(if $(JOBS),--jobs $(JOBS)) --planted $(CRATE)
 
 allocations: ## refuses each allocation of the programs in turn, over all plans and traces; `make test` has the first of them
 	@tools/build $(PROGRAMS) test_memory
-	@tests/allocations --all
+	@tools/pytest -q -n auto -m "" tests/test_allocations.py
 
 memcheck: build ## runs the programs under valgrind's memcheck
-	@tests/memcheck
+	@tools/pytest -q -n auto -m "" tests/test_memcheck.py
 
 fuzz: build ## runs COUNT plans and traces of each kind of random change, long inputs, COUNT histories by registers, and random calls from C for a minute
-	@tests/fuzz $(COUNT)
-	@tests/fuzz_rmm $(COUNT)
 	@tools/rmm-library
-	@tests/fuzz_c 60
+	@COUNT=$(or $(COUNT),2000) tools/pytest -q -n auto -m random
 
 bench: build ## CPU time and peak memory of the program over plans of several shapes, and how they grow, and CPU time of each command of the RMM by registers, beside plain Rust (needs cargo)
 	@tools/build test_rmm_speed
