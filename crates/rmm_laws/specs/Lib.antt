@@ -1,1 +1,3 @@
 pub mod Refusal
+pub mod Role
+pub mod Walk
