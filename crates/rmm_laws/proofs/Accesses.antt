@@ -1,14 +1,14 @@
 -- The granules that guests access: pages of their realm, and pages of the host.
-use Rattle.std.proofs.Common.{◌≡◌, ◌≢◌, ℕ, ◌+◌, ◌-◌, ◌*◌, ◌/◌, ◌%◌, ◌^◌, ◌<◌, ◌≤◌, ◌==◌, Bool, true, false, not, length, Option, Some, None, Result, Ok, Err, option_map, refl, sym, ap, subst, ◌∙◌, ⊎_elim, cond, arith}
-use Rattle.std.specs.Prelude.{nat_lt, if◌then◌else◌, IfSome}
-use Rattle.std.proofs.lemmas.Bool.{cases_Bool, cond-true, cond-false, cond_both, and_parts, ltb-true, lt-ltb, not-false}
+use Rattle.std.proofs.Common.{◌≡◌, ℕ, ◌+◌, ◌*◌, ◌/◌, ◌%◌, ◌^◌, ◌<◌, ◌==◌, Bool, true, false, not, length, Option, Some, None, Result, Ok, Err, option_map, refl, sym, ap, subst, ◌∙◌, ⊎_elim, arith}
+use Rattle.std.specs.Prelude.{if◌then◌else◌, IfSome}
+use Rattle.std.proofs.lemmas.Bool.{cases_Bool, cond-true, cond-false, cond_both, ltb-true, lt-ltb, not-false}
 use Rattle.std.proofs.lemmas.Nat.{mod_below}
 use Rattle.rmm_model.specs.declared.access.AccessSize.{AccessSize}
 use Rattle.rmm_model.specs.declared.entry.RmmRttEntry.{RmmRttEntry}
-use Rattle.rmm_model.specs.declared.entry.RmmRttEntry.TheVariants.{Unassigned, Assigned, Table, UnassignedNs, AssignedNs}
+use Rattle.rmm_model.specs.declared.entry.RmmRttEntry.TheVariants.{Assigned}
 use Rattle.rmm_model.specs.declared.granule.RmmGranule.{RmmGranule}
 use Rattle.rmm_model.specs.declared.granule.RmmGranuleState.{RmmGranuleState}
-use Rattle.rmm_model.specs.declared.granule.RmmGranuleState.TheVariants.{Undelegated, Data, Rd, Rtt}
+use Rattle.rmm_model.specs.declared.granule.RmmGranuleState.TheVariants.{Data, Rd, Rtt}
 use Rattle.rmm_model.specs.declared.realm.RmmRealm.{RmmRealm}
 use Rattle.rmm_model.specs.declared.realm.RttWalk.{RttWalk}
 use Rattle.rmm_model.specs.declared.rec.LastExit.TheVariants.{EmulatableAbort}
@@ -23,11 +23,10 @@ use Rattle.rmm_model.specs.Realm.{IsServed, is_in_space, is_protected}
 use Rattle.rmm_model.specs.Step.{of_access, emulatable, access, protected_access, unprotected_access, host_access, is_memory, may_access, found_or_sea}
 use Rattle.rmm_model.specs.Table.{entry_in_page}
 use Rattle.rmm_model.specs.Walk.{entry_at, granule_named, walk}
-use Rattle.rmm_laws.specs.Role.{Used, used, used_at, page_count, entry_uses, uses, IsProper, LeadsInside}
-use Rattle.rmm_laws.specs.Walk.{IsTableOf}
+use Rattle.rmm_laws.specs.Role.{Used, used, page_count, entry_uses, uses, IsProper, LeadsInside}
 use Rattle.rmm_laws.proofs.Entries.{named_inside}
 use Rattle.rmm_laws.proofs.Plain.{host_inside, host_plain}
-use Rattle.rmm_laws.proofs.Walks.{IsPlace, IsEnd, walk_ends, uses-entry, right, entry_index-few, entry_size-positive}
+use Rattle.rmm_laws.proofs.Walks.{IsPlace, walk_ends, uses-entry, right, entry_index-few, entry_size-positive}
 use Rattle.rmm_laws.proofs.Writes.{is_user, taken_inside}
 
 -- a granule is one of the machine, and uses nothing

@@ -1,12 +1,11 @@
 -- Tables whose entries use nothing.
-use Rattle.std.proofs.Common.{◌≡◌, ◌≢◌, ℕ, zero, suc, ◌+◌, ◌-◌, ◌*◌, ◌/◌, ◌%◌, ◌^◌, ◌<◌, ◌≤◌, ◌==◌, ◌&&◌, Bool, true, false, not, List, length, drop, take, replicate, Option, Some, None, cond, refl, sym, ap, subst, ◌∙◌, ⊎_elim, lit≤, arith}
+use Rattle.std.proofs.Common.{◌≡◌, ◌≢◌, ℕ, zero, suc, ◌+◌, ◌-◌, ◌*◌, ◌/◌, ◌%◌, ◌^◌, ◌<◌, ◌≤◌, ◌==◌, Bool, true, false, List, length, take, replicate, Option, None, refl, sym, ap, subst, ◌∙◌, ⊎_elim, lit≤, arith}
 use Rattle.std.specs.Int.{from_le_bytes, w64}
-use Rattle.std.proofs.lemmas.Bool.{cases_Bool, cases_eq, cases_lt, lt-ltb, le-ltb, cond-true, cond-false, and_parts, eqb-true, eq-eqb, both_ways, not-false}
+use Rattle.std.proofs.lemmas.Bool.{cases_Bool, cases_eq, cases_lt, lt-ltb, le-ltb, cond-true, cond-false, and_parts, eqb-true, not-false}
 use Rattle.std.proofs.lemmas.List.{take-replicate, drop-replicate}
 use Rattle.granule_addr.specs.Page.{page_of, zero_page}
 use Rattle.page_arena.specs.Pages.{length-page_of}
 use Rattle.page_arena.specs.Word.{word_of_page}
-use Rattle.rmm_model.specs.declared.entry.RmmRipas.{RmmRipas}
 use Rattle.rmm_model.specs.declared.entry.RmmRipas.TheVariants.{Empty, Ram, Destroyed}
 use Rattle.rmm_model.specs.declared.entry.RmmRttEntry.{RmmRttEntry}
 use Rattle.rmm_model.specs.declared.entry.RmmRttEntry.TheVariants.{Unassigned, Assigned, Table, UnassignedNs, AssignedNs}
@@ -14,7 +13,7 @@ use Rattle.rmm_model.specs.declared.granule.RmmGranuleState.TheVariants.{Rtt}
 use Rattle.rmm_model.specs.Entry.{entry_of, entry_at_kind, entry_word, child_entry, is_live, ripas_code}
 use Rattle.rmm_model.specs.Machine.{Machine}
 use Rattle.rmm_model.specs.Table.{entry_in_page, first_live, has_live, has_parts, children_page}
-use Rattle.rmm_laws.specs.Role.{Used, entry_uses, state_uses, LeadsInside}
+use Rattle.rmm_laws.specs.Role.{entry_uses, state_uses, LeadsInside}
 use Rattle.rmm_laws.proofs.EntryWords.{entry_word-fits}
 use Rattle.rmm_laws.proofs.PageWords.{length-with_words, word_of_page-with_words}
 

@@ -1,18 +1,18 @@
 -- Entries that are written, and addresses of granules.
-use Rattle.std.proofs.Common.{◌≡◌, ◌≢◌, ℕ, ◌+◌, ◌-◌, ◌*◌, ◌/◌, ◌%◌, ◌^◌, ◌<◌, ◌≤◌, true, List, length, Option, Some, None, refl, ap, ◌∙◌, arith}
+use Rattle.std.proofs.Common.{◌≡◌, ◌≢◌, ℕ, ◌-◌, ◌/◌, ◌%◌, ◌^◌, ◌<◌, ◌≤◌, true, List, length, Some, ap, ◌∙◌, arith}
 use Rattle.std.specs.Prelude.{nat_le, nat_lt}
 use Rattle.std.proofs.lemmas.Bool.{and_parts, cond-true, leb-true, ltb-true}
 use Rattle.page_arena.specs.Word.{word_of_page, page_with_word}
 use Rattle.page_arena.specs.Words.{word_of_page-page_with_word_same, word_of_page-page_with_word_other}
 use Rattle.rmm_model.specs.declared.entry.RmmRttEntry.{RmmRttEntry}
 use Rattle.rmm_model.specs.Entry.{entry_of, entry_word, descriptor_of}
-use Rattle.rmm_model.specs.Machine.{Machine, page_in, is_inside, number_of, with_page, with_word}
+use Rattle.rmm_model.specs.Machine.{Machine, page_in, is_inside, number_of, with_word}
 use Rattle.rmm_model.specs.Table.{entry_in_page}
 use Rattle.rmm_model.specs.Walk.{granule_named}
 use Rattle.rmm_laws.specs.Role.{IsSound, IsBegin}
 use Rattle.rmm_laws.proofs.EntryWords.{entry_of-entry_word, entry_word-fits}
 use Rattle.rmm_laws.proofs.PageWords.{length-page_with_word}
-use Rattle.rmm_laws.proofs.Writes.{page_in-same, page_in-other, sound-with_page}
+use Rattle.rmm_laws.proofs.Writes.{page_in-same, sound-with_page}
 
 -- ---- addresses
 

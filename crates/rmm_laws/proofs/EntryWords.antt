@@ -1,12 +1,10 @@
 -- The words of entries, and entries read from words.
 use Rattle.std.proofs.Common.{◌≡◌, ℕ, ◌+◌, ◌*◌, ◌/◌, ◌%◌, ◌^◌, ◌<◌, ◌==◌, refl, ap, ◌∙◌, arith}
-use Rattle.std.specs.Prelude.{if◌then◌else◌}
 use Rattle.std.proofs.lemmas.Bool.{cond_both}
 use Rattle.rmm_model.specs.declared.entry.RmmRttEntry.{RmmRttEntry}
 use Rattle.rmm_model.specs.declared.entry.RmmRttEntry.TheVariants.{Unassigned, Assigned, Table, UnassignedNs, AssignedNs}
-use Rattle.rmm_model.specs.declared.entry.RmmRipas.{RmmRipas}
 use Rattle.rmm_model.specs.declared.entry.RmmRipas.TheVariants.{Empty, Ram, Destroyed}
-use Rattle.rmm_model.specs.Entry.{entry_of, entry_at_kind, entry_word, kind_word, descriptor_of}
+use Rattle.rmm_model.specs.Entry.{entry_of, entry_at_kind, entry_word, descriptor_of}
 
 module _ (kind low : ℕ) (fits : low < 2 ^ 48) where
   kind_field : (kind * 2 ^ 56 + low % 2 ^ 48) / 2 ^ 56 ≡ kind

@@ -1,5 +1,5 @@
 -- Guests and their RECs keep the roles of granules: steps, entries, exits and interrupts.
-use Rattle.std.proofs.Common.{◌≡◌, ◌≢◌, ℕ, zero, suc, ◌+◌, ◌-◌, ◌*◌, ◌/◌, ◌%◌, ◌^◌, ◌<◌, ◌≤◌, ◌==◌, ◌⊎◌, inl, inr, ◌&&◌, Bool, true, false, not, List, length, set, Option, Some, None, Result, Ok, Err, refl, sym, ap, subst, ◌∙◌, ⊎_elim, arith}
+use Rattle.std.proofs.Common.{◌≡◌, ◌≢◌, ℕ, zero, suc, ◌+◌, ◌*◌, ◌/◌, ◌%◌, ◌^◌, ◌<◌, ◌==◌, inl, inr, ◌&&◌, Bool, true, false, length, Option, Some, None, Result, Ok, Err, refl, sym, ap, subst, ◌∙◌, ⊎_elim, arith}
 use Rattle.std.specs.Prelude.{IfSome, nat_lt, if◌then◌else◌}
 use Rattle.std.proofs.lemmas.Bool.{cases_eq, cond_both, and_parts}
 use Rattle.std.proofs.lemmas.List.{length-set}
@@ -11,7 +11,7 @@ use Rattle.rmm_model.specs.declared.access.AccessSize.{AccessSize}
 use Rattle.rmm_model.specs.declared.access.AccessSize.TheVariants.{Byte, Halfword, Word, Doubleword}
 use Rattle.rmm_model.specs.declared.granule.RmmGranule.{RmmGranule}
 use Rattle.rmm_model.specs.declared.granule.RmmGranuleState.{RmmGranuleState}
-use Rattle.rmm_model.specs.declared.granule.RmmGranuleState.TheVariants.{Undelegated, Delegated, Rd, Rec as IsRec, RecAux, Data, Rtt}
+use Rattle.rmm_model.specs.declared.granule.RmmGranuleState.TheVariants.{Rd, Rec as IsRec}
 use Rattle.rmm_model.specs.declared.realm.RmmRealm.{RmmRealm}
 use Rattle.rmm_model.specs.declared.rec.LastExit.{LastExit}
 use Rattle.rmm_model.specs.declared.rec.LastExit.TheVariants.{Other, HostCall, RipasChange, EmulatableAbort, UnprotectedAbort, SystemRegister}
@@ -27,23 +27,22 @@ use Rattle.rmm_model.specs.declared.step.StepResult.{StepResult}
 use Rattle.rmm_model.specs.declared.step.StepResult.TheVariants.{Sea}
 use Rattle.rmm_model.specs.declared.step.StepWords.{StepWords}
 use Rattle.rmm_model.specs.Access.{low_bytes, with_byte, with_two_bytes, with_four_bytes, with_value}
-use Rattle.rmm_model.specs.Granule.{realm_of, of_no_realm}
-use Rattle.rmm_model.specs.Guest.{rec_in, is_rec_named, first_step, past_step, with_result, with_step, queued, queued_at}
+use Rattle.rmm_model.specs.Granule.{realm_of}
+use Rattle.rmm_model.specs.Guest.{rec_in, is_rec_named, first_step, past_step, with_result, with_step, queued}
 use Rattle.rmm_model.specs.Host.{is_host_page}
-use Rattle.rmm_model.specs.Machine.{Machine, granule_at, page_in, is_aligned, is_inside, number_of, state_at, with_granule, with_page, with_word}
+use Rattle.rmm_model.specs.Machine.{Machine, granule_at, page_in, is_aligned, is_inside, number_of, state_at, with_word}
 use Rattle.rmm_model.specs.Realm.{IsServed}
 use Rattle.rmm_model.specs.Step.{access, after_write, is_exit}
-use Rattle.rmm_model.specs.Table.{with_words_from}
 use Rattle.rmm_model.specs.Command.Operand.{rec_at}
-use Rattle.rmm_model.specs.Command.PsciComplete.{psci_complete, with_rec, with_start, with_target}
+use Rattle.rmm_model.specs.Command.PsciComplete.{psci_complete, with_rec, with_target}
 use Rattle.rmm_model.specs.Command.RecEnter.{rec_enter, owner_realm, realm_by, with_realm_off, with_system_off, with_copied, with_gprs, with_gic, with_exit_gic, with_exit_words, with_exit, after_exit, with_step_ended, with_psci_result, emulated, with_host_answer, after_entry, step_outcome, with_exit_of, after_step, with_step_passed, after_step_in, after_first_step, first_step_outcome, continued, after_steps, runs_at, interrupted}
-use Rattle.rmm_laws.specs.Role.{has_user, IsProper}
+use Rattle.rmm_laws.specs.Role.{IsProper}
 use Rattle.rmm_laws.proofs.Accesses.{IsPlainAt, IsPlainIfOk, accessed}
 use Rattle.rmm_laws.proofs.PageWords.{length-with_words_from}
 use Rattle.rmm_laws.proofs.Passed.{Passed, realm_of-is, rec_of-some, rec_of-there}
 use Rattle.rmm_laws.proofs.Plain.{host_inside, host_plain, keep_plain_word}
-use Rattle.rmm_laws.proofs.Recs.{IsGoing, going_inside, going_rec, going_word, going_words, going_plain, going_realm, keep_rec}
-use Rattle.rmm_laws.proofs.Writes.{is_user, granule_at-same, granule_at-other}
+use Rattle.rmm_laws.proofs.Recs.{IsGoing, going_rec, going_word, going_words, going_plain, going_realm}
+use Rattle.rmm_laws.proofs.Writes.{is_user, granule_at-other}
 
 -- ---- results
 

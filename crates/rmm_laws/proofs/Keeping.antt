@@ -1,15 +1,14 @@
 -- Writes that keep the roles of granules.
-use Rattle.std.proofs.Common.{◌≡◌, ◌≢◌, ℕ, ◌<◌, ◌⊎◌, inl, inr, Bool, true, false, List, length, IfSome, Option, Some, None, refl, sym, ap, subst, ◌∙◌, ⊎_elim, arith}
+use Rattle.std.proofs.Common.{◌≡◌, ◌≢◌, ℕ, ◌<◌, ◌⊎◌, inl, inr, true, false, List, length, IfSome, Option, refl, sym, ap, subst, ◌∙◌, ⊎_elim, arith}
 use Rattle.std.proofs.lemmas.Bool.{cases_eq}
 use Rattle.std.proofs.lemmas.List.{length-set}
 use Rattle.rmm_model.specs.declared.granule.RmmGranule.{RmmGranule}
-use Rattle.rmm_model.specs.declared.granule.RmmGranuleState.{RmmGranuleState}
 use Rattle.rmm_model.specs.declared.granule.RmmGranuleState.TheVariants.{Rtt}
 use Rattle.rmm_model.specs.Granule.{realm_of}
 use Rattle.rmm_model.specs.Machine.{Machine, granule_at, page_in, with_granule, with_page}
 use Rattle.rmm_model.specs.Realm.{IsServed}
 use Rattle.rmm_model.specs.Table.{entry_in_page}
-use Rattle.rmm_laws.specs.Role.{Used, has_user, used_at, state_uses, uses, IsSound, IsProper, LeadsInside}
+use Rattle.rmm_laws.specs.Role.{has_user, used_at, state_uses, uses, IsSound, IsProper, LeadsInside}
 use Rattle.rmm_laws.proofs.Uses.{IsAlike, kept_roles}
 use Rattle.rmm_laws.proofs.Writes.{granule_at-same, granule_at-other, page_in-same, page_in-other, uses-same, leads-same, used_at-same, state_uses-same, sound-with_granule, sound-with_page}
 

@@ -1,5 +1,5 @@
 -- An entry that uses a DELEGATED granule from now on, and one that uses a granule no more.
-use Rattle.std.proofs.Common.{◌≡◌, ◌≢◌, ℕ, ◌+◌, ◌^◌, ◌<◌, ◌≤◌, ◌==◌, Bool, true, false, List, length, IfSome, Option, Some, None, refl, sym, ap, subst, ◌∙◌, arith}
+use Rattle.std.proofs.Common.{◌≡◌, ◌≢◌, ℕ, ◌+◌, ◌^◌, ◌<◌, ◌≤◌, ◌==◌, true, List, length, IfSome, Option, Some, None, refl, sym, ap, subst, ◌∙◌, arith}
 use Rattle.std.specs.Prelude.{if◌then◌else◌}
 use Rattle.std.proofs.lemmas.Bool.{cond-true, cond-false, eq-eqb, ne_eqb}
 use Rattle.std.proofs.lemmas.List.{length-set}
@@ -21,7 +21,7 @@ use Rattle.rmm_laws.specs.Role.{Used, used, used_at, has_user, level_in, entry_u
 use Rattle.rmm_laws.proofs.Entries.{entry-same, entry-other, sound-with_entry}
 use Rattle.rmm_laws.proofs.OneMore.{IsOneMore, one_more_proper, one_less_proper}
 use Rattle.rmm_laws.proofs.Walks.{IsPlace, entry_index-few}
-use Rattle.rmm_laws.proofs.Writes.{taken_inside, granule_at-same, granule_at-other, page_in-same, page_in-other, entry_uses-same, state_uses-same, leads-same, sound-with_granule, sound-with_page}
+use Rattle.rmm_laws.proofs.Writes.{taken_inside, granule_at-same, granule_at-other, page_in-same, page_in-other, entry_uses-same, state_uses-same, sound-with_granule, sound-with_page}
 
 -- ---- one more
 

@@ -1,7 +1,7 @@
 -- Commands on the entries of one table keep the roles of granules: memory, mappings of the host's, RIPAS.
-use Rattle.std.proofs.Common.{◌≡◌, ◌≢◌, ℕ, zero, suc, ◌+◌, ◌-◌, ◌*◌, ◌/◌, ◌%◌, ◌^◌, ◌<◌, ◌≤◌, ◌⊎◌, inl, inr, ◌==◌, ◌&&◌, ◌||◌, Bool, true, false, not, List, length, Option, Some, None, option_map, unwrap_or, refl, sym, ap, subst, ◌∙◌, ⊎_elim, cond, arith}
+use Rattle.std.proofs.Common.{◌≡◌, ◌≢◌, ℕ, zero, suc, ◌+◌, ◌-◌, ◌*◌, ◌/◌, ◌%◌, ◌^◌, ◌<◌, ◌≤◌, ◌⊎◌, inl, inr, ◌&&◌, ◌||◌, Bool, true, false, not, List, length, Option, Some, None, option_map, unwrap_or, refl, sym, ap, subst, ◌∙◌, ⊎_elim, arith}
 use Rattle.std.specs.Prelude.{IfSome, is_some, nat_le, nat_lt, if◌then◌else◌}
-use Rattle.std.proofs.lemmas.Bool.{cases_eq, cases_lt, cond_both, cond-true, cond-false, and_parts, or_cases, leb-true, ltb-true, eqb-true, lt-ltb, le-ltb, both_ways}
+use Rattle.std.proofs.lemmas.Bool.{cases_eq, cases_lt, cond_both, cond-false, and_parts, or_cases, leb-true, ltb-true, eqb-true, le-ltb, both_ways}
 use Rattle.std.proofs.lemmas.List.{length-set}
 use Rattle.std.proofs.lemmas.Nat.{pow-add}
 use Rattle.granule_addr.specs.Page.{zero_page}
@@ -14,36 +14,36 @@ use Rattle.rmm_model.specs.declared.entry.RmmRttEntry.{RmmRttEntry}
 use Rattle.rmm_model.specs.declared.entry.RmmRttEntry.TheVariants.{Unassigned, Assigned, Table, UnassignedNs, AssignedNs}
 use Rattle.rmm_model.specs.declared.granule.RmmGranule.{RmmGranule}
 use Rattle.rmm_model.specs.declared.granule.RmmGranuleState.{RmmGranuleState}
-use Rattle.rmm_model.specs.declared.granule.RmmGranuleState.TheVariants.{Undelegated, Delegated, Rd, Rec as IsRec, Data, Rtt}
+use Rattle.rmm_model.specs.declared.granule.RmmGranuleState.TheVariants.{Delegated, Rd, Data, Rtt}
 use Rattle.rmm_model.specs.declared.realm.RmmRealm.{RmmRealm}
 use Rattle.rmm_model.specs.declared.realm.RttWalk.{RttWalk}
 use Rattle.rmm_model.specs.Entry.{entry_of, entry_word, descriptor_of, is_unassigned, is_unassigned_ns, is_assigned_ns, can_change, entry_with_ripas, ripas_in}
 use Rattle.rmm_model.specs.Granule.{realm_of, of_realm, is_delegated}
 use Rattle.rmm_model.specs.Level.{entry_size, entry_index}
-use Rattle.rmm_model.specs.Machine.{Machine, granule_at, page_in, is_aligned, is_inside, number_of, state_at, with_granule, with_page, with_word, with_realm}
-use Rattle.rmm_model.specs.Realm.{IsServed, is_in_space, is_protected, is_unprotected, with_rim}
+use Rattle.rmm_model.specs.Machine.{Machine, granule_at, page_in, is_aligned, is_inside, number_of, state_at, with_granule, with_page, with_word}
+use Rattle.rmm_model.specs.Realm.{IsServed, is_protected, is_unprotected, with_rim}
 use Rattle.rmm_model.specs.Table.{entry_in_page, first_fixed, with_words_from}
 use Rattle.rmm_model.specs.Walk.{entry_at, with_entry, granule_named, memory_below, walk}
-use Rattle.rmm_model.specs.Command.Operand.{realm_at, rec_at, is_level, is_multiple}
+use Rattle.rmm_model.specs.Command.Operand.{realm_at, rec_at, is_level}
 use Rattle.rmm_model.specs.Command.DataCreate.{data_create, source_checks, target_checks, rim_with_data}
 use Rattle.rmm_model.specs.Command.DataCreateUnknown.{data_create_unknown}
 use Rattle.rmm_model.specs.Command.DataDestroy.{data_destroy, left_ripas}
 use Rattle.rmm_model.specs.Command.RealmActivate.{realm_activate}
 use Rattle.rmm_model.specs.Command.RipasRange.{entries_below, change_count, with_ripas_from}
-use Rattle.rmm_model.specs.Command.RttInitRipas.{rtt_init_ripas, init_changeable, range_checks, rim_with_ripas}
+use Rattle.rmm_model.specs.Command.RttInitRipas.{rtt_init_ripas, init_changeable, range_checks}
 use Rattle.rmm_model.specs.Command.RttMapUnprotected.{rtt_map_unprotected, is_descriptor, has_attributes}
-use Rattle.rmm_model.specs.Command.RttSetRipas.{rtt_set_ripas, ripas_request_checks, set_changeable, is_within, is_rec_of}
+use Rattle.rmm_model.specs.Command.RttSetRipas.{rtt_set_ripas, ripas_request_checks, set_changeable, is_rec_of}
 use Rattle.rmm_model.specs.Command.RttUnmapUnprotected.{rtt_unmap_unprotected}
-use Rattle.rmm_laws.specs.Role.{Used, used, used_at, has_user, level_in, page_count, entry_uses, state_uses, uses, IsProper, LeadsInside}
+use Rattle.rmm_laws.specs.Role.{Used, used, used_at, has_user, page_count, entry_uses, state_uses, IsProper, LeadsInside}
 use Rattle.rmm_laws.proofs.Entries.{number_inside, address_few, begins, named_inside, entry-same, entry-other}
 use Rattle.rmm_laws.proofs.EntryWords.{entry_of-entry_word, entry_word-fits, descriptor-few}
 use Rattle.rmm_laws.proofs.Keeping.{keep_page}
 use Rattle.rmm_laws.proofs.Mapped.{mapped, unmapped}
 use Rattle.rmm_laws.proofs.PageWords.{length-page_with_word, length-with_words_from, word_of_page-with_words_from_same, word_of_page-with_words_from_other}
-use Rattle.rmm_laws.proofs.Passed.{Passed, passed_first, passed_second, yes_from, is_delegated-true, realm_of-some, rec_of-some}
+use Rattle.rmm_laws.proofs.Passed.{Passed, yes_from, is_delegated-true, realm_of-some, rec_of-some}
 use Rattle.rmm_laws.proofs.Recs.{keep_realm, keep_rec}
-use Rattle.rmm_laws.proofs.Walks.{IsPlace, IsEnd, walk_ends, right, uses-entry, entry_index-few}
-use Rattle.rmm_laws.proofs.Writes.{is_user, uses-plain, plain_uses, taken_inside, page_in-same, granule_at-other}
+use Rattle.rmm_laws.proofs.Walks.{IsPlace, walk_ends, right, uses-entry, entry_index-few}
+use Rattle.rmm_laws.proofs.Writes.{is_user, uses-plain, taken_inside, page_in-same, granule_at-other}
 
 -- ---- places
 

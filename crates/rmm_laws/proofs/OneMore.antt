@@ -1,5 +1,5 @@
 -- One granule more that an entry of a table uses, and one less.
-use Rattle.std.proofs.Common.{◌≡◌, ◌≢◌, ℕ, ◌<◌, ◌≤◌, ◌⊎◌, inl, inr, ◌==◌, ◌&&◌, Bool, true, false, length, Option, Some, None, refl, sym, ap, subst, ◌∙◌, ⊎_elim}
+use Rattle.std.proofs.Common.{◌≡◌, ◌≢◌, ℕ, ◌<◌, ◌≤◌, ◌⊎◌, inl, inr, ◌==◌, ◌&&◌, Bool, true, false, length, Some, None, refl, sym, ap, subst, ◌∙◌, ⊎_elim}
 use Rattle.std.specs.Prelude.{nat_lt, if◌then◌else◌}
 use Rattle.std.proofs.lemmas.Bool.{cases_eq, cases_lt, and_parts, and_from, eqb-true, eq-eqb, lt-ltb, le-ltb, cond-true, cond-false, both_ways}
 use Rattle.rmm_model.specs.declared.entry.RmmRttEntry.{RmmRttEntry}
@@ -8,7 +8,7 @@ use Rattle.rmm_model.specs.declared.granule.RmmGranuleState.{RmmGranuleState}
 use Rattle.rmm_model.specs.declared.granule.RmmGranuleState.TheVariants.{Delegated, Rtt}
 use Rattle.rmm_model.specs.Machine.{Machine, granule_at, page_in}
 use Rattle.rmm_model.specs.Table.{entry_in_page}
-use Rattle.rmm_laws.specs.Role.{Used, has_user, used_at, entry_uses, state_uses, uses, IsSound, IsProper, LeadsInside}
+use Rattle.rmm_laws.specs.Role.{has_user, used_at, entry_uses, state_uses, uses, IsSound, IsProper, LeadsInside}
 use Rattle.rmm_laws.proofs.Uses.{IsMore, added, removed}
 use Rattle.rmm_laws.proofs.Writes.{is_user, uses-same, uses-plain, used_at-same, entry_uses-same, leads-same}
 

@@ -1,5 +1,5 @@
 -- Writes of granules that use nothing: GRANULE_DELEGATE, GRANULE_UNDELEGATE, and the host's memory.
-use Rattle.std.proofs.Common.{◌≡◌, ◌≢◌, ℕ, ◌/◌, ◌%◌, ◌<◌, ◌==◌, ◌&&◌, Bool, true, false, List, length, IfSome, Option, refl, sym, ap, subst, ◌∙◌, arith}
+use Rattle.std.proofs.Common.{◌≡◌, ℕ, ◌/◌, ◌%◌, ◌<◌, ◌==◌, true, false, List, length, IfSome, refl, sym, ap, ◌∙◌, arith}
 use Rattle.std.proofs.lemmas.Bool.{and_parts, cond_both}
 use Rattle.std.proofs.lemmas.List.{length-set}
 use Rattle.granule_addr.specs.Page.{page_of, zero_page}
@@ -7,10 +7,10 @@ use Rattle.page_arena.specs.Pages.{length-page_of}
 use Rattle.page_arena.specs.Word.{page_with_word}
 use Rattle.rmm_model.specs.declared.granule.RmmGranule.{RmmGranule}
 use Rattle.rmm_model.specs.declared.granule.RmmGranuleState.{RmmGranuleState}
-use Rattle.rmm_model.specs.declared.granule.RmmGranuleState.TheVariants.{Undelegated, Delegated, Rtt}
+use Rattle.rmm_model.specs.declared.granule.RmmGranuleState.TheVariants.{Undelegated, Delegated}
 use Rattle.rmm_model.specs.Granule.{of_no_realm, realm_of, is_undelegated, is_delegated}
 use Rattle.rmm_model.specs.Host.{is_host_page, can_access, can_fill, after_store, after_fill}
-use Rattle.rmm_model.specs.Machine.{Machine, granule_at, page_in, number_of, state_at, is_inside, is_secure, is_aligned, with_granule, with_page, with_word, with_blank}
+use Rattle.rmm_model.specs.Machine.{Machine, granule_at, page_in, number_of, state_at, is_inside, is_aligned, with_granule, with_page, with_word, with_blank}
 use Rattle.rmm_model.specs.Realm.{IsServed}
 use Rattle.rmm_model.specs.Command.GranuleDelegate.{granule_delegate}
 use Rattle.rmm_model.specs.Command.GranuleUndelegate.{granule_undelegate}

@@ -1,13 +1,11 @@
 -- RMI_REALM_CREATE and RMI_REALM_DESTROY keep the roles of granules.
-use Rattle.std.proofs.Common.{◌≡◌, ◌≢◌, ℕ, zero, suc, ◌+◌, ◌-◌, ◌*◌, ◌/◌, ◌%◌, ◌^◌, ◌<◌, ◌≤◌, ◌⊎◌, inl, inr, ◌==◌, ◌&&◌, ◌||◌, Bool, true, false, not, List, length, Option, Some, None, refl, sym, ap, subst, ◌∙◌, ⊎_elim, lit≤, arith}
+use Rattle.std.proofs.Common.{◌≡◌, ◌≢◌, ℕ, zero, suc, ◌+◌, ◌-◌, ◌*◌, ◌/◌, ◌%◌, ◌^◌, ◌<◌, ◌≤◌, ◌⊎◌, inl, inr, ◌==◌, ◌&&◌, ◌||◌, Bool, true, false, List, length, Some, None, refl, sym, ap, subst, ◌∙◌, ⊎_elim, lit≤, arith}
 use Rattle.std.specs.Prelude.{nat_le, nat_lt, if◌then◌else◌, IfSome}
-use Rattle.std.proofs.lemmas.Bool.{cases_eq, cases_lt, cases_Bool, cond_both, cond-true, cond-false, and_parts, and_from, and_left, and_right, or_cases, leb-true, ltb-true, eqb-true, eq-eqb, le-leb, lt-ltb, lt-leb, le-ltb, both_ways, not-false, not-true}
-use Rattle.std.proofs.lemmas.Bool.Decides.{nat_tests}
+use Rattle.std.proofs.lemmas.Bool.{cases_eq, cases_lt, cond_both, cond-true, cond-false, and_parts, and_from, and_left, and_right, leb-true, ltb-true, eqb-true, eq-eqb, le-leb, lt-ltb, lt-leb, le-ltb, both_ways}
 use Rattle.std.proofs.lemmas.List.{length-set}
 use Rattle.std.proofs.lemmas.Nat.{div-add-mod', mod_below}
 use Rattle.granule_addr.specs.Page.{zero_page}
 use Rattle.page_arena.specs.Pages.{length-page_of}
-use Rattle.page_arena.specs.Word.{word_of_page}
 use Rattle.rmi_abi.specs.declared.realm_params.RealmParams.{RealmParams}
 use Rattle.rmm_model.specs.declared.entry.RmmRttEntry.{RmmRttEntry}
 use Rattle.rmm_model.specs.declared.granule.RmmGranule.{RmmGranule}
@@ -21,7 +19,7 @@ use Rattle.rmm_model.specs.Machine.{Machine, granule_at, granule_count, page_in,
 use Rattle.rmm_model.specs.Realm.{IsServed, is_protected, is_start, start_count}
 use Rattle.rmm_model.specs.Table.{entry_in_page, has_live}
 use Rattle.rmm_model.specs.Command.Operand.{realm_at}
-use Rattle.rmm_model.specs.Command.RealmCreate.{realm_create, params_at, params_checks, is_supported, is_start_table, are_delegated, is_range_inside, can_start, free_checks, realm_for, start_entry, start_page, with_tables}
+use Rattle.rmm_model.specs.Command.RealmCreate.{realm_create, params_at, params_checks, is_supported, is_start_table, are_delegated, can_start, realm_for, start_entry, start_page, with_tables}
 use Rattle.rmm_model.specs.Command.RealmDestroy.{realm_destroy, has_live_table, is_realm_live, without_tables}
 use Rattle.rmm_laws.specs.Role.{Used, used, used_at, has_user, level_in, state_uses, uses, IsSound, IsProper, LeadsInside}
 use Rattle.rmm_laws.proofs.Children.{is_free, free_leads, free_word, empty_table, unused_free}
@@ -32,7 +30,7 @@ use Rattle.rmm_laws.proofs.PageWords.{length-with_words, word_of_page-with_words
 use Rattle.rmm_laws.proofs.Passed.{Passed, yes_from, is_delegated-true, realm_of-some}
 use Rattle.rmm_laws.proofs.Uses.{IsMore, added, removed}
 use Rattle.rmm_laws.proofs.Walks.{right, table_right, entry_size-positive}
-use Rattle.rmm_laws.proofs.Writes.{is_user, granule_at-same, granule_at-other, page_in-same, page_in-other, uses-same, uses-plain, used_at-same, state_uses-same, leads-same, sound-with_granule, sound-with_page, taken_inside}
+use Rattle.rmm_laws.proofs.Writes.{is_user, granule_at-same, granule_at-other, page_in-same, page_in-other, uses-same, uses-plain, used_at-same, leads-same, sound-with_granule, sound-with_page, taken_inside}
 
 or_none : (a b : Bool) → (a || b) ≡ false → (a ≡ false) × (b ≡ false)
 or_none true b none = absurd (cc)

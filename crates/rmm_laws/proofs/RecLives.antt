@@ -1,38 +1,36 @@
 -- RMI_REC_CREATE and RMI_REC_DESTROY keep the roles of granules.
-use Rattle.std.proofs.Common.{◌≡◌, ◌≢◌, ℕ, zero, suc, ◌+◌, ◌-◌, ◌*◌, ◌/◌, ◌%◌, ◌^◌, ◌<◌, ◌≤◌, ◌⊎◌, inl, inr, ◌==◌, ◌&&◌, Bool, true, false, not, List, length, Option, Some, None, option_map, unwrap_or, refl, sym, ap, subst, ◌∙◌, ⊎_elim, lit≤, arith}
+use Rattle.std.proofs.Common.{◌≡◌, ◌≢◌, ℕ, zero, suc, ◌+◌, ◌-◌, ◌*◌, ◌%◌, ◌^◌, ◌<◌, ◌≤◌, ◌⊎◌, inl, inr, ◌==◌, ◌&&◌, Bool, true, false, not, List, length, Option, Some, None, option_map, unwrap_or, refl, sym, ap, subst, ◌∙◌, ⊎_elim, arith}
 use Rattle.std.specs.Prelude.{nat_le, nat_lt, is_some, if◌then◌else◌, IfSome}
-use Rattle.std.proofs.lemmas.Bool.{cases_eq, cases_lt, cases_Bool, cond-true, cond-false, and_parts, and_from, and_cases, and_left, leb-true, ltb-true, eqb-true, eq-eqb, ne_eqb, le-leb, lt-ltb, lt-leb, le-ltb, both_ways, not-false, not-true}
+use Rattle.std.proofs.lemmas.Bool.{cases_eq, cases_lt, cond-true, cond-false, and_parts, and_from, and_cases, ltb-true, eqb-true, eq-eqb, ne_eqb, le-leb, lt-ltb, le-ltb, both_ways, not-true}
 use Rattle.std.proofs.lemmas.List.{length-set}
 use Rattle.granule_addr.specs.Page.{zero_page}
 use Rattle.page_arena.specs.Pages.{length-page_of}
-use Rattle.page_arena.specs.Word.{word_of_page}
 use Rattle.rmi_abi.specs.declared.settings.RmmSettings.{RmmSettings}
-use Rattle.rmi_abi.specs.RecParams.{gpr_in, pc_in, aux_in, mpidr_in, is_runnable_in}
+use Rattle.rmi_abi.specs.RecParams.{aux_in, mpidr_in, is_runnable_in}
 use Rattle.rmm_model.specs.declared.granule.RmmGranule.{RmmGranule}
 use Rattle.rmm_model.specs.declared.granule.RmmGranuleState.{RmmGranuleState}
 use Rattle.rmm_model.specs.declared.granule.RmmGranuleState.TheVariants.{Delegated, Rd, Rec as IsRec, RecAux, Rtt}
 use Rattle.rmm_model.specs.declared.realm.RmmRealm.{RmmRealm}
 use Rattle.rmm_model.specs.declared.rec.RmmRec.{RmmRec}
 use Rattle.rmm_model.specs.Granule.{of_no_realm, of_realm, is_delegated, realm_of}
-use Rattle.rmm_model.specs.Machine.{Machine, granule_at, page_in, is_aligned, is_inside, number_of, state_at, with_granule, with_page, with_blank}
+use Rattle.rmm_model.specs.Machine.{Machine, granule_at, page_in, is_aligned, is_inside, number_of, state_at, with_granule, with_blank}
 use Rattle.rmm_model.specs.Realm.{IsServed}
 use Rattle.rmm_model.specs.Rec.{aux_of, new_rec}
 use Rattle.rmm_model.specs.Table.{entry_in_page}
 use Rattle.rmm_model.specs.Walk.{granule_named}
-use Rattle.rmm_model.specs.Command.Auxiliary.{with_wiped, with_wiped_if, aux_granule, with_aux}
+use Rattle.rmm_model.specs.Command.Auxiliary.{with_wiped_if, aux_granule, with_aux}
 use Rattle.rmm_model.specs.Command.Operand.{realm_at, rec_at}
-use Rattle.rmm_model.specs.Command.RecCreate.{rec_create, all_from, all_aux, is_apart, can_be_aux, aux_checks, number_checks, rec_word, rec_page, with_created_rec, with_one_more}
+use Rattle.rmm_model.specs.Command.RecCreate.{rec_create, all_from, is_apart, can_be_aux, aux_checks, rec_word, rec_page, with_created_rec}
 use Rattle.rmm_model.specs.Command.RecDestroy.{rec_destroy, with_one_less, without_rec_of, without_rec}
 use Rattle.rmm_laws.specs.Role.{Used, used, used_at, has_user, level_in, state_uses, uses, IsSound, IsProper, LeadsInside}
 use Rattle.rmm_laws.proofs.Accesses.{named_number}
 use Rattle.rmm_laws.proofs.Entries.{number_inside, address_few, begins, named_inside}
 use Rattle.rmm_laws.proofs.PageWords.{length-with_words, word_of_page-with_words}
 use Rattle.rmm_laws.proofs.Passed.{Passed, yes_from, is_delegated-true, realm_of-some, realm_of-is, rec_of-some}
-use Rattle.rmm_laws.proofs.Plain.{keep_plain_page}
 use Rattle.rmm_laws.proofs.Recs.{IsGoing, going_inside, going_realm, keep_realm}
 use Rattle.rmm_laws.proofs.Uses.{IsMore, added, removed}
 use Rattle.rmm_laws.proofs.Walks.{right, one_place}
-use Rattle.rmm_laws.proofs.Writes.{is_user, granule_at-same, granule_at-other, page_in-same, page_in-other, named-same, uses-same, uses-plain, used_at-same, state_uses-same, leads-same, sound-with_granule, sound-with_page, taken_inside}
+use Rattle.rmm_laws.proofs.Writes.{is_user, granule_at-same, granule_at-other, page_in-same, page_in-other, named-same, uses-same, uses-plain, used_at-same, leads-same, sound-with_granule, sound-with_page}
 
 some_of : (o : Option ℕ) → is_some o ≡ true → o ≡ Some (unwrap_or o 0)
 some_of (Some h) is = refl

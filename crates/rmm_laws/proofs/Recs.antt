@@ -1,23 +1,22 @@
 -- Writes of RECs that keep their auxiliary granules.
-use Rattle.std.proofs.Common.{◌≡◌, ◌≢◌, ℕ, ◌+◌, ◌*◌, ◌%◌, ◌-◌, ◌<◌, ◌≤◌, ◌⊎◌, inl, inr, ◌==◌, ◌&&◌, Bool, true, false, List, length, Option, Some, None, option_map, refl, sym, ap, subst, ◌∙◌, ⊎_elim, arith}
+use Rattle.std.proofs.Common.{◌≡◌, ◌≢◌, ℕ, ◌+◌, ◌<◌, ◌≤◌, ◌⊎◌, inl, inr, ◌==◌, ◌&&◌, false, List, length, Option, Some, None, option_map, refl, sym, ap, ◌∙◌, ⊎_elim, arith}
 use Rattle.std.specs.Prelude.{nat_lt, if◌then◌else◌}
-use Rattle.std.proofs.lemmas.Bool.{cases_lt, cases_eq, and_left, le-ltb, cond-false}
-use Rattle.std.proofs.lemmas.List.{length-set}
-use Rattle.page_arena.specs.Word.{word_of_page, page_with_word}
+use Rattle.std.proofs.lemmas.Bool.{cases_lt, and_left, le-ltb, cond-false}
+use Rattle.page_arena.specs.Word.{page_with_word}
 use Rattle.page_arena.specs.Words.{word_of_page-page_with_word_other}
 use Rattle.rmm_model.specs.declared.granule.RmmGranule.{RmmGranule}
 use Rattle.rmm_model.specs.declared.granule.RmmGranuleState.{RmmGranuleState}
 use Rattle.rmm_model.specs.declared.granule.RmmGranuleState.TheVariants.{Rd, Rec as IsRec, RecAux, Rtt}
 use Rattle.rmm_model.specs.declared.realm.RmmRealm.{RmmRealm}
 use Rattle.rmm_model.specs.declared.rec.RmmRec.{RmmRec}
-use Rattle.rmm_model.specs.Granule.{of_no_realm, realm_of}
+use Rattle.rmm_model.specs.Granule.{of_no_realm}
 use Rattle.rmm_model.specs.Machine.{Machine, granule_at, page_in, with_granule, with_page, with_word}
 use Rattle.rmm_model.specs.Realm.{IsServed}
 use Rattle.rmm_model.specs.Rec.{aux_of}
 use Rattle.rmm_model.specs.Table.{with_words_from}
 use Rattle.rmm_model.specs.Walk.{granule_named}
 use Rattle.rmm_model.specs.Command.PsciComplete.{with_rec}
-use Rattle.rmm_laws.specs.Role.{Used, used, has_user, state_uses, IsProper}
+use Rattle.rmm_laws.specs.Role.{used, has_user, state_uses, IsProper}
 use Rattle.rmm_laws.proofs.Keeping.{keep_page, keep_granule}
 use Rattle.rmm_laws.proofs.PageWords.{length-page_with_word, length-with_words_from, word_of_page-with_words_from_other}
 use Rattle.rmm_laws.proofs.Plain.{keep_plain_page}

@@ -1,33 +1,27 @@
 -- RTT_FOLD of pages that are one block of memory.
-use Rattle.std.proofs.Common.{◌≡◌, ◌≢◌, ℕ, zero, suc, ◌+◌, ◌-◌, ◌*◌, ◌/◌, ◌%◌, ◌^◌, ◌<◌, ◌≤◌, ◌⊎◌, inl, inr, ◌==◌, ◌&&◌, Bool, true, false, List, length, Option, Some, None, option_map, refl, sym, ap, subst, ◌∙◌, ⊎_elim, lit≤, arith}
-use Rattle.std.specs.Prelude.{nat_le, nat_lt, if◌then◌else◌}
-use Rattle.std.proofs.lemmas.Bool.{cases_eq, cases_lt, cases_Bool, cond-true, cond-false, and_parts, and_from, and_left, and_right, eqb-true, eq-eqb, ne_eqb, lt-ltb, le-ltb, le-leb, both_ways}
-use Rattle.granule_addr.specs.Page.{zero_page}
-use Rattle.page_arena.specs.Pages.{length-page_of}
-use Rattle.page_arena.specs.Word.{word_of_page}
+use Rattle.std.proofs.Common.{◌≡◌, ◌≢◌, ℕ, ◌+◌, ◌*◌, ◌^◌, ◌<◌, ◌≤◌, ◌⊎◌, inl, true, false, List, length, Option, Some, None, refl, sym, ap, subst, ◌∙◌, ⊎_elim, arith}
+use Rattle.std.proofs.lemmas.Bool.{cases_eq, cases_lt}
 use Rattle.rmm_model.specs.declared.entry.RmmRipas.{RmmRipas}
 use Rattle.rmm_model.specs.declared.entry.RmmRttEntry.{RmmRttEntry}
 use Rattle.rmm_model.specs.declared.entry.RmmRttEntry.TheVariants.{Unassigned, Assigned, Table, UnassignedNs, AssignedNs}
 use Rattle.rmm_model.specs.declared.granule.RmmGranule.{RmmGranule}
-use Rattle.rmm_model.specs.declared.granule.RmmGranuleState.TheVariants.{Undelegated, Delegated, Data, Rtt}
+use Rattle.rmm_model.specs.declared.granule.RmmGranuleState.TheVariants.{Delegated, Data, Rtt}
 use Rattle.rmm_model.specs.declared.realm.RttWalk.{RttWalk}
-use Rattle.rmm_model.specs.Entry.{entry_of, entry_word, child_entry, descriptor_of, is_table}
-use Rattle.rmm_model.specs.Granule.{of_realm}
+use Rattle.rmm_model.specs.Entry.{entry_of, entry_word, child_entry, is_table}
 use Rattle.rmm_model.specs.Level.{entry_size, entry_index}
-use Rattle.rmm_model.specs.Machine.{Machine, granule_at, page_in, is_inside, number_of, with_granule, with_page, with_blank}
-use Rattle.rmm_model.specs.Table.{entry_in_page, has_parts, children_page}
-use Rattle.rmm_model.specs.Walk.{entry_at, with_entry, granule_named}
-use Rattle.rmm_laws.specs.Role.{Used, used, used_at, has_user, page_count, entry_uses, state_uses, uses, HasOneRole, IsProper, IsBegin, LeadsInside}
-use Rattle.rmm_laws.proofs.Blocks.{cut, cut_there, cut_beside, cut_more, sizes, block_uses, block_end, child_begin, child_uses, child_end}
-use Rattle.rmm_laws.proofs.Children.{is_free, length-children, part_word}
-use Rattle.rmm_laws.proofs.Entries.{number_inside, address_few, begins, named_inside}
-use Rattle.rmm_laws.proofs.EntryWords.{entry_of-entry_word, entry_word-fits}
-use Rattle.rmm_laws.proofs.Mapped.{count, entry_now, entry_beside, granule_beside, level_beside, level_now, page_beside, content_now, content_uses, used_now, new_sound, freed_count, freed_sound, freed_is, entry_then, entry_other, granule_then, page_other}
-use Rattle.rmm_laws.proofs.Moves.{IsUnfolded, unfolded_roles, folded_roles}
+use Rattle.rmm_model.specs.Machine.{Machine, granule_at, page_in, is_inside, number_of, with_blank}
+use Rattle.rmm_model.specs.Table.{entry_in_page, has_parts}
+use Rattle.rmm_model.specs.Walk.{with_entry}
+use Rattle.rmm_laws.specs.Role.{Used, used, used_at, has_user, page_count, entry_uses, uses, IsProper, IsBegin, LeadsInside}
+use Rattle.rmm_laws.proofs.Blocks.{cut, cut_there, cut_beside, cut_more, sizes, block_uses, block_end, child_uses, child_end}
+use Rattle.rmm_laws.proofs.Children.{is_free, part_word}
+use Rattle.rmm_laws.proofs.Entries.{number_inside, address_few}
+use Rattle.rmm_laws.proofs.EntryWords.{entry_of-entry_word}
+use Rattle.rmm_laws.proofs.Mapped.{freed_count, freed_sound, freed_is, entry_then, entry_other, granule_then, page_other}
+use Rattle.rmm_laws.proofs.Moves.{IsUnfolded, folded_roles}
 use Rattle.rmm_laws.proofs.OneMore.{uses-table_in, uses-table_out}
-use Rattle.rmm_laws.proofs.PageWords.{length-with_words, word_of_page-with_words}
-use Rattle.rmm_laws.proofs.Uses.{IsMore, IsAlike, has_user_at, added, removed}
-use Rattle.rmm_laws.proofs.Walks.{IsPlace, right, uses-entry, entry_index-few}
+use Rattle.rmm_laws.proofs.Uses.{IsMore, removed}
+use Rattle.rmm_laws.proofs.Walks.{IsPlace, uses-entry, entry_index-few}
 use Rattle.rmm_laws.proofs.Writes.{taken_inside, uses-same, uses-plain, entry_uses-same, used_at-same, leads-same, is_user}
 
 module _ (m : Machine) (proper : IsProper m) (rd ipa level : ℕ) (place : RttWalk) (end : IsPlace m proper rd ipa place) (one_below : place.level + 1 ≡ level) (most : level ≤ 3)

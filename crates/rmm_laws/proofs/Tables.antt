@@ -1,10 +1,10 @@
 -- RTT_CREATE, RTT_DESTROY and RTT_FOLD keep the roles of granules.
-use Rattle.std.proofs.Common.{◌≡◌, ◌≢◌, ℕ, ◌+◌, ◌-◌, ◌*◌, ◌/◌, ◌%◌, ◌^◌, ◌<◌, ◌≤◌, ◌==◌, ◌&&◌, Bool, true, false, not, List, length, Option, Some, None, option_map, unwrap_or, refl, sym, ap, subst, ◌∙◌, ⊎_elim, arith}
-use Rattle.std.specs.Prelude.{is_some, nat_le, if◌then◌else◌}
+use Rattle.std.proofs.Common.{◌≡◌, ◌≢◌, ℕ, ◌+◌, ◌-◌, ◌%◌, ◌^◌, ◌<◌, ◌≤◌, ◌==◌, ◌&&◌, true, false, not, List, Option, Some, None, option_map, unwrap_or, refl, ap, ◌∙◌, ⊎_elim, arith}
+use Rattle.std.specs.Prelude.{nat_le}
 use Rattle.std.proofs.lemmas.Bool.{cases_Bool, and_parts, cond-false, leb-true, ltb-true, eqb-true, ne_eqb, not-true, cond_both}
 use Rattle.page_arena.specs.Word.{word_of_page}
 use Rattle.rmm_model.specs.declared.entry.RmmRttEntry.{RmmRttEntry}
-use Rattle.rmm_model.specs.declared.entry.RmmRttEntry.TheVariants.{Unassigned, Assigned, Table, UnassignedNs, AssignedNs}
+use Rattle.rmm_model.specs.declared.entry.RmmRttEntry.TheVariants.{Table}
 use Rattle.rmm_model.specs.declared.granule.RmmGranule.{RmmGranule}
 use Rattle.rmm_model.specs.declared.granule.RmmGranuleState.TheVariants.{Delegated, Rtt}
 use Rattle.rmm_model.specs.declared.realm.RmmRealm.{RmmRealm}
@@ -14,8 +14,8 @@ use Rattle.rmm_model.specs.Granule.{is_delegated}
 use Rattle.rmm_model.specs.Level.{entry_index}
 use Rattle.rmm_model.specs.Machine.{Machine, granule_at, page_in, is_aligned, is_inside, number_of, state_at, with_blank}
 use Rattle.rmm_model.specs.Realm.{is_in_space, is_protected}
-use Rattle.rmm_model.specs.Table.{entry_in_page, has_live, has_parts, children_page}
-use Rattle.rmm_model.specs.Walk.{entry_at, with_entry, granule_named, table_below, walk}
+use Rattle.rmm_model.specs.Table.{entry_in_page, has_parts, children_page}
+use Rattle.rmm_model.specs.Walk.{entry_at, with_entry, table_below, walk}
 use Rattle.rmm_model.specs.Command.Operand.{realm_at}
 use Rattle.rmm_model.specs.Command.RttCreate.{rtt_create}
 use Rattle.rmm_model.specs.Command.RttDestroy.{rtt_destroy, left_entry}

@@ -1,7 +1,7 @@
 -- Walks stay in the tables of their realm.
 use Rattle.std.proofs.Common.{◌≡◌, ℕ, zero, suc, ◌+◌, ◌-◌, ◌*◌, ◌/◌, ◌^◌, ◌<◌, ◌≤◌, ◌⊎◌, inl, inr, Option, Some, None, refl, sym, ap, subst, ◌∙◌, ⊎_elim, IfSome, length, arith, option_map}
 use Rattle.std.specs.Option.{option_map_or}
-use Rattle.std.specs.Prelude.{nat_lt, ◌==◌, ◌&&◌}
+use Rattle.std.specs.Prelude.{nat_lt, ◌==◌}
 use Rattle.std.proofs.lemmas.Bool.{cond-true, and_from, lt-ltb}
 use Rattle.std.proofs.lemmas.Bool.Decides.{nat_tests}
 use Rattle.std.proofs.lemmas.Nat.{div_below}
@@ -12,14 +12,14 @@ use Rattle.rmm_model.specs.declared.granule.RmmGranuleState.{RmmGranuleState}
 use Rattle.rmm_model.specs.declared.granule.RmmGranuleState.TheVariants.{Rd, Rtt}
 use Rattle.rmm_model.specs.declared.realm.RmmRealm.{RmmRealm}
 use Rattle.rmm_model.specs.declared.realm.RttWalk.{RttWalk}
-use Rattle.rmm_model.specs.Granule.{realm_of, of_realm}
+use Rattle.rmm_model.specs.Granule.{realm_of}
 use Rattle.rmm_model.specs.Level.{entry_size, entry_index, start_offset}
 use Rattle.rmm_model.specs.Machine.{Machine, granule_at, page_in}
 use Rattle.rmm_model.specs.Realm.{IsServed}
 use Rattle.rmm_model.specs.Table.{entry_in_page}
 use Rattle.rmm_model.specs.Walk.{entry_at, table_below, walk_from, start_of, walk}
 use Rattle.rmm_laws.specs.Role.{Used, used, used_at, level_in, entry_uses, state_uses, uses, IsUsed, HasNoUser, IsProper}
-use Rattle.rmm_laws.specs.Walk.{IsTableOf, EndsWell}
+use Rattle.rmm_laws.specs.Walk.{IsTableOf}
 
 pub entry_index-few : (level ipa : ℕ) → entry_index level ipa < 512
 unfolding entry_index

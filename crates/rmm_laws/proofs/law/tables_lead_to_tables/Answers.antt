@@ -1,11 +1,9 @@
-use Rattle.std.proofs.Common.{◌≡◌, ℕ, ◌+◌, Option, Some, option_map, refl, sym, ap, subst, ◌∙◌}
+use Rattle.std.proofs.Common.{◌≡◌, ◌+◌, Some, option_map, refl, ap, subst, ◌∙◌}
 use Rattle.rmm_model.specs.declared.entry.RmmRttEntry.{RmmRttEntry}
-use Rattle.rmm_model.specs.declared.entry.RmmRttEntry.TheVariants.{Table}
 use Rattle.rmm_model.specs.declared.granule.RmmGranule.{RmmGranule}
 use Rattle.rmm_model.specs.declared.granule.RmmGranuleState.TheVariants.{Rtt}
 use Rattle.rmm_model.specs.declared.realm.RttWalk.{RttWalk}
-use Rattle.rmm_model.specs.Machine.{Machine, number_of, page_in}
-use Rattle.rmm_model.specs.Table.{entry_in_page}
+use Rattle.rmm_model.specs.Machine.{number_of}
 use Rattle.rmm_laws.specs.Role.{used, entry_uses, uses, LeadsInside}
 use Rattle.rmm_laws.proofs.Entries.{named_inside}
 use Rattle.rmm_laws.proofs.Walks.{IsPlace, right, table_right, uses-entry}
