@@ -17,8 +17,8 @@ ghost use Rattle.rmm_laws.specs.Refusal.{IsRefused, IsNotQueued, IsAccess, IsNot
 ghost use Rattle.rmm_laws.specs.Role.{Used, uses, IsSound, IsProper};
 ghost use Rattle.rmm_laws.specs.Walk.{IsTableOf, EndsWell, LeadsToTable};
 
-/// What is refused changes nothing: a call by registers, a store or a fill of the host, a step that a guest is given,
-/// an interrupt, and an access of a guest that is not done.
+/// What is refused changes nothing: calls by registers, and the host's stores and fills. So do steps that no REC takes,
+/// interrupts of RECs that do not run, and accesses of guests that are not done.
 pub fn refusals_change_nothing()
     ensures calls { (r : Registers) (m : Machine) → IsRefused (rmi r m).0.x0 → (rmi r m).1 ≡ m }
     ensures stores { (m : Machine) (address word : ℕ) → can_access m address ≡ false → after_store m address word ≡ m }
@@ -29,8 +29,8 @@ pub fn refusals_change_nothing()
         → IsNotDone (step_outcome m realm rec flags step) → after_step m realm rec step (step_outcome m realm rec flags step) ≡ m }
 {}
 
-/// Granules have one role: each call, the host's stores, the steps that a guest is given and interrupts keep it so that
-/// each RTT, DATA and REC_AUX granule is used once, in the realm that owns it, and no other granule is.
+/// Granules have one role: each RTT, DATA and REC_AUX granule is used once, in the realm that owns it, and no other is.
+/// Each call keeps it so, and so do the host's stores and fills, steps that guests are given, and interrupts.
 pub fn granules_have_one_role()
     ensures start { (m : Machine) → IsSound m → ((granule : ℕ) → (granule_at m granule).state ≡ Undelegated) → IsProper m }
     ensures calls { (r : Registers) (m : Machine) → IsProper m → IsProper (rmi r m).1 }
