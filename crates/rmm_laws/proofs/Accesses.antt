@@ -1,5 +1,5 @@
 -- The granules that guests access: pages of their realm, and pages of the host.
-use Rattle.std.proofs.Common.{◌≡◌, ℕ, ◌+◌, ◌*◌, ◌/◌, ◌%◌, ◌^◌, ◌<◌, ◌==◌, Bool, true, false, not, length, Option, Some, None, Result, Ok, Err, option_map, refl, sym, ap, subst, ◌∙◌, ⊎_elim, arith}
+use Rattle.std.proofs.Common.{◌≡◌, ℕ, ◌+◌, ◌*◌, ◌/◌, ◌%◌, ◌^◌, ◌<◌, ◌==◌, Bool, true, false, not, length, Option, Some, None, Result, Ok, Err, option_map, refl, sym, ap, subst, ◌∙◌, ⊎_elim, arith, ◌⊎◌, inl, inr}
 use Rattle.std.specs.Prelude.{if◌then◌else◌, IfSome}
 use Rattle.std.proofs.lemmas.Bool.{cases_Bool, cond-true, cond-false, cond_both, ltb-true, lt-ltb, not-false}
 use Rattle.std.proofs.lemmas.Nat.{mod_below}
@@ -8,7 +8,7 @@ use Rattle.rmm_model.specs.declared.entry.RmmRttEntry.{RmmRttEntry}
 use Rattle.rmm_model.specs.declared.entry.RmmRttEntry.TheVariants.{Assigned}
 use Rattle.rmm_model.specs.declared.granule.RmmGranule.{RmmGranule}
 use Rattle.rmm_model.specs.declared.granule.RmmGranuleState.{RmmGranuleState}
-use Rattle.rmm_model.specs.declared.granule.RmmGranuleState.TheVariants.{Data, Rd, Rtt}
+use Rattle.rmm_model.specs.declared.granule.RmmGranuleState.TheVariants.{Undelegated, Data, Rd, Rtt}
 use Rattle.rmm_model.specs.declared.realm.RmmRealm.{RmmRealm}
 use Rattle.rmm_model.specs.declared.realm.RttWalk.{RttWalk}
 use Rattle.rmm_model.specs.declared.rec.LastExit.TheVariants.{EmulatableAbort}
@@ -29,9 +29,9 @@ use Rattle.rmm_laws.proofs.Plain.{host_inside, host_plain}
 use Rattle.rmm_laws.proofs.Walks.{IsPlace, walk_ends, uses-entry, right, entry_index-few, entry_size-positive}
 use Rattle.rmm_laws.proofs.Writes.{is_user, taken_inside}
 
--- a granule is one of the machine, and uses nothing
-abbrev pub IsPlainAt : Machine → ℕ → Type 0
-IsPlainAt m h = (h < length m.granules) × (is_user (granule_at m h).state ≡ false)
+-- a granule is one of the machine that uses nothing, of a realm or of the host
+abbrev pub IsPlainAt : Machine → ℕ → ℕ → Type 0
+IsPlainAt m rd h = (h < length m.granules) × (is_user (granule_at m h).state ≡ false) × (((granule_at m h).owner ≡ Some rd) ⊎ ((granule_at m h).state ≡ Undelegated))
 
 -- the page of an offset is one of an entry
 page_below : (level offset : ℕ) → offset < entry_size level → offset / 4096 < page_count level
@@ -57,7 +57,7 @@ named_number m address h is =
 module _ (m : Machine) (proper : IsProper m) (rd : ℕ) (realm : RmmRealm) (is : (granule_at m rd).state ≡ Rd realm) (ipa : ℕ) where
   -- a page of a mapping
   by_memory : (place : RttWalk) (i offset h : ℕ) (entry : RmmRttEntry) → IsPlace m proper rd ipa place → i < 512 → entry_in_page (page_in m place.table) i ≡ entry → LeadsInside m entry
-      → is_memory entry ≡ true → offset < entry_size place.level → granule_named m (descriptor_of entry + offset) ≡ Some h → IsPlainAt m h
+      → is_memory entry ≡ true → offset < entry_size place.level → granule_named m (descriptor_of entry + offset) ≡ Some h → IsPlainAt m rd h
   by_memory place i offset h (Assigned ripas address) place_is lt entry_is leads memory within named =
       let first : ℕ = number_of m address in
       let k : ℕ = offset / 4096 in
@@ -69,24 +69,25 @@ module _ (m : Machine) (proper : IsProper m) (rd : ℕ) (realm : RmmRealm) (is :
       ∙ ap (λ (e : RmmRttEntry). entry_uses m (Some rd) place.level e k) entry_is
       ∙ cond-true _ _ _ (lt-ltb k (page_count place.level) (page_below place.level offset within))
       ∙ ap (option_map (λ f. used Data (Some rd) 0 (f + k))) inside in
-      let is_data : (granule_at m (first + k)).state ≡ Data = sym (ap (λ (u : Used). u.attributes.state) (right m proper place.table i k (used Data (Some rd) 0 (first + k)) gives)) in
-      let there : (granule_at m h).state ≡ Data = ap (λ (g : ℕ). (granule_at m g).state) here ∙ is_data in
-      (taken_inside m h (λ free. cc), ap is_user there)
+      let it : granule_at m (first + k) ≡ record { state = Data; owner = Some rd } = sym (ap (λ (u : Used). u.attributes) (right m proper place.table i k (used Data (Some rd) 0 (first + k)) gives)) in
+      let there : granule_at m h ≡ record { state = Data; owner = Some rd } = ap (granule_at m) here ∙ it in
+      let is_data : (granule_at m h).state ≡ Data = ap (λ (r : RmmGranule). r.state) there in
+      (taken_inside m h (λ free. cc), ap is_user is_data, inl (ap (λ (r : RmmGranule). r.owner) there))
   by_memory place i offset h _ place_is lt entry_is leads memory within named = absurd (cc)
 
   -- what is accessed
   abbrev pub IsPlainIfOk : Result ℕ StepOutcome → Type 0
-  IsPlainIfOk (Ok h) = IsPlainAt m h
+  IsPlainIfOk (Ok h) = IsPlainAt m rd h
   IsPlainIfOk (Err outcome) = Unit {0}
 
-  by_named : (o : Option ℕ) → ((h : ℕ) → o ≡ Some h → IsPlainAt m h) → IsPlainIfOk (found_or_sea o)
+  by_named : (o : Option ℕ) → ((h : ℕ) → o ≡ Some h → IsPlainAt m rd h) → IsPlainIfOk (found_or_sea o)
   by_named (Some h) plain = plain h refl
   by_named None plain = tt
 
   by_host : (address : ℕ) → IsPlainIfOk (host_access m address ipa)
   by_host address =
       cond_both (is_host_page m address) _ _ IsPlainIfOk
-      (λ host. (host_inside m address host, ap is_user (host_plain m address host)))
+      (λ host. (host_inside m address host, ap is_user (host_plain m address host), inr (host_plain m address host)))
       (λ never. tt)
 
   by_unprotected : (entry : RmmRttEntry) (level : ℕ) (writes : Bool) (size : AccessSize) (value : ℕ) → IsPlainIfOk (unprotected_access m entry level ipa writes size value)

@@ -17,6 +17,8 @@ pub mod RecLives
 pub mod Recs
 pub mod Refolding
 pub mod Tables
+pub mod Touching
+pub mod TouchingCalls
 pub mod Unfolding
 pub mod Uses
 pub mod Walks

@@ -47,7 +47,7 @@ use Rattle.rmm_laws.proofs.Writes.{is_user, uses-plain, taken_inside, page_in-sa
 
 -- ---- places
 
-served : (m : Machine) (rd : ℕ) (realm : RmmRealm) → IsProper m → (granule_at m rd).state ≡ Rd realm → IsServed (length m.granules) realm
+pub served : (m : Machine) (rd : ℕ) (realm : RmmRealm) → IsProper m → (granule_at m rd).state ≡ Rd realm → IsServed (length m.granules) realm
 served m rd realm proper is = subst (λ (s : RmmGranuleState). IfSome (realm_of s) (IsServed (length m.granules))) is (proper.sound.tables.each rd)
 
 half : (s ipa : ℕ) → ipa < 2 ^ (s - 1) → ipa < 2 ^ s
@@ -64,7 +64,7 @@ half s ipa lt =
     omega arith)
     (cases_lt 0 s)
 
-protected_within : (realm : RmmRealm) (ipa : ℕ) → is_protected realm ipa ≡ true → ipa < 2 ^ realm.s2sz
+pub protected_within : (realm : RmmRealm) (ipa : ℕ) → is_protected realm ipa ≡ true → ipa < 2 ^ realm.s2sz
 protected_within realm ipa sure = half realm.s2sz ipa (ltb-true _ _ sure)
 
 -- ---- one table's page
@@ -154,7 +154,7 @@ module _ (m : Machine) (proper : IsProper m) (rd ipa level : ℕ) (realm : RmmRe
       keep_entry m place.table (entry_index place.level ipa) entry proper place_table (entry_index-few place.level ipa) fits
       (λ owner l k. new owner l k ∙ sym (old owner l k)) leads
 
-unprotected_within : (realm : RmmRealm) (ipa : ℕ) → is_unprotected realm ipa ≡ true → ipa < 2 ^ realm.s2sz
+pub unprotected_within : (realm : RmmRealm) (ipa : ℕ) → is_unprotected realm ipa ≡ true → ipa < 2 ^ realm.s2sz
 unprotected_within realm ipa sure = ltb-true _ _ (and_parts _ _ sure).1
 
 pub host_mapped : (rd ipa level desc : ℕ) (m : Machine) → IsProper m → Passed (rtt_map_unprotected rd ipa level desc m).checks → IsProper (rtt_map_unprotected rd ipa level desc m).machine
@@ -278,7 +278,7 @@ ripas_inited rd base top m proper ok =
     let kept = keep_ripas m found.table (entry_index found.level base) (change_count m (init_changeable m.settings) found base top) Ram proper table (change_count-few m (init_changeable m.settings) found base top) in
     keep_realm _ (number_of m rd) realm _ kept is refl refl refl (record { few = s.few; inside = s.inside; most = s.most; level = s.level; width = s.width; served = s.served })
 
-owned_protected : (realm : RmmRealm) (b c : Bool) (base : ℕ) → not b ≡ false → (c && (not b || is_protected realm base)) ≡ true → is_protected realm base ≡ true
+pub owned_protected : (realm : RmmRealm) (b c : Bool) (base : ℕ) → not b ≡ false → (c && (not b || is_protected realm base)) ≡ true → is_protected realm base ≡ true
 owned_protected realm b c base owns is =
     ⊎_elim (λ (never : not b ≡ true). absurd (both_ways (not b) owns never)) (λ (sure : is_protected realm base ≡ true). sure) (or_cases (not b) (is_protected realm base) (and_parts c (not b || is_protected realm base) is).1)
 
@@ -380,7 +380,7 @@ unknown_made rd target ipa m proper ok =
 
 -- ---- memory that is destroyed
 
-by_memory : (m : Machine) (owner : Option ℕ) (entry : RmmRttEntry) (g : ℕ) → memory_below m entry ≡ Some g
+pub by_memory : (m : Machine) (owner : Option ℕ) (entry : RmmRttEntry) (g : ℕ) → memory_below m entry ≡ Some g
     → (entry_uses m owner 3 entry 0 ≡ Some (used Data owner 0 g)) × ((k : ℕ) → k ≢ 0 → entry_uses m owner 3 entry k ≡ None)
 by_memory m owner (Assigned ripas address) g named = (page_first m owner ripas address g named, λ k rest. page_others m owner ripas address k rest)
 by_memory m owner _ g named = absurd (cc)

@@ -32,7 +32,7 @@ use Rattle.rmm_laws.proofs.Uses.{IsMore, added, removed}
 use Rattle.rmm_laws.proofs.Walks.{right, table_right, entry_size-positive}
 use Rattle.rmm_laws.proofs.Writes.{is_user, granule_at-same, granule_at-other, page_in-same, page_in-other, uses-same, uses-plain, used_at-same, leads-same, sound-with_granule, sound-with_page, taken_inside}
 
-or_none : (a b : Bool) → (a || b) ≡ false → (a ≡ false) × (b ≡ false)
+pub or_none : (a b : Bool) → (a || b) ≡ false → (a ≡ false) × (b ≡ false)
 or_none true b none = absurd (cc)
 or_none false b none = (refl, none)
 
@@ -290,7 +290,7 @@ module _ (m : Machine) (rd : ℕ) (realm : RmmRealm) where
 
 -- ---- the command RMI_REALM_CREATE
 
-all_delegated : (m : Machine) (first count k : ℕ) → are_delegated m first count ≡ true → k < count → (granule_at m (first + k)).state ≡ Delegated
+pub all_delegated : (m : Machine) (first count k : ℕ) → are_delegated m first count ≡ true → k < count → (granule_at m (first + k)).state ≡ Delegated
 unfolding are_delegated
 all_delegated m first zero k all lt = absurd (omega arith)
 all_delegated m first (suc count) zero all lt =
@@ -480,7 +480,7 @@ module _ (m : Machine) (proper : IsProper m) (rd : ℕ) (realm : RmmRealm) (is :
   rd_in = taken_inside m rd (λ free. cc)
 
   -- a starting table
-  start_is : (i : ℕ) → i < realm.table_count → (granule_at m (realm.first_table + i) ≡ of_realm rd Rtt) × (proper.level (realm.first_table + i) ≡ realm.start_level)
+  pub start_is : (i : ℕ) → i < realm.table_count → (granule_at m (realm.first_table + i) ≡ of_realm rd Rtt) × (proper.level (realm.first_table + i) ≡ realm.start_level)
   unfolding uses
   start_is i lt =
       let gives : uses m proper.level rd i 0 ≡ Some (used Rtt (Some rd) realm.start_level (realm.first_table + i)) =

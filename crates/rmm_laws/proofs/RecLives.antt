@@ -22,12 +22,14 @@ use Rattle.rmm_model.specs.Command.Auxiliary.{with_wiped_if, aux_granule, with_a
 use Rattle.rmm_model.specs.Command.Operand.{realm_at, rec_at}
 use Rattle.rmm_model.specs.Command.RecCreate.{rec_create, all_from, is_apart, can_be_aux, aux_checks, rec_word, rec_page, with_created_rec}
 use Rattle.rmm_model.specs.Command.RecDestroy.{rec_destroy, with_one_less, without_rec_of, without_rec}
+use Rattle.rmm_laws.specs.Apart.{IsSameAt, Touches}
 use Rattle.rmm_laws.specs.Role.{Used, used, used_at, has_user, level_in, state_uses, uses, IsSound, IsProper, LeadsInside}
 use Rattle.rmm_laws.proofs.Accesses.{named_number}
 use Rattle.rmm_laws.proofs.Entries.{number_inside, address_few, begins, named_inside}
 use Rattle.rmm_laws.proofs.PageWords.{length-with_words, word_of_page-with_words}
 use Rattle.rmm_laws.proofs.Passed.{Passed, yes_from, is_delegated-true, realm_of-some, realm_of-is, rec_of-some}
-use Rattle.rmm_laws.proofs.Recs.{IsGoing, going_inside, going_realm, keep_realm}
+use Rattle.rmm_laws.proofs.Recs.{IsGoing, going_first, going_inside, going_realm, keep_realm}
+use Rattle.rmm_laws.proofs.Touching.{IsMine, mine_before, touch_blank, touch_page, touch_granule, untouched}
 use Rattle.rmm_laws.proofs.Uses.{IsMore, added, removed}
 use Rattle.rmm_laws.proofs.Walks.{right, one_place}
 use Rattle.rmm_laws.proofs.Writes.{is_user, granule_at-same, granule_at-other, page_in-same, page_in-other, named-same, uses-same, uses-plain, used_at-same, leads-same, sound-with_granule, sound-with_page}
@@ -125,6 +127,21 @@ module _ (m : Machine) (g : ℕ) (kept : RmmGranule) (served : (n : ℕ) → IfS
       let page = (before.other g (λ i lt. apart i (omega arith))).1 in
       let same : aux_granule n g k ≡ named k = named-same m n before.settings before.count (aux_of (page_in n g) k) ∙ ap (λ (p : List ℕ). granule_named m (aux_of p k)) page in
       subst (λ (o : Option ℕ). IsWiped (suc k) (with_wiped_if n o kept)) (sym same) (wiped_more k n (named k) refl before)
+
+-- granules of the realm, or of none, that are wiped
+touch_wiped : (o m : Machine) (named_realm : Option (Option ℕ)) (g : ℕ) (kept : RmmGranule) (served : (n : ℕ) → IfSome (realm_of kept.state) (IsServed n)) (k : ℕ) (n : Machine) → Touches o m named_realm → IsWiped m g kept served k n
+    → ((i h : ℕ) → i < k → granule_named m (aux_of (page_in m g) i) ≡ Some h → IsMine o named_realm h) → Touches o n named_realm
+touch_wiped o m named_realm g kept served k n before wiped mine = record {
+  each = λ x. ⊎_elim
+      (λ (aux : (i : ℕ) × (i < k) × (granule_named m (aux_of (page_in m g) i) ≡ Some x)). inr (mine aux.0 x aux.1 aux.2))
+      (λ (none : (i : ℕ) → i < k → granule_named m (aux_of (page_in m g) i) ≢ Some x).
+      let same = wiped.other x none in
+      ⊎_elim
+      (λ (was : IsSameAt o m x). inl (same.0 ∙ was.0, same.1 ∙ was.1))
+      (λ (own : IsMine o named_realm x). inr own)
+      (before.each x))
+      (first_named (λ i. granule_named m (aux_of (page_in m g) i)) x k);
+}
 
 -- ---- a REC with its auxiliary granules
 
@@ -415,6 +432,15 @@ module _ (m : Machine) (proper : IsProper m) (owner rec : ℕ) (realm : RmmRealm
       keep_realm all owner realm next (rec_made m all proper (Some owner) g is_made wiped.sound) (ap (λ (r : RmmGranule). r.state) owner_still ∙ rd_is) tables first level
       (subst (λ (n : ℕ). IsServed n next) (sym (wiped.count ∙ one_count)) served)
 
+  pub created_touches : (next : RmmRealm) → Touches m (with_granule (with_aux (with_created_rec m owner (number_of m rec) page) (number_of m rec) (of_realm owner RecAux) m.settings.aux) owner (of_no_realm (Rd next))) (Some (Some owner))
+  created_touches next =
+      touch_granule m all (Some (Some owner)) owner (of_no_realm (Rd next))
+      (touch_wiped m one (Some (Some owner)) g (of_realm owner RecAux) (λ n. tt) m.settings.aux all
+      (touch_page m marked (Some (Some owner)) g (rec_page page) (touch_granule m m (Some (Some owner)) g (of_realm owner (IsRec new)) (untouched m (Some (Some owner))) (inr (inr rec_free))) (inr (inr rec_free)))
+      wiped
+      (λ i h lt is. inr (inr (ap (λ (x : ℕ). (granule_at m x).state) (some_same (sym is ∙ aux_named i lt)) ∙ free i lt))))
+      (inl (inl refl))
+
 pub rec_created : (rd rec params : ℕ) (m : Machine) → IsProper m → Passed (rec_create rd rec params m).checks → IsProper (rec_create rd rec params m).machine
 unfolding rec_create aux_checks
 rec_created rd rec params m proper ok =
@@ -438,9 +464,31 @@ rec_created rd rec params m proper ok =
     (not-true _ (all_at (λ k. not (aux_in page k == aux_in page i)) i j (and_parts _ _ (all_at (is_apart rec page) m.settings.aux i alias lt)).1 before)) (eq-eqb _ _ same))
     _ refl refl refl (record { few = s.few; inside = s.inside; most = s.most; level = s.level; width = s.width; served = s.served })
 
+pub rec_created_touches : (rd rec params : ℕ) (m : Machine) → IsProper m → Passed (rec_create rd rec params m).checks → Touches m (rec_create rd rec params m).machine (Some (Some (number_of m rd)))
+unfolding rec_create aux_checks
+rec_created_touches rd rec params m proper ok =
+    let page : List ℕ = page_in m (number_of m params) in
+    let rec_aligned : rec % 4096 ≡ 0 = eqb-true _ _ (yes_from (is_aligned rec) ok.1.1.1.0) in
+    let rec_in : is_inside m rec ≡ true = yes_from (is_inside m rec) ok.1.1.1.1.0 in
+    let rec_free = is_delegated-true (state_at m rec) (yes_from (is_delegated (state_at m rec)) ok.1.1.1.1.1.0) in
+    let is = realm_of-some (state_at m rd) ok.1.1.1.1.1.1.1.1.0 in
+    let aligned = yes_from _ ok.1.1.1.1.1.1.1.1.1.1.0 in
+    let inside = yes_from _ ok.1.1.1.1.1.1.1.1.1.1.1.0 in
+    let alias = yes_from _ ok.1.1.1.1.1.1.1.1.1.1.1.1.0 in
+    let free = yes_from _ ok.1.1.1.1.1.1.1.1.1.1.1.1.1.0 in
+    created_touches m proper (number_of m rd) rec (realm_at m rd) is rec_in rec_aligned rec_free page
+    (λ i lt. eqb-true _ _ (all_at (λ k. is_aligned (aux_in page k)) m.settings.aux i aligned lt))
+    (λ i lt. all_at (λ k. is_inside m (aux_in page k)) m.settings.aux i inside lt)
+    (λ i lt. is_delegated-true _ (and_parts (is_inside m (aux_in page i)) _ (all_at (λ k. can_be_aux m (aux_in page k)) m.settings.aux i free lt)).1)
+    (λ i lt same. both_ways (aux_in page i == rec) (not-true _ (and_parts _ _ (all_at (is_apart rec page) m.settings.aux i alias lt)).0) (eq-eqb _ _ same))
+    (λ i j lt before same.
+    both_ways (aux_in page j == aux_in page i)
+    (not-true _ (all_at (λ k. not (aux_in page k == aux_in page i)) i j (and_parts _ _ (all_at (is_apart rec page) m.settings.aux i alias lt)).1 before)) (eq-eqb _ _ same))
+    _
+
 -- ---- the command RMI_REC_DESTROY
 
-module _ (m : Machine) (g aux : ℕ) (going : IsGoing g m) (aux_is : m.settings.aux ≡ aux) where
+module _ (o : Machine) (w : Option ℕ) (m : Machine) (g aux : ℕ) (going : IsGoing o w g m) (aux_is : m.settings.aux ≡ aux) where
   proper : IsProper m
   proper = going.proper
 
@@ -476,7 +524,7 @@ module _ (m : Machine) (g aux : ℕ) (going : IsGoing g m) (aux_is : m.settings.
   clean = all_wiped m g (of_no_realm Delegated) (λ n. tt) aux proper.sound not_self
 
   g_there : g < length cleared.granules
-  g_there = let c = clean.count in let i = going_inside g m going in omega arith
+  g_there = let c = clean.count in let i = going_inside o w g m going in omega arith
 
   lower : (i : ℕ) → i < m.settings.aux → i < aux
   lower i lt = subst (λ (n : ℕ). i < n) aux_is lt
@@ -505,20 +553,41 @@ module _ (m : Machine) (g aux : ℕ) (going : IsGoing g m) (aux_is : m.settings.
   destroyed : IsProper gone
   destroyed = rec_gone gone m proper owner g was_made gone_sound
 
-without_by : (g rd : ℕ) (m : Machine) (o : Option RmmRealm) → realm_of (granule_at m rd).state ≡ o → IsGoing g m → IsGoing g (without_rec_of m rd o) × ((without_rec_of m rd o).settings ≡ m.settings)
-without_by g rd m (Some realm) is going =
-    let there = realm_of-is (granule_at m rd).state realm is in
-    let s : IsServed (length m.granules) realm = subst (λ (t : RmmGranuleState). IfSome (realm_of t) (IsServed (length m.granules))) there (going.proper.sound.tables.each rd) in
-    (going_realm g rd m realm (with_one_less realm) going there refl refl refl (record { few = s.few; inside = s.inside; most = s.most; level = s.level; width = s.width; served = s.served }), refl)
-without_by g rd m None is going = (going, refl)
+module _ (o : Machine) (w : Option ℕ) where
+  without_by : (g rd : ℕ) (m : Machine) (there : Option RmmRealm) → Some rd ≡ w → realm_of (granule_at m rd).state ≡ there → IsGoing o w g m → IsGoing o w g (without_rec_of m rd there) × ((without_rec_of m rd there).settings ≡ m.settings)
+  without_by g rd m (Some realm) named is going =
+      let there = realm_of-is (granule_at m rd).state realm is in
+      let s : IsServed (length m.granules) realm = subst (λ (t : RmmGranuleState). IfSome (realm_of t) (IsServed (length m.granules))) there (going.proper.sound.tables.each rd) in
+      (going_realm o w g rd m realm (with_one_less realm) going named there refl refl refl (record { few = s.few; inside = s.inside; most = s.most; level = s.level; width = s.width; served = s.served }), refl)
+  without_by g rd m None named is going = (going, refl)
 
-without : (g : ℕ) (m : Machine) (owner : Option ℕ) → IsGoing g m → IsGoing g (without_rec m owner) × ((without_rec m owner).settings ≡ m.settings)
-without g m (Some rd) going = without_by g rd m (realm_of (granule_at m rd).state) refl going
-without g m None going = (going, refl)
+  without : (g : ℕ) (m : Machine) (owner : Option ℕ) → owner ≡ w → IsGoing o w g m → IsGoing o w g (without_rec m owner) × ((without_rec m owner).settings ≡ m.settings)
+  without g m (Some rd) named going = without_by g rd m (realm_of (granule_at m rd).state) named refl going
+  without g m None named going = (going, refl)
 
-pub rec_destroyed : (rec : ℕ) (m : Machine) → IsProper m → Passed (rec_destroy rec m).checks → IsProper (rec_destroy rec m).machine
-unfolding rec_destroy
-rec_destroyed rec m proper ok =
-    let g : ℕ = number_of m rec in
-    let rest = without g m (granule_at m g).owner (record { proper = proper; rec = rec_at m rec; is = rec_of-some (state_at m rec) ok.1.1.0 }) in
-    destroyed (without_rec m (granule_at m g).owner) g m.settings.aux rest.0 (ap (λ (s : RmmSettings). s.aux) rest.1)
+module _ (rec : ℕ) (m : Machine) (proper : IsProper m) (ok : Passed (rec_destroy rec m).checks) where
+  abbrev here : ℕ
+  here = number_of m rec
+
+  abbrev holder : Option ℕ
+  holder = (granule_at m (number_of m rec)).owner
+
+  rest : IsGoing m holder here (without_rec m holder) × ((without_rec m holder).settings ≡ m.settings)
+  unfolding rec_destroy
+  rest = without m holder here m holder refl (going_first here m (rec_at m rec) proper (rec_of-some (state_at m rec) ok.1.1.0))
+
+  pub rec_destroyed : IsProper (rec_destroy rec m).machine
+  unfolding rec_destroy
+  rec_destroyed = destroyed m holder (without_rec m holder) here m.settings.aux rest.0 (ap (λ (s : RmmSettings). s.aux) rest.1)
+
+  -- what it touches: the REC, its auxiliary granules, and the RD
+  pub destroyed_touches : Touches m (rec_destroy rec m).machine (Some holder)
+  unfolding rec_destroy
+  destroyed_touches =
+      let k : Machine = without_rec m holder in
+      let aux : ℕ = m.settings.aux in
+      let count = ap (λ (s : RmmSettings). s.aux) rest.1 in
+      touch_blank m (with_aux k here (of_no_realm Delegated) aux) (Some holder) here Delegated
+      (touch_wiped m k (Some holder) here (of_no_realm Delegated) (λ n. tt) aux (with_aux k here (of_no_realm Delegated) aux) rest.0.touches (clean m holder k here aux rest.0 count)
+      (λ i h lt is. mine_before m k (Some holder) h rest.0.touches (inl (inr (ap (λ (r : RmmGranule). r.owner) (aux_there m holder k here aux rest.0 count i h lt is) ∙ rest.0.owned)))))
+      (inl (inr refl))

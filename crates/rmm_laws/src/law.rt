@@ -1,6 +1,7 @@
 //! Theorems of all calls by registers, of the host's stores, and of guests.
 ghost use Rattle.std.specs.Prelude.{◌≡◌, ◌≢◌, ℕ, ◌^◌, ◌<◌, ◌≤◌, true, false, Some, None};
 ghost use Rattle.rmi_abi.specs.declared.registers.Registers.{Registers};
+ghost use Rattle.rmi_abi.specs.Call.{call_in};
 ghost use Rattle.rmm_model.specs.declared.entry.RmmRttEntry.TheVariants.{Table};
 ghost use Rattle.rmm_model.specs.declared.granule.RmmGranuleState.TheVariants.{Undelegated, Rd};
 ghost use Rattle.rmm_model.specs.declared.step.GuestStep.{GuestStep};
@@ -13,6 +14,7 @@ ghost use Rattle.rmm_model.specs.Machine.{Machine, granule_at, page_in};
 ghost use Rattle.rmm_model.specs.Table.{entry_in_page};
 ghost use Rattle.rmm_model.specs.Walk.{walk};
 ghost use Rattle.rmm_model.specs.Command.RecEnter.{interrupted, step_outcome, after_step};
+ghost use Rattle.rmm_laws.specs.Apart.{IsOfAnother, IsSameAt};
 ghost use Rattle.rmm_laws.specs.Refusal.{IsRefused, IsNotQueued, IsAccess, IsNotDone};
 ghost use Rattle.rmm_laws.specs.Role.{Used, uses, IsSound, IsProper};
 ghost use Rattle.rmm_laws.specs.Walk.{IsTableOf, EndsWell, LeadsToTable};
@@ -53,4 +55,12 @@ pub fn walks_end()
 pub fn tables_lead_to_tables()
     ensures { (m : Machine) (proper : IsProper m) (rd table i address : ℕ) → IsTableOf m rd table → i < 512 → entry_in_page (page_in m table) i ≡ Table address
         → LeadsToTable m proper.level rd table address }
+{}
+
+/// Other realms stay: a call leaves each granule as it was, but for those of the realm that it is on, and UNDELEGATED
+/// and DELEGATED ones. So it keeps the RDs, tables, pages and RECs of all other realms. A store of the host keeps all
+/// granules but UNDELEGATED ones.
+pub fn other_realms_stay()
+    ensures calls { (r : Registers) (m : Machine) (granule : ℕ) → IsProper m → IsOfAnother m (call_in r) granule → IsSameAt m (rmi r m).1 granule }
+    ensures stores { (m : Machine) (address word granule : ℕ) → (granule_at m granule).state ≢ Undelegated → IsSameAt m (after_store m address word) granule }
 {}
