@@ -132,9 +132,10 @@ module _ (m : Machine) (proper : IsProper m) (rd ipa : ℕ) (place : RttWalk) (e
     unfolding is_inside entry_size number_of
     child_begin within =
         let is = child_is in
-        let number = child_number in
-        (and_from _ _ (le-leb m.settings.base (a + j * entry_size (l + 1)) (omega arith)) (lt-ltb _ _ (subst (λ (n : ℕ). n < length m.granules) (sym number) within)),
-        is ∙ ap (λ (n : ℕ). m.settings.base + n * 4096) (sym number))
+        let number = child_number in (
+          and_from _ _ (le-leb m.settings.base (a + j * entry_size (l + 1)) (omega arith)) (lt-ltb _ _ (subst (λ (n : ℕ). n < length m.granules) (sym number) within)),
+          is ∙ ap (λ (n : ℕ). m.settings.base + n * 4096) (sym number),
+        )
 
     pub child_uses : (k : ℕ) → IsBegin m (a + j * entry_size (l + 1)) → k < page_count (l + 1)
         → entry_uses m (Some rd) (l + 1) (Assigned ripas (a + j * entry_size (l + 1))) k ≡ Some (used Data (Some rd) 0 (number_of m a + (j * page_count (l + 1) + k)))

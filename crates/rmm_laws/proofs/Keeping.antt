@@ -105,8 +105,10 @@ module _ (m : Machine) (g : ℕ) (kept : RmmGranule) (proper : IsProper m) (insi
         (cases_eq h g);
     states = λ h. ⊎_elim
         (λ (here : h ≡ g).
-        inr (subst (λ (x : ℕ). has_user (granule_at m x).state ≡ false) (sym here) before,
-        subst (λ (x : ℕ). has_user (granule_at (with_granule m g kept) x).state ≡ false) (sym here) (ap (λ (r : RmmGranule). has_user r.state) now ∙ after)))
+        inr (
+          subst (λ (x : ℕ). has_user (granule_at m x).state ≡ false) (sym here) before,
+          subst (λ (x : ℕ). has_user (granule_at (with_granule m g kept) x).state ≡ false) (sym here) (ap (λ (r : RmmGranule). has_user r.state) now ∙ after),
+        ))
         (λ (other : h ≢ g). inl (granule_at-other m g h kept other))
         (cases_eq h g);
     inside = λ table i is lt. proper.inside table i is lt;

@@ -198,7 +198,6 @@ module _ (m : Machine) (proper : IsProper m) (rd ipa : ℕ) (place : RttWalk) (p
     cut_sound : IsSound cut
     cut_sound = sound-with_entry m here at left proper.sound here_inside few_index
 
-
     pub freed_count : length freed.granules ≡ length m.granules
     freed_count = length-set m.granules g (of_no_realm Delegated)
 

@@ -136,9 +136,10 @@ module _ (B P : ℕ → ℕ → ℕ → Option Used) (t i g C c : ℕ) (memory :
       (cases_eq y g)
 
   one_part : (j l h p : ℕ) → l < c → p < c → j * c + l ≡ h * c + p → (j ≡ h) × (l ≡ p)
-  one_part j l h p lt also same =
-      (sym (div-mul-add j c l lt) ∙ ap (λ (n : ℕ). n / c) same ∙ div-mul-add h c p also,
-      sym (mod-mul-add j c l lt) ∙ ap (λ (n : ℕ). n % c) same ∙ mod-mul-add h c p also)
+  one_part j l h p lt also same = (
+    sym (div-mul-add j c l lt) ∙ ap (λ (n : ℕ). n / c) same ∙ div-mul-add h c p also,
+    sym (mod-mul-add j c l lt) ∙ ap (λ (n : ℕ). n % c) same ∙ mod-mul-add h c p also,
+  )
 
   not_both : (x h : ℕ) → x ≡ t → h ≡ i → (x ≢ t) ⊎ (h ≢ i) → ⊥
   not_both x h here at (inl other) = other here

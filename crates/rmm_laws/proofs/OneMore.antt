@@ -74,9 +74,6 @@ module _ (m n : Machine) (before after : ℕ → ℕ) (t i g : ℕ) (step : IsOn
   none_before : (k : ℕ) → uses m before t i k ≡ None
   none_before k = uses-table_in m before t i k step.table step.index ∙ step.old k
 
-
-
-
   abbrev both : ℕ → ℕ → Bool
   both j k = j == i && k == 0
 

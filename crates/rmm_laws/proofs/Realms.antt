@@ -167,10 +167,13 @@ module _ (p q : Machine) (before after : ℕ → ℕ) (rd : ℕ) (realm : RmmRea
   table_cases g is =
       ⊎_elim
       (λ (start : IsStart realm g). inl start)
-      (λ (none : NoStart realm g). inr (λ same. (
-      let states : (granule_at q g).state ≡ (granule_at q rd).state = ap (λ (x : ℕ). (granule_at q x).state) same in
-      let made = step.rd_made in
-      cc), none))
+      (λ (none : NoStart realm g). inr (
+        λ same. (
+            let states : (granule_at q g).state ≡ (granule_at q rd).state = ap (λ (x : ℕ). (granule_at q x).state) same in
+            let made = step.rd_made in
+            cc),
+        none,
+      ))
       (start_or_none realm g)
 
 module _ (p q : Machine) (proper : IsProper p) (after : ℕ → ℕ) (rd : ℕ) (realm : RmmRealm) (step : IsRealm p q proper.level after rd realm) (sound : IsSound q) (few : realm.start_level ≤ 3) where
@@ -198,15 +201,16 @@ module _ (p q : Machine) (proper : IsProper p) (after : ℕ → ℕ) (rd : ℕ) 
 
 module _ (p q : Machine) (proper : IsProper q) (rd : ℕ) (realm : RmmRealm) (step : IsRealm p q proper.level proper.level rd realm) (sound : IsSound p) where
   other_table : (g : ℕ) → (granule_at p g).state ≡ Rtt → (g ≢ rd) × NoStart realm g
-  other_table g is =
-      (λ same. (
-      let states : (granule_at p g).state ≡ (granule_at p rd).state = ap (λ (x : ℕ). (granule_at p x).state) same in
-      let free = step.rd_free in
-      cc),
-      λ i lt same. (
-      let states : (granule_at p g).state ≡ (granule_at p (realm.first_table + i)).state = ap (λ (x : ℕ). (granule_at p x).state) same in
-      let free = step.free i lt in
-      cc))
+  other_table g is = (
+    λ same. (
+        let states : (granule_at p g).state ≡ (granule_at p rd).state = ap (λ (x : ℕ). (granule_at p x).state) same in
+        let free = step.rd_free in
+        cc),
+    λ i lt same. (
+        let states : (granule_at p g).state ≡ (granule_at p (realm.first_table + i)).state = ap (λ (x : ℕ). (granule_at p x).state) same in
+        let free = step.free i lt in
+        cc),
+  )
 
   table_still : (g : ℕ) → (granule_at p g).state ≡ Rtt → (granule_at q g).state ≡ Rtt
   table_still g is = let other = other_table g is in ap (λ (r : RmmGranule). r.state) (step.beside g other.0 other.1).0 ∙ is
@@ -254,9 +258,10 @@ module _ (m : Machine) (rd : ℕ) (realm : RmmRealm) where
   unfolding with_tables
   made_other zero g none = (refl, refl)
   made_other (suc k) g none =
-      let rest = made_other k g (λ i lt. none i (omega arith)) in
-      (granule_at-other (with_tables m rd realm k) (realm.first_table + k) g (of_realm rd Rtt) (none k (omega arith)) ∙ rest.0,
-      page_in-other (with_granule (with_tables m rd realm k) (realm.first_table + k) (of_realm rd Rtt)) (realm.first_table + k) g (start_page realm k) (none k (omega arith)) ∙ rest.1)
+      let rest = made_other k g (λ i lt. none i (omega arith)) in (
+        granule_at-other (with_tables m rd realm k) (realm.first_table + k) g (of_realm rd Rtt) (none k (omega arith)) ∙ rest.0,
+        page_in-other (with_granule (with_tables m rd realm k) (realm.first_table + k) (of_realm rd Rtt)) (realm.first_table + k) g (start_page realm k) (none k (omega arith)) ∙ rest.1,
+      )
 
   module _ (sound : IsSound m) (inside : realm.first_table + realm.table_count ≤ length m.granules) where
     made_sound : (k : ℕ) → k ≤ realm.table_count → IsSound (with_tables m rd realm k)
@@ -283,9 +288,10 @@ module _ (m : Machine) (rd : ℕ) (realm : RmmRealm) where
         (granule_at-same before (realm.first_table + k) (of_realm rd Rtt) (omega arith), page_in-same marked (realm.first_table + k) (start_page realm k) (omega arith)))
         (λ (ne : i ≢ k).
         let rest = made_tables k i (omega arith) (omega arith) in
-        let apart : realm.first_table + i ≢ realm.first_table + k = λ at. ne (omega arith) in
-        (granule_at-other before (realm.first_table + k) (realm.first_table + i) (of_realm rd Rtt) apart ∙ rest.0,
-        page_in-other marked (realm.first_table + k) (realm.first_table + i) (start_page realm k) apart ∙ rest.1))
+        let apart : realm.first_table + i ≢ realm.first_table + k = λ at. ne (omega arith) in (
+          granule_at-other before (realm.first_table + k) (realm.first_table + i) (of_realm rd Rtt) apart ∙ rest.0,
+          page_in-other marked (realm.first_table + k) (realm.first_table + i) (start_page realm k) apart ∙ rest.1,
+        ))
         (cases_eq i k)
 
 -- ---- the command RMI_REALM_CREATE
@@ -434,9 +440,10 @@ module _ (m : Machine) (realm : RmmRealm) where
   unfolding without_tables
   gone_other zero g none = (refl, refl)
   gone_other (suc k) g none =
-      let rest = gone_other k g (λ i lt. none i (omega arith)) in
-      (granule_at-other (without_tables m realm k) (realm.first_table + k) g (of_no_realm Delegated) (none k (omega arith)) ∙ rest.0,
-      page_in-other (with_granule (without_tables m realm k) (realm.first_table + k) (of_no_realm Delegated)) (realm.first_table + k) g zero_page (none k (omega arith)) ∙ rest.1)
+      let rest = gone_other k g (λ i lt. none i (omega arith)) in (
+        granule_at-other (without_tables m realm k) (realm.first_table + k) g (of_no_realm Delegated) (none k (omega arith)) ∙ rest.0,
+        page_in-other (with_granule (without_tables m realm k) (realm.first_table + k) (of_no_realm Delegated)) (realm.first_table + k) g zero_page (none k (omega arith)) ∙ rest.1,
+      )
 
   module _ (sound : IsSound m) (inside : realm.first_table + realm.table_count ≤ length m.granules) where
     gone_sound : (k : ℕ) → k ≤ realm.table_count → IsSound (without_tables m realm k)
@@ -517,10 +524,11 @@ module _ (m : Machine) (proper : IsProper m) (rd : ℕ) (realm : RmmRealm) (is :
     level = λ i lt. (start_is i lt).1;
     empty = λ i j lt few. unused_free (page_in m (realm.first_table + i)) (none_live m realm.first_table realm.table_count i dead lt) j few;
     beside = λ g other none.
-        let same = gone_other m realm realm.table_count g none in
-        (sym (granule_at-other cleared rd g (of_no_realm Delegated) other ∙ same.0),
-        sym (page_in-other (with_granule cleared rd (of_no_realm Delegated)) rd g zero_page other ∙ same.1),
-        refl);
+        let same = gone_other m realm realm.table_count g none in (
+          sym (granule_at-other cleared rd g (of_no_realm Delegated) other ∙ same.0),
+          sym (page_in-other (with_granule cleared rd (of_no_realm Delegated)) rd g zero_page other ∙ same.1),
+          refl,
+        );
   }
 
   gone_is_sound : IsSound gone

@@ -235,8 +235,10 @@ module _ (p q : Machine) (level : ℕ → ℕ) (owner : Option ℕ) (g : ℕ) (s
     others = λ h not_new.
         ⊎_elim
         (λ (here : h ≡ g).
-        inr (ap (λ (x : ℕ). has_user (granule_at p x).state) here ∙ ap has_user step.free,
-        ap (λ (x : ℕ). has_user (granule_at q x).state) here ∙ ap (λ (r : RmmGranule). has_user r.state) step.made))
+        inr (
+          ap (λ (x : ℕ). has_user (granule_at p x).state) here ∙ ap has_user step.free,
+          ap (λ (x : ℕ). has_user (granule_at q x).state) here ∙ ap (λ (r : RmmGranule). has_user r.state) step.made,
+        ))
         (λ (other : h ≢ g).
         let same = step.beside h other (λ i lt is. not_new i 0 (new_is i h lt is) (sym (ap (λ (o : Option ℕ). unwrap_or o 0) is))) in
         inl (used_at-same p q step.settings step.count level level h same.0 refl))
@@ -542,9 +544,10 @@ module _ (o : Machine) (w : Option ℕ) (m : Machine) (g aux : ℕ) (going : IsG
     aux_made = λ i h lt is. aux_there i h (lower i lt) is;
     apart = λ i j h lt also is at. (one_place m proper g i 0 g j 0 (used RecAux owner 0 h) (used RecAux owner 0 h) (gives i h (lower i lt) is) (gives j h (lower j also) at) refl).1;
     beside = λ h ne none.
-        let same = clean.other h (λ i lt. none i (subst (λ (n : ℕ). i < n) (sym aux_is) lt)) in
-        (sym (granule_at-other cleared g h (of_no_realm Delegated) ne ∙ same.0),
-        sym (page_in-other (with_granule cleared g (of_no_realm Delegated)) g h zero_page ne ∙ same.1));
+        let same = clean.other h (λ i lt. none i (subst (λ (n : ℕ). i < n) (sym aux_is) lt)) in (
+          sym (granule_at-other cleared g h (of_no_realm Delegated) ne ∙ same.0),
+          sym (page_in-other (with_granule cleared g (of_no_realm Delegated)) g h zero_page ne ∙ same.1),
+        );
   }
 
   gone_sound : IsSound gone

@@ -1,12 +1,10 @@
 -- What calls touch: granules of the realm that they are on, and granules of no realm.
-use Rattle.std.proofs.Common.{◌≡◌, ◌≢◌, ℕ, zero, suc, ◌+◌, ◌-◌, ◌*◌, ◌/◌, ◌%◌, ◌^◌, ◌<◌, ◌≤◌, ◌==◌, ◌⊎◌, inl, inr, ◌&&◌, Bool, true, false, not, List, length, Option, Some, None, Result, Ok, Err, unwrap_or, refl, sym, ap, subst, ◌∙◌, ⊎_elim, arith}
-use Rattle.std.specs.Prelude.{nat_le, nat_lt, if◌then◌else◌}
-use Rattle.std.proofs.lemmas.Bool.{cases_eq, cond_both, and_parts, eqb-true, leb-true, ltb-true}
+use Rattle.std.proofs.Common.{◌≡◌, ◌≢◌, ℕ, ◌⊎◌, inl, inr, List, Option, Some, None, refl, sym, ap, subst, ◌∙◌, ⊎_elim}
+use Rattle.std.proofs.lemmas.Bool.{cases_eq}
 use Rattle.rmm_model.specs.declared.granule.RmmGranule.{RmmGranule}
 use Rattle.rmm_model.specs.declared.granule.RmmGranuleState.{RmmGranuleState}
-use Rattle.rmm_model.specs.declared.granule.RmmGranuleState.TheVariants.{Undelegated, Delegated}
 use Rattle.rmm_model.specs.Granule.{of_no_realm}
-use Rattle.rmm_model.specs.Machine.{Machine, granule_at, page_in, with_granule, with_page, with_blank}
+use Rattle.rmm_model.specs.Machine.{Machine, granule_at, with_granule, with_page, with_blank}
 use Rattle.rmm_laws.specs.Apart.{IsOfRealm, IsSpare, IsSameAt, Touches}
 use Rattle.rmm_laws.proofs.Writes.{granule_at-other, page_in-other}
 

@@ -1,8 +1,7 @@
 -- The granules that each call touches.
-use Rattle.std.proofs.Common.{◌≡◌, ◌≢◌, ℕ, zero, suc, ◌+◌, ◌-◌, ◌^◌, ◌<◌, ◌≤◌, ◌==◌, ◌⊎◌, inl, inr, ◌&&◌, ◌||◌, Bool, true, false, not, List, length, Option, Some, None, unwrap_or, refl, sym, ap, subst, ◌∙◌, arith}
+use Rattle.std.proofs.Common.{◌≡◌, ℕ, zero, suc, ◌+◌, ◌-◌, ◌^◌, ◌<◌, ◌≤◌, inl, inr, Option, Some, None, unwrap_or, refl, sym, ap, subst, ◌∙◌, arith}
 use Rattle.std.specs.Prelude.{nat_le, nat_lt, is_some}
 use Rattle.std.proofs.lemmas.Bool.{and_parts, eqb-true, leb-true, ltb-true}
-use Rattle.granule_addr.specs.Page.{zero_page}
 use Rattle.rmi_abi.specs.declared.realm_params.RealmParams.{RealmParams}
 use Rattle.rmm_model.specs.declared.entry.RmmRttEntry.{RmmRttEntry}
 use Rattle.rmm_model.specs.declared.granule.RmmGranule.{RmmGranule}
@@ -11,10 +10,10 @@ use Rattle.rmm_model.specs.declared.realm.RmmRealm.{RmmRealm}
 use Rattle.rmm_model.specs.declared.realm.RttWalk.{RttWalk}
 use Rattle.rmm_model.specs.Granule.{is_undelegated, is_delegated, of_realm}
 use Rattle.rmm_model.specs.Level.{entry_index}
-use Rattle.rmm_model.specs.Machine.{Machine, granule_at, page_in, is_inside, number_of, state_at, with_granule, with_page, with_blank}
-use Rattle.rmm_model.specs.Realm.{is_in_space, is_protected}
+use Rattle.rmm_model.specs.Machine.{Machine, granule_at, page_in, number_of, state_at, with_granule}
+use Rattle.rmm_model.specs.Realm.{is_in_space}
 use Rattle.rmm_model.specs.Table.{entry_in_page}
-use Rattle.rmm_model.specs.Walk.{entry_at, with_entry, table_below, memory_below, walk}
+use Rattle.rmm_model.specs.Walk.{entry_at, table_below, memory_below, walk}
 use Rattle.rmm_model.specs.Command.DataCreate.{data_create, source_checks, target_checks}
 use Rattle.rmm_model.specs.Command.DataCreateUnknown.{data_create_unknown}
 use Rattle.rmm_model.specs.Command.DataDestroy.{data_destroy}
@@ -22,7 +21,7 @@ use Rattle.rmm_model.specs.Command.GranuleDelegate.{granule_delegate}
 use Rattle.rmm_model.specs.Command.GranuleUndelegate.{granule_undelegate}
 use Rattle.rmm_model.specs.Command.Operand.{realm_at, is_level}
 use Rattle.rmm_model.specs.Command.RealmActivate.{realm_activate}
-use Rattle.rmm_model.specs.Command.RealmCreate.{realm_create, params_at, params_checks, are_delegated, is_range_inside, can_start, realm_for, with_tables}
+use Rattle.rmm_model.specs.Command.RealmCreate.{realm_create, params_at, params_checks, are_delegated, can_start, realm_for, with_tables}
 use Rattle.rmm_model.specs.Command.RealmDestroy.{realm_destroy, is_realm_live, has_live_table, without_tables}
 use Rattle.rmm_model.specs.Command.RipasRange.{with_ripas_from}
 use Rattle.rmm_model.specs.Command.RttCreate.{rtt_create}
@@ -33,7 +32,7 @@ use Rattle.rmm_model.specs.Command.RttMapUnprotected.{rtt_map_unprotected}
 use Rattle.rmm_model.specs.Command.RttSetRipas.{rtt_set_ripas, ripas_request_checks, is_rec_of}
 use Rattle.rmm_model.specs.Command.RttUnmapUnprotected.{rtt_unmap_unprotected}
 use Rattle.rmm_laws.specs.Apart.{Touches}
-use Rattle.rmm_laws.specs.Role.{Used, used, used_at, entry_uses, uses, IsProper}
+use Rattle.rmm_laws.specs.Role.{Used, used, entry_uses, IsProper}
 use Rattle.rmm_laws.proofs.Guests.{same_owner}
 use Rattle.rmm_laws.proofs.Mappings.{place_is, served, protected_within, unprotected_within, owned_protected, by_memory, some_of}
 use Rattle.rmm_laws.proofs.Passed.{Passed, yes_from, is_delegated-true, is_undelegated-true, realm_of-some}

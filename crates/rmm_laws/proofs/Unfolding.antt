@@ -46,7 +46,6 @@ module _ (m : Machine) (proper : IsProper m) (rd rtt ipa level : ℕ) (place : R
   abbrev n : Machine
   n = with_entry (with_granule (with_page m g content) g (of_realm rd Rtt)) place ipa (Table rtt)
 
-
   page_long : length content ≡ 4096
   page_long = length-children (Assigned ripas a) level
 
@@ -260,4 +259,3 @@ block_made m proper rd rtt ipa level place end below most inside aligned free (T
 block_made m proper rd rtt ipa level place end below most inside aligned free (Unassigned ripas) is not_table block = absurd (cc)
 block_made m proper rd rtt ipa level place end below most inside aligned free UnassignedNs is not_table block = absurd (cc)
 block_made m proper rd rtt ipa level place end below most inside aligned free (AssignedNs desc) is not_table block = absurd (cc)
-

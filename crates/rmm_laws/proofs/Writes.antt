@@ -89,9 +89,10 @@ module _ (m n : Machine) (settings : n.settings ≡ m.settings) (count : length 
       ∙ ap (λ (l : ℕ). state_uses m (granule_at m g).state (granule_at m g).owner l (page_in m g) g i part) level
 
   begin-same : (address : ℕ) → IsBegin m address → IsBegin n address
-  begin-same address is =
-      (inside-same address ∙ is.0,
-      is.1 ∙ sym (ap (λ (k : ℕ). n.settings.base + k * 4096) (number-same address) ∙ ap (λ (s : RmmSettings). s.base + number_of m address * 4096) settings))
+  begin-same address is = (
+    inside-same address ∙ is.0,
+    is.1 ∙ sym (ap (λ (k : ℕ). n.settings.base + k * 4096) (number-same address) ∙ ap (λ (s : RmmSettings). s.base + number_of m address * 4096) settings),
+  )
 
   pub leads-same : (entry : RmmRttEntry) → LeadsInside m entry → LeadsInside n entry
   leads-same (Table address) is = begin-same address is

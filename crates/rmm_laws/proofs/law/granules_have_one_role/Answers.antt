@@ -26,9 +26,9 @@ returns-clause-start c = λ m sound all. record {
   sound = sound;
   level = λ g. 0;
   roles = λ g. inr (record {
-      none = λ x i k u gives number. (let none : uses m (λ (h : ℕ). 0) x i k ≡ None = uses-plain m (λ (h : ℕ). 0) x i k (ap is_user (all x)) in let some = gives in absurd (cc));
-      role = ap has_user (all g);
-    });
+    none = λ x i k u gives number. (let none : uses m (λ (h : ℕ). 0) x i k ≡ None = uses-plain m (λ (h : ℕ). 0) x i k (ap is_user (all x)) in let some = gives in absurd (cc));
+    role = ap has_user (all g);
+  });
   most = λ table is. (let free = all table in absurd (cc));
   inside = λ table i is lt. (let free = all table in absurd (cc));
 }

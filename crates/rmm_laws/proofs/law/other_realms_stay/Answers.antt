@@ -1,19 +1,18 @@
-use Rattle.std.proofs.Common.{◌≡◌, ◌≢◌, ℕ, ◌/◌, ◌%◌, Option, Some, None, ⊎_elim, refl, sym, ap, ◌∙◌}
+use Rattle.std.proofs.Common.{ℕ, ◌/◌, ◌%◌, Option, Some, None, ⊎_elim, refl, ap, ◌∙◌}
 use Rattle.std.proofs.lemmas.Bool.{and_parts, cond_both}
 use Rattle.std.specs.Prelude.{◌==◌}
 use Rattle.rmi_abi.specs.declared.call.Call.{Call}
 use Rattle.rmi_abi.specs.declared.call.Call.TheVariants.{Version, GranuleDelegate, GranuleUndelegate, DataCreateUnknown, DataDestroy, RealmActivate, RealmCreate, RealmDestroy, RecCreate, RecDestroy, RecEnter, PsciComplete, RttCreate, RttDestroy, RttMapUnprotected, RttReadEntry, RttUnmapUnprotected, Features, RttFold, RecAuxCount, DataCreate, RttInitRipas, RttSetRipas}
 use Rattle.rmi_abi.specs.declared.registers.Registers.{Registers}
 use Rattle.rmi_abi.specs.Call.{call_in}
-use Rattle.rmm_model.specs.declared.granule.RmmGranuleState.TheVariants.{Undelegated}
 use Rattle.rmm_model.specs.Call.{command_of, performed, rmi, rmi_at}
-use Rattle.rmm_model.specs.Host.{is_host_page, can_access, after_store}
-use Rattle.rmm_model.specs.Machine.{Machine, granule_at, page_in, number_of, with_word}
+use Rattle.rmm_model.specs.Host.{is_host_page, can_access}
+use Rattle.rmm_model.specs.Machine.{Machine, granule_at, number_of, with_word}
 use Rattle.rmm_model.specs.Command.Features.{features}
 use Rattle.rmm_model.specs.Command.RecAuxCount.{rec_aux_count}
 use Rattle.rmm_model.specs.Command.RttReadEntry.{rtt_read_entry}
 use Rattle.rmm_model.specs.Command.Version.{version}
-use Rattle.rmm_laws.specs.Apart.{realm_named, IsOfRealm, IsSpare, IsSameAt, Touches, IsOfAnother}
+use Rattle.rmm_laws.specs.Apart.{named_realm, IsOfRealm, IsSpare, IsSameAt, Touches, IsOfAnother}
 use Rattle.rmm_laws.specs.Role.{IsProper}
 use Rattle.rmm_laws.proofs.Guests.{entered_touches, completed_touches}
 use Rattle.rmm_laws.proofs.Passed.{Passed, kept}
@@ -24,7 +23,7 @@ use Rattle.rmm_laws.proofs.TouchingCalls.{delegate_touches, undelegate_touches, 
 use Rattle.rmm_laws.proofs.Writes.{page_in-other}
 use Rattle.rmm_laws.proofs.law.other_realms_stay.Goals as goal
 
-after : (call : Call) (m : Machine) → IsProper m → Passed (command_of call m).checks → Touches m (command_of call m).machine (realm_named m call)
+after : (call : Call) (m : Machine) → IsProper m → Passed (command_of call m).checks → Touches m (command_of call m).machine (named_realm m call)
 unfolding version features rec_aux_count rtt_read_entry
 after (Version requested) m proper ok = untouched m None
 after (Features index) m proper ok = untouched m None
@@ -54,10 +53,10 @@ by_call : (o : Option Call) (r : Registers) (m : Machine) (g : ℕ) → IsProper
 unfolding performed
 by_call None r m g proper other = (refl, refl)
 by_call (Some call) r m g proper other =
-    let touches = kept (λ (n : Machine). Touches m n (realm_named m call)) (command_of call m) m (untouched m (realm_named m call)) (after call m proper) in
+    let touches = kept (λ (n : Machine). Touches m n (named_realm m call)) (command_of call m) m (untouched m (named_realm m call)) (after call m proper) in
     ⊎_elim
     (λ (same : IsSameAt m (rmi_at (Some call) r m).1 g). same)
-    (λ (mine : IsMine m (realm_named m call) g). absurd (⊎_elim (λ (own : IsOfRealm m (realm_named m call) g). other.0 own) (λ (spare : IsSpare m g). other.1 spare) mine))
+    (λ (mine : IsMine m (named_realm m call) g). absurd (⊎_elim (λ (own : IsOfRealm m (named_realm m call) g). other.0 own) (λ (spare : IsSpare m g). other.1 spare) mine))
     (touches.each g)
 
 pub returns-clause-calls : goal.returns-clause-calls
