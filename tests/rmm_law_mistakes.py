@@ -86,19 +86,6 @@ def fold_destroys(self: tables.RttFold) -> Outcome:
     return done(rtt=self.remove(entry._replace(ripas=DESTROYED) if entry.kind == "UNASSIGNED" else entry))
 
 
-def write_goes_beside(here: Machine, rec: machine.Rec, flags: int, ipa: int, value: int, width: int) -> Any:
-    address = guest.physical(here, rec, ipa, guest.MAY_WRITE, 0, value)
-    if not isinstance(address, int):
-        return written(here, rec, flags, ipa, value, width)
-    pages = [k for k, it in enumerate(here.granules) if it.state == "DATA"]
-    beside = here.base + 4096 * pages[-1] if pages else address
-    here.store(beside, value.to_bytes(width, "little"))
-    return guest.DONE
-
-
-written = guest.STEPS["write"]
-
-
 def refusal_counts(self: Command, word: int) -> dict[str, int]:
     if word & 0xFF in (REC, RTT) and hasattr(self, "rd"):
         self.realm.next += 1
@@ -117,6 +104,5 @@ MISTAKES = {
     "aux_is_kept": Mistake(patch.object(recs.RecDestroy, "effect", aux_is_kept), ("roles", "teardowns")),
     "exit_shows_registers": Mistake(patch.object(guest, "leave", exit_shows_registers), ("secrets",)),
     "fold_destroys": Mistake(patch.object(tables.RttFold, "effect", fold_destroys), ("folds", "ripas")),
-    "write_goes_beside": Mistake(patch.dict(guest.STEPS, {"write": write_goes_beside}), ("memory", "realms")),
     "refusal_counts": Mistake(patch.object(Command, "refused", refusal_counts), ("refusals",)),
 }
