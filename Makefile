@@ -31,11 +31,12 @@ try-trace: ## a minute: builds rmitrace with nothing proved, and checks TRACE
 build: ## proves the three programs with their libraries, and puts them into bin/
 	@tools/build
 
-c-library: ## proves the RMM as a library for C, and puts it into build/
+c-library: ## proves the RMM and the host as libraries for C, and puts them into build/
 	@tools/rmm-library
 
-c-test: c-library ## tries the library from C, C++ and Python, with sanitizers, valgrind and random calls (needs a C compiler)
+c-test: c-library ## tries the libraries from C, C++ and Python, with sanitizers, valgrind and random calls (needs a C compiler)
 	@tests/rmm-c --all
+	@tests/rhm-c --all
 	@tests/examples --all
 	@tests/fuzz_c 2
 
@@ -66,11 +67,11 @@ install: ## copies what `make build` and `make c-library` have built, man pages,
 
 install-c-library: ## copies the library for C and Python alone below PREFIX, after `make c-library`
 	install -d $(DESTDIR)$(PREFIX)/include $(LIB)/pkgconfig $(SHARE)/realmhost/python $(SHARE)/realmhost/examples/c
-	install -m 644 include/rmm.h include/rmm_commands.h $(DESTDIR)$(PREFIX)/include
-	install -m 644 build/librmm.a $(LIB)
-	if test -f build/librmm.so.0; then install -m 755 build/librmm.so.0 $(LIB) && ln -sf librmm.so.0 $(LIB)/librmm.so; fi
-	sed 's|^libdir=.*|libdir=$${pcfiledir}/..|; s|^includedir=.*|includedir=$${pcfiledir}/../../include|' include/rmm.pc > $(LIB)/pkgconfig/rmm.pc
-	install -m 644 python/rmm.py $(SHARE)/realmhost/python
+	install -m 644 include/rmm.h include/rmm_commands.h include/rhm.h $(DESTDIR)$(PREFIX)/include
+	install -m 644 build/librmm.a build/librhm.a $(LIB)
+	if test -f build/librmm.so.0; then install -m 755 build/librmm.so.0 build/librhm.so.0 $(LIB) && ln -sf librmm.so.0 $(LIB)/librmm.so && ln -sf librhm.so.0 $(LIB)/librhm.so; fi
+	for it in rmm rhm; do sed 's|^libdir=.*|libdir=$${pcfiledir}/..|; s|^includedir=.*|includedir=$${pcfiledir}/../../include|' include/$$it.pc > $(LIB)/pkgconfig/$$it.pc; done
+	install -m 644 python/rmm.py python/rhm.py $(SHARE)/realmhost/python
 	install -m 644 examples/c/* $(SHARE)/realmhost/examples/c
 
 test: ## the whole gate from nothing: proofs, tests, what the built programs print, and the documents
@@ -78,7 +79,7 @@ test: ## the whole gate from nothing: proofs, tests, what the built programs pri
 	@mkdir -p bin
 	@for it in $(PROGRAMS) test_memory; do install -m 755 crates/$$it/out/$$it bin/$$it || exit 1; done
 	@! command -v $(CC) > /dev/null || tools/rmm-library
-	@tools/at_once tests/commands tests/program tests/traces tests/rules tests/rmm_traces tests/rmm_rules tests/planted_rmm tests/rmm_freedoms tests/view tests/terminal tests/orders tests/json tests/page tests/allocations tests/rmm-c tests/examples tests/documents tests/prose tests/believed tests/names tests/pages tests/schema "tools/pictures --check" "tools/calls --check" "tools/commands_index --check" "tools/page_template --check"
+	@tools/at_once tests/commands tests/program tests/traces tests/rules tests/rmm_traces tests/rmm_rules tests/planted_rmm tests/rmm_freedoms tests/view tests/terminal tests/orders tests/json tests/page tests/allocations tests/rmm-c tests/rhm-c tests/examples tests/documents tests/prose tests/believed tests/names tests/pages tests/schema "tools/pictures --check" "tools/calls --check" "tools/commands_index --check" "tools/page_template --check"
 
 mutants: ## tries the mutants of CRATE or all: the prover has to refuse each
 	@tests/mutants $(if $(JOBS),--jobs $(JOBS)) $(if $(SINCE),--since $(SINCE)) $(CRATE)

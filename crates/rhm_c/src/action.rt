@@ -156,7 +156,11 @@ fn raw_action(action: &HostAction) -> RawAction
             ..plain(4, *page)
         },
         HostAction::Call { call, x1 } => call_action(*call, *x1),
-        _ => rec_action(action),
+        HostAction::Enter { .. }
+        | HostAction::Interrupt { .. }
+        | HostAction::Write { .. }
+        | HostAction::Spin { .. }
+        | HostAction::Saw { .. } => rec_action(action),
     }
 }
 

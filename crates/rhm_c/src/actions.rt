@@ -125,10 +125,11 @@ pub(crate) fn actions_back(
 ) -> Result<Actions, Refusal>
     ensures { result ≡ prepared.actions_back frame host.now build }
 {
-    if !host.ledger().has_build(build) {
+    let ledger = host.ledger();
+    if !ledger.has_build(build) {
         return Err(Refusal::NoBuild);
     }
-    let Some(newest) = host.ledger().newest(build) else {
+    let Some(newest) = ledger.newest(build) else {
         return Err(Refusal::NothingToUndo);
     };
     if host.is_newest_running(build) {

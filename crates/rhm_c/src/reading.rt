@@ -11,8 +11,8 @@ use history_calls::Frame;
 use realm_host::{GranuleState, Mark, RealmState, RecState};
 use std::alloc::Global;
 
-/// A build: the number of its pages, and of the operations that it has open; whether it is in abort, and whether it has a
-/// mark, with the number of operations that were open there.
+/// A build: the numbers of its pages and of its open operations, and whether it is in abort. `mark` is the number of
+/// operations that were open at its mark, if it has one.
 #[repr(C)]
 #[derive(Drop)]
 pub struct BuildReading {

@@ -5,9 +5,9 @@ use Rattle.rhm_c.proofs.marks.roll_back.Goals as goal
 
 pub returns-in-Some : goal.returns-in-Some
 returns-in-Some c =
-    subst (λ (o : Option Mark). IsBackTo o c.args.host.old c.args.build c.counted.result c.rollback_to.new.host) c.in-Some.ensures.value
+    subst (λ (o : Option Mark). IsBackTo o c.args.host.now c.args.build c.counted.result c.rollback_to.new.self) c.in-Some.ensures.value
     (record { result = c.rollback_to.result; is_result = c.rollback_to.ensures; given_is = c.counted.ensures })
 
 pub returns-in-None : goal.returns-in-None
 returns-in-None c =
-    subst (λ (o : Option Mark). IsBackTo o c.args.host.old c.args.build c.refused.result c.args.host.old) c.in-None.ensures.value (c.refused.ensures, refl)
+    subst (λ (o : Option Mark). IsBackTo o c.args.host.now c.args.build c.refused.result c.args.host.now) c.in-None.ensures.value (c.refused.ensures, refl)
