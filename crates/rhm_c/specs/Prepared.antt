@@ -1,9 +1,11 @@
 -- The operations of a host on an RMM for a command, or for an undo, that is not performed yet.
-use Rattle.std.specs.Prelude.{◌≡◌, ℕ, [], Bool, true, false, Option, Some, None, Result, Ok, Err, unwrap_or, option_and_then}
+use Rattle.std.specs.Prelude.{◌≡◌, ℕ, [], Bool, true, false, not, Option, Some, None, Result, Ok, Err, unwrap_or, option_and_then}
 use Rattle.std.specs.List.{last_or}
 use Rattle.arrayvec.specs.ArrayVec.{ArrayVec}
 use Rattle.realm_model.specs.declared.act.Act.{Act}
 use Rattle.realm_model.specs.declared.act.RealmAndRec.{RealmAndRec}
+use Rattle.realm_model.specs.declared.act.Act.TheVariants.{Fill, Peek as PeekAct}
+use Rattle.realm_model.specs.declared.states.GranuleState.TheVariants.{Undelegated}
 use Rattle.realm_model.specs.Act.{reverse_of}
 use Rattle.realm_model.specs.Command.Check.{error_input}
 use Rattle.realm_model.specs.Places.{rd_of, rec_named, rec_granule}
@@ -24,7 +26,9 @@ use Rattle.history_calls.specs.Actions.{actions_of}
 use Rattle.history_calls.specs.Frame.{Place}
 use Rattle.realm_host.specs.Allocation.{granules_named, act_asked}
 use Rattle.realm_host.specs.Call.{Undo}
+use Rattle.realm_host.specs.Readings.{granule_at}
 use Rattle.realm_host.specs.Refusals.{refusal_of}
+use Rattle.realm_host.specs.declared.reading.GranuleView.{GranuleView}
 
 -- ---- an operation of a build
 
@@ -67,8 +71,24 @@ abbrev pub without_act : Cmd → Result (ArrayVec HostAction) Refusal
 without_act (Take order) = Ok (record { items = [] })
 without_act _ = Err (Rmi error_input)
 
+-- the hypervisor may access the granule: it is UNDELEGATED
+abbrev pub is_accessible : Option GranuleView → Bool
+is_accessible (Some view) = elim view.state [ Undelegated ↦ true | _ ↦ false ]
+is_accessible None = false
+
+-- a write or a read of the hypervisor would fault
+abbrev pub would_fault : HostView → Act → Bool
+would_fault host (Fill granule value) = not (is_accessible (granule_at (world_of host) granule))
+would_fault host (PeekAct granule offset byte) = not (is_accessible (granule_at (world_of host) granule))
+would_fault host _ = false
+
+-- an operation that would fault is an input error
+abbrev pub unless_fault : Place → HostView → ℕ → ℕ → Act → Bool → Result (ArrayVec HostAction) Refusal
+unless_fault place host build run act true = Err (Rmi error_input)
+unless_fault place host build run act false = Ok (actions_for place host build run act)
+
 abbrev pub actions_of_act : Place → HostView → ℕ → ℕ → Cmd → Option Act → Result (ArrayVec HostAction) Refusal
-actions_of_act place host build run cmd (Some act) = Ok (actions_for place host build run act)
+actions_of_act place host build run cmd (Some act) = unless_fault place host build run act (would_fault host act)
 actions_of_act place host build run cmd None = without_act cmd
 
 -- a refusal, or what comes without one

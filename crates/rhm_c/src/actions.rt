@@ -4,14 +4,16 @@ ghost use Rattle.realm_model.specs.Act.{reverse_of};
 ghost use Rattle.realm_model.specs.Running.{next_number};
 ghost use Rattle.realm_model.specs.World.{realm_of};
 ghost use Rattle.host_ledger.specs.View.{world_of};
+ghost use Rattle.realm_host.specs.Readings.{granule_at};
 ghost use Rattle.rhm_c.specs.Prepared as prepared;
 
 use crate::placed_host::PlainHost;
 use arrayvec::ArrayVec;
 use build_journal::reverse_of;
-use granule_addr::{BuildId, RecNo, Vmid};
+use granule_addr::{BuildId, Gran, RecNo, Vmid};
 use history_calls::{Frame, HostAction, MOST_ACTIONS, actions_of};
 use host_commands::{Allocated, Cmd, Refusal, act_of, check_needs};
+use realm_host::GranuleState;
 use realm_model::{Act, RealmAndRec, Rmi};
 
 /// The operations of a host for a command.
@@ -80,6 +82,44 @@ fn without_act(cmd: &Cmd) -> Result<Actions, Refusal>
     }
 }
 
+// Whether a write or a read of the hypervisor would fault: the granule is not UNDELEGATED.
+fn would_fault(host: &PlainHost, act: &Act) -> bool
+    ensures { result ≡ prepared.would_fault host.now act.now }
+{
+    match act {
+        Act::Fill { granule, .. } | Act::Peek { granule, .. } => !is_accessible(host, *granule),
+        _ => false,
+    }
+}
+
+// Whether the hypervisor may access a granule.
+fn is_accessible(host: &PlainHost, granule: Gran) -> bool
+    ensures { result ≡ prepared.is_accessible (granule_at (world_of host.now) granule) }
+{
+    match host.granule_view(granule) {
+        Some(view) => matches!(view.state, GranuleState::Undelegated),
+        None => false,
+    }
+}
+
+// The operations for an operation of a build that the hypervisor can perform.
+fn actions_unless_fault(
+    frame: Frame,
+    host: &PlainHost,
+    build: BuildId,
+    run: u16,
+    act: &Act,
+) -> Result<Actions, Refusal>
+    requires there { build < host.now.limits.builds }
+    requires run { run < 64 }
+    ensures { result ≡ prepared.unless_fault frame host.now build run act.now (prepared.would_fault host.now act.now) }
+{
+    if would_fault(host, act) {
+        return Err(Refusal::Rmi(Rmi::INPUT));
+    }
+    Ok(actions_for(frame, host, build, run, act))
+}
+
 /// The operations for a command, or the refusal that the host gives before it calls the RMM.
 pub(crate) fn actions_asked(
     frame: Frame,
@@ -96,7 +136,7 @@ pub(crate) fn actions_asked(
         Err(refusal) => return Err(refusal),
     };
     match act_of(cmd, &granules, allocated(host, build)) {
-        Some(act) => Ok(actions_for(frame, host, build, run, &act)),
+        Some(act) => actions_unless_fault(frame, host, build, run, &act),
         None => without_act(cmd),
     }
 }
