@@ -224,7 +224,8 @@ uint64_t rhm_prepare(rhm_handle *handle, uint64_t build, const rhm_command *comm
  * as by rhm_ask.
  *
  * RHM_NOT_EXPECTED: X0 is not RMI_SUCCESS, or X1 is not the output that the host knows. Nothing is recorded.
- * RHM_DIVERGED: the RMM has performed a call that the model refuses with the result word `value`. Nothing is recorded.
+ * RHM_DIVERGED: the RMM has performed a call that the model refuses with the result word `value`, or the command has no
+ * call, as RHM_EXIT, and the model refuses it. Nothing is recorded.
  *
  * What is recorded is what was performed if no other call came for the build since rhm_prepare, nor, for a RHM_REALM, one
  * that creates or removes another realm.
