@@ -1,5 +1,5 @@
 //! Granules, their pages and their attributes.
-ghost use Rattle.std.specs.Prelude.{◌≡◌, ◌≢◌, ◌<◌, ◌≤◌, false, length, replicate, slice_set, IfErr, IfOk, IfSome, IsTrue};
+ghost use Rattle.std.specs.Prelude.{◌≡◌, ◌≢◌, ◌+◌, ◌<◌, ◌≤◌, false, length, replicate, slice_set, IfErr, IfOk, IfSome, IsTrue};
 ghost use Rattle.granule_addr.specs.Page.{page_of};
 ghost use Rattle.page_arena.specs.Word.{with_bytes};
 ghost use Rattle.rmi_abi.specs.Settings.{IsPlatform};
