@@ -31,11 +31,11 @@ try-trace: ## a minute: builds rmitrace with nothing proved, and checks TRACE
 build: ## proves the three programs with their libraries, and puts them into bin/
 	@tools/build
 
-c-library: ## proves the RMM as a library for C, and puts it into build/
+c-library: ## proves the RMM and the host as libraries for C, and puts them into build/
 	@tools/rmm-library
 
-c-test: c-library ## tries the library from C, C++ and Python, with sanitizers, valgrind and random calls (needs a C compiler)
-	@FUZZ_SECONDS=2 tools/pytest -q -m "" tests/test_c_library.py tests/test_examples.py tests/test_fuzz_c.py
+c-test: c-library ## tries the libraries from C, C++ and Python, with sanitizers, valgrind and random calls (needs a C compiler)
+	@FUZZ_SECONDS=2 tools/pytest -q -m "" tests/test_c_library.py tests/test_host_library.py tests/test_examples.py tests/test_fuzz_c.py
 
 docs-html: ## makes a site of the documents in build/html, which can be read offline (needs pandoc)
 	@tools/docs_html
@@ -64,11 +64,11 @@ install: ## copies what `make build` and `make c-library` have built, man pages,
 
 install-c-library: ## copies the library for C and Python alone below PREFIX, after `make c-library`
 	install -d $(DESTDIR)$(PREFIX)/include $(LIB)/pkgconfig $(SHARE)/realmhost/python $(SHARE)/realmhost/examples/c
-	install -m 644 include/rmm.h include/rmm_commands.h $(DESTDIR)$(PREFIX)/include
-	install -m 644 build/librmm.a $(LIB)
-	if test -f build/librmm.so.0; then install -m 755 build/librmm.so.0 $(LIB) && ln -sf librmm.so.0 $(LIB)/librmm.so; fi
-	sed 's|^libdir=.*|libdir=$${pcfiledir}/..|; s|^includedir=.*|includedir=$${pcfiledir}/../../include|' include/rmm.pc > $(LIB)/pkgconfig/rmm.pc
-	install -m 644 python/rmm.py $(SHARE)/realmhost/python
+	install -m 644 include/rmm.h include/rmm_commands.h include/rhm.h $(DESTDIR)$(PREFIX)/include
+	install -m 644 build/librmm.a build/librhm.a $(LIB)
+	if test -f build/librmm.so.0; then install -m 755 build/librmm.so.0 build/librhm.so.0 $(LIB) && ln -sf librmm.so.0 $(LIB)/librmm.so && ln -sf librhm.so.0 $(LIB)/librhm.so; fi
+	for it in rmm rhm; do sed 's|^libdir=.*|libdir=$${pcfiledir}/..|; s|^includedir=.*|includedir=$${pcfiledir}/../../include|' include/$$it.pc > $(LIB)/pkgconfig/$$it.pc; done
+	install -m 644 python/rmm.py python/rhm.py $(SHARE)/realmhost/python
 	install -m 644 examples/c/* $(SHARE)/realmhost/examples/c
 
 test: ## the whole gate from nothing: proofs, tests, what the built programs print, and the documents
