@@ -283,18 +283,8 @@ def log(room):
     same("that answers are compared", judged(printed.stdout) >= 50, True)
 
 
-def tables():
-    """The traces whose platforms have no settings but numbers, which the rows of a table have."""
-    known = {"aux", "vmid_bits", "s2sz", "max_recs_order"}
-    for path in traces():
-        platforms = [line.split()[3:] for line in path.read_text().splitlines() if line.startswith("platform ")]
-        if all(set(words[::2]) <= known for words in platforms):
-            yield path
-
-
 def table(room):
-    chosen = [*tables()]
-    for path in chosen if room.is_all else chosen[::EACH]:
+    for path in traces() if room.is_all else traces()[::EACH]:
         rows = room.folder / "rows.inc"
         rows.write_text(run([sys.executable, EXAMPLES / "drive.py", "--c", path]))
         sources = [EXAMPLES / "c/table.c", EXAMPLES / "c/table_rmm.c"]

@@ -149,6 +149,7 @@ def of_whole_texts() -> Iterator[Finding]:
          some + b"rmi_granule_delegate 0x80000000 = RMI_SUCCESS\nplatform 0x1 1 = no command\nstate 0x80000000 = DELEGATED\n"),
         ("a line of the greatest length", longest + b"\n", longest + b"\n"),
         ("a longer line", b"0" * 65538 + b"\n", b"0" * 65537 + b" = no command\n"),
+        ("a longer comment", b"#" * 65538 + b"\n", b"#" * 65537 + b"\n"),
     ):
         yield differs(f"answer: {name}", ran("answer", text), 0, out)
     for name, text, same, wrong in (
