@@ -1,20 +1,18 @@
 -- What other builds did decides no refusal of a call that needs no block and no VMID.
-use Rattle.std.proofs.Common.{◌≡◌, ℕ, ◌+◌, ◌-◌, ◌&&◌, Bool, true, false, cond, not, List, [], ◌∷◌, ◌++◌, map, length, Option, Some, None, refl, sym, ap, ◌∙◌, eq-eqb, ◌==◌}
+use Rattle.std.proofs.Common.{◌≡◌, ℕ, ◌+◌, ◌-◌, Bool, true, false, not, List, [], ◌∷◌, ◌++◌, map, length, Option, Some, None, refl, sym, ap, ◌∙◌, eq-eqb}
 use Rattle.std.specs.Prelude.{nat_le, nat_lt, is_some, slice_get, slice_index, option_map, option_and_then}
 use Rattle.std.specs.List.{last_or, list_all, cons_option, filter_map, flat_map}
 use Rattle.std.proofs.lemmas.Bool.{and_from}
 use Rattle.std.proofs.lemmas.Option.{same_Some}
 use Rattle.realm_model.specs.declared.act.Act.{Act}
 use Rattle.realm_model.specs.declared.act.Event.{Event}
-use Rattle.realm_model.specs.Act.{reverse_of}
-use Rattle.realm_model.specs.Machine.{Machine, Limits, Seen, cell_at, seen}
-use Rattle.realm_model.specs.Update.{Outcome}
+use Rattle.realm_model.specs.Machine.{Limits, Seen, seen}
 use Rattle.realm_model.specs.History.{events_of, acts_of, open_entries, unmatched, pages_held, replay, IsLegal}
 use Rattle.realm_model.specs.Running.{next_number, running_count, is_running}
 use Rattle.realm_model.specs.Command.Check.{is_in}
 use Rattle.realm_model.specs.Outcome.{outcome_of}
 use Rattle.realm_model.specs.Step.{used_vmids}
-use Rattle.realm_model.specs.World.{World, is_leased_to, is_of_other, part_of, realm_of}
+use Rattle.realm_model.specs.World.{is_leased_to, is_of_other, part_of, realm_of}
 use Rattle.realm_model.proofs.HiddenSteps.{named_seen}
 use Rattle.realm_model.proofs.Lists.{is_in_at}
 use Rattle.realm_model.proofs.Pages.{is_in-pages_of}
@@ -22,16 +20,15 @@ use Rattle.realm_model.proofs.RealmOf.{realm_of-part_of}
 use Rattle.realm_model.proofs.TakenAlone.{legal_alone}
 use Rattle.host_commands.specs.declared.cmd.Cmd.{Cmd}
 use Rattle.host_commands.specs.declared.cmd.Cmd.TheVariants.{Take, Fill, Peek, Delegate, Realm, Rtt, Ripas, Data, Unknown, Rec, Activate, Enter, Exit, Poke}
-use Rattle.host_commands.specs.declared.refusal.Refusal.{Refusal}
 use Rattle.host_commands.specs.declared.refusal.Refusal.TheVariants.{NoBuild, NothingToUndo, RecRunning}
 use Rattle.host_commands.specs.declared.reply.Allocated.{Allocated}
 use Rattle.host_commands.specs.Acts.{of_granule, act_if, act_of}
 use Rattle.host_commands.specs.BuildsSummary.{BuildsSummary}
-use Rattle.host_commands.specs.Checks.{Check, state_checks, checks_of, first_that_holds}
+use Rattle.host_commands.specs.Checks.{state_checks, checks_of, first_that_holds}
 use Rattle.host_commands.specs.Laws.{outcome_of_act}
 use Rattle.host_commands.specs.Needs.{operands, needs_of}
 use Rattle.host_ledger.specs.Summary.{summary_of}
-use Rattle.host_ledger.specs.View.{HostView, world_of, open_of, pages_of_build, used, is_aborting, granule_of_page}
+use Rattle.host_ledger.specs.View.{HostView, world_of, open_of, pages_of_build, used, is_aborting}
 use Rattle.host_ledger.specs.Vmids.{lowest_vmid}
 use Rattle.host_ledger.proofs.Worlds.{world_is}
 use Rattle.realm_host.specs.Allocation.{granules_named, byte_read, allocated_for, act_asked, outcome_asked}
@@ -170,11 +167,11 @@ module _ (b : ℕ) (host twin : HostView) (same : DidTheSameAlone b host twin) w
 
   part : part_of (world_of twin) b ≡ part_of (world_of host) b
   part = same_Some _ _ (
-    sym (part_is twin same.twin_legal)
-    ∙ ap (λ l. replay l (events_of b twin.history)) same.limits
-    ∙ ap (replay host.limits) (sym same.events)
-    ∙ part_is host same.legal
-  )
+      sym (part_is twin same.twin_legal)
+      ∙ ap (λ l. replay l (events_of b twin.history)) same.limits
+      ∙ ap (replay host.limits) (sym same.events)
+      ∙ part_is host same.legal
+      )
 
   realm : realm_of b (world_of twin) ≡ realm_of b (world_of host)
   realm = sym (realm_of-part_of b (world_of twin)) ∙ ap (realm_of b) part ∙ realm_of-part_of b (world_of host)

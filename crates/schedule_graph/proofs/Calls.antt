@@ -1,6 +1,6 @@
 -- The calls of a turn on two hosts that differ in the schedule alone: the answers, and the marks after them.
-use Rattle.std.proofs.Common.{◌≡◌, ◌≢◌, ℕ, ◌-◌, ◌==◌, ◌&&◌, true, false, List, [], ◌∷◌, ◌++◌, map, drop, length, get_or, set, Option, Some, None, Result, Ok, Err, refl, sym, ap, ◌∙◌, subst}
-use Rattle.std.specs.Prelude.{nat_le, not, slice_set, slice_index_or, option_map}
+use Rattle.std.proofs.Common.{◌≡◌, ◌≢◌, ℕ, ◌&&◌, false, List, [], ◌∷◌, ◌++◌, drop, length, get_or, set, Option, Some, None, Result, Ok, Err, refl, sym, ap, ◌∙◌, subst}
+use Rattle.std.specs.Prelude.{nat_le, not, slice_index_or, option_map}
 use Rattle.std.specs.List.{list_any}
 use Rattle.std.proofs.lemmas.List.{map-set, get_or-set_other}
 use Rattle.std.proofs.lemmas.Option.{none-some, same_Some}
@@ -10,11 +10,11 @@ use Rattle.realm_model.specs.Running.{is_running}
 use Rattle.realm_model.specs.World.{realm_of}
 use Rattle.host_commands.specs.declared.refusal.Refusal.{Refusal}
 use Rattle.host_commands.specs.declared.refusal.Refusal.TheVariants.{NoBuild, Aborting, NothingToUndo, RecRunning}
-use Rattle.host_commands.specs.Checks.{Check, build_checks, first_that_holds}
+use Rattle.host_commands.specs.Checks.{build_checks, first_that_holds}
 use Rattle.host_ledger.specs.declared.mark.Mark.{Mark}
 use Rattle.host_ledger.specs.Marks.{point_of as place_in_history, mark_while}
 use Rattle.host_ledger.specs.Summary.{summary_of}
-use Rattle.host_ledger.specs.View.{HostView, open_of, world_of, mark_of, mark_now, with_mark, begun, with_event}
+use Rattle.host_ledger.specs.View.{HostView, open_of, mark_of, mark_now, with_mark, with_event}
 use Rattle.realm_host.specs.Abort.{IsBegun}
 use Rattle.realm_host.specs.Answer.{IsAnswer}
 use Rattle.realm_host.specs.Call.{Call, Ask, Undo}
@@ -24,8 +24,8 @@ use Rattle.realm_host.specs.declared.command.HostAnswer.{HostAnswer}
 use Rattle.realm_host.specs.declared.command.HostAnswer.TheVariants.{Replied, Undone as WasUndone, Refused}
 use Rattle.realm_host.proofs.Interleaved.{are_indistinguishable, call_reveals_nothing, begin_reveals_nothing}
 use Rattle.plan_replay.specs.Turn.{above_mark}
-use Rattle.schedule_graph.specs.State.{Point, point_of}
-use Rattle.schedule_graph.proofs.Kept.{keeps, goes, same_mark, keeps-at, depth, also_set}
+use Rattle.schedule_graph.specs.State.{point_of}
+use Rattle.schedule_graph.proofs.Kept.{keeps, goes, keeps-at, depth}
 
 -- ---- the marks after an answer
 

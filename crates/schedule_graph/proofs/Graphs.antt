@@ -1,15 +1,15 @@
 -- Paths of a graph of states are runs.
-use Rattle.std.proofs.Common.{◌≡◌, ℕ, List, [], ◌∷◌, ◌++◌, map, Option, Some, None, refl, sym, ◌∙◌, subst}
+use Rattle.std.proofs.Common.{◌≡◌, ℕ, List, [], ◌∷◌, ◌++◌, map, Some, None, refl, sym, ◌∙◌, subst}
 use Rattle.std.specs.Prelude.{slice_get}
 use Rattle.std.specs.List.{AllByRecursion, flat_map}
 use Rattle.std.proofs.lemmas.List.Concat.{flat_map-cons}
 use Rattle.host_ledger.specs.View.{HostView}
 use Rattle.realm_host.specs.Interleaving.{DifferInInterleaving}
 use Rattle.realm_plan.specs.Plan.{Plan}
-use Rattle.plan_replay.specs.Run.{Position, Turn, IsTurn, AreTurns}
+use Rattle.plan_replay.specs.Run.{Position, Turn}
 use Rattle.schedule_graph.specs.State.{AreOneState}
 use Rattle.schedule_graph.specs.Paths.{Layer, Path, paths_by_edges, paths}
-use Rattle.schedule_graph.specs.Graph.{IsEdge, AreEdges, first_of, IsGraph, schedule_of, turns_of, IsRun}
+use Rattle.schedule_graph.specs.Graph.{IsEdge, first_of, IsGraph, IsRun}
 use Rattle.schedule_graph.specs.declared.graph.Edge.{Edge}
 use Rattle.schedule_graph.proofs.States.{turn_too}
 

@@ -1,5 +1,5 @@
 -- The marks that are kept, and cursors without the places of their marks.
-use Rattle.std.proofs.Common.{◌≡◌, ◌≢◌, ℕ, zero, suc, ◌+◌, ◌==◌, ◌&&◌, Bool, true, false, cond, List, [], ◌∷◌, map, get_or, set, length, Option, Some, None, refl, sym, ap, ◌∙◌, eq-eqb, eqb-true, arith}
+use Rattle.std.proofs.Common.{◌≡◌, ℕ, zero, suc, ◌+◌, ◌==◌, ◌&&◌, Bool, true, false, cond, List, [], ◌∷◌, map, get_or, set, length, Option, Some, None, refl, sym, ap, ◌∙◌, eq-eqb, eqb-true, arith}
 use Rattle.std.specs.Prelude.{nat_le, option_map}
 use Rattle.std.proofs.lemmas.Bool.{and_parts}
 use Rattle.std.proofs.lemmas.List.{map-set}
@@ -8,7 +8,7 @@ use Rattle.host_ledger.specs.declared.mark.Mark.{Mark}
 use Rattle.host_ledger.specs.Marks.{is_same_mark, mark_while}
 use Rattle.plan_replay.specs.Place.{first_place, moved_on}
 use Rattle.plan_replay.specs.declared.place.PlanCursor.{PlanCursor}
-use Rattle.schedule_graph.specs.State.{Point, Progress, point_of, progress_of}
+use Rattle.schedule_graph.specs.State.{Progress, progress_of}
 
 -- ---- a mark, and the one that is kept
 

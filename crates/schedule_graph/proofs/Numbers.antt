@@ -1,5 +1,5 @@
 -- Numbers as decimal digits: one more digit, another digit, and the first digits.
-use Rattle.std.proofs.Common.{◌≡◌, ℕ, zero, suc, ◌+◌, ◌*◌, ◌^◌, ◌/◌, ◌%◌, ◌<◌, ◌≤◌, List, [], ◌∷◌, ◌++◌, length, length-append, take, set, get_or, refl, sym, ap, ◌∙◌, arith, mul_left_comm, mul_assoc, add-mul, add-one}
+use Rattle.std.proofs.Common.{◌≡◌, ℕ, zero, suc, ◌+◌, ◌*◌, ◌^◌, ◌/◌, ◌%◌, ◌<◌, List, [], ◌∷◌, ◌++◌, length, length-append, take, set, get_or, refl, ap, ◌∙◌, arith, mul_left_comm, mul_assoc, add-mul, add-one}
 use native.Mathlib.Nat.{pow-succ'}
 use Rattle.schedule_graph.specs.Number.{number_of}
 

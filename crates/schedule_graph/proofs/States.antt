@@ -1,5 +1,5 @@
 -- Positions that are one state: their turns.
-use Rattle.std.proofs.Common.{◌≡◌, ◌≢◌, ℕ, ◌-◌, ◌==◌, Bool, true, false, cond, List, [], ◌∷◌, map, get_or, set, length, Option, Some, None, Result, Ok, Err, refl, sym, ap, ◌∙◌, subst, ⊎_elim}
+use Rattle.std.proofs.Common.{◌≡◌, ◌≢◌, ℕ, ◌-◌, ◌==◌, Bool, true, false, cond, List, [], ◌∷◌, map, get_or, set, Option, Some, None, Result, Ok, Err, refl, sym, ap, ◌∙◌, subst, ⊎_elim}
 use Rattle.std.specs.Prelude.{option_map}
 use Rattle.std.specs.Bool.{OnTrue, OnFalse}
 use Rattle.std.proofs.lemmas.Bool.{cases_eq}
@@ -8,7 +8,6 @@ use Rattle.host_commands.specs.declared.cmd.Cmd.{Cmd}
 use Rattle.host_commands.specs.declared.cmd.Step.{Step}
 use Rattle.host_commands.specs.declared.cmd.Step.TheVariants.{Ask, Undo, Abort, Mark as KeepMark, Back}
 use Rattle.host_commands.specs.declared.refusal.Refusal.{Refusal}
-use Rattle.host_commands.specs.declared.reply.Undone.{Undone}
 use Rattle.host_commands.specs.Checks.{first_that_holds}
 use Rattle.host_ledger.specs.declared.mark.Mark.{Mark}
 use Rattle.host_ledger.specs.View.{HostView, mark_of, mark_now, with_mark}
@@ -22,7 +21,7 @@ use Rattle.realm_plan.specs.Plan.{Plan}
 use Rattle.realm_plan.specs.declared.step.PlanStep.{PlanStep}
 use Rattle.plan_replay.specs.Place.{first_place, moved_on}
 use Rattle.plan_replay.specs.Run.{Position, Turn, place_of, step_after, map_text, IsTurnOf, IsTurn, AreTurns}
-use Rattle.plan_replay.specs.Turn.{above_mark, answer_of_mark, last_mark, to_go_back, left_after, IsCommandTurn, IsUndoTurn, IsMarkTurn, IsOneOfMany, IsTurnOfMany, IsToAbort, IsAbortTurn, IsStepTurn}
+use Rattle.plan_replay.specs.Turn.{answer_of_mark, last_mark, to_go_back, left_after, IsCommandTurn, IsUndoTurn, IsMarkTurn, IsOneOfMany, IsTurnOfMany, IsToAbort, IsAbortTurn, IsStepTurn}
 use Rattle.plan_replay.specs.declared.answer.TurnAnswer.{TurnAnswer}
 use Rattle.plan_replay.specs.declared.answer.TurnAnswer.TheVariants as tells
 use Rattle.plan_replay.specs.declared.place.PlanCursor.{PlanCursor}
@@ -231,7 +230,7 @@ module _ (b : ℕ) (place other : PlanCursor) (alike_places : progress_of other 
       let now : Mark = mark_now twin b in
       let points : point_of now ≡ point_of mark = now_alike host twin differ b ∙ ap point_of (sym as_now.mark_is) in
       let is_there : mark_of (with_mark twin b now) b ≡ Some now =
-          also_set host.marks twin.marks b mark now differ.depths (ap (λ (n : HostView). mark_of n b) (sym as_now.new_is) ∙ as_now.kept) in
+      also_set host.marks twin.marks b mark now differ.depths (ap (λ (n : HostView). mark_of n b) (sym as_now.new_is) ∙ as_now.kept) in
       record {
         then = with_mark twin b now;
         also = record other { mark = Some now };
@@ -291,14 +290,14 @@ module _ (one other : Position) (same : AreOneState one other) where
       let too = step_too b (place_of one.places b) (place_of other.places b) (progress_of_both b) (asked step) one.host other.host to.host answer after same.hosts (kept_at b) is_step in
       let then : Position = record { host = too.then; places = set other.places b (moved_on too.also) } in
       let marks : goes (mark_of too.then b) (moved_on too.also).mark ≡ goes (mark_of to.host b) (moved_on after).mark =
-          ap (goes (mark_of too.then b)) (mark-moved_on too.also) ∙ too.kept ∙ sym (ap (goes (mark_of to.host b)) (mark-moved_on after)) in
+      ap (goes (mark_of too.then b)) (mark-moved_on too.also) ∙ too.kept ∙ sym (ap (goes (mark_of to.host b)) (mark-moved_on after)) in
       let own : has_way_back then b ≡ has_way_back to b =
-          goes-set one.places other.places b (moved_on after) (moved_on too.also) (mark_of to.host b) (mark_of too.then b) same.progress marks
-          ∙ ap (λ ps. goes (mark_of to.host b) (get_or ps b first_place).mark) (sym places) in
+      goes-set one.places other.places b (moved_on after) (moved_on too.also) (mark_of to.host b) (mark_of too.then b) same.progress marks
+      ∙ ap (λ ps. goes (mark_of to.host b) (get_or ps b first_place).mark) (sym places) in
       let another : (c : ℕ) → c ≢ b → has_way_back then c ≡ has_way_back to c = λ c ne.
-          (λ i. goes (too.also_rest c ne i) (get_or-set_other other.places b c (moved_on too.also) first_place ne i).mark)
-          ∙ same.ways_back c
-          ∙ sym (λ i. goes (too.rest c ne i) ((ap (λ ps. get_or ps c first_place) places ∙ get_or-set_other one.places b c (moved_on after) first_place ne) i).mark) in
+      (λ i. goes (too.also_rest c ne i) (get_or-set_other other.places b c (moved_on too.also) first_place ne i).mark)
+      ∙ same.ways_back c
+      ∙ sym (λ i. goes (too.rest c ne i) ((ap (λ ps. get_or ps c first_place) places ∙ get_or-set_other one.places b c (moved_on after) first_place ne) i).mark) in
       record {
         then = then;
         is_turn = (answer, too.also, told, too.is_step, refl);

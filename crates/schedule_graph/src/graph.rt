@@ -32,11 +32,7 @@ fn add_at(sum: &mut Count, counts: &[Count], state: usize) -> Result<(), AllocEr
 }
 
 // The number of paths from a state with these edges.
-fn count_from<L>(
-    alloc: Global,
-    edges: &[Edge<L>],
-    next: &[Count],
-) -> Result<Count, AllocError>
+fn count_from<L>(alloc: Global, edges: &[Edge<L>], next: &[Count]) -> Result<Count, AllocError>
     ensures { IfOk result (λ count. count ≡ path_count next.now edges.now) }
 {
     if edges.is_empty() {
@@ -61,7 +57,11 @@ fn count_with<L, S: Sign<L>>(
 {
     let mut sum = Count::zero(alloc);
     for edge in edges {
-        let counts = if sign.is_on(&edge.label) { next } else { next_with };
+        let counts = if sign.is_on(&edge.label) {
+            next
+        } else {
+            next_with
+        };
         add_at(&mut sum, counts, edge.to)?;
     }
     Ok(sum)

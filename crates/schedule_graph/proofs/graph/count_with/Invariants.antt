@@ -1,5 +1,4 @@
-use Rattle.std.proofs.Common.{◌≡◌, cond, map, take}
-use Rattle.std.specs.Prelude.{sum_by}
+use Rattle.std.proofs.Common.{◌≡◌, take}
 use Rattle.schedule_graph.specs.Paths.{with_count}
 use Rattle.schedule_graph.proofs.graph.count_with.Given as goal
 

@@ -1,4 +1,4 @@
-use Rattle.std.proofs.Common.{◌≡◌, cond, map, take}
+use Rattle.std.proofs.Common.{◌≡◌, cond, take}
 use Rattle.std.specs.Prelude.{sum_by}
 use Rattle.schedule_graph.specs.Paths.{count_at}
 use Rattle.schedule_graph.proofs.graph.count_without.Given as goal

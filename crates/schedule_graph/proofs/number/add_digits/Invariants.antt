@@ -1,4 +1,4 @@
-use Rattle.std.proofs.Common.{◌≡◌, ◌+◌, ◌*◌, ◌^◌, ◌<◌, ◌≤◌, length, take, All}
+use Rattle.std.proofs.Common.{◌≡◌, ◌+◌, ◌<◌, ◌≤◌, length, take, All}
 use Rattle.schedule_graph.specs.Number.{number_of}
 use Rattle.schedule_graph.proofs.number.add_digits.Given as goal
 

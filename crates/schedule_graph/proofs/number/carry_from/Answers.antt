@@ -9,8 +9,7 @@ loop-at-preserved c =
     let at = c.loop-at.at in
     let (number, small, long, carry) = c.loop-at.invariant in
     let inside : at < length digits = omega (arith, long) in
-    let digit : get_or digits at 0 < 10 = small at 0 inside in
-    (
+    let digit : get_or digits at 0 < 10 = small at 0 inside in (
       carry_step digits at c.loop-at.carry inside ∙ number,
       All-set (λ digit. digit < 10) digits at ((get_or digits at 0 + c.loop-at.carry) % 10) (omega arith) small,
       length-set digits at _ ∙ long,
