@@ -24,7 +24,7 @@ use Rattle.realm_host.specs.declared.command.HostAnswer.{HostAnswer}
 use Rattle.realm_host.specs.declared.command.HostAnswer.TheVariants.{Replied, Undone as WasUndone, Refused}
 use Rattle.realm_host.proofs.Interleaved.{are_indistinguishable, call_reveals_nothing, begin_reveals_nothing}
 use Rattle.plan_replay.specs.Turn.{above_mark}
-use Rattle.schedule_graph.specs.State.{point_of}
+use Rattle.schedule_graph.specs.State.{mark_point}
 use Rattle.schedule_graph.proofs.Kept.{keeps, goes, keeps-at, depth}
 
 -- ---- the marks after an answer
@@ -60,14 +60,14 @@ rest_after host b (WasUndone done) new h c other = set_rest host.marks new.marks
 
 -- the marks name one point, and are kept in both or in neither
 pub record AreKeptAlike (b : ℕ) (host twin : HostView) (mark other : Option Mark) : Type 0 where
-  pub points : option_map point_of other ≡ option_map point_of mark
+  pub points : option_map mark_point other ≡ option_map mark_point mark
   pub kept : goes (mark_of twin b) other ≡ goes (mark_of host b) mark
 
 grown_alike : (b : ℕ) (host twin new then : HostView)
     → new.marks ≡ set host.marks b (mark_while (length (open_of new b)) (get_or host.marks b None))
     → then.marks ≡ set twin.marks b (mark_while (length (open_of then b)) (get_or twin.marks b None))
     → length (open_of then b) ≡ length (open_of new b)
-    → (mark other : Mark) → point_of other ≡ point_of mark → keeps (mark_of twin b) other ≡ keeps (mark_of host b) mark
+    → (mark other : Mark) → mark_point other ≡ mark_point mark → keeps (mark_of twin b) other ≡ keeps (mark_of host b) mark
     → keeps (mark_of then b) other ≡ keeps (mark_of new b) mark
 grown_alike b host twin new then grows also left mark other same kept =
     ap (λ ms. keeps (get_or ms b None) other) also
@@ -80,14 +80,14 @@ kept_after : (answer : HostAnswer) (b : ℕ) (host twin new then : HostView) →
     → length (open_of then b) ≡ length (open_of new b)
     → (mark other : Option Mark) → AreKeptAlike b host twin mark other → goes (mark_of then b) other ≡ goes (mark_of new b) mark
 kept_after answer b host twin new then h also left None None same = refl
-kept_after answer b host twin new then h also left (Some mark) None same = absurd (none-some (point_of mark) same.points)
-kept_after answer b host twin new then h also left None (Some other) same = absurd (none-some (point_of other) (sym same.points))
+kept_after answer b host twin new then h also left (Some mark) None same = absurd (none-some (mark_point mark) same.points)
+kept_after answer b host twin new then h also left None (Some other) same = absurd (none-some (mark_point other) (sym same.points))
 kept_after (Refused reason) b host twin new then h also left (Some mark) (Some other) same =
     ap (λ ms. keeps (get_or ms b None) other) also ∙ same.kept ∙ sym (ap (λ ms. keeps (get_or ms b None) mark) h)
 kept_after (Replied reply) b host twin new then h also left (Some mark) (Some other) same =
-    grown_alike b host twin new then h also left mark other (same_Some (point_of other) (point_of mark) same.points) same.kept
+    grown_alike b host twin new then h also left mark other (same_Some (mark_point other) (mark_point mark) same.points) same.kept
 kept_after (WasUndone done) b host twin new then h also left (Some mark) (Some other) same =
-    grown_alike b host twin new then h also left mark other (same_Some (point_of other) (point_of mark) same.points) same.kept
+    grown_alike b host twin new then h also left mark other (same_Some (mark_point other) (mark_point mark) same.points) same.kept
 
 -- ---- a call
 
@@ -149,7 +149,7 @@ module _ (host twin : HostView) (differ : DifferInInterleaving host twin) (b : �
   pub checks_alike : build_checks (summary_of twin) b ≡ build_checks (summary_of host) b
   checks_alike = λ i. (nat_le (differ.same.limits i).builds b, NoBuild) ∷ (slice_index_or (differ.aborting i) b false, Aborting) ∷ []
 
-  pub now_alike : point_of (mark_now twin b) ≡ point_of (mark_now host b)
+  pub now_alike : mark_point (mark_now twin b) ≡ mark_point (mark_now host b)
   now_alike = λ i. record { build = b; length = length (alike.opened b i) }
 
   pub differ_marked : DifferInInterleaving (with_mark host b (mark_now host b)) (with_mark twin b (mark_now twin b))
@@ -165,7 +165,7 @@ module _ (host twin : HostView) (differ : DifferInInterleaving host twin) (b : �
 
   -- ---- the way back
 
-  module _ (mark other : Mark) (same : point_of other ≡ point_of mark) (kept : keeps (mark_of twin b) other ≡ keeps (mark_of host b) mark) where
+  module _ (mark other : Mark) (same : mark_point other ≡ mark_point mark) (kept : keeps (mark_of twin b) other ≡ keeps (mark_of host b) mark) where
     above_alike : above (place_in_history other) twin.history ≡ above (place_in_history mark) host.history
     above_alike = (λ i. drop (same i).length (open_of twin (same i).build)) ∙ ap (drop mark.length) (alike.opened mark.build)
 
@@ -179,6 +179,6 @@ module _ (host twin : HostView) (differ : DifferInInterleaving host twin) (b : �
 
   pub above_mark_alike : (mark other : Option Mark) → AreKeptAlike b host twin mark other → above_mark twin b other ≡ above_mark host b mark
   above_mark_alike None None same = refl
-  above_mark_alike (Some mark) None same = absurd (none-some (point_of mark) same.points)
-  above_mark_alike None (Some other) same = absurd (none-some (point_of other) (sym same.points))
-  above_mark_alike (Some mark) (Some other) same = way_back_alike mark other (same_Some (point_of other) (point_of mark) same.points) same.kept
+  above_mark_alike (Some mark) None same = absurd (none-some (mark_point mark) same.points)
+  above_mark_alike None (Some other) same = absurd (none-some (mark_point other) (sym same.points))
+  above_mark_alike (Some mark) (Some other) same = way_back_alike mark other (same_Some (mark_point other) (mark_point mark) same.points) same.kept

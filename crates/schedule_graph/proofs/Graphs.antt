@@ -9,7 +9,7 @@ use Rattle.realm_plan.specs.Plan.{Plan}
 use Rattle.plan_replay.specs.Run.{Position, Turn}
 use Rattle.schedule_graph.specs.State.{AreOneState}
 use Rattle.schedule_graph.specs.Paths.{Layer, Path, paths_by_edges, paths}
-use Rattle.schedule_graph.specs.Graph.{IsEdge, first_of, IsGraph, IsRun}
+use Rattle.schedule_graph.specs.Graph.{IsEdge, first_of, IsGraph, IsPathRun}
 use Rattle.schedule_graph.specs.declared.graph.Edge.{Edge}
 use Rattle.schedule_graph.proofs.States.{turn_too}
 
@@ -66,25 +66,25 @@ all_map P Q f h (x ∷ xs) all = (h x all.0, all_map P Q f h xs all.1)
 module _ (plan : Plan) where
   abbrev AllRun : List (Layer Turn) → List Position → Type 0
   AllRun layers states =
-      (number : ℕ) (at q : Position) → slice_get states number ≡ Some at → AreOneState at q → AllByRecursion (IsRun plan q) (paths layers number)
+      (number : ℕ) (at q : Position) → slice_get states number ≡ Some at → AreOneState at q → AllByRecursion (IsPathRun plan q) (paths layers number)
 
   module _ (layers : List (Layer Turn)) (next : List Position) (run_on : AllRun layers next) (at q : Position) (same : AreOneState at q) where
-    by_edge : (edge : Edge Turn) → IsEdge plan at next edge → AllByRecursion (IsRun plan q) (map (λ (path : Path Turn). edge ∷ path) (paths layers edge.to))
+    by_edge : (edge : Edge Turn) → IsEdge plan at next edge → AllByRecursion (IsPathRun plan q) (map (λ (path : Path Turn). edge ∷ path) (paths layers edge.to))
     by_edge edge is =
         let too = turn_too at q same plan edge.label is.to is.is_turn in
         let there = same_on is.state is.to too.then (same_back is.to is.state is.same) too.same in
-        all_map (IsRun plan too.then) (IsRun plan q) (λ (path : Path Turn). edge ∷ path)
+        all_map (IsPathRun plan too.then) (IsPathRun plan q) (λ (path : Path Turn). edge ∷ path)
         (λ rest run. record { to = run.to; are_turns = (refl, too.then, too.is_turn, run.are_turns) })
         (paths layers edge.to) (run_on edge.to is.state too.then is.is_there there)
 
     by_each : (edges : List (Edge Turn)) → AllByRecursion (IsEdge plan at next) edges
-        → AllByRecursion (IsRun plan q) (flat_map (λ (edge : Edge Turn). map (λ (path : Path Turn). edge ∷ path) (paths layers edge.to)) edges)
+        → AllByRecursion (IsPathRun plan q) (flat_map (λ (edge : Edge Turn). map (λ (path : Path Turn). edge ∷ path) (paths layers edge.to)) edges)
     by_each [] are = tt
     by_each (edge ∷ edges) are =
-        subst (AllByRecursion (IsRun plan q)) (sym (flat_map-cons (λ (edge : Edge Turn). map (λ (path : Path Turn). edge ∷ path) (paths layers edge.to)) edge edges))
-        (all_append (IsRun plan q) (map (λ (path : Path Turn). edge ∷ path) (paths layers edge.to)) _ (by_edge edge are.0) (by_each edges are.1))
+        subst (AllByRecursion (IsPathRun plan q)) (sym (flat_map-cons (λ (edge : Edge Turn). map (λ (path : Path Turn). edge ∷ path) (paths layers edge.to)) edge edges))
+        (all_append (IsPathRun plan q) (map (λ (path : Path Turn). edge ∷ path) (paths layers edge.to)) _ (by_edge edge are.0) (by_each edges are.1))
 
-    by_edges : (edges : List (Edge Turn)) → AllByRecursion (IsEdge plan at next) edges → AllByRecursion (IsRun plan q) (paths_by_edges (paths layers) edges)
+    by_edges : (edges : List (Edge Turn)) → AllByRecursion (IsEdge plan at next) edges → AllByRecursion (IsPathRun plan q) (paths_by_edges (paths layers) edges)
     by_edges [] are = (record { to = q; are_turns = refl }, tt)
     by_edges (edge ∷ edges) are = by_each (edge ∷ edges) are
 
@@ -94,7 +94,7 @@ module _ (plan : Plan) where
   are_runs (states ∷ rest) [] graph number at q there same = absurd graph
   are_runs (states ∷ rest) (layer ∷ layers) (edges_are, graph) number at q there same =
       elim (slice_get layer number) as (λ o. slice_get layer number ≡ o
-      → AllByRecursion (IsRun plan q) (elim o [ Some edges ↦ paths_by_edges (paths layers) edges | None ↦ [] ])) [
+      → AllByRecursion (IsPathRun plan q) (elim o [ Some edges ↦ paths_by_edges (paths layers) edges | None ↦ [] ])) [
         | Some edges ↦ λ is. by_edges layers (first_of rest) (are_runs rest layers graph) at q same edges (edges_are number at edges there is)
         | None ↦ λ is. tt
       ] refl

@@ -26,7 +26,7 @@ use Rattle.plan_replay.specs.declared.answer.TurnAnswer.{TurnAnswer}
 use Rattle.plan_replay.specs.declared.answer.TurnAnswer.TheVariants as tells
 use Rattle.plan_replay.specs.declared.place.PlanCursor.{PlanCursor}
 use Rattle.plan_replay.proofs.Maps.{same_map}
-use Rattle.schedule_graph.specs.State.{Point, Progress, point_of, progress_of, has_way_back, AreOneState, IsAlsoTaken, AreAlsoTaken}
+use Rattle.schedule_graph.specs.State.{Point, Progress, mark_point, progress_of, has_way_back, AreOneState, IsAlsoTaken, AreAlsoTaken}
 use Rattle.schedule_graph.proofs.Kept.{goes, same_mark, also_set, progress_at, progress_set, progress_moved, mark-moved_on, goes-set}
 use Rattle.schedule_graph.proofs.Calls.{AreKeptAlike, call_too, begin_too, checks_alike, now_alike, differ_marked, above_mark_alike}
 
@@ -44,7 +44,7 @@ record Too (IsStep : HostView → PlanCursor → Type 0) (b : ℕ) (host twin ne
   also_rest : (c : ℕ) → c ≢ b → mark_of then c ≡ mark_of twin c
 
 module _ (b : ℕ) (place other : PlanCursor) (alike_places : progress_of other ≡ progress_of place) where
-  same_points : option_map point_of other.mark ≡ option_map point_of place.mark
+  same_points : option_map mark_point other.mark ≡ option_map mark_point place.mark
   same_points = ap (λ (p : Progress). p.mark) alike_places
 
   same_left : other.left ≡ place.left
@@ -228,7 +228,7 @@ module _ (b : ℕ) (place other : PlanCursor) (alike_places : progress_of other 
   }
   marked_too (Ok mark) host twin new answer after differ kept (none, as_now) told place_is =
       let now : Mark = mark_now twin b in
-      let points : point_of now ≡ point_of mark = now_alike host twin differ b ∙ ap point_of (sym as_now.mark_is) in
+      let points : mark_point now ≡ mark_point mark = now_alike host twin differ b ∙ ap mark_point (sym as_now.mark_is) in
       let is_there : mark_of (with_mark twin b now) b ≡ Some now =
       also_set host.marks twin.marks b mark now differ.depths (ap (λ (n : HostView). mark_of n b) (sym as_now.new_is) ∙ as_now.kept) in
       record {

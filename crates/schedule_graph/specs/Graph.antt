@@ -40,6 +40,6 @@ abbrev pub turns_of : Path Turn → List Turn
 turns_of path = map (λ edge. edge.label) path
 
 -- The plan can be run from a position in the schedule of a path, with the answers that the path has.
-pub record IsRun (plan : Plan) (from : Position) (path : Path Turn) : Type 0 where
+pub record IsPathRun (plan : Plan) (from : Position) (path : Path Turn) : Type 0 where
   pub to : Position
   pub are_turns : AreTurns plan (schedule_of path) from (turns_of path) to

@@ -12,8 +12,8 @@ pub record Point : Type 0 where
   pub build : ℕ
   pub length : ℕ
 
-abbrev pub point_of : Mark → Point
-point_of mark = record { build = mark.build; length = mark.length }
+abbrev pub mark_point : Mark → Point
+mark_point mark = record { build = mark.build; length = mark.length }
 
 -- a cursor whose mark is such a point
 pub record Progress : Type 0 where
@@ -22,7 +22,7 @@ pub record Progress : Type 0 where
   pub mark : Option Point
 
 abbrev pub progress_of : PlanCursor → Progress
-progress_of place = record { done = place.done; left = place.left; mark = option_map point_of place.mark }
+progress_of place = record { done = place.done; left = place.left; mark = option_map mark_point place.mark }
 
 -- the build's last mark is the one that the host keeps for it
 abbrev pub has_way_back : Position → ℕ → Bool

@@ -9,7 +9,7 @@ ghost use Rattle.realm_host.specs.Allocation.{act_asked};
 ghost use Rattle.realm_host.specs.Call.{Call, Ask};
 ghost use Rattle.realm_host.specs.Refusals.{refusal_of};
 ghost use Rattle.schedule_graph.specs.Alone.{DidTheSameAlone, NeedsNothingShared};
-ghost use Rattle.schedule_graph.specs.Graph.{first_of, IsGraph, IsRun};
+ghost use Rattle.schedule_graph.specs.Graph.{first_of, IsGraph, IsPathRun};
 ghost use Rattle.schedule_graph.specs.Paths.{Layer, paths};
 ghost use Rattle.schedule_graph.specs.State.{AreOneState, IsAlsoTaken, AreAlsoTaken};
 
@@ -40,5 +40,5 @@ pub fn a_build_decides_its_own_calls()
 pub fn a_path_is_a_run()
     ensures { (plan : Plan) (states : List (List Position)) (layers : List (Layer Turn)) (number : ℕ) (at from : Position)
         → IsGraph plan states layers → slice_get (first_of states) number ≡ Some at → AreOneState at from
-        → AllByRecursion (IsRun plan from) (paths layers number) }
+        → AllByRecursion (IsPathRun plan from) (paths layers number) }
 {}
