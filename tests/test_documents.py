@@ -322,7 +322,7 @@ COUNTS = {
     r"tries ([\d,]+) mutants": edits,
     r"definitions \(([\d,]+) lines": lambda: written("specs"),
     r"\b([\d,]+) lines of proofs": lambda: written("proofs"),
-    r"`unsafe` blocks are in two files of ([\d,]+) lines": unsafe_lines,
+    r"`unsafe` blocks are in three files of ([\d,]+) lines": unsafe_lines,
     r"`page_arena/src/row.rt`, a file of ([\d,]+) lines": lambda: len(ROW.read_text().splitlines()),
     r"and (\w+) `unsafe impl`": lambda: ROW.read_text().count("\nunsafe impl"),
     r"each of the (\w+) commands and an undo": lambda: variants("host_commands/src/cmd.rt", "Cmd"),
