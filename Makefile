@@ -52,13 +52,16 @@ install: ## copies what `make build` and `make c-library` have built, man pages,
 	install -m 644 completions/*.fish $(SHARE)/fish/vendor_completions.d
 	install -m 644 README.md CHANGELOG.md CONTRIBUTING.md LICENSE $(SHARE)/doc/realmhost
 	for it in $(wildcard docs/*.md docs/*/*.md docs/*/*.json docs/pictures/*); do install -m 644 $$it $(SHARE)/doc/realmhost/$$it || exit 1; done
+	@# links to what is installed elsewhere
+	sed -i -E 's,\]\(../../(examples|python|plans|traces)/,](../../../../realmhost/\1/,g; s,\]\(../../include/,](../../../../../include/,g' $(SHARE)/doc/realmhost/docs/*/*.md
+	sed -i -E 's,\]\((examples|plans|traces)/,](../../realmhost/\1/,g' $(SHARE)/doc/realmhost/README.md
 	install -m 644 plans/*.* $(SHARE)/realmhost/plans
 	install -m 644 plans/guide/* $(SHARE)/realmhost/plans/guide
 	install -m 644 traces/*.trace $(SHARE)/realmhost/traces
 	install -d $(SHARE)/realmhost/traces/rmm/random
 	install -m 644 traces/rmm/*.* $(SHARE)/realmhost/traces/rmm
 	install -m 644 traces/rmm/random/*.trace $(SHARE)/realmhost/traces/rmm/random
-	install -m 644 examples/*.py $(SHARE)/realmhost/examples
+	install -m 644 examples/*.py examples/README.md $(SHARE)/realmhost/examples
 	@if test -f build/librmm.a; then $(MAKE) --no-print-directory install-c-library; \
 	  else echo "install: there is no build/librmm.a, and the library for C is left out: make c-library"; fi
 

@@ -60,9 +60,9 @@ RHM_STATIC_ASSERT(sizeof(rhm_handle) == 16 && offsetof(rhm_handle, host) == 8, "
 typedef struct rhm_settings {
     uint64_t pages;   /* granules for the builds, 1 to 4096 */
     uint64_t vmids;   /* VMIDs from 1 on, 1 to 255 */
-    uint64_t aux;     /* auxiliary granules of a REC, at most 16: what RMI_REC_AUX_COUNT says */
+    uint64_t aux;     /* auxiliary granules of a REC, at most 16: what RMI_REC_AUX_COUNT says of a realm, made before */
     uint64_t builds;  /* 1 to 8 */
-    uint64_t history; /* room for the events of each build, 16 to 16384 */
+    uint64_t history; /* room for the events of each build, 16 to 16384. No undo gives any back */
     uint64_t base;    /* the address of granule 0: a multiple of 4096 below 2^46 */
 } rhm_settings;
 
@@ -100,7 +100,7 @@ enum {
     RHM_NOTHING_TO_UNDO = 7,
     RHM_REC_RUNNING = 8,
     RHM_JOURNAL_FULL = 9,
-    RHM_HISTORY_FULL = 10,
+    RHM_HISTORY_FULL = 10, /* from here on the build can only undo, until the handle is closed */
     RHM_NO_BLOCK = 11, /* no block of the order is free, which is the value */
     RHM_NO_VMID = 12,
     RHM_RMI = 13, /* the model of the RMM refuses; the value is its result word */
@@ -122,13 +122,13 @@ enum {
     RHM_DELEGATE = 3,  /* page */
     RHM_REALM = 4,     /* page: the RD; second: the first of the starting tables; width: 39 to 43. The value is the VMID */
     RHM_RTT = 5,       /* page, ipa, level */
-    RHM_RIPAS = 6,     /* ipa, count */
+    RHM_RIPAS = 6,     /* ipa, count: of pages below one table, at most 512. More is refused after the call alone */
     RHM_DATA = 7,      /* page, ipa; second: the page with the bytes */
     RHM_UNKNOWN = 8,   /* page, ipa */
     RHM_REC = 9,       /* page, aux_count, aux. The value is the number of the REC */
     RHM_ACTIVATE = 10,
     RHM_ENTER = 11,    /* rec, run: the page for the exits of the run, 0 to 63 */
-    RHM_EXIT = 12,     /* rec */
+    RHM_EXIT = 12,     /* rec: its run has come back. It makes no call, and is due before an abort too */
     RHM_POKE = 13      /* rec, ipa, offset, value, run: a write of the guest, for simulations */
 };
 
@@ -223,7 +223,8 @@ uint64_t rhm_prepare(rhm_handle *handle, uint64_t build, const rhm_command *comm
 /* Commits a command, after its operations were performed. If the answer is the expected one, it is performed on the model
  * as by rhm_ask.
  *
- * RHM_NOT_EXPECTED: X0 is not RMI_SUCCESS, or X1 is not the output that the host knows. Nothing is recorded.
+ * RHM_NOT_EXPECTED: X0 is not RMI_SUCCESS, nor RMM_RUNNING after RHM_ENTER; or X1 is not the output that the host knows.
+ * Nothing is recorded. If X0 is RMI_SUCCESS, the RMM has changed something, and the call is not to be made again.
  * RHM_DIVERGED: the RMM has performed a call that the model refuses with the result word `value`, or the command has no
  * call, as RHM_EXIT, and the model refuses it. Nothing is recorded.
  *
@@ -511,7 +512,7 @@ static inline rhm_answer rhm_performed(const rhm_actions *actions, rhm_perform p
 }
 
 /* A command in front of an RMM: its operations are performed there, and it is committed. The statuses are those of
- * rhm_prepare and rhm_commit. */
+ * rhm_prepare and rhm_commit. The value is 0 if rhm_prepare refuses. */
 static inline uint64_t rhm_run(rhm_handle *handle, uint64_t build, rhm_command command, rhm_perform perform,
                                void *context, uint64_t *value)
 {
