@@ -1,7 +1,8 @@
 /* rhm.h: the host of realm builds as a library, to be used alone or in front of an RMM. For C11 and C++11.
  *
  * It is the host of this repository: up to eight builds share the granules of a machine, each builds a realm, and a
- * build that fails gives everything back while others go on. Each function is proved to do what its definition says.
+ * build that fails gives everything back while others go on. Each exported function is proved to do what its definition
+ * says.
  *
  * The host has a model of an RMM. A command of a build is performed on the model at once by rhm_ask. In front of an RMM
  * it takes two steps: rhm_prepare gives the operations that the hypervisor performs there, and changes nothing;
@@ -16,7 +17,7 @@
  * What a caller has to guarantee is at each function after `Required:`, and nothing checks it. There `handle` is:
  *   - a pointer to an rhm_handle, and not NULL;
  *   - all bytes of it are 0, or it came from rhm_open and was neither copied, moved nor written to since;
- *   - no other pointer of the call leads into it;
+ *   - no two pointers of the call lead into the same bytes;
  *   - one call with it at a time, and none from a signal handler, nor from the forked child of a process with threads.
  * Two handles have nothing in common: each may be in a thread of its own. Threads that share one need a lock.
  */
@@ -86,7 +87,7 @@ uint64_t rhm_open(rhm_handle *handle, const rhm_settings *settings) RHM_NO_NULL;
 /* Closes a handle, and gives its memory back. A closed one stays closed.   Required: handle. */
 void rhm_close(rhm_handle *handle) RHM_NO_NULL;
 
-/* ---- statuses. A call that returns another one than RHM_DONE has changed nothing */
+/* ---- statuses. An exported function that returns another one than RHM_DONE has changed nothing */
 
 enum {
     RHM_DONE = 0,
@@ -127,7 +128,7 @@ enum {
     RHM_UNKNOWN = 8,   /* page, ipa */
     RHM_REC = 9,       /* page, aux_count, aux. The value is the number of the REC */
     RHM_ACTIVATE = 10,
-    RHM_ENTER = 11,    /* rec, run: the page for the exits of the run, 0 to 63 */
+    RHM_ENTER = 11,    /* rec: one of the build's, which rhm_prepare does not check; run: the page for exits, 0 to 63 */
     RHM_EXIT = 12,     /* rec: its run has come back. It makes no call, and is due before an abort too */
     RHM_POKE = 13      /* rec, ipa, offset, value, run: a write of the guest, for simulations */
 };
@@ -215,7 +216,8 @@ typedef struct rhm_answer {
 } rhm_answer;
 
 /* Prepares a command, and changes nothing. RHM_DONE, with the operations for the RMM in `actions`; or the refusal that
- * the host gives before it calls an RMM. RHM_RMI is an operand that no call has, as a level 4.
+ * the host gives before it calls an RMM. RHM_RMI is an operand that no call has, as a level 4, or an access to a page that
+ * is not UNDELEGATED. RHM_NO_BLOCK comes from rhm_commit.
  * Required: handle; `command` is not NULL, and each of its fields is written; `actions` is not NULL, and may be written
  * to. */
 uint64_t rhm_prepare(rhm_handle *handle, uint64_t build, const rhm_command *command, rhm_actions *actions) RHM_NO_NULL;
@@ -223,13 +225,15 @@ uint64_t rhm_prepare(rhm_handle *handle, uint64_t build, const rhm_command *comm
 /* Commits a command, after its operations were performed. If the answer is the expected one, it is performed on the model
  * as by rhm_ask.
  *
- * RHM_NOT_EXPECTED: X0 is not RMI_SUCCESS, nor RMM_RUNNING after RHM_ENTER; or X1 is not the output that the host knows.
+ * RHM_NOT_EXPECTED: X0 is not RMI_SUCCESS, nor 2^64 - 2 after an entry, which the RMM of this repository answers while a
+ * guest runs on; or X1 is not the output that the host knows.
  * Nothing is recorded. If X0 is RMI_SUCCESS, the RMM has changed something, and the call is not to be made again.
  * RHM_DIVERGED: the RMM has performed a call that the model refuses with the result word `value`, or the command has no
  * call, as RHM_EXIT, and the model refuses it. Nothing is recorded.
  *
- * What is recorded is what was performed if no other call came for the build since rhm_prepare, nor, for a RHM_REALM, one
- * that creates or removes another realm.
+ * What is recorded is what was performed if no other call came for the build since rhm_prepare; for a RHM_REALM, none that
+ * creates or removes another realm; and for a RHM_REALM or a RHM_REC, no operation of another one, since they share the
+ * page of their parameters.
  * Required: handle; `command` and `answer` are not NULL, and each of their fields is written; `value` is not NULL, and may
  * be written to. */
 uint64_t rhm_commit(rhm_handle *handle, uint64_t build, const rhm_command *command, const rhm_answer *answer,
