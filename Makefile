@@ -31,13 +31,11 @@ try-trace: ## a minute: builds rmitrace with nothing proved, and checks TRACE
 build: ## proves the three programs with their libraries, and puts them into bin/
 	@tools/build
 
-c-library: ## proves the RMM as a library for C, and puts it into build/
+c-library: ## proves the RMM and the host as libraries for C, and puts them into build/
 	@tools/rmm-library
 
-c-test: c-library ## tries the library from C, C++ and Python, with sanitizers, valgrind and random calls (needs a C compiler)
-	@tests/rmm-c --all
-	@tests/examples --all
-	@tests/fuzz_c 2
+c-test: c-library ## tries the libraries from C, C++ and Python, with sanitizers, valgrind and random calls (needs a C compiler)
+	@FUZZ_SECONDS=2 tools/pytest -q -m "" tests/test_c_library.py tests/test_host_library.py tests/test_examples.py tests/test_fuzz_c.py
 
 docs-html: ## makes a site of the documents in build/html, which can be read offline (needs pandoc)
 	@tools/docs_html
@@ -54,23 +52,26 @@ install: ## copies what `make build` and `make c-library` have built, man pages,
 	install -m 644 completions/*.fish $(SHARE)/fish/vendor_completions.d
 	install -m 644 README.md CHANGELOG.md CONTRIBUTING.md LICENSE $(SHARE)/doc/realmhost
 	for it in $(wildcard docs/*.md docs/*/*.md docs/*/*.json docs/pictures/*); do install -m 644 $$it $(SHARE)/doc/realmhost/$$it || exit 1; done
+	@# links to what is installed elsewhere
+	sed -i -E 's,\]\(../../(examples|python|plans|traces)/,](../../../../realmhost/\1/,g; s,\]\(../../include/,](../../../../../include/,g' $(SHARE)/doc/realmhost/docs/*/*.md
+	sed -i -E 's,\]\((examples|plans|traces)/,](../../realmhost/\1/,g' $(SHARE)/doc/realmhost/README.md
 	install -m 644 plans/*.* $(SHARE)/realmhost/plans
 	install -m 644 plans/guide/* $(SHARE)/realmhost/plans/guide
 	install -m 644 traces/*.trace $(SHARE)/realmhost/traces
 	install -d $(SHARE)/realmhost/traces/rmm/random
 	install -m 644 traces/rmm/*.* $(SHARE)/realmhost/traces/rmm
 	install -m 644 traces/rmm/random/*.trace $(SHARE)/realmhost/traces/rmm/random
-	install -m 644 examples/*.py $(SHARE)/realmhost/examples
+	install -m 644 examples/*.py examples/README.md $(SHARE)/realmhost/examples
 	@if test -f build/librmm.a; then $(MAKE) --no-print-directory install-c-library; \
 	  else echo "install: there is no build/librmm.a, and the library for C is left out: make c-library"; fi
 
 install-c-library: ## copies the library for C and Python alone below PREFIX, after `make c-library`
 	install -d $(DESTDIR)$(PREFIX)/include $(LIB)/pkgconfig $(SHARE)/realmhost/python $(SHARE)/realmhost/examples/c
-	install -m 644 include/rmm.h include/rmm_commands.h $(DESTDIR)$(PREFIX)/include
-	install -m 644 build/librmm.a $(LIB)
-	if test -f build/librmm.so.0; then install -m 755 build/librmm.so.0 $(LIB) && ln -sf librmm.so.0 $(LIB)/librmm.so; fi
-	sed 's|^libdir=.*|libdir=$${pcfiledir}/..|; s|^includedir=.*|includedir=$${pcfiledir}/../../include|' include/rmm.pc > $(LIB)/pkgconfig/rmm.pc
-	install -m 644 python/rmm.py $(SHARE)/realmhost/python
+	install -m 644 include/rmm.h include/rmm_commands.h include/rhm.h $(DESTDIR)$(PREFIX)/include
+	install -m 644 build/librmm.a build/librhm.a $(LIB)
+	if test -f build/librmm.so.0; then install -m 755 build/librmm.so.0 build/librhm.so.0 $(LIB) && ln -sf librmm.so.0 $(LIB)/librmm.so && ln -sf librhm.so.0 $(LIB)/librhm.so; fi
+	for it in rmm rhm; do sed 's|^libdir=.*|libdir=$${pcfiledir}/..|; s|^includedir=.*|includedir=$${pcfiledir}/../../include|' include/$$it.pc > $(LIB)/pkgconfig/$$it.pc; done
+	install -m 644 python/rmm.py python/rhm.py $(SHARE)/realmhost/python
 	install -m 644 examples/c/* $(SHARE)/realmhost/examples/c
 
 test: ## the whole gate from nothing: proofs, tests, what the built programs print, and the documents
@@ -78,26 +79,24 @@ test: ## the whole gate from nothing: proofs, tests, what the built programs pri
 	@mkdir -p bin
 	@for it in $(PROGRAMS) test_memory; do install -m 755 crates/$$it/out/$$it bin/$$it || exit 1; done
 	@! command -v $(CC) > /dev/null || tools/rmm-library
-	@tools/at_once tests/commands tests/program tests/traces tests/rules tests/rmm_traces tests/rmm_rules tests/planted_rmm tests/rmm_freedoms tests/view tests/terminal tests/orders tests/json tests/page tests/allocations tests/rmm-c tests/examples tests/documents tests/prose tests/believed tests/names tests/pages tests/schema "tools/pictures --check" "tools/calls --check" "tools/commands_index --check" "tools/page_template --check"
+	@tools/pytest -q -n auto
 
 mutants: ## tries the mutants of CRATE or all: the prover has to refuse each
-	@tests/mutants $(if $(JOBS),--jobs $(JOBS)) $(if $(SINCE),--since $(SINCE)) $(CRATE)
+	@tests/mutants.py $(if $(JOBS),--jobs $(JOBS)) $(if $(SINCE),--since $(SINCE)) $(CRATE)
 
-planted: ## tries edits that are no mutants, after a change of tests/mutants or of the toolchain
-	@tests/mutants $(if $(JOBS),--jobs $(JOBS)) --planted $(CRATE)
+planted: ## tries edits that are no mutants, after a change of tests/mutants.py or of the toolchain
+	@tests/mutants.py $(if $(JOBS),--jobs $(JOBS)) --planted $(CRATE)
 
 allocations: ## refuses each allocation of the programs in turn, over all plans and traces; `make test` has the first of them
 	@tools/build $(PROGRAMS) test_memory
-	@tests/allocations --all
+	@tools/pytest -q -n auto -m "" tests/test_allocations.py
 
 memcheck: build ## runs the programs under valgrind's memcheck
-	@tests/memcheck
+	@tools/pytest -q -n auto -m "" tests/test_memcheck.py
 
 fuzz: build ## runs COUNT plans and traces of each kind of random change, long inputs, COUNT histories by registers, and random calls from C for a minute
-	@tests/fuzz $(COUNT)
-	@tests/fuzz_rmm $(COUNT)
 	@tools/rmm-library
-	@tests/fuzz_c 60
+	@COUNT=$(or $(COUNT),2000) tools/pytest -q -n auto -m random
 
 bench: build ## CPU time and peak memory of the program over plans of several shapes, and how they grow, and CPU time of each command of the RMM by registers, beside plain Rust (needs cargo)
 	@tools/build test_rmm_speed

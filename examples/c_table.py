@@ -4,13 +4,19 @@ What faults on hardware is no row, and neither is a reading. Of a line the value
 with `/MASK` are not compared.
 """
 from rmi_lines import (
-    COMMANDS, EXIT, FIELDS, NAME_OF, NAMES, PAGE, STATUSES, STEPS, SUCCESS, X0_RUNNING, Memory, fields_of, line_of,
-    number, operand, repeated, settings_of, step_of, values_of,
+    COMMANDS, EXIT, FIELDS, NAME_OF, NAMES, PAGE, STATUSES, STEPS, SUCCESS, X0_RUNNING, Memory, NoLine, fields_of,
+    line_of, number, operand, repeated, settings_of, step_of, values_of,
 )
 
 NOT_COMPARED, NOT_RUNNING = "-", 2**64 - 1
-# The settings that a row of a platform has as numbers, with their defaults.
-DEFAULTS = {"aux": 2, "vmid_bits": 16, "s2sz": 48, "max_recs_order": 4}
+# The settings of a platform, in the sequence of table.h: each with its default, or with the names of its values.
+SETTINGS = {
+    "aux": 2, "vmid_bits": 16, "s2sz": 48, "max_recs_order": 4, "block_level": 2, "bps": 0, "wps": 0, "lrs": 0,
+    "secure_base": 0, "secure_count": 0, "layout": ("rel0", "eac5"), "init_destroyed": ("change", "stop"),
+    "measure_rec": ("runnable", "all"), "data_flags": ("checked", "ignored"), "live_top": ("given", "aligned"),
+    "psci_args": ("all", "target"), "desc_sh": ("zero", "any"), "data_ripas": ("any", "ram"),
+    "params": ("loose", "strict"), "gic": ("none", "checked"),
+}
 OF_GUESTS = ("queued", "full", "no REC")
 
 
@@ -27,6 +33,18 @@ def x0_of(word):
     if status == "RUNNING":
         return X0_RUNNING
     return NOT_COMPARED if NOT_COMPARED in index else STATUSES.index(status) | number((*index, "0")[0]) << 8
+
+
+def structure_of(settings):
+    """All settings of a platform as a structure of table.h. `settings` has those that are not left out."""
+    given = dict(settings)
+    given.update(zip(("secure_base", "secure_count"), given.pop("secure", ())))
+    for name, values in SETTINGS.items():
+        is_named = isinstance(values, tuple)
+        value = given.pop(name, values[0] if is_named else values)
+        yield f".{name} = {values.index(value) if is_named else value:#x}"
+    if given:
+        raise NoLine(f"platform .. {min(given)}")
 
 
 class Table:
@@ -47,12 +65,14 @@ class Table:
                 print(f"/* line {place} */")
                 getattr(self, f"of_{group}")(kind, words, line.answer)
 
-    def row(self, kind, *numbers, compared=(), results=0, text=""):
+    def row(self, kind, *numbers, compared=(), results=0, text="", settings=()):
         """One row: what goes in, and what has to come out."""
         mask = sum(1 << k for k, it in enumerate(compared) if it != NOT_COMPARED)
         given = ", ".join(map(hex, numbers))
         out = ", ".join("0" if it == NOT_COMPARED else hex(it) for it in compared) or "0"
         more = f", .results = {results}" * (results > 0) + f', .text = "{text}"' * (text != "")
+        if settings:
+            more += f", .settings = &(const struct table_settings){{{', '.join(settings)}}}"
         print(f"{{.kind = {kind}, .in = {{{given}}}, .out = {{{out}}}, .compared = {mask:#x}{more}}},")
 
     # ---- calls
@@ -125,8 +145,7 @@ class Table:
         at, settings = self.memory.moved(base), self.memory.settings(settings_of(words[2:]))
         shown = {name: "{:#x} {}".format(*it) if name == "secure" else it for name, it in settings.items()}
         text = " ".join(["platform", hex(at), str(granules), *(f"{name} {it}" for name, it in shown.items())])
-        numbers = [settings.pop(name, default) for name, default in DEFAULTS.items()]
-        self.row("PLATFORM", at, granules, *numbers, len(settings), text=text)
+        self.row("PLATFORM", at, granules, text=text, settings=[*structure_of(settings)])
 
     def of_page(self, kind, words, _answer):
         address, page = self.memory.moved(number(words[0])), self.memory.page(kind, fields_of(kind, words[1:]))

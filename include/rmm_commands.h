@@ -202,7 +202,7 @@ static inline uint64_t rmm_psci_complete(rmm_handle *handle, uint64_t calling, u
     return rmm_call(handle, rmm_registers_of(RMM_FID_PSCI_COMPLETE, calling, target, status, 0, 0, 0)).x0;
 }
 
-/* RMI_FEATURES. */
+/* RMI_FEATURES. Any index but 0 is RMM_SUCCESS with the value 0. */
 static inline uint64_t rmm_features(rmm_handle *handle, uint64_t index, uint64_t *value)
 {
     rmm_registers after = rmm_call(handle, rmm_registers_of(RMM_FID_FEATURES, index, 0, 0, 0, 0, 0));

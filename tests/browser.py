@@ -1,4 +1,4 @@
-"""A Chromium without a window, driven by the DevTools protocol over a pipe, for `tests/page`."""
+"""A Chromium without a window, driven by the DevTools protocol over a pipe, for `tests/test_page.py`."""
 import base64
 import json
 import os
@@ -140,9 +140,7 @@ class Browser:
     def size(self, width, height=900, dark=False):
         self.call("Emulation.setDeviceMetricsOverride", width=width, height=height, deviceScaleFactor=1, mobile=False)
         scheme = {"name": "prefers-color-scheme", "value": "dark" if dark else "light"}
-        self.call(
-            "Emulation.setEmulatedMedia", features=[scheme, {"name": "prefers-reduced-motion", "value": "reduce"}]
-        )
+        self.call("Emulation.setEmulatedMedia", features=[scheme, {"name": "prefers-reduced-motion", "value": "reduce"}])
 
     def picture(self, whole=False):
         """The page as a PNG; the whole of it, or what is in the window."""

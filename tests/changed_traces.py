@@ -1,12 +1,12 @@
-"""Traces of the repository with random changes, for `tests/fuzz`, and what has to hold whatever they have become.
-
-A trace of the same number is changed alike at each run. Each answer of the program has to be that of the second model.
+"""Traces of the repository with random changes, drawn by hypothesis, and what has to hold whatever they have become: each answer of
+the program is that of the second model.
 """
+import functools
 import random
 import re
-import sys
 
-sys.dont_write_bytecode = True
+from hypothesis import strategies as st
+
 from rmm_logs import paths, without_answers
 from second_rmm.bench import Bench
 from second_rmm.command import LOST
@@ -56,19 +56,22 @@ def with_a_byte(lines, dice):
     lines[at] = changed.decode(errors="surrogateescape")
 
 
-CHANGES = (with_a_number, with_a_line, without_a_line, with_two_lines_turned, with_a_byte)
-SHARES = (12, 6, 6, 12, 1)
+# The number of a change is its share.
+CHANGES = 12 * [with_a_number] + 6 * [with_a_line] + 6 * [without_a_line] + 12 * [with_two_lines_turned] + [with_a_byte]
 
 
-def changed_traces(numbers):
-    """For each number the lines of a changed trace, without answers."""
-    texts = [path.read_text() for path in paths() if path.stat().st_size < MOST_BYTES]
-    for number in numbers:
-        dice = random.Random(number)
-        lines = without_answers(texts[number % len(texts)]).splitlines()
-        for change in dice.choices(CHANGES, SHARES, k=dice.randint(1, 8)):
-            change(lines, dice)
-        yield number, lines
+@functools.cache
+def short_traces():
+    return [without_answers(path.read_text()).splitlines() for path in paths() if path.stat().st_size < MOST_BYTES]
+
+
+@st.composite
+def changed_traces(draw):
+    """The lines of a changed trace, without answers."""
+    lines, dice = [*draw(st.sampled_from(short_traces()))], draw(st.randoms(use_true_random=False))
+    for change in draw(st.lists(st.sampled_from(CHANGES), min_size=1, max_size=8)):
+        change(lines, dice)
+    return lines
 
 
 def text_of(lines):

@@ -1,4 +1,4 @@
-"""Colours of a style sheet: their contrast, and how far apart they look, for `tests/page`.
+"""Colours of a style sheet: their contrast, and how far apart they look, for `tests/test_page.py`.
 
 Contrast: WCAG 2.1, relative luminance and contrast ratio. Colour blindness: Machado, Oliveira and Fernandes 2009,
 severity 1. Distance: CIEDE2000 (Sharma, Wu and Dalal 2005).
@@ -55,9 +55,7 @@ def distance(one, other):
     of_l = (l2 - l1) / (1 + 0.015 * (l - 50) ** 2 / math.sqrt(20 + (l - 50) ** 2))
     of_c = (c2 - c1) / (1 + 0.045 * c)
     of_h = 2 * math.sqrt(c1 * c2) * math.sin(math.radians(turn / 2)) / (1 + 0.015 * c * t)
-    turned = (
-        -math.sin(math.radians(60 * math.exp(-(((hue - 275) / 25) ** 2)))) * 2 * math.sqrt(c**7 / (c**7 + 25**7))
-    )
+    turned = (-math.sin(math.radians(60 * math.exp(-(((hue - 275) / 25) ** 2)))) * 2 * math.sqrt(c**7 / (c**7 + 25**7)))
     return math.sqrt(of_l**2 + of_c**2 + of_h**2 + turned * of_c * of_h)
 
 

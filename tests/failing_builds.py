@@ -1,4 +1,4 @@
-"""Plans in which a build aborts after each of its steps, beside two that go on, with their texts, for `tests/program`.
+"""Plans in which a build aborts after each of its steps, beside two that go on, with their texts, for `tests/test_program.py`.
 
 The texts are worked out here by the rules: every step is accepted, and an abort undoes what is open, newest first.
 """

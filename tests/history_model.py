@@ -1,4 +1,4 @@
-"""What a history leads to on the second monitor: for `tests/json`.
+"""What a history leads to on the second monitor: for `tests/test_json.py`.
 
 Each event of a history (REALMVIEW.md) is a command to tests/second_monitor.py. What the host keeps itself, as which pages a
 build leases and which granule is which REC, is kept here, from the events. What is there then is told as a document of

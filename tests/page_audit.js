@@ -1,4 +1,4 @@
-// What `tests/page` asks of a page: what it shows of the machine, and whether it can be read.
+// What `tests/test_page.py` asks of a page: what it shows of the machine, and whether it can be read.
 const audit = (() => {
   const numbers = (text) => text.match(/[\d.]+/g).map(Number);
   const parsed = (text) => { const [r, g, b, a = 1] = numbers(text); return { r, g, b, a }; };

@@ -1,4 +1,4 @@
-"""Plans for `tests/page`: machines of many pages, with builds that use them all."""
+"""Plans for `tests/test_page.py`: machines of many pages, with builds that use them all."""
 
 
 def text_of(pages, order, builds, title="", aux=0):

@@ -1,4 +1,4 @@
-"""Traces of the profile as histories, which `realmview apply` performs on the proved RMM of realmhost: for `tests/rules`.
+"""Traces of the profile as histories, which `realmview apply` performs on the proved RMM of realmhost: for `tests/test_rules.py`.
 
 A history has accepted commands alone, and in it a host takes back its newest operation first. So a trace is followed up
 to the first command that no history has. Each realm is a build's; all granules that it names are leased by that build.

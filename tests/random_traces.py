@@ -1,8 +1,9 @@
-"""Random traces for the bench for C: the lives of realms with other steps between, and readings of what they have made.
-
-A trace of the same number is the same at each run. No answers are known for it here: `rmitrace answer` gives them.
+"""Random traces of the profile, drawn by hypothesis: the lives of realms with other steps between, and readings of what they have
+made. No answers are known for them here.
 """
 import random
+
+from hypothesis import strategies as st
 
 # IPA granules on both sides of what tables serve, and the last ones of the protected half of 39 bits.
 IPAS = (0, 1, 2, 3, 511, 512, 1023, 262143, 262144, 67108863, 67108864)
@@ -87,7 +88,7 @@ class Life:
             yield self.reading()
 
 
-def random_traces(numbers):
-    """For each number a trace, without answers."""
-    for number in numbers:
-        yield number, "".join(f"{line}\n" for line in Life(random.Random(number)).lines()).encode()
+def random_traces():
+    """A trace, without answers: the first lines of a life, so that one that fails is made short."""
+    cut = lambda seed, count: "".join(f"{line}\n" for line in [*Life(random.Random(seed)).lines()][:count]).encode()
+    return st.builds(cut, st.integers(0, 2**32 - 1), st.integers(40, 2 * MOST_STEPS + 60))

@@ -1,4 +1,4 @@
-"""Lines of traces for `tests/traces`, which asks the program, and `tests/rmm_traces`, which asks the second model.
+"""Lines of traces for `tests/test_traces.py`, which asks the program, and `tests/test_rmm_traces.py`, which asks the second model.
 
 They are what is no command, lines that are read alike, comments, and answers that are same, allowed or wrong.
 """

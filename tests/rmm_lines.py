@@ -265,6 +265,15 @@ def raw(lines: list[str]) -> Iterator[str]:
 # ---- raw operations, performed
 
 
+def is_met(operation: str, came: str) -> bool:
+    """Whether a result is the one that stands beside its operation, if one does."""
+    asked, is_written, wanted = operation.partition(" = ")
+    words, got = wanted.split(" "), came.split(" ")
+    are_alike = all(NOT_COMPARED in (a, b) or a == b for a, b in zip(words, got))
+    is_whole = len(words) == len(got) or asked.startswith("smc ") and len(words) < len(got)
+    return operation.startswith("#") or not is_written or are_alike and is_whole
+
+
 class RawBench:
     """A machine that performs raw operations. Each returns its result, in the words of the form."""
 
@@ -272,12 +281,9 @@ class RawBench:
 
     def perform(self, operation: str) -> str | None:
         """What differs in an operation, or none."""
-        asked, is_written, written = operation.partition(" = ")
-        kind, *words = asked.split(" ")
+        kind, *words = operation.partition(" = ")[0].split(" ")
         came = getattr(self, kind)(*words)
-        wanted, got = written.split(" "), (came or "").split(" ")
-        is_same = len(wanted) <= len(got) and all(a in (b, NOT_COMPARED) for a, b in zip(wanted, got))
-        return None if not is_written or is_same and (kind == "smc" or len(wanted) == len(got)) else came
+        return None if is_met(operation, came or "") else came
 
     def platform(self, *words: str) -> None:
         base, count, aux, vmid_bits, s2sz, order, flags, bps, wps, lrs, *secure = (int(it, 16) for it in words)

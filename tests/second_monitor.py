@@ -1,4 +1,4 @@
-"""A second monitor, in which each rule can be switched off: for `tests/rules`, and to see what a rule is good for.
+"""A second monitor, in which each rule can be switched off: for `tests/test_rules.py`, and to see what a rule is good for.
 
 It was written from TRACES.md, RULES.md and the definitions in crates/realm_model/specs/Command, and has no
 code in common with `rmitrace`. A command is a generator: it yields its checks in their order, and then changes the

@@ -7,15 +7,33 @@ static rmm_handle rmm = RMM_CLOSED;
 
 bool table_platform(const struct table_row *row)
 {
-    rmm_settings settings = RMM_DEFAULTS;
-    settings.base = row->in[0];
-    settings.granules = row->in[1];
-    settings.aux = row->in[2];
-    settings.vmid_bits = row->in[3];
-    settings.s2sz = row->in[4];
-    settings.max_recs_order = row->in[5];
+    const struct table_settings *it = row->settings;
+    const rmm_settings settings = {
+        .granules = row->in[1],
+        .base = row->in[0],
+        .secure_base = it->secure_base,
+        .secure_count = it->secure_count,
+        .aux = it->aux,
+        .vmid_bits = it->vmid_bits,
+        .s2sz = it->s2sz,
+        .max_recs_order = it->max_recs_order,
+        .block_level = it->block_level,
+        .bps = it->bps,
+        .wps = it->wps,
+        .lrs = it->lrs,
+        .layout = it->layout == 0 ? RMM_REL0 : RMM_EAC5,
+        .stops_at_destroyed = it->init_destroyed != 0,
+        .measures_all_recs = it->measure_rec != 0,
+        .ignores_data_flags = it->data_flags != 0,
+        .data_needs_ram = it->data_ripas != 0,
+        .aligns_live_top = it->live_top != 0,
+        .shows_target_alone = it->psci_args != 0,
+        .takes_shareability = it->desc_sh != 0,
+        .checks_params = it->params != 0,
+        .checks_gic = it->gic != 0,
+    };
     rmm_close(&rmm);
-    return row->in[6] == 0 && rmm_open(&rmm, &settings) == RMM_OPENED;
+    return rmm_open(&rmm, &settings) == RMM_OPENED;
 }
 
 void table_smc(uint64_t x[7])

@@ -4,7 +4,7 @@ from __future__ import annotations
 import re
 from collections.abc import Callable, Set
 
-from . import realms, recs, tables  # noqa: F401  (they define the commands)
+from . import realms, recs, tables
 from .command import COMMANDS, LISTED, Outcome, call, smc
 from .facts import INPUT, PAGE, SUCCESS
 from .guest import MOST_STEPS, interrupt
@@ -15,6 +15,8 @@ from .reading import (
     PAGES, PSCI_NAMES, NoCommand, aligned, machine_of, named, number, numbers, one_number, page_with, parts_of, step_of,
 )
 
+# The modules that define the commands.
+OF_COMMANDS = (realms, recs, tables)
 MOST_LINE, MOST_REPEAT, WORD, REGISTERS = 65536, 512, 8, 7
 NOT_UTF_8 = re.compile("[\ud800-\udfff]")
 

@@ -11,7 +11,7 @@ from functools import cache, cached_property
 from typing import ClassVar, NamedTuple, TypeVar
 
 from .facts import INPUT, NOT_SUPPORTED, PAGE, RD, REC_STATE, RTT, SUCCESS, UNDELEGATED, Settings, size, word_of
-from .machine import Entry, Exit, Machine, Realm, Rec, Walk
+from .machine import Entry, Exit, Machine, Realm, Walk
 
 # A command or a step that cannot go on without a check that was left out ends with one of these.
 LOST = (ArithmeticError, AssertionError, AttributeError, IndexError, KeyError, LookupError, TypeError, ValueError)

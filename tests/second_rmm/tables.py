@@ -1,7 +1,7 @@
 """The commands of tables, of pages of data, and of RIPAS."""
 from __future__ import annotations
 
-from collections.abc import Callable, Mapping
+from collections.abc import Callable
 from functools import cached_property
 
 from .command import Check, Checks, Command, Outcome, WithTop, command, done

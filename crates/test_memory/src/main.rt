@@ -1,7 +1,7 @@
 //! A test program: arguments come back if memory is refused, and no call after boot takes memory. A plan on standard
 //! input is replayed over the plain store instead.
 //!
-//! `tests/allocations` refuses each allocation of this program in turn. A host is then booted or shared, or a worker
+//! `tests/test_allocations.py` refuses each allocation of this program in turn. A host is then booted or shared, or a worker
 //! built, at the second try, from what came back of the first. The test counts the allocations between a line `quiet`
 //! and the line after it, and compares the times of the last three such parts.
 #![tactic(auto)]

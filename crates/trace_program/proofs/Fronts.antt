@@ -1,5 +1,5 @@
 -- The lines that are taken of the front of a part.
-use Rattle.std.proofs.Common.{◌≡◌, ℕ, true, false, List, [], ◌∷◌, ◌++◌, sym, ◌∙◌, ap, subst, append_assoc, append-nil}
+use Rattle.std.proofs.Common.{◌≡◌, ℕ, ◌<◌, true, false, List, [], ◌∷◌, ◌++◌, length, refl, sym, ◌∙◌, ap, subst, append_assoc, append-nil, arith, length-append}
 use Rattle.std.specs.Prelude.{Some, None}
 use Rattle.command_line.specs.declared.rmitrace.TraceSubcommand.{TraceSubcommand}
 use Rattle.rmm_trace.specs.Cuts.{before_mark, after_mark}
@@ -40,3 +40,52 @@ module _ (asked : TraceSubcommand) (first : Session) (begun texts : List ℕ) wh
 pub line_split : (part front rest after : List ℕ) → part ≡ front ++ rest → after_mark 10 rest ≡ Some after → part ≡ (front ++ (before_mark 10 rest ++ 10 ∷ [])) ++ after
 line_split part front rest after split some =
     split ∙ ap (λ (x : List ℕ). front ++ x) (cut_some rest after some) ∙ sym (append_assoc front (before_mark 10 rest ++ 10 ∷ []) after)
+
+-- what is after a line is shorter
+pub after_shorter : (rest after : List ℕ) → after_mark 10 rest ≡ Some after → length after < length rest
+after_shorter rest after some =
+    let all = ap length (cut_some rest after some) in
+    let parts = length-append (before_mark 10 rest ++ 10 ∷ []) after in
+    let line = length-append (before_mark 10 rest) (10 ∷ []) in
+    omega (arith, all, parts, line)
+
+-- ---- the loop over the lines of a part
+
+-- The front of the part is taken, and the rest is left.
+pub record HasFront (asked : TraceSubcommand) (first : Session) (begun texts part rest : List ℕ) (s : Session) (line text : List ℕ) : Type 0 where
+  pub front : List ℕ
+  pub split : part ≡ front ++ rest
+  pub going : is_check_done asked s ≡ false
+  pub taken : FrontTaken asked first begun texts front s line text
+
+module _ (asked : TraceSubcommand) (first : Session) (begun texts part rest : List ℕ) (s : Session) (line text : List ℕ) (h : HasFront asked first begun texts part rest s line text) where
+  -- the part of a line that is kept
+  abbrev Keeps : List ℕ → List ℕ → Type 0
+  Keeps more kept = (begin : List ℕ) → line ≡ kept_of_line begin → kept ≡ kept_of_line (begin ++ more)
+
+  module _ (after more kept new left : List ℕ) (next : Session) (some : after_mark 10 rest ≡ Some after) (cut : more ≡ before_mark 10 rest) (keeps : Keeps more kept)
+      (k : TakesLine asked kept s next text new) (empty : left ≡ []) where
+    line_more : FrontTaken asked first begun texts (h.front ++ (before_mark 10 rest ++ 10 ∷ [])) next left new
+    line_more = subst (λ (it : List ℕ). FrontTaken asked first begun texts (h.front ++ (before_mark 10 rest ++ 10 ∷ [])) next it new) (sym empty)
+        (front_line asked first begun texts h.front s line text h.taken rest kept new next h.going (λ begin is. keeps begin is ∙ ap (λ (x : List ℕ). kept_of_line (begin ++ x)) cut) k)
+
+    pub front_next : is_check_done asked next ≡ false → HasFront asked first begun texts part after next left new
+    front_next going = record {
+      front = h.front ++ (before_mark 10 rest ++ 10 ∷ []);
+      split = line_split part h.front rest after h.split some;
+      going = going;
+      taken = line_more;
+    }
+
+    pub part_done : is_check_done asked next ≡ true → FrontTaken asked first begun texts part next left new
+    part_done done = subst (λ (x : List ℕ). FrontTaken asked first begun texts x next left new) (sym (line_split part h.front rest after h.split some))
+        (front_done asked first begun texts (h.front ++ (before_mark 10 rest ++ 10 ∷ [])) next left new line_more after done)
+
+  pub part_over : (more kept : List ℕ) → after_mark 10 rest ≡ None → more ≡ before_mark 10 rest → Keeps more kept → FrontTaken asked first begun texts part s kept text
+  part_over more kept none cut keeps = subst (λ (x : List ℕ). FrontTaken asked first begun texts x s kept text) (sym h.split)
+      (front_part asked first begun texts h.front s line text h.taken rest kept h.going none
+      (λ begin is. keeps begin is ∙ ap (λ (x : List ℕ). kept_of_line (begin ++ x)) cut))
+
+-- nothing of a part is taken
+pub no_front : (asked : TraceSubcommand) (first : Session) (begun texts part : List ℕ) → is_check_done asked first ≡ false → HasFront asked first begun texts part part first begun texts
+no_front asked first begun texts part going = record { front = []; split = refl; going = going; taken = front_none asked first begun texts }

@@ -1,16 +1,19 @@
 -- An input that is being read, and its end.
-use Rattle.std.proofs.Common.{◌≡◌, ℕ, Bool, true, false, List, [], ◌∷◌, ◌++◌, map, Option, Some, None, refl, sym, ap, ◌∙◌, subst, append_assoc, append-nil, ◌⊎◌, inl, inr}
+use Rattle.std.proofs.Common.{◌≡◌, ℕ, Bool, true, false, not, Result, Ok, Err, IfOk, OnOk, OnErr, List, [], ◌∷◌, ◌++◌, ◌&&◌, map, Option, Some, None, refl, sym, ap, ◌∙◌, subst, append_assoc, append-nil, ◌⊎◌, inl, inr}
 use Rattle.std.proofs.lemmas.List.{map-append}
+use Rattle.std.proofs.lemmas.Result.{on_err_weaker}
 use Rattle.std.specs.Io.KnownBytes.{Appends, Consumes, IsAtEnd, Keeps}
 use Rattle.checked_io.specs.Lines.{without_empty_last}
 use Rattle.checked_io.specs.Whole.{AppendsFront}
 use Rattle.checked_io.proofs.Written.{appends_none, appends_more, appends_keeps}
 use Rattle.checked_io.proofs.Read.{consumes_none, consumes_more}
 use Rattle.command_line.specs.declared.rmitrace.TraceSubcommand.{TraceSubcommand}
+use Rattle.command_line.specs.declared.rmitrace.TraceSubcommand.TheVariants as asks
 use Rattle.trace_program.specs.declared.counts.TraceVerdict.{TraceVerdict}
+use Rattle.trace_program.specs.declared.fault.TraceError.{TraceError}
 use Rattle.trace_program.specs.declared.session.Session.{Session}
 use Rattle.trace_program.specs.Session.{IsSession, fresh_session, is_check_done}
-use Rattle.trace_program.specs.Reading.{AreTraceLinesTaken, IsCutShort, IsOver, IsTraceRun, IsTraceLineTaken, IsUnderway, kept_of_line, last_text, taken_lines, verdict_asked}
+use Rattle.trace_program.specs.Reading.{AreTraceLinesTaken, IsCutShort, IsOver, IsTraceRun, IsTraceLineTaken, IsUnderway, ReadsOn, kept_of_line, last_text, taken_lines, verdict_asked}
 use Rattle.trace_program.proofs.Parts.{grows_more, lines_are}
 use Rattle.trace_program.proofs.Taken.{taken_none, lines_split, done_all}
 
@@ -51,6 +54,22 @@ whole_front old new text written = record { front = text; rest = []; split = sym
 -- nothing was written of a text
 pub nothing_front : (old : Option (List ℕ)) (text : List ℕ) → AppendsFront old old text
 nothing_front old text = record { front = []; rest = text; split = refl; grows = appends_none old }
+
+-- what is taken of bytes and no text is taken of a text that is empty
+pub from_no_text : (asked : TraceSubcommand) (s : Session) (line text : List ℕ) (P : List ℕ → List ℕ → Type 0) → text ≡ []
+    → ((read written : List ℕ) → IsTraceLineTaken asked read written s line text → P read written) → (read written : List ℕ) → IsTraceLineTaken asked read written s line [] → P read written
+from_no_text asked s line text P empty takes read written t = takes read written (subst (λ (x : List ℕ). IsTraceLineTaken asked read written s line x) (sym empty) t)
+
+-- no line is taken, so it is not done
+none_done : (stops : Bool) → (stops && false) ≡ false
+none_done true = refl
+none_done false = refl
+
+pub fresh_going : (asked : TraceSubcommand) → is_check_done asked fresh_session ≡ false
+fresh_going (asks.Check asked) = none_done asked.stops
+fresh_going asks.Answer = refl
+fresh_going asks.Names = refl
+fresh_going asks.Why = refl
 
 module _ (asked : TraceSubcommand) (input left old new : Option (List ℕ)) where
   pub underway_none : is_check_done asked fresh_session ≡ false → Keeps input left → Keeps old new → IsUnderway asked input left old new fresh_session []
@@ -105,6 +124,11 @@ module _ (asked : TraceSubcommand) (input left old new : Option (List ℕ)) wher
       written = subst (λ (x : List ℕ). Appends old new x) (sym (append-nil u.written)) u.appended;
     }
 
+    -- a read after which there may be more, or after which it is done
+    pub reads_on : (done : Bool) → done ≡ is_check_done asked s → ReadsOn (not done) asked input left old new s line
+    reads_on true is = over_when_done (sym is)
+    reads_on false is = (u, sym is)
+
     -- ---- errors
 
     pub cut_after : (left_after newer : Option (List ℕ)) (part : List ℕ) → Consumes left left_after part → Keeps new newer → IsCutShort asked input left_after old newer
@@ -122,6 +146,10 @@ module _ (asked : TraceSubcommand) (input left old new : Option (List ℕ)) wher
           written = front_longer old newer (u.written ++ []) (last_text asked s)
               (whole_front old newer (u.written ++ []) (subst (λ (x : List ℕ). Appends old newer x) (sym (append-nil u.written)) (appends_keeps old new newer u.written u.appended unwritten)));
         }
+
+    -- a read failed
+    pub cut_in_read : (left_after newer : Option (List ℕ)) → Keeps left left_after → Keeps new newer → IsCutShort asked input left_after old newer
+    cut_in_read left_after newer unread unwritten = cut_after left_after newer [] (consumes_keeps left left left_after [] (consumes_none left) unread) unwritten
 
     pub cut_in_write : (left_after newer : Option (List ℕ)) (after : Session) (line_after part told : List ℕ) → Consumes left left_after part
         → ((read written : List ℕ) → IsTraceLineTaken asked read written s line [] → IsTraceLineTaken asked (read ++ part) written after line_after told) → AppendsFront new newer told
@@ -155,6 +183,15 @@ module _ (asked : TraceSubcommand) (input left old new : Option (List ℕ)) wher
 
   -- ---- the whole run
 
+  pub reads_no_more : (more : Bool) (s : Session) (line : List ℕ) → more ≡ false → ReadsOn more asked input left old new s line → IsOver asked input left old new s
+  reads_no_more true s line is r = absurd (cc)
+  reads_no_more false s line is r = r
+
+  pub reads_more : (more : Bool) (s : Session) (line : List ℕ) → more ≡ true → ReadsOn more asked input left old new s line
+      → IsUnderway asked input left old new s line × (is_check_done asked s ≡ false)
+  reads_more true s line is r = r
+  reads_more false s line is r = absurd (cc)
+
   module _ (s : Session) (o : IsOver asked input left old new s) where
     pub run_over : (newer : Option (List ℕ)) (verdict : TraceVerdict) → verdict ≡ verdict_asked asked s → Appends new newer (last_text asked s)
         → IsTraceRun asked input left old newer verdict
@@ -169,6 +206,11 @@ module _ (asked : TraceSubcommand) (input left old new : Option (List ℕ)) wher
       written = appends_more old new newer o.text (last_text asked s) o.written written;
     }
 
+    pub run_ok : (result : Result TraceVerdict TraceError) (newer : Option (List ℕ)) → IfOk result (λ it. it ≡ verdict_asked asked s) → OnOk result (Appends new newer (last_text asked s))
+        → IfOk result (λ it. IsTraceRun asked input left old newer it)
+    run_ok (Ok it) newer is written = run_over newer it is written
+    run_ok (Err e) newer is written = tt
+
     pub cut_in_counts : (newer : Option (List ℕ)) → AppendsFront new newer (last_text asked s) → IsCutShort asked input left old newer
     cut_in_counts newer w = record {
       read = o.read;
@@ -181,3 +223,6 @@ module _ (asked : TraceSubcommand) (input left old new : Option (List ℕ)) wher
       session = o.session;
       written = front_more old new newer o.text (last_text asked s) o.written w;
     }
+
+    pub run_err : (result : Result TraceVerdict TraceError) (newer : Option (List ℕ)) → OnErr result (AppendsFront new newer (last_text asked s)) → OnErr result (IsCutShort asked input left old newer)
+    run_err result newer w = on_err_weaker result (cut_in_counts newer) w

@@ -3,7 +3,7 @@ ghost use Rattle.std.specs.Prelude.{◌≡◌, ◌++◌, ◌⊎◌, ◌↔◌, �
 ghost use Rattle.std.specs.Io.KnownBytes.{Appends};
 ghost use Rattle.checked_io.specs.Whole.{AppendsFront};
 ghost use Rattle.trace_program.specs.declared.fault.TraceError.TheVariants.{Device};
-ghost use Rattle.trace_program.specs.Session.{TakesLine};
+ghost use Rattle.trace_program.specs.Session.{TakesLine, is_check_done};
 ghost use Rattle.trace_program.specs.Reading as specs;
 
 use crate::line_text::LineTexts;
@@ -61,12 +61,15 @@ impl Reading {
         Ok(())
     }
 
-    // Takes bytes of the input, up to the line that ends the run. Each turn but the last takes a line feed.
+    // Takes bytes of the input, up to the line that ends the run.
     fn take_part(&mut self, request: Request<'_>, part: &[u8]) -> Result<(), TraceError>
-        ensures { ¬ (result ≡ Err Device) }
+        requires { is_check_done request.asked.now self.old.session ≡ false }
+        ensures ok { OnOk result ((read written : List ℕ) → specs.IsTraceLineTaken request.entry.asked.now read written self.old.session self.old.line.items self.old.text
+            → specs.IsTraceLineTaken request.entry.asked.now (read ++ part.now) written self.new.session self.new.line.items self.new.text) }
+        ensures err { ¬ (result ≡ Err Device) }
     {
         let mut rest = part;
-        'lines: for _ in 0..=part.len() {
+        'lines: loop {
             let (front, after) = cut_at(rest, b'\n');
             keep(&mut self.line, front)?;
             let Some(after) = after else {
@@ -78,12 +81,14 @@ impl Reading {
             }
             rest = after;
         }
-        Ok(())
     }
 
     // Ends the last line, which has no line feed, unless it is empty.
     fn end(&mut self, request: Request<'_>) -> Result<(), TraceError>
-        ensures { ¬ (result ≡ Err Device) }
+        requires { is_check_done request.asked.now self.old.session ≡ false }
+        ensures ok { OnOk result ((read written : List ℕ) → specs.IsTraceLineTaken request.entry.asked.now read written self.old.session self.old.line.items self.old.text
+            → specs.AreTraceLinesTaken request.entry.asked.now read written self.new.session self.new.text) }
+        ensures err { ¬ (result ≡ Err Device) }
     {
         if self.line.is_empty() {
             return Ok(());
@@ -121,6 +126,13 @@ impl Reading {
     ) -> Result<bool, TraceError>
         requires readable { input.old.failed ≡ false }
         requires writable { output.old.failed ≡ false }
+        requires empty { self.old.text ≡ [] }
+        requires going { is_check_done request.asked.now self.old.session ≡ false }
+        ensures ok { (begin start : Option (List ℕ)) → specs.IsUnderway request.entry.asked.now begin (R.remaining input.old.device) start (W.contents output.old.device) self.old.session self.old.line.items
+            → IfOk result (λ more. specs.ReadsOn more request.entry.asked.now begin (R.remaining input.new.device) start (W.contents output.new.device) self.new.session self.new.line.items) }
+        ensures empty { OnOk result (self.new.text ≡ []) }
+        ensures err { (begin start : Option (List ℕ)) → specs.IsUnderway request.entry.asked.now begin (R.remaining input.old.device) start (W.contents output.old.device) self.old.session self.old.line.items
+            → OnErr result (specs.IsCutShort request.entry.asked.now begin (R.remaining input.new.device) start (W.contents output.new.device)) }
         ensures told { ((input.new.failed ≡ true) ⊎ (output.new.failed ≡ true)) ↔ (result ≡ Err Device) }
         ensures fine { OnOk result ((input.new.failed ≡ false) × (output.new.failed ≡ false)) }
     {
@@ -160,7 +172,7 @@ impl Reading {
 /// Reads the lines of a trace, and writes the text for each before it reads on; at the end of a check, its counts.
 ///
 /// Memory is taken for a fresh machine, for a line, of which no more than 65,537 bytes are kept, and for the texts of
-/// the lines of one read. Which lines are taken is tested. Errors. `Memory`: allocation failed. `Device`: a read or a write failed. `TooLong`: the trace
+/// the lines of one read. Errors. `Memory`: allocation failed. `Device`: a read or a write failed. `TooLong`: the trace
 /// took 2^64 - 1 reads, or has as many lines. In each case a prefix of the texts was written.
 pub fn run<R: Read, W: Write>(
     alloc: Global,
@@ -171,6 +183,10 @@ pub fn run<R: Read, W: Write>(
 ) -> Result<TraceVerdict, TraceError>
     requires readable { input.old.failed ≡ false }
     requires writable { output.old.failed ≡ false }
+    ensures ok { IfOk result (specs.IsTraceRun asked.now (R.remaining input.old.device) (R.remaining input.new.device)
+        (W.contents output.old.device) (W.contents output.new.device)) }
+    ensures err { OnErr result (specs.IsCutShort asked.now (R.remaining input.old.device) (R.remaining input.new.device)
+        (W.contents output.old.device) (W.contents output.new.device)) }
     ensures device { ((input.new.failed ≡ true) ⊎ (output.new.failed ≡ true)) ↔ (result ≡ Err Device) }
 {
     let request = Request {

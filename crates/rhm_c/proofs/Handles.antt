@@ -1,0 +1,22 @@
+-- Calls on a handle, by what the handle has before and after.
+use Rattle.std.proofs.Common.{◌≡◌, Option, Some, None, refl, sym, subst}
+use Rattle.history_calls.specs.Frame.{Place}
+use Rattle.host_ledger.specs.View.{HostView}
+use Rattle.rhm_c.specs.Answer.{closed, IsOnHandle}
+use Rattle.rhm_c.specs.declared.answer.CallAnswer.{CallAnswer}
+use Rattle.rhm_c.specs.declared.placed_host.PlacedHost.{PlacedHost}
+
+-- a call on an open handle
+pub of_open : (Is : Place → HostView → CallAnswer → HostView → Type 0) (old new : Option PlacedHost) (given answer : CallAnswer) (x y : PlacedHost)
+    → old ≡ Some x → new ≡ Some y → given ≡ answer → Is x.frame x.host answer y.host → y.frame ≡ x.frame → IsOnHandle Is old given new
+of_open Is old new given answer x y was now same is stays =
+    subst (λ (o : Option PlacedHost). IsOnHandle Is o given new) (sym was)
+    (subst (λ (o : Option PlacedHost). IsOnHandle Is (Some x) given o) (sym now)
+    (subst (λ (g : CallAnswer). Is x.frame x.host g y.host) (sym same) is, stays))
+
+-- a call on a closed one
+pub of_closed : (Is : Place → HostView → CallAnswer → HostView → Type 0) (old new : Option PlacedHost) (given : CallAnswer)
+    → old ≡ None → new ≡ None → given ≡ closed → IsOnHandle Is old given new
+of_closed Is old new given was now is =
+    subst (λ (o : Option PlacedHost). IsOnHandle Is o given new) (sym was)
+    (subst (λ (o : Option PlacedHost). IsOnHandle Is None given o) (sym now) is)

@@ -1,0 +1,12 @@
+pub mod Codes
+pub mod Owned
+pub mod Settings
+pub mod Command
+pub mod Answer
+pub mod Action
+pub mod Prepared
+pub mod Preparing
+pub mod Commit
+pub mod Undoing
+pub mod Reading
+pub mod History

@@ -1,0 +1,55 @@
+-- Undos, aborts, marks and ways back of a build that is named by its number.
+use Rattle.std.specs.Prelude.{◌≡◌, ℕ, Option, Some, None, Result, Ok, Err}
+use Rattle.host_commands.specs.declared.refusal.Refusal.{Refusal}
+use Rattle.host_commands.specs.declared.refusal.Refusal.TheVariants.{NothingToUndo}
+use Rattle.host_ledger.specs.declared.mark.Mark.{Mark}
+use Rattle.host_ledger.specs.View.{HostView, mark_of}
+use Rattle.realm_host.specs.Abort.{IsBegun, IsAbortAnswer}
+use Rattle.realm_host.specs.Call.{Undo}
+use Rattle.realm_host.specs.Marked.{IsMarked, IsBackAnswer}
+use Rattle.rhm_c.specs.Answer.{only, done, refused_as, counted_as, answered_as, IsAnsweredAs, IsOnly}
+use Rattle.rhm_c.specs.Command.{no_such_build}
+use Rattle.rhm_c.specs.declared.answer.CallAnswer.{CallAnswer}
+
+-- what holds of a build before and after a call; nothing changes if there is no such build
+abbrev pub IsOfBuild : (HostView → ℕ → CallAnswer → HostView → Type 0) → Option ℕ → HostView → CallAnswer → HostView → Type 0
+IsOfBuild Is (Some build) old given new = Is old build given new
+IsOfBuild Is None old given new = IsOnly old (only no_such_build) given new
+
+-- an undo
+abbrev pub IsUndoneHere : HostView → ℕ → CallAnswer → HostView → Type 0
+IsUndoneHere old build given new = IsAnsweredAs answered_as old build Undo given new
+
+-- ---- aborts
+
+-- a call whose result is a number of operations, as C has it
+pub record IsCountedAs (Is : HostView → ℕ → Result ℕ Refusal → HostView → Type 0) (old : HostView) (build : ℕ) (given : CallAnswer) (new : HostView) : Type 0 where
+  pub result : Result ℕ Refusal
+  pub is_result : Is old build result new
+  pub given_is : given ≡ counted_as result
+
+abbrev pub IsBegunHere : HostView → ℕ → CallAnswer → HostView → Type 0
+IsBegunHere old build given new = IsCountedAs IsBegun old build given new
+
+abbrev pub IsAbortedHere : HostView → ℕ → CallAnswer → HostView → Type 0
+IsAbortedHere old build given new = IsCountedAs IsAbortAnswer old build given new
+
+-- ---- marks
+
+-- a mark, as C has it: the number of operations that the build had open
+abbrev pub marked_as : Result Mark Refusal → CallAnswer
+marked_as (Ok mark) = done mark.length
+marked_as (Err refusal) = refused_as refusal
+
+pub record IsMarkedHere (old : HostView) (build : ℕ) (given : CallAnswer) (new : HostView) : Type 0 where
+  pub result : Result Mark Refusal
+  pub is_result : IsMarked old build result new
+  pub given_is : given ≡ marked_as result
+
+-- a way back to the mark that is kept
+abbrev pub IsBackTo : Option Mark → HostView → ℕ → CallAnswer → HostView → Type 0
+IsBackTo (Some mark) old build given new = IsCountedAs (λ host of result after. IsBackAnswer host of mark result after) old build given new
+IsBackTo None old build given new = IsOnly old (refused_as NothingToUndo) given new
+
+abbrev pub IsBackHere : HostView → ℕ → CallAnswer → HostView → Type 0
+IsBackHere old build given new = IsBackTo (mark_of old build) old build given new

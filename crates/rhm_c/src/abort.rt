@@ -1,0 +1,93 @@
+//! Aborts of builds.
+ghost use Rattle.std.specs.Prelude.{◌≡◌};
+ghost use Rattle.rhm_c.specs.Command.{build_in};
+ghost use Rattle.rhm_c.specs.Answer.{IsOnHandle};
+ghost use Rattle.rhm_c.specs.Undoing.{IsOfBuild, IsBegunHere, IsAbortedHere};
+
+use crate::HostHandle;
+use crate::answer::{CallAnswer, closed, counted, only};
+use crate::asking::given;
+use crate::command::build_of;
+use crate::placed_host::PlainHost;
+use granule_addr::BuildId;
+use std::alloc::Global;
+
+// The status of a build that there is not.
+const NO_BUILD: u64 = 1;
+
+// Begins the abort of a build.
+fn begin(host: &mut PlainHost, build: BuildId) -> CallAnswer
+    ensures { IsBegunHere host.old build result host.new }
+{
+    counted(&host.begin_abort(build))
+}
+
+// Undoes all that a build has open.
+fn abort(host: &mut PlainHost, build: BuildId) -> CallAnswer
+    ensures { IsAbortedHere host.old build result host.new }
+{
+    counted(&host.abort(build))
+}
+
+// Begins the abort of a build that is named by its number.
+fn begin_of(host: &mut PlainHost, build: u64) -> CallAnswer
+    ensures { IsOfBuild IsBegunHere (build_in build) host.old result host.new }
+{
+    match build_of(build) {
+        Some(build) => begin(host, build),
+        None => only(NO_BUILD),
+    }
+}
+
+// Undoes all that a build that is named by its number has open.
+fn abort_of(host: &mut PlainHost, build: u64) -> CallAnswer
+    ensures { IsOfBuild IsAbortedHere (build_in build) host.old result host.new }
+{
+    match build_of(build) {
+        Some(build) => abort(host, build),
+        None => only(NO_BUILD),
+    }
+}
+
+/// Begins the abort of a build. Returns 0, with the number of operations that it has open in `value`. Until it has none,
+/// its commands are refused, and each of its undos is performed.
+///
+/// Else nothing changes: 1, 2 and 8 are the refusals, and 14 a closed handle.
+#[unsafe(no_mangle)]
+pub extern "C" fn rhm_begin_abort(
+    alloc: Global,
+    handle: &mut HostHandle,
+    build: u64,
+    value: &mut u64,
+) -> u64
+    ensures { IsOnHandle (λ place. IsOfBuild IsBegunHere (build_in build)) handle.old.held.host
+        (record { status = result; value = value.new }) handle.new.held.host }
+{
+    let Some(mut placed) = handle.take(alloc) else {
+        return given(closed(), value);
+    };
+    let answer = begin_of(&mut placed.host, build);
+    handle.give(placed);
+    given(answer, value)
+}
+
+/// Undoes all that a build has open at once, the newest first. Returns 0, with the number of operations in `value`.
+///
+/// Else nothing changes: 1 and 8 are the refusals, and 14 a closed handle.
+#[unsafe(no_mangle)]
+pub extern "C" fn rhm_abort(
+    alloc: Global,
+    handle: &mut HostHandle,
+    build: u64,
+    value: &mut u64,
+) -> u64
+    ensures { IsOnHandle (λ place. IsOfBuild IsAbortedHere (build_in build)) handle.old.held.host
+        (record { status = result; value = value.new }) handle.new.held.host }
+{
+    let Some(mut placed) = handle.take(alloc) else {
+        return given(closed(), value);
+    };
+    let answer = abort_of(&mut placed.host, build);
+    handle.give(placed);
+    given(answer, value)
+}

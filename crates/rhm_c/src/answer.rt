@@ -1,0 +1,102 @@
+//! Answers as C has them: a status, and a value.
+ghost use Rattle.std.specs.Prelude.{◌≡◌};
+ghost use Rattle.rhm_c.specs.Answer as answers;
+
+use host_commands::{Refusal, Reply};
+
+/// The status of a call, and its value; 0 if it has none.
+#[derive(Clone, Copy)]
+pub(crate) struct CallAnswer {
+    pub(crate) status: u64,
+    pub(crate) value: u64,
+}
+
+// The status of a call on a closed handle.
+const CLOSED: u64 = 14;
+
+/// The answer of a closed handle.
+pub(crate) fn closed() -> CallAnswer
+    ensures { result ≡ answers.closed }
+{
+    only(CLOSED)
+}
+
+/// A status without a value.
+pub(crate) fn only(status: u64) -> CallAnswer
+    ensures { result ≡ answers.only status }
+{
+    CallAnswer { status, value: 0 }
+}
+
+/// An answer that the call is done.
+pub(crate) fn done(value: u64) -> CallAnswer
+    ensures { result ≡ answers.done value }
+{
+    CallAnswer { status: 0, value }
+}
+
+// The value of a reply.
+pub(crate) fn reply_value(reply: Reply) -> u64
+    ensures { result ≡ answers.reply_value reply }
+{
+    match reply {
+        Reply::Done => 0,
+        Reply::FirstPage(page) => u64::from(page),
+        Reply::Byte(byte) => u64::from(byte),
+        Reply::Vmid(vmid) => u64::from(vmid.number()),
+        Reply::Number(number) => u64::from(number.number()),
+    }
+}
+
+// The number of a refusal.
+pub(crate) fn refusal_status(refusal: &Refusal) -> u64
+    ensures { result ≡ answers.refusal_status refusal.now }
+{
+    match refusal {
+        Refusal::NoBuild => 1,
+        Refusal::Aborting => 2,
+        Refusal::BadOrder => 3,
+        Refusal::NotLeased(_) => 4,
+        Refusal::RealmThere => 5,
+        Refusal::NoRealm => 6,
+        Refusal::NothingToUndo => 7,
+        Refusal::RecRunning => 8,
+        Refusal::JournalFull => 9,
+        Refusal::HistoryFull => 10,
+        Refusal::NoBlock(_) => 11,
+        Refusal::NoVmid => 12,
+        Refusal::Rmi(_) => 13,
+    }
+}
+
+// The value of a refusal.
+fn refusal_value(refusal: &Refusal) -> u64
+    ensures { result ≡ answers.refusal_value refusal.now }
+{
+    match refusal {
+        Refusal::NotLeased(page) => u64::from(*page),
+        Refusal::NoBlock(order) => u64::from(order.number()),
+        Refusal::Rmi(rmi) => rmi.word(),
+        _ => 0,
+    }
+}
+
+/// A refusal, as an answer.
+pub(crate) fn refused(refusal: &Refusal) -> CallAnswer
+    ensures { result ≡ answers.refused_as refusal.now }
+{
+    CallAnswer {
+        status: refusal_status(refusal),
+        value: refusal_value(refusal),
+    }
+}
+
+/// A number of operations, or a refusal, as an answer.
+pub(crate) fn counted(count: &Result<u16, Refusal>) -> CallAnswer
+    ensures { result ≡ answers.counted_as count.now }
+{
+    match count {
+        Ok(count) => done(u64::from(*count)),
+        Err(refusal) => refused(refusal),
+    }
+}

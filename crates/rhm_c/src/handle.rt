@@ -1,0 +1,54 @@
+//! Handles: what C keeps of a host.
+ghost use Rattle.std.specs.Prelude.{◌≡◌, Some, None, IfSome, IfNone, is_some};
+
+use crate::parts::OwnedParts;
+use crate::{HeldHost, PlacedHost};
+use std::alloc::Global;
+use std::mem::replace;
+
+/// A host that C keeps, or none, which is a closed handle. A handle whose bytes are all 0 is closed.
+#[repr(C)]
+#[derive(Drop)]
+pub struct HostHandle {
+    is_open: bool,
+    pub held: HeldHost,
+    ghost agrees: { is_some held.host ≡ is_open },
+}
+
+impl HostHandle {
+    // Takes the host out, which closes the handle.
+    pub(crate) fn take(&mut self, alloc: Global) -> Option<Box<PlacedHost>>
+        ensures some { IfSome result (λ placed. self.old.held.host ≡ Some placed.value) }
+        ensures none { IfNone result (self.old.held.host ≡ None) }
+        ensures closed { self.new.held.host ≡ None }
+    {
+        if !self.is_open {
+            return None;
+        }
+        let closed = HostHandle {
+            is_open: false,
+            held: HeldHost::none(),
+        };
+        let HostHandle { is_open: _, held } = replace(self, closed);
+        Some(held.into_parts(alloc).into_box())
+    }
+
+    // Puts a host into a closed handle. The host of an open one would never be given back.
+    pub(crate) fn give(&mut self, placed: Box<PlacedHost>)
+        requires closed { self.old.held.host ≡ None }
+        ensures { self.new.held.host ≡ Some placed.value }
+    {
+        *self = HostHandle {
+            is_open: true,
+            held: HeldHost::of(OwnedParts::of(placed)),
+        };
+    }
+
+    // Whether there is a host.
+    pub(crate) fn is_open(&mut self) -> bool
+        ensures answer { result ≡ is_some self.old.held.host }
+        ensures same { self.new ≡ self.old }
+    {
+        self.is_open
+    }
+}

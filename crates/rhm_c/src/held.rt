@@ -1,0 +1,51 @@
+//! A host on the heap that C keeps. No other file knows its pointer.
+ghost use Rattle.std.specs.Prelude.{◌≡◌, true, Option, Some, None, is_some};
+ghost use Rattle.std.specs.Coded.{coded_option};
+ghost use Rattle.rhm_c.specs.Codes.{placed_host_code};
+ghost use Rattle.rhm_c.specs.declared.placed_host.PlacedHost as declared;
+ghost use Rattle.rhm_c.specs.Owned.{held_host_owns};
+
+use crate::PlacedHost;
+use crate::parts::OwnedParts;
+use std::alloc::Global;
+use std::marker::Model;
+
+/// A host on the heap, or none. To C it is one pointer, null if there is none.
+#[repr(C)]
+#[derive(Drop)]
+pub struct HeldHost {
+    at: *mut u8,
+    pub ghost host: { Option declared.PlacedHost } by { coded_option placed_host_code },
+}
+
+impl Model for HeldHost {
+    ghost also_owns = { λ h. held_host_owns h.at h.host };
+}
+
+impl HeldHost {
+    pub(crate) fn none() -> HeldHost
+        ensures { result.host ≡ None }
+    {
+        HeldHost {
+            at: std::ptr::null_mut(),
+        }
+    }
+
+    pub(crate) fn of(parts: OwnedParts<PlacedHost, Global>) -> HeldHost
+        ensures { result.host ≡ Some parts.value }
+    {
+        let OwnedParts { ptr, alloc: _ } = parts;
+        HeldHost { at: ptr as *mut u8 }
+    }
+
+    pub(crate) fn into_parts(self, alloc: Global) -> OwnedParts<PlacedHost, Global>
+        requires { is_some self.host ≡ true }
+        ensures { self.host ≡ Some result.value }
+    {
+        let HeldHost { at } = self;
+        OwnedParts {
+            ptr: at as *mut PlacedHost,
+            alloc,
+        }
+    }
+}

@@ -1,0 +1,39 @@
+//! The host for C: each function of `include/rhm.h` is exported here, and its contract has its result.
+//!
+//! C keeps a handle, and the handle owns a host on the heap. `rhm_open` alone takes memory. No call has a precondition
+//! but those of its pointers, which `include/rhm.h` has at each function.
+//!
+//! A command of a build can be performed at once, or in two steps in front of an RMM. `rhm_prepare` gives the operations
+//! that the hypervisor performs there, and changes nothing. `rhm_commit` is given the answer, and performs the command
+//! here if it is the one that is expected.
+#![tactic(auto)]
+
+mod abort;
+mod action;
+mod actions;
+mod answer;
+mod asking;
+mod command;
+mod commit;
+mod handle;
+mod held;
+mod history;
+pub mod law;
+mod marks;
+mod open;
+mod parts;
+mod placed_host;
+mod prepare;
+mod reading;
+mod settings;
+mod undo;
+
+pub use action::{RawAction, RawActions};
+pub use command::RawCommand;
+pub use commit::FirmwareAnswer;
+pub use handle::HostHandle;
+pub use held::HeldHost;
+pub use history::RawEvent;
+pub use placed_host::PlacedHost;
+pub use reading::{BuildReading, PageReading, RealmReading, RecReading};
+pub use settings::HostSettings;

@@ -1,0 +1,101 @@
+//! Marks of builds, and the way back to one.
+ghost use Rattle.std.specs.Prelude.{◌≡◌};
+ghost use Rattle.rhm_c.specs.Command.{build_in};
+ghost use Rattle.rhm_c.specs.Answer.{IsOnHandle};
+ghost use Rattle.rhm_c.specs.Undoing.{IsOfBuild, IsMarkedHere, IsBackHere};
+
+use crate::HostHandle;
+use crate::answer::{CallAnswer, closed, counted, done, only, refused};
+use crate::asking::given;
+use crate::command::build_of;
+use crate::placed_host::PlainHost;
+use granule_addr::BuildId;
+use host_commands::Refusal;
+use std::alloc::Global;
+
+// The status of a build that there is not.
+const NO_BUILD: u64 = 1;
+
+// Keeps the point of a build as a mark.
+fn mark(host: &mut PlainHost, build: BuildId) -> CallAnswer
+    ensures { IsMarkedHere host.old build result host.new }
+{
+    match host.mark(build) {
+        Ok(mark) => done(u64::from(mark.length())),
+        Err(refusal) => refused(&refusal),
+    }
+}
+
+// Undoes what a build has opened above its mark.
+fn roll_back(host: &mut PlainHost, build: BuildId) -> CallAnswer
+    ensures { IsBackHere host.old build result host.new }
+{
+    match host.kept_mark(build) {
+        Some(mark) => counted(&host.rollback_to(build, mark)),
+        None => refused(&Refusal::NothingToUndo),
+    }
+}
+
+// Keeps the point of a build that is named by its number.
+fn mark_of(host: &mut PlainHost, build: u64) -> CallAnswer
+    ensures { IsOfBuild IsMarkedHere (build_in build) host.old result host.new }
+{
+    match build_of(build) {
+        Some(build) => mark(host, build),
+        None => only(NO_BUILD),
+    }
+}
+
+// Undoes what a build that is named by its number has opened above its mark.
+fn roll_back_of(host: &mut PlainHost, build: u64) -> CallAnswer
+    ensures { IsOfBuild IsBackHere (build_in build) host.old result host.new }
+{
+    match build_of(build) {
+        Some(build) => roll_back(host, build),
+        None => only(NO_BUILD),
+    }
+}
+
+/// Keeps the point of a build as its mark, in place of an older one. Returns 0, with the number of operations that it has
+/// open in `value`.
+///
+/// Else nothing changes: 1 and 2 are the refusals, and 14 a closed handle.
+#[unsafe(no_mangle)]
+pub extern "C" fn rhm_mark(
+    alloc: Global,
+    handle: &mut HostHandle,
+    build: u64,
+    value: &mut u64,
+) -> u64
+    ensures { IsOnHandle (λ place. IsOfBuild IsMarkedHere (build_in build)) handle.old.held.host
+        (record { status = result; value = value.new }) handle.new.held.host }
+{
+    let Some(mut placed) = handle.take(alloc) else {
+        return given(closed(), value);
+    };
+    let answer = mark_of(&mut placed.host, build);
+    handle.give(placed);
+    given(answer, value)
+}
+
+/// Undoes at once what a build has opened above its mark, the newest first. Returns 0, with the number of operations in
+/// `value`. The mark stays.
+///
+/// Else nothing changes: 1, 2, 7 and 8 are the refusals, and 14 a closed handle. 7 comes if the build has no mark.
+#[unsafe(no_mangle)]
+pub extern "C" fn rhm_roll_back(
+    alloc: Global,
+    handle: &mut HostHandle,
+    build: u64,
+    value: &mut u64,
+) -> u64
+    ensures { IsOnHandle (λ place. IsOfBuild IsBackHere (build_in build)) handle.old.held.host
+        (record { status = result; value = value.new }) handle.new.held.host }
+{
+    let Some(mut placed) = handle.take(alloc) else {
+        return given(closed(), value);
+    };
+    let answer = roll_back_of(&mut placed.host, build);
+    handle.give(placed);
+    given(answer, value)
+}

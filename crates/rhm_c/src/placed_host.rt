@@ -1,0 +1,42 @@
+//! A host, at its place in the address space.
+ghost use Rattle.std.specs.Prelude.{◌≡◌, true, IfSome};
+ghost use Rattle.rhm_c.specs.Settings.{are_settings, opened_host};
+
+use crate::HostSettings;
+use history_calls::Frame;
+use page_arena::PlainStore;
+use realm_host::{Host, Settings};
+use std::alloc::Global;
+
+/// A host over a plain store of pages.
+pub(crate) type PlainHost = Host<PlainStore>;
+
+/// A host, and the place of its granules in the address space.
+#[derive(Drop)]
+pub struct PlacedHost {
+    pub(crate) host: Host<PlainStore>,
+    pub(crate) frame: Frame,
+}
+
+impl PlacedHost {
+    /// A host of these settings, at the start. `None` comes if there is no memory.
+    pub(crate) fn open(alloc: Global, settings: &HostSettings) -> Option<PlacedHost>
+        requires { are_settings settings.now ≡ true }
+        ensures { IfSome result (λ placed. placed ≡ opened_host settings.now) }
+    {
+        let numbers = Settings::new(
+            settings.vmids as u8,
+            settings.aux as u8,
+            settings.history as u16,
+            settings.builds as u8,
+        )?;
+        let Ok(store) = PlainStore::build(alloc, settings.pages as u16) else {
+            return None;
+        };
+        let Ok(host) = Host::boot(alloc, numbers, store) else {
+            return None;
+        };
+        let frame = Frame::new(settings.base, settings.pages as u16);
+        Some(PlacedHost { host, frame })
+    }
+}

@@ -1,0 +1,105 @@
+//! Commands and undos that are prepared: the operations that the hypervisor performs on its RMM.
+ghost use Rattle.std.specs.Prelude.{◌≡◌};
+ghost use Rattle.rhm_c.specs.Preparing as preparing;
+
+use crate::action::raw_actions;
+use crate::actions::{Actions, actions_asked, actions_back};
+use crate::answer::refusal_status;
+use crate::command::{asked, build_of};
+use crate::placed_host::PlainHost;
+use crate::{HostHandle, RawActions, RawCommand};
+use history_calls::Frame;
+use host_commands::Refusal;
+use std::alloc::Global;
+
+// The status of a call on a closed handle, and of a build that there is not.
+const CLOSED: u64 = 14;
+
+const NO_BUILD: u64 = 1;
+
+// Writes operations; or returns the number of the refusal.
+fn write(actions: Result<Actions, Refusal>, into: &mut RawActions) -> u64
+    ensures { (result, into.new) ≡ preparing.prepared_or_refused actions into.old }
+{
+    match actions {
+        Ok(actions) => {
+            *into = raw_actions(actions.as_slice());
+            0
+        }
+        Err(refusal) => refusal_status(&refusal),
+    }
+}
+
+// The operations for the command that C asks for.
+fn prepare(
+    frame: Frame,
+    host: &PlainHost,
+    build: u64,
+    raw: &RawCommand,
+    into: &mut RawActions,
+) -> u64
+    ensures { (result, into.new) ≡ preparing.prepared build raw.now into.old frame host.now }
+{
+    match asked(build, raw) {
+        Ok((build, cmd)) => {
+            write(
+                actions_asked(frame, host, build, (raw.run % 64) as u16, &cmd),
+                into,
+            )
+        }
+        Err(status) => status,
+    }
+}
+
+// The operations for an undo of a build that is named by its number.
+fn prepare_undo(frame: Frame, host: &PlainHost, build: u64, into: &mut RawActions) -> u64
+    ensures { (result, into.new) ≡ preparing.prepared_undo build into.old frame host.now }
+{
+    match build_of(build) {
+        Some(build) => write(actions_back(frame, host, build), into),
+        None => NO_BUILD,
+    }
+}
+
+/// Prepares a command of a build, and changes nothing. Returns 0, with the operations that the hypervisor performs on
+/// its RMM, in sequence; a Take needs none.
+///
+/// Else `actions` stays as it is. 1 to 12 is the number of the refusal that the host gives before it calls the RMM. 13
+/// is an operand that no call has, 14 a closed handle, and 15 what is no command.
+#[unsafe(no_mangle)]
+pub extern "C" fn rhm_prepare(
+    alloc: Global,
+    handle: &mut HostHandle,
+    build: u64,
+    command: &RawCommand,
+    actions: &mut RawActions,
+) -> u64
+    ensures prepared { (result, actions.new) ≡ preparing.on_handle (preparing.prepared build command.now) actions.old handle.old.held.host }
+    ensures same { handle.new.held.host ≡ handle.old.held.host }
+{
+    let Some(placed) = handle.take(alloc) else {
+        return CLOSED;
+    };
+    let status = prepare(placed.frame, &placed.host, build, command, actions);
+    handle.give(placed);
+    status
+}
+
+/// Prepares an undo of a build, as `rhm_prepare` does a command. 1, 7 and 8 are its refusals, and 14 a closed handle.
+#[unsafe(no_mangle)]
+pub extern "C" fn rhm_prepare_undo(
+    alloc: Global,
+    handle: &mut HostHandle,
+    build: u64,
+    actions: &mut RawActions,
+) -> u64
+    ensures prepared { (result, actions.new) ≡ preparing.on_handle (preparing.prepared_undo build) actions.old handle.old.held.host }
+    ensures same { handle.new.held.host ≡ handle.old.held.host }
+{
+    let Some(placed) = handle.take(alloc) else {
+        return CLOSED;
+    };
+    let status = prepare_undo(placed.frame, &placed.host, build, actions);
+    handle.give(placed);
+    status
+}

@@ -1,0 +1,124 @@
+-- The granules that guests access: pages of their realm, and pages of the host.
+use Rattle.std.proofs.Common.{◌≡◌, ℕ, ◌+◌, ◌*◌, ◌/◌, ◌%◌, ◌^◌, ◌<◌, ◌==◌, Bool, true, false, not, length, Option, Some, None, Result, Ok, Err, option_map, refl, sym, ap, subst, ◌∙◌, ⊎_elim, arith, ◌⊎◌, inl, inr}
+use Rattle.std.specs.Prelude.{if◌then◌else◌, IfSome}
+use Rattle.std.proofs.lemmas.Bool.{cases_Bool, cond-true, cond-false, cond_both, ltb-true, lt-ltb, not-false}
+use Rattle.std.proofs.lemmas.Nat.{mod_below}
+use Rattle.rmm_model.specs.declared.access.AccessSize.{AccessSize}
+use Rattle.rmm_model.specs.declared.entry.RmmRttEntry.{RmmRttEntry}
+use Rattle.rmm_model.specs.declared.entry.RmmRttEntry.TheVariants.{Assigned}
+use Rattle.rmm_model.specs.declared.granule.RmmGranule.{RmmGranule}
+use Rattle.rmm_model.specs.declared.granule.RmmGranuleState.{RmmGranuleState}
+use Rattle.rmm_model.specs.declared.granule.RmmGranuleState.TheVariants.{Undelegated, Data, Rd, Rtt}
+use Rattle.rmm_model.specs.declared.realm.RmmRealm.{RmmRealm}
+use Rattle.rmm_model.specs.declared.realm.RttWalk.{RttWalk}
+use Rattle.rmm_model.specs.declared.rec.LastExit.TheVariants.{EmulatableAbort}
+use Rattle.rmm_model.specs.declared.step.StepOutcome.{StepOutcome}
+use Rattle.rmm_model.specs.declared.step.StepOutcome.TheVariants.{Exit as IsExit}
+use Rattle.rmm_model.specs.Entry.{descriptor_of, is_assigned_ns}
+use Rattle.rmm_model.specs.Granule.{realm_of}
+use Rattle.rmm_model.specs.Host.{is_host_page}
+use Rattle.rmm_model.specs.Level.{entry_size, entry_index}
+use Rattle.rmm_model.specs.Machine.{Machine, granule_at, page_in, is_inside, number_of}
+use Rattle.rmm_model.specs.Realm.{IsServed, is_in_space, is_protected}
+use Rattle.rmm_model.specs.Step.{of_access, emulatable, access, protected_access, unprotected_access, host_access, is_memory, may_access, found_or_sea}
+use Rattle.rmm_model.specs.Table.{entry_in_page}
+use Rattle.rmm_model.specs.Walk.{entry_at, granule_named, walk}
+use Rattle.rmm_laws.specs.Role.{Used, used, page_count, entry_uses, uses, IsProper, LeadsInside}
+use Rattle.rmm_laws.proofs.Entries.{named_inside}
+use Rattle.rmm_laws.proofs.Plain.{host_inside, host_plain}
+use Rattle.rmm_laws.proofs.Walks.{IsPlace, walk_ends, uses-entry, right, entry_index-few, entry_size-positive}
+use Rattle.rmm_laws.proofs.Writes.{is_user, taken_inside}
+
+-- a granule is one of the machine that uses nothing, of a realm or of the host
+abbrev pub IsPlainAt : Machine → ℕ → ℕ → Type 0
+IsPlainAt m rd h = (h < length m.granules) × (is_user (granule_at m h).state ≡ false) × (((granule_at m h).owner ≡ Some rd) ⊎ ((granule_at m h).state ≡ Undelegated))
+
+-- the page of an offset is one of an entry
+page_below : (level offset : ℕ) → offset < entry_size level → offset / 4096 < page_count level
+unfolding entry_size
+page_below level offset =
+    cond_both (level == 3) (2 ^ 12) (if level == 2 then 2 ^ 21 else (if level == 1 then 2 ^ 30 else 2 ^ 39)) (λ (s : ℕ). offset < s → offset / 4096 < s / 4096) (λ sure lt. omega arith) (λ never.
+    cond_both (level == 2) (2 ^ 21) (if level == 1 then 2 ^ 30 else 2 ^ 39) (λ (s : ℕ). offset < s → offset / 4096 < s / 4096) (λ sure lt. omega arith) (λ never.
+    cond_both (level == 1) (2 ^ 30) (2 ^ 39) (λ (s : ℕ). offset < s → offset / 4096 < s / 4096) (λ sure lt. omega arith) (λ never lt. omega arith)))
+
+-- an address within a granule's address and an offset
+number_on : (m : Machine) (address first offset : ℕ) → address ≡ m.settings.base + first * 4096 → number_of m (address + offset) ≡ first + offset / 4096
+unfolding number_of
+number_on m address first offset is = omega arith
+
+pub named_number : (m : Machine) (address h : ℕ) → granule_named m address ≡ Some h → (is_inside m address ≡ true) × (h ≡ number_of m address)
+unfolding granule_named
+named_number m address h is =
+    ⊎_elim
+    (λ (sure : is_inside m address ≡ true). (sure, (let s : Some (number_of m address) ≡ Some h = sym (cond-true (is_inside m address) (Some (number_of m address)) None sure) ∙ is in cc)))
+    (λ (never : is_inside m address ≡ false). (let s : None ≡ Some h = sym (cond-false (is_inside m address) (Some (number_of m address)) None never) ∙ is in absurd (cc)))
+    (cases_Bool (is_inside m address))
+
+module _ (m : Machine) (proper : IsProper m) (rd : ℕ) (realm : RmmRealm) (is : (granule_at m rd).state ≡ Rd realm) (ipa : ℕ) where
+  -- a page of a mapping
+  by_memory : (place : RttWalk) (i offset h : ℕ) (entry : RmmRttEntry) → IsPlace m proper rd ipa place → i < 512 → entry_in_page (page_in m place.table) i ≡ entry → LeadsInside m entry
+      → is_memory entry ≡ true → offset < entry_size place.level → granule_named m (descriptor_of entry + offset) ≡ Some h → IsPlainAt m rd h
+  by_memory place i offset h (Assigned ripas address) place_is lt entry_is leads memory within named =
+      let first : ℕ = number_of m address in
+      let k : ℕ = offset / 4096 in
+      let number = named_number m (address + offset) h named in
+      let here : h ≡ first + k = number.1 ∙ number_on m address first offset leads.1 in
+      let inside : granule_named m address ≡ Some first = named_inside m address leads.0 in
+      let gives : uses m proper.level place.table i k ≡ Some (used Data (Some rd) 0 (first + k)) =
+      uses-entry m proper rd ipa place i k place_is lt
+      ∙ ap (λ (e : RmmRttEntry). entry_uses m (Some rd) place.level e k) entry_is
+      ∙ cond-true _ _ _ (lt-ltb k (page_count place.level) (page_below place.level offset within))
+      ∙ ap (option_map (λ f. used Data (Some rd) 0 (f + k))) inside in
+      let it : granule_at m (first + k) ≡ record { state = Data; owner = Some rd } = sym (ap (λ (u : Used). u.attributes) (right m proper place.table i k (used Data (Some rd) 0 (first + k)) gives)) in
+      let there : granule_at m h ≡ record { state = Data; owner = Some rd } = ap (granule_at m) here ∙ it in
+      let is_data : (granule_at m h).state ≡ Data = ap (λ (r : RmmGranule). r.state) there in
+      (taken_inside m h (λ free. cc), ap is_user is_data, inl (ap (λ (r : RmmGranule). r.owner) there))
+  by_memory place i offset h _ place_is lt entry_is leads memory within named = absurd (cc)
+
+  -- what is accessed
+  abbrev pub IsPlainIfOk : Result ℕ StepOutcome → Type 0
+  IsPlainIfOk (Ok h) = IsPlainAt m rd h
+  IsPlainIfOk (Err outcome) = Unit {0}
+
+  by_named : (o : Option ℕ) → ((h : ℕ) → o ≡ Some h → IsPlainAt m rd h) → IsPlainIfOk (found_or_sea o)
+  by_named (Some h) plain = plain h refl
+  by_named None plain = tt
+
+  by_host : (address : ℕ) → IsPlainIfOk (host_access m address ipa)
+  by_host address =
+      cond_both (is_host_page m address) _ _ IsPlainIfOk
+      (λ host. (host_inside m address host, ap is_user (host_plain m address host), inr (host_plain m address host)))
+      (λ never. tt)
+
+  by_unprotected : (entry : RmmRttEntry) (level : ℕ) (writes : Bool) (size : AccessSize) (value : ℕ) → IsPlainIfOk (unprotected_access m entry level ipa writes size value)
+  by_unprotected entry level writes size value =
+      cond_both (not (is_assigned_ns entry)) (Err (IsExit (emulatable (0x91000004 + of_access writes size level) ipa value) EmulatableAbort))
+      (if may_access (descriptor_of entry) writes then host_access m (descriptor_of entry / 4096 * 4096 + ipa % entry_size level) ipa else
+      Err (IsExit (emulatable (0x9100000C + of_access writes size level) ipa value) EmulatableAbort)) IsPlainIfOk (λ never. tt {0})
+      (λ mapped. cond_both (may_access (descriptor_of entry) writes) (host_access m (descriptor_of entry / 4096 * 4096 + ipa % entry_size level) ipa)
+      (Err (IsExit (emulatable (0x9100000C + of_access writes size level) ipa value) EmulatableAbort)) IsPlainIfOk
+      (λ may. by_host (descriptor_of entry / 4096 * 4096 + ipa % entry_size level))
+      (λ not. tt {0}))
+
+  by_protected : (place : RttWalk) (class : ℕ) → IsPlace m proper rd ipa place → IsPlainIfOk (protected_access m class (entry_at m place ipa) place.level ipa)
+  unfolding entry_at
+  by_protected place class place_is =
+      let i : ℕ = entry_index place.level ipa in
+      let positive = entry_size-positive place.level in
+      let table : (granule_at m place.table).state ≡ Rtt = ap (λ (r : RmmGranule). r.state) place_is.table in
+      cond_both (is_memory (entry_in_page (page_in m place.table) i)) _ _ IsPlainIfOk
+      (λ memory. by_named (granule_named m (descriptor_of (entry_in_page (page_in m place.table) i) + ipa % entry_size place.level))
+      (λ h named. by_memory place i (ipa % entry_size place.level) h (entry_in_page (page_in m place.table) i) place_is (entry_index-few place.level ipa) refl
+      (proper.inside place.table i table (entry_index-few place.level ipa)) memory (mod_below ipa (entry_size place.level) positive) named))
+      (λ never. tt)
+
+  pub accessed : (writes : Bool) (size : AccessSize) (value : ℕ) → IsPlainIfOk (access m realm ipa writes size value)
+  unfolding access
+  accessed writes size value =
+      let served : IsServed (length m.granules) realm = subst (λ (s : RmmGranuleState). IfSome (realm_of s) (IsServed (length m.granules))) is (proper.sound.tables.each rd) in
+      cond_both (not (is_in_space realm ipa)) _ _ IsPlainIfOk (λ out. tt)
+      (λ within.
+      let end = walk_ends m proper rd ipa realm 3 is (ltb-true _ _ (not-false (is_in_space realm ipa) within)) served.level in
+      cond_both (is_protected realm ipa) _ _ IsPlainIfOk
+      (λ sure. by_protected (walk m realm ipa 3) 0x90000000 end.place_is)
+      (λ never. by_unprotected (entry_at m (walk m realm ipa 3) ipa) (walk m realm ipa 3).level writes size value))

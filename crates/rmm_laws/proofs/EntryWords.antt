@@ -1,0 +1,57 @@
+-- The words of entries, and entries read from words.
+use Rattle.std.proofs.Common.{◌≡◌, ℕ, ◌+◌, ◌*◌, ◌/◌, ◌%◌, ◌^◌, ◌<◌, ◌==◌, refl, ap, ◌∙◌, arith}
+use Rattle.std.proofs.lemmas.Bool.{cond_both}
+use Rattle.rmm_model.specs.declared.entry.RmmRttEntry.{RmmRttEntry}
+use Rattle.rmm_model.specs.declared.entry.RmmRttEntry.TheVariants.{Unassigned, Assigned, Table, UnassignedNs, AssignedNs}
+use Rattle.rmm_model.specs.declared.entry.RmmRipas.TheVariants.{Empty, Ram, Destroyed}
+use Rattle.rmm_model.specs.Entry.{entry_of, entry_at_kind, entry_word, descriptor_of}
+
+module _ (kind low : ℕ) (fits : low < 2 ^ 48) where
+  kind_field : (kind * 2 ^ 56 + low % 2 ^ 48) / 2 ^ 56 ≡ kind
+  kind_field = omega arith
+
+  low_field : (kind * 2 ^ 56 + low % 2 ^ 48) % 2 ^ 48 ≡ low
+  low_field = omega arith
+
+  both_fields : entry_at_kind ((kind * 2 ^ 56 + low % 2 ^ 48) / 2 ^ 56) ((kind * 2 ^ 56 + low % 2 ^ 48) % 2 ^ 48) ≡ entry_at_kind kind low
+  both_fields = ap (λ (k : ℕ). entry_at_kind k ((kind * 2 ^ 56 + low % 2 ^ 48) % 2 ^ 48)) kind_field ∙ ap (entry_at_kind kind) low_field
+
+pub entry_of-entry_word : (entry : RmmRttEntry) → descriptor_of entry < 2 ^ 48 → entry_of (entry_word entry) ≡ entry
+unfolding entry_of entry_word
+entry_of-entry_word (Unassigned Empty) fits = refl
+entry_of-entry_word (Unassigned Ram) fits = refl
+entry_of-entry_word (Unassigned Destroyed) fits = refl
+entry_of-entry_word UnassignedNs fits = refl
+entry_of-entry_word (Table address) fits = both_fields 4 address fits
+entry_of-entry_word (AssignedNs desc) fits = both_fields 5 desc fits
+entry_of-entry_word (Assigned Empty address) fits = both_fields 6 address fits
+entry_of-entry_word (Assigned Ram address) fits = both_fields 7 address fits
+entry_of-entry_word (Assigned Destroyed address) fits = both_fields 8 address fits
+
+pub entry_word-fits : (entry : RmmRttEntry) → entry_word entry < 2 ^ 64
+unfolding entry_word
+entry_word-fits (Unassigned Empty) = omega arith
+entry_word-fits (Unassigned Ram) = omega arith
+entry_word-fits (Unassigned Destroyed) = omega arith
+entry_word-fits UnassignedNs = omega arith
+entry_word-fits (Table address) = omega arith
+entry_word-fits (AssignedNs desc) = omega arith
+entry_word-fits (Assigned Empty address) = omega arith
+entry_word-fits (Assigned Ram address) = omega arith
+entry_word-fits (Assigned Destroyed address) = omega arith
+
+-- the descriptor that is read has 48 bits
+at_kind-few : (kind low : ℕ) → low < 2 ^ 48 → descriptor_of (entry_at_kind kind low) < 2 ^ 48
+at_kind-few kind low fits =
+    cond_both (kind == 1) _ _ (λ (e : RmmRttEntry). descriptor_of e < 2 ^ 48) (λ yes. omega arith) (λ no.
+    cond_both (kind == 2) _ _ (λ (e : RmmRttEntry). descriptor_of e < 2 ^ 48) (λ yes. omega arith) (λ no.
+    cond_both (kind == 3) _ _ (λ (e : RmmRttEntry). descriptor_of e < 2 ^ 48) (λ yes. omega arith) (λ no.
+    cond_both (kind == 4) _ _ (λ (e : RmmRttEntry). descriptor_of e < 2 ^ 48) (λ yes. fits) (λ no.
+    cond_both (kind == 5) _ _ (λ (e : RmmRttEntry). descriptor_of e < 2 ^ 48) (λ yes. fits) (λ no.
+    cond_both (kind == 6) _ _ (λ (e : RmmRttEntry). descriptor_of e < 2 ^ 48) (λ yes. fits) (λ no.
+    cond_both (kind == 7) _ _ (λ (e : RmmRttEntry). descriptor_of e < 2 ^ 48) (λ yes. fits) (λ no.
+    cond_both (kind == 8) _ _ (λ (e : RmmRttEntry). descriptor_of e < 2 ^ 48) (λ yes. fits) (λ no. omega arith))))))))
+
+pub descriptor-few : (word : ℕ) → descriptor_of (entry_of word) < 2 ^ 48
+unfolding entry_of
+descriptor-few word = at_kind-few (word / 2 ^ 56) (word % 2 ^ 48) (omega arith)

@@ -1,0 +1,311 @@
+-- Guests and their RECs keep the roles of granules: steps, entries, exits and interrupts.
+use Rattle.std.proofs.Common.{◌≡◌, ◌≢◌, ℕ, zero, suc, ◌+◌, ◌*◌, ◌/◌, ◌%◌, ◌^◌, ◌<◌, ◌==◌, inl, inr, ◌&&◌, Bool, true, false, length, Option, Some, None, Result, Ok, Err, refl, sym, ap, subst, ◌∙◌, ⊎_elim, arith, ◌⊎◌}
+use Rattle.std.specs.Prelude.{IfSome, nat_lt, if◌then◌else◌}
+use Rattle.std.proofs.lemmas.Bool.{cases_eq, eqb-true, cond_both, and_parts}
+use Rattle.std.proofs.lemmas.List.{length-set}
+use Rattle.page_arena.specs.Word.{page_with_word}
+use Rattle.rmi_abi.specs.declared.rec_run.RecExit.{RecExit}
+use Rattle.rmi_abi.specs.declared.word.Word.{Word as Answer}
+use Rattle.rmi_abi.specs.RecRun.{flags_in, entry_gpr_in, injects_sea, emulates_mmio, exit_word, only_reason}
+use Rattle.rmi_abi.specs.declared.rec_run.ExitReason.TheVariants.{Irq}
+use Rattle.rmm_model.specs.declared.access.AccessSize.{AccessSize}
+use Rattle.rmm_model.specs.declared.access.AccessSize.TheVariants.{Byte, Halfword, Word, Doubleword}
+use Rattle.rmm_model.specs.declared.granule.RmmGranule.{RmmGranule}
+use Rattle.rmm_model.specs.declared.granule.RmmGranuleState.{RmmGranuleState}
+use Rattle.rmm_model.specs.declared.granule.RmmGranuleState.TheVariants.{Undelegated, Rd, Rec as IsRec}
+use Rattle.rmm_model.specs.declared.realm.RmmRealm.{RmmRealm}
+use Rattle.rmm_model.specs.declared.rec.LastExit.{LastExit}
+use Rattle.rmm_model.specs.declared.rec.LastExit.TheVariants.{Other, HostCall, RipasChange, EmulatableAbort, UnprotectedAbort, SystemRegister}
+use Rattle.rmm_model.specs.declared.rec.PsciRequest.{PsciRequest}
+use Rattle.rmm_model.specs.declared.rec.PsciRequest.TheVariants.{Complete, CpuOn}
+use Rattle.rmm_model.specs.declared.rec.RmmRec.{RmmRec}
+use Rattle.rmm_model.specs.declared.step.GuestStep.{GuestStep}
+use Rattle.rmm_model.specs.declared.step.GuestStep.TheVariants.{Write, Read, Fetch, SystemOff, SystemReset}
+use Rattle.rmm_model.specs.declared.step.Queued.{Queued}
+use Rattle.rmm_model.specs.declared.step.StepOutcome.{StepOutcome}
+use Rattle.rmm_model.specs.declared.step.StepOutcome.TheVariants.{Result as IsResult, Exit as IsExit, Spin as Spins}
+use Rattle.rmm_model.specs.declared.step.StepResult.{StepResult}
+use Rattle.rmm_model.specs.declared.step.StepResult.TheVariants.{Sea}
+use Rattle.rmm_model.specs.declared.step.StepWords.{StepWords}
+use Rattle.rmm_model.specs.Access.{low_bytes, with_byte, with_two_bytes, with_four_bytes, with_value}
+use Rattle.rmm_model.specs.Granule.{realm_of}
+use Rattle.rmm_model.specs.Guest.{rec_in, is_rec_named, first_step, past_step, with_result, with_step, queued}
+use Rattle.rmm_model.specs.Host.{is_host_page}
+use Rattle.rmm_model.specs.Machine.{Machine, granule_at, page_in, is_aligned, is_inside, number_of, state_at, with_word}
+use Rattle.rmm_model.specs.Realm.{IsServed}
+use Rattle.rmm_model.specs.Step.{access, after_write, is_exit}
+use Rattle.rmm_model.specs.Command.Operand.{rec_at}
+use Rattle.rmm_model.specs.Command.PsciComplete.{is_same_owner, request_checks, psci_complete, with_rec, with_target}
+use Rattle.rmm_model.specs.Command.RecEnter.{rec_enter, owner_realm, realm_by, with_realm_off, with_system_off, with_copied, with_gprs, with_gic, with_exit_gic, with_exit_words, with_exit, after_exit, with_step_ended, with_psci_result, emulated, with_host_answer, after_entry, step_outcome, with_exit_of, after_step, with_step_passed, after_step_in, after_first_step, first_step_outcome, continued, after_steps, runs_at, interrupted}
+use Rattle.rmm_laws.specs.Apart.{Touches}
+use Rattle.rmm_laws.specs.Role.{IsProper}
+use Rattle.rmm_laws.proofs.Accesses.{IsPlainAt, IsPlainIfOk, accessed}
+use Rattle.rmm_laws.proofs.PageWords.{length-page_with_word, length-with_words_from}
+use Rattle.rmm_laws.proofs.Passed.{Passed, yes_from, realm_of-is, rec_of-some, rec_of-there}
+use Rattle.rmm_laws.proofs.Plain.{host_inside, host_plain}
+use Rattle.rmm_laws.proofs.Recs.{IsGoing, going_first, going_rec, going_word, going_words, going_plain, going_realm}
+use Rattle.rmm_laws.proofs.Touching.{IsMine}
+use Rattle.rmm_laws.proofs.Writes.{is_user, granule_at-other}
+
+module _ (o : Machine) (w : Option ℕ) where
+  -- ---- results
+
+  going_result : (g : ℕ) (m : Machine) (r : StepResult) → IsGoing o w g m → IsGoing o w g (with_result m g r)
+  unfolding with_result
+  going_result g m r going =
+      let place : ℕ = (rec_in m g).result_count % 32 in
+      going_rec o w g _ _ (going_word o w g _ (128 + 2 * place + 1) _ (going_word o w g m (128 + 2 * place) _ going (omega arith) (inr (omega arith))) (omega arith) (inr (omega arith)))
+
+  going_past : (g : ℕ) (m : Machine) → IsGoing o w g m → IsGoing o w g (past_step m g)
+  unfolding past_step
+  going_past g m going = going_rec o w g m _ going
+
+  -- ---- entries
+
+  going_gprs : (g page : ℕ) (m : Machine) → IsGoing o w g m → IsGoing o w g (with_gprs m g page)
+  unfolding with_copied
+  going_gprs g page m going = going_words o w g m 0 31 _ going (omega arith) (inl (omega arith))
+
+  going_gic : (g page : ℕ) (m : Machine) → IsGoing o w g m → IsGoing o w g (with_gic m g page)
+  unfolding with_gic with_copied
+  going_gic g page m going = cond_both m.settings.checks_gic _ m (IsGoing o w g) (λ sure. going_words o w g m 192 17 _ going (omega arith) (inr (omega arith))) (λ never. going)
+
+  going_psci : (g : ℕ) (m : Machine) (request : PsciRequest) → IsGoing o w g m → IsGoing o w g (with_psci_result m g request)
+  going_psci g m (Complete value) going = going_result g _ _ (going_rec o w g m _ going)
+  going_psci g m _ going = going
+
+  going_ended : (g : ℕ) (m : Machine) (r : StepResult) → IsGoing o w g m → IsGoing o w g (with_step_ended m g r)
+  going_ended g m r going = going_result g (past_step m g) r (going_past g m going)
+
+  going_answer : (g page flags : ℕ) (m : Machine) (last : LastExit) → IsGoing o w g m → IsGoing o w g (with_host_answer m g last page flags)
+  going_answer g page flags m RipasChange going = going_result g _ _ (going_rec o w g m _ going)
+  going_answer g page flags m HostCall going = going_result g _ _ (going_gprs g page m going)
+  going_answer g page flags m SystemRegister going = going_result g m _ going
+  going_answer g page flags m UnprotectedAbort going = cond_both (injects_sea flags) (with_step_ended m g Sea) m (IsGoing o w g) (λ sure. going_ended g m Sea going) (λ never. going)
+  going_answer g page flags m EmulatableAbort going =
+      let answer : StepResult = emulated (first_step m g) (entry_gpr_in (page_in m page) 0) in
+      cond_both (injects_sea flags) (with_step_ended m g Sea) (if emulates_mmio flags then with_step_ended m g answer else m) (IsGoing o w g)
+      (λ sure. going_ended g m Sea going)
+      (λ never. cond_both (emulates_mmio flags) (with_step_ended m g answer) m (IsGoing o w g) (λ also. going_ended g m answer going) (λ neither. going))
+  going_answer g page flags m Other going = going_psci g m (rec_in m g).psci going
+
+  going_entry : (g address flags : ℕ) (m : Machine) → IsGoing o w g m → IsGoing o w g (after_entry m g address flags)
+  unfolding after_entry
+  going_entry g address flags m going = going_answer g (number_of m address) flags _ (rec_in m g).exit (going_gic g (number_of m address) _ (going_rec o w g m _ going))
+
+  -- ---- exits
+
+  going_exit_gic : (g h : ℕ) (m : Machine) → IsGoing o w g m → h < length m.granules → is_user (granule_at m h).state ≡ false → IsMine m (Some w) h → IsGoing o w g (with_exit_gic m g h)
+  unfolding with_exit_gic with_copied
+  going_exit_gic g h m going inside plain mine =
+      cond_both m.settings.checks_gic _ m (IsGoing o w g)
+      (λ sure. going_plain o w g h m _ going inside (length-with_words_from 352 _ (page_in m h) (going.proper.sound.whole h inside) 17 (omega arith)) plain mine)
+      (λ never. going)
+
+  going_exit_words : (g h : ℕ) (m : Machine) (exit : RecExit) → IsGoing o w g m → h < length m.granules → is_user (granule_at m h).state ≡ false → IsMine m (Some w) h → IsGoing o w g (with_exit_gic (with_exit_words m h exit) g h)
+  unfolding with_exit_words
+  going_exit_words g h m exit going inside plain mine =
+      going_exit_gic g h _ (going_plain o w g h m _ going inside (length-with_words_from 256 (exit_word exit) (page_in m h) (going.proper.sound.whole h inside) 256 (omega arith)) plain mine) inside plain mine
+
+  going_with_exit : (g address : ℕ) (m : Machine) (exit : RecExit) → IsGoing o w g m → IsGoing o w g (with_exit m g address exit)
+  going_with_exit g address m exit going =
+      cond_both (is_host_page m address) _ m (IsGoing o w g)
+      (λ host. going_exit_words g (number_of m address) m exit going (host_inside m address host) (ap is_user (host_plain m address host)) (inr (inl (host_plain m address host))))
+      (λ never. going)
+
+  going_exit : (g : ℕ) (m : Machine) (exit : RecExit) (last : LastExit) → IsGoing o w g m → IsGoing o w g (after_exit m g exit last)
+  unfolding after_exit
+  going_exit g m exit last going = going_with_exit g (rec_in m g).run _ exit (going_rec o w g m _ going)
+
+  -- ---- accesses
+
+  -- a granule that a guest of a realm writes
+  plain_mine : (m : Machine) (rd h : ℕ) → Some rd ≡ w → ((granule_at m h).owner ≡ Some rd) ⊎ ((granule_at m h).state ≡ Undelegated) → IsMine m (Some w) h
+  plain_mine m rd h named (inl is) = inl (inr (is ∙ named))
+  plain_mine m rd h named (inr free) = inr (inl free)
+
+  module _ (rd : ℕ) (named : Some rd ≡ w) where
+    going_byte : (g h offset value : ℕ) (m : Machine) → IsGoing o w g m → IsPlainAt m rd h → IsGoing o w g (with_byte m h offset value)
+    going_byte g h offset value m going plain =
+        going_plain o w g h m _ going plain.0 (length-set (page_in m h) offset (value % 2 ^ 8) ∙ going.proper.sound.whole h plain.0) plain.1 (plain_mine m rd h named plain.2)
+
+    going_two : (g h offset value : ℕ) (m : Machine) → IsGoing o w g m → IsPlainAt m rd h → IsGoing o w g (with_two_bytes m h offset value)
+    unfolding with_two_bytes
+    going_two g h offset value m going plain = going_byte g h (offset + 1) (value / 2 ^ 8) (with_byte m h offset value) (going_byte g h offset value m going plain) plain
+
+    going_four : (g h offset value : ℕ) (m : Machine) → IsGoing o w g m → IsPlainAt m rd h → IsGoing o w g (with_four_bytes m h offset value)
+    unfolding with_four_bytes with_two_bytes
+    going_four g h offset value m going plain = going_two g h (offset + 2) (value / 2 ^ 16) (with_two_bytes m h offset value) (going_two g h offset value m going plain) plain
+
+    going_word_of : (g h i word : ℕ) (m : Machine) → IsGoing o w g m → IsPlainAt m rd h → i < 512 → IsGoing o w g (with_word m h i word)
+    going_word_of g h i word m going plain index =
+        going_plain o w g h m (page_with_word (page_in m h) i word) going plain.0 (length-page_with_word (page_in m h) i word (going.proper.sound.whole h plain.0) index) plain.1 (plain_mine m rd h named plain.2)
+
+    going_value : (g h ipa value : ℕ) (size : AccessSize) (m : Machine) → IsGoing o w g m → IsPlainAt m rd h → IsGoing o w g (with_value m h size ipa value)
+    unfolding with_value
+    going_value g h ipa value Byte m going plain = going_byte g h (ipa % 4096) value m going plain
+    going_value g h ipa value Halfword m going plain = going_two g h (ipa % 4096 / 2 * 2) value m going plain
+    going_value g h ipa value Word m going plain = going_four g h (ipa % 4096 / 4 * 4) value m going plain
+    going_value g h ipa value Doubleword m going plain = going_word_of g h (ipa % 4096 / 8) value m going plain (omega arith)
+
+    going_write : (g : ℕ) (m : Machine) (realm : RmmRealm) (is : (granule_at m rd).state ≡ Rd realm) (ipa value : ℕ) (size : AccessSize) (going : IsGoing o w g m) (came : Result ℕ StepOutcome)
+        → IsPlainIfOk m going.proper rd realm is ipa came → IsGoing o w g (after_write m ipa size value came)
+    going_write g m realm is ipa value size going (Ok h) plain = going_value g h ipa value size m going plain
+    going_write g m realm is ipa value size going (Err outcome) plain = going
+
+  -- ---- steps
+
+  served : (m : Machine) (rd : ℕ) (realm : RmmRealm) → IsProper m → (granule_at m rd).state ≡ Rd realm → IsServed (length m.granules) realm
+  served m rd realm proper is = subst (λ (s : RmmGranuleState). IfSome (realm_of s) (IsServed (length m.granules))) is (proper.sound.tables.each rd)
+
+  going_realm_off : (g rd : ℕ) (m : Machine) (there : Option RmmRealm) → Some rd ≡ w → realm_of (granule_at m rd).state ≡ there → IsGoing o w g m → IsGoing o w g (with_realm_off m rd there)
+  going_realm_off g rd m (Some realm) named is going =
+      let there = realm_of-is (granule_at m rd).state realm is in
+      let s = served m rd realm going.proper there in
+      going_realm o w g rd m realm _ going named there refl refl refl (record { few = s.few; inside = s.inside; most = s.most; level = s.level; width = s.width; served = s.served })
+  going_realm_off g rd m None named is going = going
+
+  going_off : (g : ℕ) (m : Machine) (owner : Option ℕ) → owner ≡ w → IsGoing o w g m → IsGoing o w g (with_system_off m owner)
+  going_off g m (Some rd) named going = going_realm_off g rd m (realm_of (granule_at m rd).state) named refl going
+  going_off g m None named going = going
+
+  going_exit_of : (g : ℕ) (m : Machine) (step : GuestStep) (exits : Bool) → IsGoing o w g m → IsGoing o w g (with_exit_of m g step exits)
+  going_exit_of g m step true going = going_rec o w g m _ going
+  going_exit_of g m step false going = going
+
+  going_step : (g rd : ℕ) (m : Machine) (realm : RmmRealm) → Some rd ≡ w → (granule_at m rd).state ≡ Rd realm → (step : GuestStep) (outcome : StepOutcome) → IsGoing o w g m → IsGoing o w g (after_step m realm g step outcome)
+  unfolding after_step
+  going_step g rd m realm named is (Write ipa value size) outcome going =
+      going_write rd named g m realm is ipa value size going (access m realm ipa true size (low_bytes size value)) (accessed m going.proper rd realm is ipa true size (low_bytes size value))
+  going_step g rd m realm named is (Read ipa size) outcome going = going
+  going_step g rd m realm named is (Fetch ipa) outcome going = going
+  going_step g rd m realm named is SystemOff outcome going = going_off g m (granule_at m g).owner going.owned going
+  going_step g rd m realm named is SystemReset outcome going = going_off g m (granule_at m g).owner going.owned going
+  going_step g rd m realm named is step outcome going = going_exit_of g m step (is_exit outcome) going
+
+  going_passed : (g : ℕ) (m : Machine) (outcome : StepOutcome) → IsGoing o w g m → IsGoing o w g (with_step_passed m g outcome)
+  going_passed g m (IsResult r) going = going_ended g m r going
+  going_passed g m (IsExit exit last) going = cond_both _ m _ (IsGoing o w g) (λ sure. going) (λ never. going_past g m going)
+  going_passed g m Spins going = going_past g m going
+
+  -- the realm of a REC is that of an RD
+  going_step_by : (g flags : ℕ) (m : Machine) (owner : Option ℕ) (there : Option RmmRealm) → owner ≡ w → realm_by m owner ≡ there → IsGoing o w g m → IsGoing o w g (after_step_in m there g flags)
+  going_step_by g flags m (Some rd) (Some realm) named is going =
+      going_passed g _ (step_outcome m realm g flags (first_step m g)) (going_step g rd m realm named (realm_of-is (granule_at m rd).state realm is) (first_step m g) (step_outcome m realm g flags (first_step m g)) going)
+  going_step_by g flags m None (Some realm) named is going = absurd (cc)
+  going_step_by g flags m owner None named is going = going
+
+  going_first_step : (g flags : ℕ) (m : Machine) → IsGoing o w g m → IsGoing o w g (after_first_step m g flags)
+  unfolding after_first_step
+  going_first_step g flags m going =
+      cond_both ((rec_in m g).step_count == 0) m _ (IsGoing o w g) (λ none. going) (λ some. going_step_by g flags m (granule_at m g).owner (owner_realm m g) going.owned refl going)
+
+  going_continued : (g : ℕ) (m : Machine) (outcome : StepOutcome) (rest : Bool × Machine) → IsGoing o w g m → IsGoing o w g rest.1 → IsGoing o w g (continued outcome m g rest).1
+  going_continued g m (IsResult r) rest going more = more
+  going_continued g m (IsExit exit last) rest going more = going_exit g m exit last going
+  going_continued g m Spins rest going more = going
+
+  going_steps : (count g flags : ℕ) (m : Machine) → IsGoing o w g m → IsGoing o w g (after_steps m g flags count).1
+  unfolding after_steps
+  going_steps zero g flags m going = going_exit g m (only_reason Irq) Other going
+  going_steps (suc count) g flags m going =
+      let next = going_first_step g flags m going in
+      going_continued g (after_first_step m g flags) (first_step_outcome m g flags) (after_steps (after_first_step m g flags) g flags count) next (going_steps count g flags (after_first_step m g flags) next)
+
+  going_target : (g : ℕ) (m : Machine) (rec : RmmRec) (request : PsciRequest) (begins : Bool) → IsGoing o w g m → IsGoing o w g (with_target m g rec request begins)
+  going_target g m rec (CpuOn target entry_point context) true going =
+      going_word o w g _ 0 context (going_word o w g _ 31 entry_point (going_rec o w g m _ going) (omega arith) (inl (omega arith))) (omega arith) (inl (omega arith))
+  going_target g m rec _ begins going = going
+
+  -- a REC beside one that has other attributes
+  still_rec : (g h : ℕ) (m : Machine) (rec old : RmmRec) → IsGoing o w g m → (granule_at m h).state ≡ IsRec old → (granule_at m h).owner ≡ w → IsMine o (Some w) h → IsGoing o w h (with_rec m g rec)
+  still_rec g h m rec old going is owned mine =
+      ⊎_elim
+      (λ (same : h ≡ g). subst (λ (x : ℕ). IsGoing o w x (with_rec m g rec)) (sym same) (going_rec o w g m rec going))
+      (λ (other : h ≢ g).
+      let still = granule_at-other m g h (record (granule_at m g) { state = IsRec rec }) other in
+      record {
+        proper = (going_rec o w g m rec going).proper;
+        rec = old;
+        is = ap (λ (r : RmmGranule). r.state) still ∙ is;
+        touches = (going_rec o w g m rec going).touches;
+        owned = ap (λ (r : RmmGranule). r.owner) still ∙ owned;
+        mine = mine;
+      })
+      (cases_eq h g)
+
+  going_given : (g : ℕ) (m : Machine) (s : StepWords) → IsGoing o w g m → IsGoing o w g (with_step m g s)
+  unfolding with_step
+  going_given g m s going =
+      let rec : RmmRec = rec_in m g in
+      let place : ℕ = (rec.first_step % 16 + rec.step_count % 16) % 16 in
+      going_rec o w g _ _
+      (going_word o w g _ (48 + 5 * place + 4) s.d
+      (going_word o w g _ (48 + 5 * place + 3) s.c
+      (going_word o w g _ (48 + 5 * place + 2) s.b
+      (going_word o w g _ (48 + 5 * place + 1) s.a
+      (going_word o w g m (48 + 5 * place) s.kind going (omega arith) (inr (omega arith)))
+      (omega arith) (inr (omega arith))) (omega arith) (inr (omega arith))) (omega arith) (inr (omega arith))) (omega arith) (inr (omega arith)))
+
+-- ---- commands
+
+module _ (rec address : ℕ) (m : Machine) (proper : IsProper m) (ok : Passed (rec_enter rec address m).checks) where
+  entry_going : IsGoing m (granule_at m (number_of m rec)).owner (number_of m rec) (rec_enter rec address m).machine
+  unfolding rec_enter
+  entry_going =
+      let g : ℕ = number_of m rec in
+      let w : Option ℕ = (granule_at m g).owner in
+      let flags : ℕ = flags_in (page_in m (number_of m address)) in
+      going_steps m w 16 g flags (after_entry m g address flags) (going_entry m w g address flags m (going_first g m (rec_at m rec) proper (rec_of-some (state_at m rec) ok.1.1.1.1.1.0)))
+
+  pub entered : IsProper (rec_enter rec address m).machine
+  entered = entry_going.proper
+
+  pub entered_touches : Touches m (rec_enter rec address m).machine (Some (granule_at m (number_of m rec)).owner)
+  entered_touches = entry_going.touches
+
+pub same_owner : (a b : Option ℕ) → is_same_owner a b ≡ true → a ≡ b
+same_owner (Some a) (Some b) is = ap (λ (x : ℕ). Some x) (eqb-true a b is)
+same_owner None None is = refl
+same_owner (Some a) None is = absurd (cc)
+same_owner None (Some b) is = absurd (cc)
+
+module _ (calling target status : ℕ) (m : Machine) (proper : IsProper m) (ok : Passed (psci_complete calling target status m).checks) where
+  target_going : IsGoing m (granule_at m (number_of m calling)).owner (number_of m target) (psci_complete calling target status m).machine
+  unfolding psci_complete request_checks
+  target_going =
+      let g : ℕ = number_of m calling in
+      let h : ℕ = number_of m target in
+      let w : Option ℕ = (granule_at m g).owner in
+      let is = rec_of-some (state_at m calling) ok.1.1.1.0 in
+      let also = rec_of-some (state_at m target) ok.1.1.1.1.1.1.0 in
+      let owned : (granule_at m h).owner ≡ w = sym (same_owner w (granule_at m h).owner (yes_from (is_same_owner w (granule_at m h).owner) ok.1.1.1.1.1.1.1.1.0)) in
+      going_target m w h _ (rec_at m target) (rec_at m calling).psci _ (still_rec m w g h m _ (rec_at m target) (going_first g m (rec_at m calling) proper is) also owned (inl (inr owned)))
+
+  pub completed : IsProper (psci_complete calling target status m).machine
+  completed = target_going.proper
+
+  pub completed_touches : Touches m (psci_complete calling target status m).machine (Some (granule_at m (number_of m calling)).owner)
+  completed_touches = target_going.touches
+
+-- ---- interrupts, and steps that guests are given
+
+named : (m : Machine) (address : ℕ) → IsProper m → is_rec_named m address ≡ true → IsGoing m (granule_at m (number_of m address)).owner (number_of m address) m
+named m address proper is =
+    let some = (and_parts (is_aligned address && is_inside m address) _ is).1 in
+    going_first (number_of m address) m (rec_at m address) proper (rec_of-there (state_at m address) some)
+
+pub interrupt_kept : (m : Machine) (address : ℕ) → IsProper m → IsProper (interrupted m address).1
+unfolding interrupted
+interrupt_kept m address proper =
+    cond_both (runs_at m address) _ _ (λ (p : Option Answer × Machine). IsProper p.1)
+    (λ runs. (going_exit m (granule_at m (number_of m address)).owner (number_of m address) m (only_reason Irq) Other (named m address proper (and_parts (is_rec_named m address) _ runs).0)).proper)
+    (λ never. proper)
+
+pub given_kept : (m : Machine) (address : ℕ) (words : StepWords) → IsProper m → IsProper (queued m address words).1
+given_kept m address words proper =
+    cond_both (is_rec_named m address) _ _ (λ (p : Queued × Machine). IsProper p.1)
+    (λ is. cond_both (nat_lt (rec_in m (number_of m address)).step_count 16) _ _ (λ (p : Queued × Machine). IsProper p.1)
+    (λ few. (going_given m (granule_at m (number_of m address)).owner (number_of m address) m words (named m address proper is)).proper)
+    (λ full. proper))
+    (λ never. proper)

@@ -1,0 +1,74 @@
+-- Commands that are refused, and commands whose checks have all passed.
+use Rattle.std.proofs.Common.{◌≡◌, ◌++◌, List, [], ◌∷◌, Bool, true, false, Option, Some, None, refl, sym, ap, ◌∙◌, ⊎_elim, unwrap_or}
+use Rattle.std.specs.Prelude.{is_none, is_some, not}
+use Rattle.std.proofs.lemmas.Bool.{cases_Bool, cond-true, cond-false}
+use Rattle.rmm_model.specs.declared.answer.FailedCondition.{FailedCondition}
+use Rattle.rmm_model.specs.declared.granule.RmmGranuleState.{RmmGranuleState}
+use Rattle.rmm_model.specs.declared.granule.RmmGranuleState.TheVariants.{Undelegated, Delegated, Rd, Rec as IsRec}
+use Rattle.rmm_model.specs.declared.realm.RmmRealm.{RmmRealm}
+use Rattle.rmm_model.specs.Check.{Check, Command, first_failing, decided, outcome}
+use Rattle.rmm_model.specs.Granule.{is_undelegated, is_delegated, realm_of, rec_of}
+use Rattle.rmm_model.specs.Machine.{Machine}
+use Rattle.rmm_model.specs.Realm.{no_realm}
+use Rattle.rmm_model.specs.Rec.{no_rec}
+
+-- no check fails
+abbrev pub Passed : List Check → Type 0
+Passed [] = Unit {0}
+Passed (c ∷ cs) = (c.fails ≡ false) × Passed cs
+
+pub passed : (cs : List Check) → first_failing cs ≡ None → Passed cs
+passed [] none = tt
+passed (c ∷ cs) none =
+    ⊎_elim
+    (λ yes. let some = cond-true c.fails (Some c.refusal) (first_failing cs) yes in absurd (cc))
+    (λ no. (no, passed cs (sym (cond-false c.fails (Some c.refusal) (first_failing cs) no) ∙ none)))
+    (cases_Bool c.fails)
+
+-- the checks of the first part, and of the second
+pub passed_first : (cs ds : List Check) → Passed (cs ++ ds) → Passed cs
+passed_first [] ds ok = tt
+passed_first (c ∷ cs) ds ok = (ok.0, passed_first cs ds ok.1)
+
+pub passed_second : (cs ds : List Check) → Passed (cs ++ ds) → Passed ds
+passed_second [] ds ok = ok
+passed_second (c ∷ cs) ds ok = passed_second cs ds ok.1
+
+kept_at : (P : Machine → Type 0) (command : Command) (m : Machine) (o : Option FailedCondition) → first_failing command.checks ≡ o → P m → (Passed command.checks → P command.machine)
+    → P (decided o command m).1
+kept_at P command m (Some refusal) is before after = before
+kept_at P command m None is before after = after (passed command.checks is)
+
+-- what holds of a machine holds after a command, if it holds when all checks passed
+pub kept : (P : Machine → Type 0) (command : Command) (m : Machine) → P m → (Passed command.checks → P command.machine) → P (outcome command m).1
+kept P command m before after = kept_at P command m (first_failing command.checks) refl before after
+
+-- ---- what tests of states say
+
+pub yes_from : (b : Bool) → not b ≡ false → b ≡ true
+yes_from true is = refl
+yes_from false is = sym is
+
+pub is_delegated-true : (s : RmmGranuleState) → is_delegated s ≡ true → s ≡ Delegated
+is_delegated-true Delegated is = refl
+is_delegated-true _ is = absurd (cc)
+
+pub is_undelegated-true : (s : RmmGranuleState) → is_undelegated s ≡ true → s ≡ Undelegated
+is_undelegated-true Undelegated is = refl
+is_undelegated-true _ is = absurd (cc)
+
+pub realm_of-some : (s : RmmGranuleState) → is_none (realm_of s) ≡ false → s ≡ Rd (unwrap_or (realm_of s) no_realm)
+realm_of-some (Rd realm) is = refl
+realm_of-some _ is = absurd (cc)
+
+pub rec_of-some : (s : RmmGranuleState) → is_none (rec_of s) ≡ false → s ≡ IsRec (unwrap_or (rec_of s) no_rec)
+rec_of-some (IsRec rec) is = refl
+rec_of-some _ is = absurd (cc)
+
+pub rec_of-there : (s : RmmGranuleState) → is_some (rec_of s) ≡ true → s ≡ IsRec (unwrap_or (rec_of s) no_rec)
+rec_of-there (IsRec rec) is = refl
+rec_of-there _ is = absurd (cc)
+
+pub realm_of-is : (s : RmmGranuleState) (realm : RmmRealm) → realm_of s ≡ Some realm → s ≡ Rd realm
+realm_of-is (Rd other) realm is = (let same : other ≡ realm = cc in ap Rd same)
+realm_of-is _ realm is = absurd (cc)

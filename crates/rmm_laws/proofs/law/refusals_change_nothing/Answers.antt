@@ -1,0 +1,157 @@
+use Rattle.std.specs.Prelude.{if◌then◌else◌}
+use Rattle.std.proofs.Common.{◌≡◌, ◌≢◌, ℕ, Bool, true, false, Option, Some, None, Result, Ok, Err, refl}
+use Rattle.std.proofs.lemmas.Bool.{cond-false}
+use Rattle.rmi_abi.specs.declared.call.Call.{Call}
+use Rattle.rmi_abi.specs.declared.call.Call.TheVariants.{Version, GranuleDelegate, GranuleUndelegate, DataCreateUnknown, DataDestroy, RealmActivate, RealmCreate, RealmDestroy, RecCreate, RecDestroy, RecEnter, PsciComplete, RttCreate, RttDestroy, RttMapUnprotected, RttReadEntry, RttUnmapUnprotected, Features, RttFold, RecAuxCount, DataCreate, RttInitRipas, RttSetRipas}
+use Rattle.rmi_abi.specs.declared.registers.Registers.{Registers}
+use Rattle.rmi_abi.specs.declared.word.Word.{Word}
+use Rattle.rmi_abi.specs.declared.word.Word.TheVariants.{Success, Running}
+use Rattle.rmi_abi.specs.Call.{call_in}
+use Rattle.rmi_abi.specs.RecRun.{flags_in}
+use Rattle.rmi_abi.specs.Word.{number}
+use Rattle.rmm_model.specs.declared.access.AccessSize.{AccessSize}
+use Rattle.rmm_model.specs.declared.answer.FailedCondition.{FailedCondition}
+use Rattle.rmm_model.specs.declared.realm.RmmRealm.{RmmRealm}
+use Rattle.rmm_model.specs.declared.step.GuestStep.{GuestStep}
+use Rattle.rmm_model.specs.declared.step.GuestStep.TheVariants.{Write, Read, Fetch}
+use Rattle.rmm_model.specs.declared.step.Queued.{Queued}
+use Rattle.rmm_model.specs.declared.step.Queued.TheVariants.{Queued as IsQueued, Full, NoRec}
+use Rattle.rmm_model.specs.declared.step.StepOutcome.{StepOutcome}
+use Rattle.rmm_model.specs.Access.{low_bytes}
+use Rattle.rmm_model.specs.Call.{command_of, performed, rmi, rmi_at}
+use Rattle.rmm_model.specs.Check.{Command, decided, first_failing}
+use Rattle.rmm_model.specs.Command.DataCreate.{data_create}
+use Rattle.rmm_model.specs.Command.DataCreateUnknown.{data_create_unknown}
+use Rattle.rmm_model.specs.Command.DataDestroy.{data_destroy}
+use Rattle.rmm_model.specs.Command.Features.{features}
+use Rattle.rmm_model.specs.Command.GranuleDelegate.{granule_delegate}
+use Rattle.rmm_model.specs.Command.GranuleUndelegate.{granule_undelegate}
+use Rattle.rmm_model.specs.Command.RealmActivate.{realm_activate}
+use Rattle.rmm_model.specs.Command.RealmCreate.{realm_create}
+use Rattle.rmm_model.specs.Command.RealmDestroy.{realm_destroy}
+use Rattle.rmm_model.specs.Command.PsciComplete.{psci_complete}
+use Rattle.rmm_model.specs.Command.RecAuxCount.{rec_aux_count}
+use Rattle.rmm_model.specs.Command.RecCreate.{rec_create}
+use Rattle.rmm_model.specs.Command.RecDestroy.{rec_destroy}
+use Rattle.rmm_model.specs.Command.RttCreate.{rtt_create}
+use Rattle.rmm_model.specs.Command.RttDestroy.{rtt_destroy}
+use Rattle.rmm_model.specs.Command.RttFold.{rtt_fold}
+use Rattle.rmm_model.specs.Command.RttInitRipas.{rtt_init_ripas}
+use Rattle.rmm_model.specs.Command.RttMapUnprotected.{rtt_map_unprotected}
+use Rattle.rmm_model.specs.Command.RttReadEntry.{rtt_read_entry}
+use Rattle.rmm_model.specs.Command.RttSetRipas.{rtt_set_ripas}
+use Rattle.rmm_model.specs.Command.RttUnmapUnprotected.{rtt_unmap_unprotected}
+use Rattle.rmm_model.specs.Command.Version.{version}
+use Rattle.rmm_model.specs.Command.RecEnter.{rec_enter, entered_answer, after_steps, after_entry, step_outcome, after_step, interrupted}
+use Rattle.rmm_model.specs.Machine.{Machine, number_of, page_in}
+use Rattle.rmm_model.specs.Step.{access, tried, after_write}
+use Rattle.rmm_laws.specs.Refusal.{IsRefused, IsAccess, IsNotDone}
+use Rattle.rmm_laws.proofs.law.refusals_change_nothing.Goals as goal
+
+-- ---- calls
+
+-- the words of commands that are performed
+abbrev IsOwn : Word → Type 0
+IsOwn Success = Unit {0}
+IsOwn Running = Unit {0}
+IsOwn _ = ⊥
+
+-- a REC that is entered leaves or runs on
+entered : (leaves : Bool) → IsOwn (entered_answer leaves).word
+entered true = tt
+entered false = tt
+
+-- the own answer of no command refuses
+own : (call : Call) (m : Machine) → IsOwn (command_of call m).answer.word
+unfolding version features granule_delegate granule_undelegate realm_create realm_activate rec_aux_count rtt_read_entry rtt_create rtt_destroy realm_destroy rtt_fold rtt_map_unprotected rtt_unmap_unprotected data_create data_create_unknown data_destroy rtt_init_ripas rtt_set_ripas rec_create rec_destroy rec_enter psci_complete
+own (Version requested) m = tt
+own (Features index) m = tt
+own (GranuleDelegate address) m = tt
+own (GranuleUndelegate address) m = tt
+own (RealmCreate rd params) m = tt
+own (RealmActivate rd) m = tt
+own (RecAuxCount rd) m = tt
+own (RttReadEntry rd ipa level) m = tt
+own (RttCreate rd rtt ipa level) m = tt
+own (RttDestroy rd ipa level) m = tt
+own (RealmDestroy rd) m = tt
+own (RttFold rd ipa level) m = tt
+own (RttMapUnprotected rd ipa level descriptor) m = tt
+own (RttUnmapUnprotected rd ipa level) m = tt
+own (DataCreate rd page ipa source flags) m = tt
+own (DataCreateUnknown rd page ipa) m = tt
+own (DataDestroy rd ipa) m = tt
+own (RttInitRipas rd base top) m = tt
+own (RttSetRipas rd rec base top) m = tt
+own (RecCreate rd rec params) m = tt
+own (RecDestroy rec) m = tt
+own (RecEnter rec run) m =
+    let g = number_of m rec in
+    let flags = flags_in (page_in m (number_of m run)) in
+    entered (after_steps (after_entry m g run flags) g flags 16).0
+own (PsciComplete calling target status) m = tt
+
+not_refused : (word : Word) → IsOwn word → IsRefused (number word) → ⊥
+not_refused Success is refused = refused.0 refl
+not_refused Running is refused = refused.1 refl
+not_refused _ is refused = is
+
+by_command : (f : Option FailedCondition) (c : Command) (m : Machine) → IsOwn c.answer.word → IsRefused (number (decided f c m).0.word) → (decided f c m).1 ≡ m
+by_command (Some refusal) c m mine is = refl
+by_command None c m mine is = absurd (not_refused c.answer.word mine is)
+
+by_call : (f : Option Call) (r : Registers) (m : Machine) → IsRefused (rmi_at f r m).0.x0 → (rmi_at f r m).1 ≡ m
+unfolding performed
+by_call (Some call) r m is = by_command (first_failing (command_of call m).checks) (command_of call m) m (own call m) is
+by_call None r m is = refl
+
+pub returns-clause-calls : goal.returns-clause-calls
+unfolding rmi
+returns-clause-calls c = λ r m is. by_call (call_in r) r m is
+
+-- ---- the host
+
+pub returns-clause-stores : goal.returns-clause-stores
+returns-clause-stores c = λ m address word is. cond-false _ _ _ is
+
+pub returns-clause-fills : goal.returns-clause-fills
+returns-clause-fills c = λ m address value is. cond-false _ _ _ is
+
+-- ---- guests
+
+abbrev by_tests : Bool → Bool → Machine → Machine → Queued × Machine
+by_tests is_rec has_place m n = if is_rec then (if has_place then (IsQueued, n) else (Full, m)) else (NoRec, m)
+
+not_given : (is_rec has_place : Bool) (m n : Machine) → (by_tests is_rec has_place m n).0 ≢ IsQueued → (by_tests is_rec has_place m n).1 ≡ m
+not_given true true m n not_queued = absurd (not_queued refl)
+not_given true false m n not_queued = refl
+not_given false has_place m n not_queued = refl
+
+pub returns-clause-steps : goal.returns-clause-steps
+returns-clause-steps c = λ m rec w not_queued. not_given _ _ m _ not_queued
+
+abbrev by_run : Bool → Word → Machine → Machine → Option Word × Machine
+by_run runs word m n = if runs then (Some word, n) else (None, m)
+
+not_run : (runs : Bool) (word : Word) (m n : Machine) → (by_run runs word m n).0 ≡ None → (by_run runs word m n).1 ≡ m
+not_run true word m n none = absurd (cc)
+not_run false word m n none = refl
+
+pub returns-clause-interrupts : goal.returns-clause-interrupts
+unfolding interrupted
+returns-clause-interrupts c = λ m rec none. not_run _ _ m _ none
+
+by_access : (m : Machine) (ipa value : ℕ) (size : AccessSize) (came : Result ℕ StepOutcome) → IsNotDone (tried came) → after_write m ipa size value came ≡ m
+by_access m ipa value size (Ok granule) not_done = absurd (not_done refl)
+by_access m ipa value size (Err outcome) not_done = refl
+
+by_step : (m : Machine) (realm : RmmRealm) (rec flags : ℕ) (step : GuestStep) → IsAccess step → IsNotDone (step_outcome m realm rec flags step)
+    → after_step m realm rec step (step_outcome m realm rec flags step) ≡ m
+unfolding step_outcome after_step
+by_step m realm rec flags (Write ipa value size) is not_done = by_access m ipa value size (access m realm ipa true size (low_bytes size value)) not_done
+by_step m realm rec flags (Read ipa size) is not_done = refl
+by_step m realm rec flags (Fetch ipa) is not_done = refl
+by_step m realm rec flags _ is not_done = absurd is
+
+pub returns-clause-accesses : goal.returns-clause-accesses
+returns-clause-accesses c = λ m realm rec flags step is not_done. by_step m realm rec flags step is not_done

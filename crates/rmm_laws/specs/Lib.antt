@@ -1,0 +1,4 @@
+pub mod Apart
+pub mod Refusal
+pub mod Role
+pub mod Walk

@@ -1,0 +1,5 @@
+pub mod State
+pub mod Number
+pub mod Paths
+pub mod Alone
+pub mod Graph

@@ -1,0 +1,148 @@
+//! Graphs of states by layers, and the counts of their paths.
+ghost use Rattle.std.specs.Prelude.{◌≡◌, ◌+◌, Bool, List, ◌∷◌, OnOk, IfOk, map, vec_items};
+ghost use Rattle.schedule_graph.specs.Paths.{Layer, AreCounts, AreCountsWith, AreCountsWithout, count_at, path_count, with_count, without_count};
+
+use crate::number::Count;
+use std::alloc::{AllocError, Global};
+
+/// A turn that leads from a state to one of the next layer, by its place there.
+#[derive(Drop)]
+pub struct Edge<L> {
+    pub label: L,
+    pub to: usize,
+}
+
+/// A property of labels.
+pub trait Sign<L> {
+    ghost is_on: { Self → L → Bool };
+
+    /// Whether the label has the property.
+    fn is_on(&self, label: &L) -> bool
+        ensures { result ≡ is_on self.now label.now };
+}
+
+// Adds the count of a state, if there is one.
+fn add_at(sum: &mut Count, counts: &[Count], state: usize) -> Result<(), AllocError>
+    ensures { OnOk result (sum.new ≡ sum.old + count_at counts.now state) }
+{
+    match counts.get(state) {
+        Some(count) => sum.add(count),
+        None => Ok(()),
+    }
+}
+
+// The number of paths from a state with these edges.
+fn count_from<L>(alloc: Global, edges: &[Edge<L>], next: &[Count]) -> Result<Count, AllocError>
+    ensures { IfOk result (λ count. count ≡ path_count next.now edges.now) }
+{
+    if edges.is_empty() {
+        return Count::one(alloc);
+    }
+    let mut sum = Count::zero(alloc);
+    for edge in edges {
+        add_at(&mut sum, next, edge.to)?;
+    }
+    Ok(sum)
+}
+
+// The number of those that show the sign.
+fn count_with<L, S: Sign<L>>(
+    alloc: Global,
+    edges: &[Edge<L>],
+    sign: &S,
+    next: &[Count],
+    next_with: &[Count],
+) -> Result<Count, AllocError>
+    ensures { IfOk result (λ count. count ≡ with_count (S.is_on sign.now) next.now next_with.now edges.now) }
+{
+    let mut sum = Count::zero(alloc);
+    for edge in edges {
+        let counts = if sign.is_on(&edge.label) {
+            next
+        } else {
+            next_with
+        };
+        add_at(&mut sum, counts, edge.to)?;
+    }
+    Ok(sum)
+}
+
+// The number of those that do not.
+fn count_without<L, S: Sign<L>>(
+    alloc: Global,
+    edges: &[Edge<L>],
+    sign: &S,
+    next_without: &[Count],
+) -> Result<Count, AllocError>
+    ensures { IfOk result (λ count. count ≡ without_count (S.is_on sign.now) next_without.now edges.now) }
+{
+    if edges.is_empty() {
+        return Count::one(alloc);
+    }
+    let mut sum = Count::zero(alloc);
+    for edge in edges {
+        if !sign.is_on(&edge.label) {
+            add_at(&mut sum, next_without, edge.to)?;
+        }
+    }
+    Ok(sum)
+}
+
+/// The number of paths from each state of a layer, by those from the states of the next layer. The one error is that
+/// allocation failed.
+pub fn count_paths<L>(
+    alloc: Global,
+    layer: &[Vec<Edge<L>>],
+    next: &[Count],
+) -> Result<Vec<Count>, AllocError>
+    ensures { IfOk result (λ counts. (layers : List (Layer L)) → AreCounts layers next.now
+        → AreCounts (map vec_items layer.now ∷ layers) counts.items) }
+{
+    let mut counts = Vec::new(alloc);
+    for edges in layer {
+        let count = count_from(alloc, edges, next)?;
+        counts.push(count)?;
+    }
+    Ok(counts)
+}
+
+/// The number of paths from each state of a layer that show the sign, by the counts of the next layer: of all paths,
+/// and of those that show it. The one error is that allocation failed.
+pub fn count_paths_with<L, S: Sign<L>>(
+    alloc: Global,
+    layer: &[Vec<Edge<L>>],
+    sign: &S,
+    next: &[Count],
+    next_with: &[Count],
+) -> Result<Vec<Count>, AllocError>
+    ensures { IfOk result (λ counts. (layers : List (Layer L)) → AreCounts layers next.now
+        → AreCountsWith (S.is_on sign.now) layers next_with.now
+        → AreCountsWith (S.is_on sign.now) (map vec_items layer.now ∷ layers) counts.items) }
+{
+    let mut counts = Vec::new(alloc);
+    for edges in layer {
+        let count = count_with(alloc, edges, sign, next, next_with)?;
+        counts.push(count)?;
+    }
+    Ok(counts)
+}
+
+/// The number of paths from each state of a layer that do not show the sign, by those of the next layer. The one error
+/// is that allocation failed.
+pub fn count_paths_without<L, S: Sign<L>>(
+    alloc: Global,
+    layer: &[Vec<Edge<L>>],
+    sign: &S,
+    next_without: &[Count],
+) -> Result<Vec<Count>, AllocError>
+    ensures { IfOk result (λ counts. (layers : List (Layer L))
+        → AreCountsWithout (S.is_on sign.now) layers next_without.now
+        → AreCountsWithout (S.is_on sign.now) (map vec_items layer.now ∷ layers) counts.items) }
+{
+    let mut counts = Vec::new(alloc);
+    for edges in layer {
+        let count = count_without(alloc, edges, sign, next_without)?;
+        counts.push(count)?;
+    }
+    Ok(counts)
+}

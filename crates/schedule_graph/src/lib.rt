@@ -1,0 +1,13 @@
+//! The states of the runs of a plan, and the paths of graphs of states.
+//!
+//! Positions of runs are one state if each build did the same and is as far in its plan. A state decides all further
+//! turns and their answers, whatever the schedule was (`law.rt`). So schedules are paths of a graph of states, which
+//! are counted layer by layer (`graph.rt`) in numbers of any size (`number.rt`).
+#![tactic(auto)]
+
+mod graph;
+pub mod law;
+mod number;
+
+pub use graph::{Edge, Sign, count_paths, count_paths_with, count_paths_without};
+pub use number::Count;

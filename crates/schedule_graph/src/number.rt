@@ -1,0 +1,125 @@
+//! Numbers of any size, to count schedules with.
+ghost use Rattle.std.specs.Prelude.{◌≡◌, ℕ, ◌+◌, ◌*◌, ◌^◌, ◌<◌, ◌≤◌, List, length, All, OnOk, IfOk};
+ghost use Rattle.schedule_graph.specs.Number.{number_of};
+
+use std::alloc::{AllocError, Global};
+use std::marker::Model;
+
+/// A number of any size: its decimal digits, the lowest first. Seen as the number.
+#[derive(Drop)]
+pub struct Count {
+    digits: Vec<u8>,
+}
+
+impl Model for Count {
+    ghost use Rattle.std.specs.Prelude.{ℕ, ◌<◌, All};
+    ghost use Rattle.schedule_graph.specs.Number.{number_of};
+
+    ghost Value = { ℕ };
+
+    ghost view = { λ c. number_of c.digits.items };
+
+    ghost invariant = { λ c. All (λ digit. digit < 10) c.digits.items };
+}
+
+// Appends zeros, until there are `places` digits.
+fn pad(digits: &mut Vec<u8>, places: usize) -> Result<(), AllocError>
+    requires { All (λ digit. digit < 10) digits.old.items }
+    ensures number { number_of digits.new.items ≡ number_of digits.old.items }
+    ensures digits { All (λ digit. digit < 10) digits.new.items }
+    ensures places { OnOk result (places ≤ length digits.new.items) }
+{
+    for _place in digits.len()..places {
+        digits.push(0)?;
+    }
+    Ok(())
+}
+
+// Appends the digits of what is carried.
+fn push_carry(digits: &mut Vec<u8>, carry: u8) -> Result<(), AllocError>
+    requires { All (λ digit. digit < 10) digits.old.items }
+    ensures number { OnOk result (number_of digits.new.items
+        ≡ number_of digits.old.items + carry * 10 ^ length digits.old.items) }
+    ensures digits { All (λ digit. digit < 10) digits.new.items }
+    ensures longer { length digits.old.items ≤ length digits.new.items }
+{
+    let mut carry = carry;
+    while carry > 0 {
+        digits.push(carry % 10)?;
+        carry /= 10;
+    }
+    Ok(())
+}
+
+// Adds `amount` at a place into the digits from there on. Returns what is carried beyond the last.
+fn carry_from(digits: &mut [u8], place: usize, amount: u8) -> u8
+    requires digits { All (λ digit. digit < 10) digits.old }
+    requires place { place ≤ length digits.old }
+    requires amount { amount ≤ 81 }
+    ensures number { number_of digits.new + result * 10 ^ length digits.new
+        ≡ number_of digits.old + amount * 10 ^ place }
+    ensures digits { All (λ digit. digit < 10) digits.new }
+    ensures length { length digits.new ≡ length digits.old }
+{
+    let mut carry = amount;
+    for at in place..digits.len() {
+        let sum = digits[at] + carry;
+        digits[at] = sum % 10;
+        carry = sum / 10;
+    }
+    carry
+}
+
+// Adds `amount` at a place.
+fn add_at(digits: &mut Vec<u8>, place: usize, amount: u8) -> Result<(), AllocError>
+    requires digits { All (λ digit. digit < 10) digits.old.items }
+    requires place { place ≤ length digits.old.items }
+    requires amount { amount ≤ 81 }
+    ensures number { OnOk result (number_of digits.new.items ≡ number_of digits.old.items + amount * 10 ^ place) }
+    ensures digits { All (λ digit. digit < 10) digits.new.items }
+    ensures longer { length digits.old.items ≤ length digits.new.items }
+{
+    let carry = carry_from(digits, place, amount);
+    push_carry(digits, carry)
+}
+
+// Adds the number of other digits.
+fn add_digits(digits: &mut Vec<u8>, more: &[u8]) -> Result<(), AllocError>
+    requires digits { All (λ digit. digit < 10) digits.old.items }
+    requires more { All (λ digit. digit < 10) more.now }
+    ensures number { OnOk result (number_of digits.new.items ≡ number_of digits.old.items + number_of more.now) }
+    ensures digits { All (λ digit. digit < 10) digits.new.items }
+{
+    pad(digits, more.len())?;
+    for place in 0..more.len() {
+        add_at(digits, place, more[place])?;
+    }
+    Ok(())
+}
+
+impl Count {
+    /// The number 0.
+    pub fn zero(alloc: Global) -> Count
+        ensures { result ≡ 0 }
+    {
+        Count {
+            digits: Vec::new(alloc),
+        }
+    }
+
+    /// The number 1. The one error is that allocation failed.
+    pub fn one(alloc: Global) -> Result<Count, AllocError>
+        ensures { IfOk result (λ one. one ≡ 1) }
+    {
+        let mut digits = Vec::new(alloc);
+        digits.push(1)?;
+        Ok(Count { digits })
+    }
+
+    /// Adds another number. At an `Err` allocation failed, and the number may be any.
+    pub fn add(&mut self, other: &Count) -> Result<(), AllocError>
+        ensures { OnOk result (self.new ≡ self.old + other.now) }
+    {
+        add_digits(&mut self.digits, &other.digits)
+    }
+}

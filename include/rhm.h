@@ -1,0 +1,566 @@
+/* rhm.h: the host of realm builds as a library, to be used alone or in front of an RMM. For C11 and C++11.
+ *
+ * It is the host of this repository: up to eight builds share the granules of a machine, each builds a realm, and a
+ * build that fails gives everything back while others go on. Each exported function is proved to do what its definition
+ * says.
+ *
+ * The host has a model of an RMM. A command of a build is performed on the model at once by rhm_ask. In front of an RMM
+ * it takes two steps: rhm_prepare gives the operations that the hypervisor performs there, and changes nothing;
+ * rhm_commit is given the answer, and performs the command here if that is the expected one. rhm_run does both, with a
+ * function of the hypervisor for each operation.
+ *
+ * Each name here begins with `rhm_` or `RHM_`, so the headers of a hypervisor or of rmm.h can be included too.
+ *
+ * A handle is 16 bytes of the caller's. All of them 0 is a closed handle. A closed handle is no mistake in any call.
+ * Numbers have 64 bits, and nothing is cut: an operand out of its range is refused. rhm_open alone takes memory.
+ *
+ * What a caller has to guarantee is at each function after `Required:`, and nothing checks it. There `handle` is:
+ *   - a pointer to an rhm_handle, and not NULL;
+ *   - all bytes of it are 0, or it came from rhm_open and was neither copied, moved nor written to since;
+ *   - no two pointers of the call lead into the same bytes;
+ *   - one call with it at a time, and none from a signal handler, nor from the forked child of a process with threads.
+ * Two handles have nothing in common: each may be in a thread of its own. Threads that share one need a lock.
+ */
+#ifndef RHM_H
+#define RHM_H
+
+#include <stdbool.h>
+#include <stddef.h>
+#include <stdint.h>
+#include <string.h>
+
+#ifdef __cplusplus
+extern "C" {
+#define RHM_STATIC_ASSERT static_assert
+#else
+#define RHM_STATIC_ASSERT _Static_assert
+#endif
+
+/* Compilers that know it warn of a NULL. */
+#if defined(__GNUC__)
+#define RHM_NO_NULL __attribute__((nonnull))
+#else
+#define RHM_NO_NULL
+#endif
+
+#define RHM_GRANULE_SIZE 4096
+
+/* ---- handles */
+
+typedef struct rhm_handle {
+    bool is_open;
+    void *host;
+} rhm_handle;
+
+#define RHM_CLOSED {false, NULL}
+
+RHM_STATIC_ASSERT(sizeof(rhm_handle) == 16 && offsetof(rhm_handle, host) == 8, "rhm_handle has 16 bytes");
+
+/* The numbers that a host is opened with. Its granules are at `base` and after it: first those of the builds, then one
+ * for the parameters of realms, one for those of RECs, and 64 for the exits of runs. */
+typedef struct rhm_settings {
+    uint64_t pages;   /* granules for the builds, 1 to 4096 */
+    uint64_t vmids;   /* VMIDs from 1 on, 1 to 255 */
+    uint64_t aux;     /* auxiliary granules of a REC, at most 16: what RMI_REC_AUX_COUNT says of a realm, made before */
+    uint64_t builds;  /* 1 to 8 */
+    uint64_t history; /* room for the events of each build, 16 to 16384. No undo gives any back */
+    uint64_t base;    /* the address of granule 0: a multiple of 4096 below 2^46 */
+} rhm_settings;
+
+/* The granules that are the host's own, after those of the builds. */
+#define RHM_OWN_GRANULES 66
+
+/* A field can be set after `rhm_settings settings = RHM_DEFAULTS;`. */
+#define RHM_DEFAULTS {1024, 255, 2, 8, 2048, 0x80000000}
+
+RHM_STATIC_ASSERT(sizeof(rhm_settings) == 48, "rhm_settings has 48 bytes");
+
+/* The answers of rhm_open. */
+enum { RHM_OPENED = 0, RHM_NO_HOST = 1, RHM_NO_MEMORY = 2, RHM_ALREADY_OPEN = 3 };
+
+/* Opens a closed handle: a host whose granules are UNDELEGATED and nobody's. In front of an RMM they have to be so there.
+ * RHM_OPENED, or nothing has changed: RHM_ALREADY_OPEN exactly if it was open, RHM_NO_HOST exactly if it was closed and
+ * a setting is out of its range, RHM_NO_MEMORY if allocation failed.
+ * Required: handle; `settings` is not NULL, and each of its fields is written. */
+uint64_t rhm_open(rhm_handle *handle, const rhm_settings *settings) RHM_NO_NULL;
+
+/* Closes a handle, and gives its memory back. A closed one stays closed.   Required: handle. */
+void rhm_close(rhm_handle *handle) RHM_NO_NULL;
+
+/* ---- statuses. An exported function that returns another one than RHM_DONE has changed nothing */
+
+enum {
+    RHM_DONE = 0,
+    /* refusals: of those that apply and hold, the one with the lowest number */
+    RHM_NO_BUILD = 1,
+    RHM_ABORTING = 2,
+    RHM_BAD_ORDER = 3,
+    RHM_NOT_LEASED = 4, /* the build has no such page, which is the value */
+    RHM_REALM_THERE = 5,
+    RHM_NO_REALM = 6,
+    RHM_NOTHING_TO_UNDO = 7,
+    RHM_REC_RUNNING = 8,
+    RHM_JOURNAL_FULL = 9,
+    RHM_HISTORY_FULL = 10, /* from here on the build can only undo, until the handle is closed */
+    RHM_NO_BLOCK = 11, /* no block of the order is free, which is the value */
+    RHM_NO_VMID = 12,
+    RHM_RMI = 13, /* the model of the RMM refuses; the value is its result word */
+    /* the handle is closed, and what is asked for is no command */
+    RHM_HANDLE_CLOSED = 14,
+    RHM_NO_COMMAND = 15,
+    /* of rhm_commit alone: the RMM has not answered as expected; the RMM did what the model refuses */
+    RHM_NOT_EXPECTED = 16,
+    RHM_DIVERGED = 17
+};
+
+/* ---- commands of a build. It names its pages by its own numbers, from 0 on in the order of taking */
+
+/* The kinds of commands, with the operands of each. */
+enum {
+    RHM_TAKE = 0,      /* order: a block of 2^order pages. The value is the number of the first */
+    RHM_FILL = 1,      /* page, value */
+    RHM_PEEK = 2,      /* page, offset. The value is the byte, as the model has it */
+    RHM_DELEGATE = 3,  /* page */
+    RHM_REALM = 4,     /* page: the RD; second: the first of the starting tables; width: 39 to 43. The value is the VMID */
+    RHM_RTT = 5,       /* page, ipa, level */
+    RHM_RIPAS = 6,     /* ipa, count: of pages below one table, at most 512. More is refused after the call alone */
+    RHM_DATA = 7,      /* page, ipa; second: the page with the bytes */
+    RHM_UNKNOWN = 8,   /* page, ipa */
+    RHM_REC = 9,       /* page, aux_count, aux. The value is the number of the REC */
+    RHM_ACTIVATE = 10,
+    RHM_ENTER = 11,    /* rec: one of the build's, which rhm_prepare does not check; run: the page for exits, 0 to 63 */
+    RHM_EXIT = 12,     /* rec: its run has come back. It makes no call, and is due before an abort too */
+    RHM_POKE = 13      /* rec, ipa, offset, value, run: a write of the guest, for simulations */
+};
+
+/* A command. An operand that its kind has not is 0. `ipa` is the number of a page of the realm's address space, which is
+ * its address divided by 4096. */
+typedef struct rhm_command {
+    uint64_t kind;
+    uint64_t order;
+    uint64_t page;
+    uint64_t second;
+    uint64_t ipa;
+    uint64_t level;
+    uint64_t count;
+    uint64_t width;
+    uint64_t rec;
+    uint64_t offset;
+    uint64_t value;
+    uint64_t run;
+    uint64_t aux_count;
+    uint64_t aux[16];
+} rhm_command;
+
+RHM_STATIC_ASSERT(sizeof(rhm_command) == 232 && offsetof(rhm_command, aux) == 104, "rhm_command has 232 bytes");
+
+/* Performs a command on the model at once. RHM_DONE, with the reply in `value`; or a refusal, RHM_HANDLE_CLOSED or
+ * RHM_NO_COMMAND. `value` is 0 if there is none.
+ * Required: handle; `command` is not NULL, and each of its fields is written; `value` is not NULL, and may be written to. */
+uint64_t rhm_ask(rhm_handle *handle, uint64_t build, const rhm_command *command, uint64_t *value) RHM_NO_NULL;
+
+/* Reverses the newest operation that a build has open, on the model at once. RHM_DONE, with the number of operations that
+ * are left open in `value`; or RHM_NO_BUILD, RHM_NOTHING_TO_UNDO, RHM_REC_RUNNING or RHM_HANDLE_CLOSED.
+ * Required: handle; `value` is not NULL, and may be written to. */
+uint64_t rhm_undo(rhm_handle *handle, uint64_t build, uint64_t *value) RHM_NO_NULL;
+
+/* ---- in front of an RMM */
+
+/* The kinds of operations that a hypervisor performs for a command. */
+enum {
+    RHM_STORE = 1,        /* `count` granules from `address` on get the byte `value` everywhere */
+    RHM_LOAD = 2,         /* eight bytes at `address` are read */
+    RHM_REALM_PARAMS = 3, /* RmiRealmParams to the page at `address`: value, the IPA width; vmid; tables, count */
+    RHM_REC_PARAMS = 4,   /* RmiRecParams to the page at `address`: value, the MPIDR; aux, count */
+    RHM_CALL = 5,         /* an SMC with x0 to x6. X1 after it has to be `output` if `has_output` is 1 */
+    RHM_CALL_ENTER = 6,   /* RMI_REC_ENTER of the REC at `address`, an SMC with x0 to x6 */
+    RHM_INTERRUPT = 7,    /* the run of the REC at `address` ends; RMI_REC_ENTER has come back */
+    RHM_GUEST_WRITE = 8,  /* for simulations: the guest of the REC at `address` writes the byte `value` at `ipa` */
+    RHM_GUEST_SPIN = 9,   /* for simulations: it runs on until it is interrupted */
+    RHM_GUEST_SAW = 10    /* for simulations: it has done the write before */
+};
+
+/* An operation. What its kind has not is 0. */
+typedef struct rhm_action {
+    uint64_t kind;
+    uint64_t x0;
+    uint64_t x1;
+    uint64_t x2;
+    uint64_t x3;
+    uint64_t x4;
+    uint64_t x5;
+    uint64_t x6;
+    uint64_t address;
+    uint64_t count;
+    uint64_t value;
+    uint64_t ipa;
+    uint64_t vmid;
+    uint64_t tables;
+    uint64_t output;
+    uint64_t has_output;
+    uint64_t aux[16];
+} rhm_action;
+
+/* The operations for a command, in sequence. */
+typedef struct rhm_actions {
+    uint64_t count; /* at most 5 */
+    rhm_action actions[5];
+} rhm_actions;
+
+RHM_STATIC_ASSERT(sizeof(rhm_action) == 256 && sizeof(rhm_actions) == 1288, "rhm_actions has 1288 bytes");
+
+/* X0 and X1 after the call. They do not matter for a command without one. */
+typedef struct rhm_answer {
+    uint64_t x0;
+    uint64_t x1;
+} rhm_answer;
+
+/* Prepares a command, and changes nothing. RHM_DONE, with the operations for the RMM in `actions`; or the refusal that
+ * the host gives before it calls an RMM. RHM_RMI is an operand that no call has, as a level 4, or an access to a page that
+ * is not UNDELEGATED. RHM_NO_BLOCK comes from rhm_commit.
+ * Required: handle; `command` is not NULL, and each of its fields is written; `actions` is not NULL, and may be written
+ * to. */
+uint64_t rhm_prepare(rhm_handle *handle, uint64_t build, const rhm_command *command, rhm_actions *actions) RHM_NO_NULL;
+
+/* Commits a command, after its operations were performed. If the answer is the expected one, it is performed on the model
+ * as by rhm_ask.
+ *
+ * RHM_NOT_EXPECTED: X0 is not RMI_SUCCESS, nor 2^64 - 2 after an entry, which the RMM of this repository answers while a
+ * guest runs on; or X1 is not the output that the host knows.
+ * Nothing is recorded. If X0 is RMI_SUCCESS, the RMM has changed something, and the call is not to be made again.
+ * RHM_DIVERGED: the RMM has performed a call that the model refuses with the result word `value`, or the command has no
+ * call, as RHM_EXIT, and the model refuses it. Nothing is recorded.
+ *
+ * What is recorded is what was performed if no other call came for the build since rhm_prepare; for a RHM_REALM, none that
+ * creates or removes another realm; and for a RHM_REALM or a RHM_REC, no operation of another one, since they share the
+ * page of their parameters.
+ * Required: handle; `command` and `answer` are not NULL, and each of their fields is written; `value` is not NULL, and may
+ * be written to. */
+uint64_t rhm_commit(rhm_handle *handle, uint64_t build, const rhm_command *command, const rhm_answer *answer,
+                    uint64_t *value) RHM_NO_NULL;
+
+/* The same of an undo. An RMM that refuses it leaves the operation open: RHM_NOT_EXPECTED, and it can be tried again.
+ * Required: handle; `actions`, `answer` and `value` as above. */
+uint64_t rhm_prepare_undo(rhm_handle *handle, uint64_t build, rhm_actions *actions) RHM_NO_NULL;
+uint64_t rhm_commit_undo(rhm_handle *handle, uint64_t build, const rhm_answer *answer, uint64_t *value) RHM_NO_NULL;
+
+/* ---- aborts and marks. `value` is a number of operations.   Required: handle; `value` is not NULL, and may be written to */
+
+/* Begins the abort of a build, with the number of its open operations in `value`. Until none is left, its commands are
+ * refused, and its undos are performed, whatever others do. RHM_NO_BUILD, RHM_ABORTING, RHM_REC_RUNNING. */
+uint64_t rhm_begin_abort(rhm_handle *handle, uint64_t build, uint64_t *value) RHM_NO_NULL;
+
+/* Undoes all that a build has open on the model at once, with their number in `value`. RHM_NO_BUILD, RHM_REC_RUNNING. */
+uint64_t rhm_abort(rhm_handle *handle, uint64_t build, uint64_t *value) RHM_NO_NULL;
+
+/* Keeps the point of a build as its mark, with the number of its open operations in `value`. RHM_NO_BUILD, RHM_ABORTING. */
+uint64_t rhm_mark(rhm_handle *handle, uint64_t build, uint64_t *value) RHM_NO_NULL;
+
+/* Undoes what a build has opened since its mark on the model at once, with their number in `value`. RHM_NO_BUILD,
+ * RHM_ABORTING, RHM_NOTHING_TO_UNDO if it has no mark, RHM_REC_RUNNING. */
+uint64_t rhm_roll_back(rhm_handle *handle, uint64_t build, uint64_t *value) RHM_NO_NULL;
+
+/* ---- readings. False, and nothing is written, if there is nothing to read. None changes the host.
+ * Required of each: handle; the last pointer is not NULL, and may be written to */
+
+/* The number of pages that nobody leases; 0 for a closed handle.   Required: handle. */
+uint64_t rhm_free_count(rhm_handle *handle) RHM_NO_NULL;
+
+typedef struct rhm_build {
+    uint64_t page_count;
+    uint64_t open_count; /* operations that are open */
+    uint64_t mark;       /* how many were open at its mark */
+    bool has_mark;
+    bool is_aborting;
+} rhm_build;
+
+bool rhm_read_build(rhm_handle *handle, uint64_t build, rhm_build *reading) RHM_NO_NULL;
+
+/* The states of a granule, of a realm and of a REC. RMM 1.0. */
+enum {
+    RHM_UNDELEGATED = 0,
+    RHM_DELEGATED = 1,
+    RHM_STATE_RD = 2,
+    RHM_STATE_REC = 3,
+    RHM_STATE_REC_AUX = 4,
+    RHM_STATE_DATA = 5,
+    RHM_STATE_RTT = 6
+};
+enum { RHM_NEW = 0, RHM_ACTIVE = 1 };
+enum { RHM_READY = 0, RHM_RUNNING = 1 };
+
+/* A page of a build: its granule. */
+typedef struct rhm_page {
+    uint64_t address;
+    uint64_t state;
+} rhm_page;
+
+bool rhm_read_page(rhm_handle *handle, uint64_t build, uint64_t page, rhm_page *reading) RHM_NO_NULL;
+
+/* The realm of a build. */
+typedef struct rhm_realm {
+    uint64_t rd;     /* the address of its RD */
+    uint64_t tables; /* that of its first starting table */
+    uint64_t state;
+    uint64_t vmid;
+    uint64_t width;
+    uint64_t next_rec;
+} rhm_realm;
+
+bool rhm_read_realm(rhm_handle *handle, uint64_t build, rhm_realm *reading) RHM_NO_NULL;
+
+/* The REC of a number in it. */
+typedef struct rhm_rec {
+    uint64_t address;
+    uint64_t state;
+} rhm_rec;
+
+bool rhm_read_rec(rhm_handle *handle, uint64_t build, uint64_t number, rhm_rec *reading) RHM_NO_NULL;
+
+/* The kinds of events: what was done, and what was undone. */
+enum {
+    RHM_EVENT_TAKE = 0,   /* granule: the first; count: of granules */
+    RHM_EVENT_UNTAKE = 1, /* the same */
+    RHM_EVENT_FILL = 2,   /* granule, value */
+    RHM_EVENT_PEEK = 3,   /* granule, offset, value */
+    RHM_EVENT_DELEGATE = 4,
+    RHM_EVENT_UNDELEGATE = 5,
+    RHM_EVENT_REALM = 6, /* granule: the RD; second: the first starting table; width, vmid */
+    RHM_EVENT_UNREALM = 7,
+    RHM_EVENT_ACTIVATE = 8,
+    RHM_EVENT_RTT = 9, /* granule, ipa, level */
+    RHM_EVENT_UNRTT = 10,
+    RHM_EVENT_RIPAS = 11,   /* ipa, count */
+    RHM_EVENT_DATA = 12,    /* granule, ipa; second: the source */
+    RHM_EVENT_UNKNOWN = 13, /* granule, ipa */
+    RHM_EVENT_UNDATA = 14,
+    RHM_EVENT_REC = 15, /* granule, rec; count: of auxiliary granules */
+    RHM_EVENT_UNREC = 16,
+    RHM_EVENT_ENTER = 17, /* rec */
+    RHM_EVENT_EXIT = 18,
+    RHM_EVENT_POKE = 19 /* rec, ipa, offset, value */
+};
+
+/* An event of the history. `granule` and `second` are addresses. What its kind has not is 0. */
+typedef struct rhm_event {
+    uint64_t build;
+    uint64_t kind;
+    uint64_t granule;
+    uint64_t second;
+    uint64_t ipa;
+    uint64_t level;
+    uint64_t count;
+    uint64_t width;
+    uint64_t rec;
+    uint64_t offset;
+    uint64_t value;
+    uint64_t vmid;
+} rhm_event;
+
+/* The number of events; 0 for a closed handle.   Required: handle. */
+uint64_t rhm_event_count(rhm_handle *handle) RHM_NO_NULL;
+
+/* The event of a number, from 0 on. */
+bool rhm_read_event(rhm_handle *handle, uint64_t number, rhm_event *reading) RHM_NO_NULL;
+
+RHM_STATIC_ASSERT(sizeof(rhm_event) == 96, "rhm_event has 96 bytes");
+RHM_STATIC_ASSERT(sizeof(rhm_build) == 32 && sizeof(rhm_page) == 16 && sizeof(rhm_realm) == 48 && sizeof(rhm_rec) == 16,
+                  "readings have these sizes");
+
+/* ---- commands by name */
+
+static inline rhm_command rhm_command_of(uint64_t kind, uint64_t page, uint64_t ipa)
+{
+    rhm_command command;
+    memset(&command, 0, sizeof command);
+    command.kind = kind;
+    command.page = page;
+    command.ipa = ipa;
+    return command;
+}
+
+static inline rhm_command rhm_take(uint64_t order)
+{
+    rhm_command command = rhm_command_of(RHM_TAKE, 0, 0);
+    command.order = order;
+    return command;
+}
+
+static inline rhm_command rhm_fill(uint64_t page, uint64_t value)
+{
+    rhm_command command = rhm_command_of(RHM_FILL, page, 0);
+    command.value = value;
+    return command;
+}
+
+static inline rhm_command rhm_peek(uint64_t page, uint64_t offset)
+{
+    rhm_command command = rhm_command_of(RHM_PEEK, page, 0);
+    command.offset = offset;
+    return command;
+}
+
+static inline rhm_command rhm_delegate(uint64_t page) { return rhm_command_of(RHM_DELEGATE, page, 0); }
+
+static inline rhm_command rhm_create_realm(uint64_t rd, uint64_t root, uint64_t width)
+{
+    rhm_command command = rhm_command_of(RHM_REALM, rd, 0);
+    command.second = root;
+    command.width = width;
+    return command;
+}
+
+static inline rhm_command rhm_create_rtt(uint64_t page, uint64_t ipa, uint64_t level)
+{
+    rhm_command command = rhm_command_of(RHM_RTT, page, ipa);
+    command.level = level;
+    return command;
+}
+
+static inline rhm_command rhm_init_ripas(uint64_t ipa, uint64_t count)
+{
+    rhm_command command = rhm_command_of(RHM_RIPAS, 0, ipa);
+    command.count = count;
+    return command;
+}
+
+static inline rhm_command rhm_create_data(uint64_t page, uint64_t ipa, uint64_t source)
+{
+    rhm_command command = rhm_command_of(RHM_DATA, page, ipa);
+    command.second = source;
+    return command;
+}
+
+static inline rhm_command rhm_create_unknown(uint64_t page, uint64_t ipa)
+{
+    return rhm_command_of(RHM_UNKNOWN, page, ipa);
+}
+
+/* `aux` points to the numbers of `count` pages; of more than 16 nothing is read, and the command is none. */
+static inline rhm_command rhm_create_rec(uint64_t page, const uint64_t *aux, uint64_t count)
+{
+    rhm_command command = rhm_command_of(RHM_REC, page, 0);
+    command.aux_count = count;
+    if (count > 0 && count <= 16)
+        memcpy(command.aux, aux, (size_t)count * sizeof command.aux[0]);
+    return command;
+}
+
+static inline rhm_command rhm_activate(void) { return rhm_command_of(RHM_ACTIVATE, 0, 0); }
+
+static inline rhm_command rhm_enter(uint64_t rec, uint64_t run)
+{
+    rhm_command command = rhm_command_of(RHM_ENTER, 0, 0);
+    command.rec = rec;
+    command.run = run;
+    return command;
+}
+
+static inline rhm_command rhm_exit(uint64_t rec)
+{
+    rhm_command command = rhm_command_of(RHM_EXIT, 0, 0);
+    command.rec = rec;
+    return command;
+}
+
+static inline const char *rhm_status_name(uint64_t status)
+{
+    static const char *const names[] = {
+        "RHM_DONE",          "RHM_NO_BUILD",      "RHM_ABORTING",      "RHM_BAD_ORDER",     "RHM_NOT_LEASED",
+        "RHM_REALM_THERE",   "RHM_NO_REALM",      "RHM_NOTHING_TO_UNDO", "RHM_REC_RUNNING", "RHM_JOURNAL_FULL",
+        "RHM_HISTORY_FULL",  "RHM_NO_BLOCK",      "RHM_NO_VMID",       "RHM_RMI",           "RHM_HANDLE_CLOSED",
+        "RHM_NO_COMMAND",    "RHM_NOT_EXPECTED",  "RHM_DIVERGED",
+    };
+    return status < sizeof names / sizeof names[0] ? names[status] : "?";
+}
+
+/* ---- parameter pages. RMM 1.0, RmiRealmParams, RmiRecParams */
+
+static inline void rhm_put(void *page, size_t offset, uint64_t value, size_t count)
+{
+    unsigned char *bytes = (unsigned char *)page + offset;
+    for (size_t k = 0; k < count; k++)
+        bytes[k] = (unsigned char)(value >> 8 * k & 0xff);
+}
+
+/* Writes what the host decides of a parameter page of 4096 bytes: of RHM_REALM_PARAMS or RHM_REC_PARAMS. The other fields
+ * are the hypervisor's: hash_algo and rpv of a realm, pc and gprs of a REC. */
+static inline void rhm_write_params(void *page, const rhm_action *action)
+{
+    if (action->kind == RHM_REALM_PARAMS) {
+        rhm_put(page, 0x008, action->value, 1);
+        rhm_put(page, 0x800, action->vmid, 2);
+        rhm_put(page, 0x808, action->tables, 8);
+        rhm_put(page, 0x810, 1, 8);
+        rhm_put(page, 0x818, action->count, 4);
+    } else if (action->kind == RHM_REC_PARAMS) {
+        rhm_put(page, 0x000, 1, 8);
+        rhm_put(page, 0x100, action->value, 8);
+        rhm_put(page, 0x800, action->count, 8);
+        for (size_t k = 0; k < 16; k++)
+            rhm_put(page, 0x808 + 8 * k, action->aux[k], 8);
+    }
+}
+
+/* ---- runs: prepare, perform, commit */
+
+/* Performs an operation on the RMM. For RHM_CALL and RHM_CALL_ENTER it writes X0 and X1 to `answer`. */
+typedef void (*rhm_perform)(void *context, const rhm_action *action, rhm_answer *answer);
+
+static inline rhm_answer rhm_performed(const rhm_actions *actions, rhm_perform perform, void *context)
+{
+    rhm_answer answer = {0, 0};
+    for (uint64_t k = 0; k < actions->count && k < 5; k++)
+        perform(context, &actions->actions[k], &answer);
+    return answer;
+}
+
+/* A command in front of an RMM: its operations are performed there, and it is committed. The statuses are those of
+ * rhm_prepare and rhm_commit. The value is 0 if rhm_prepare refuses. */
+static inline uint64_t rhm_run(rhm_handle *handle, uint64_t build, rhm_command command, rhm_perform perform,
+                               void *context, uint64_t *value)
+{
+    rhm_actions actions;
+    uint64_t status = rhm_prepare(handle, build, &command, &actions);
+    if (status != RHM_DONE) {
+        *value = 0;
+        return status;
+    }
+    rhm_answer answer = rhm_performed(&actions, perform, context);
+    return rhm_commit(handle, build, &command, &answer, value);
+}
+
+/* An undo likewise. */
+static inline uint64_t rhm_run_undo(rhm_handle *handle, uint64_t build, rhm_perform perform, void *context,
+                                    uint64_t *value)
+{
+    rhm_actions actions;
+    uint64_t status = rhm_prepare_undo(handle, build, &actions);
+    if (status != RHM_DONE) {
+        *value = 0;
+        return status;
+    }
+    rhm_answer answer = rhm_performed(&actions, perform, context);
+    return rhm_commit_undo(handle, build, &answer, value);
+}
+
+/* An abort likewise: it begins, unless the build is in abort, and one undo after another is run until nothing is open. If
+ * one is not done, its status comes, the build stays in abort with what is left, and another rhm_run_abort goes on. */
+static inline uint64_t rhm_run_abort(rhm_handle *handle, uint64_t build, rhm_perform perform, void *context)
+{
+    uint64_t left = 0, status = rhm_begin_abort(handle, build, &left);
+    if (status == RHM_ABORTING)
+        left = 1;
+    else if (status != RHM_DONE)
+        return status;
+    status = RHM_DONE;
+    while (left > 0 && status == RHM_DONE)
+        status = rhm_run_undo(handle, build, perform, context, &left);
+    return status;
+}
+
+#ifdef __cplusplus
+}
+#endif
+
+#endif

@@ -1,0 +1,75 @@
+"""The built programs, the repository's plans, and how the tests run them."""
+import os
+import shlex
+import shutil
+import subprocess
+from pathlib import Path
+from typing import NamedTuple
+
+import pytest
+
+TOP = Path(__file__).resolve().parent.parent
+HOST, VIEW, TRACER = (TOP / "bin" / name for name in ("realmhost", "realmview", "rmitrace"))
+# The library for C, as `make c-library` puts it into build/.
+STATIC, SHARED = TOP / "build/librmm.a", TOP / "build/librmm.so.0"
+# A program of the gate alone: plans over the plain store, and every call of a host.
+MEMORY = TOP / "bin/test_memory"
+# The folders with plans that have the text of their run beside them.
+PLANS, RUNS = ("plans", "plans/guide"), "tests/runs"
+# What judges the log of an RMM; JUDGE names another program, as `python3 tests/second_rmm check`.
+JUDGE = shlex.split(os.environ.get("JUDGE", "")) or [os.fspath(TRACER), "check"]
+SECONDS = 60
+
+
+class Ran(NamedTuple):
+    """The outcome of a program."""
+
+    status: int | str
+    out: bytes | str
+    err: bytes | str
+
+
+def run(program, words, given=b"", **how):
+    """Runs a program over an input, which is bytes, a text, or None if `how` has the standard input. The outcome is of the kind
+    of the input."""
+    how = {"stdout": subprocess.PIPE, "stderr": subprocess.PIPE, "timeout": SECONDS, "text": isinstance(given, str), **how}
+    if given is not None:
+        how["input"] = given
+    none = "" if how["text"] else b""
+    try:
+        ran = subprocess.run([os.fsencode(program), *words], **how)
+    except subprocess.TimeoutExpired:
+        return Ran(f"none within {how['timeout']} seconds", none, none)
+    return Ran(ran.returncode, ran.stdout or none, ran.stderr or none)
+
+
+def files(*folders, suffix="toml"):
+    """The files of folders with a suffix."""
+    return [path for folder in folders for path in sorted((TOP / folder).glob(f"*.{suffix}"))]
+
+
+def named(path):
+    """The name of a test over a file: its path without the suffix."""
+    return os.fspath(path.relative_to(TOP).with_suffix("")).removeprefix("tests/")
+
+
+def over(name, *folders, suffix="toml"):
+    """A test for each of these files."""
+    return pytest.mark.parametrize(name, files(*folders, suffix=suffix), ids=named)
+
+
+def needs(*programs):
+    """A mark of tests that run these programs."""
+    return pytest.mark.needs(*programs)
+
+
+def parts(*checks):
+    """A test for each function that checks a part. Each comes alone, or with the programs that it needs: without these it is
+    skipped."""
+    found = []
+    for it in checks:
+        check, *words = it if isinstance(it, tuple) else (it,)
+        lacking = [word for word in words if not shutil.which(word)]
+        mark = pytest.mark.skipif(bool(lacking), reason=f"there is no {', '.join(lacking)}")
+        found.append(pytest.param(check, id=check.__name__, marks=mark))
+    return pytest.mark.parametrize("part", found)

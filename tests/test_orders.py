@@ -1,0 +1,387 @@
+"""The subcommands `explore` and `order` of realmview over plans, against replays by realmhost of each order.
+
+The orders of a plan are found here by replays alone: a build has a step left where its next turn is not idle. Of each order the
+lines of the replay tell how each step ended, and what the map is. From these the whole text of `explore` is made, and it has to
+be the one that the program writes. How many orders there are is known besides, where each step has one turn: the multinomial
+of the builds' numbers of steps.
+Of orders that are drawn, the numbers of xoshiro256++ are made here too. What is told of the progress is read from a terminal.
+
+What `order` writes of a plan is replayed: no turn is idle, each build performs every step, and the builds take turns as they have
+to. The rest of the text is as it was. A few such texts are stored in tests/reordered.
+"""
+import math
+import os
+import pty
+import random
+import re
+import subprocess
+import threading
+import time
+import tomllib
+from collections import Counter
+
+import pytest
+
+from programs import HOST, PLANS, RUNS, SECONDS, TOP, VIEW, needs, over, run
+
+pytestmark = needs(HOST, VIEW)
+# How many orders of a plan are replayed here at most; `explore --most` is given the same.
+MOST = 40
+# How many plans of random steps.
+RANDOM_PLANS = 25
+# What the program writes to a terminal before each line, and in the end: it goes back to the line's first column, and clears it.
+CLEARED = "\r\x1b[K"
+# The most bytes of a plan, and what is said where one would have more.
+MOST_BYTES = 1048576
+OUTSIDE = "with the turns that its builds need, the plan has more than 16384 turns or 1048576 bytes\n"
+# How many lines of progress there are in a second at most.
+LINES_A_SECOND = 5
+
+
+def with_order(plan, order):
+    """The plan with another order."""
+    text, count = re.subn(r"(?ms)^order *= *\[.*?\]", f"order = {order}", plan)
+    return text if count else f"order = {order}\n{plan}"
+
+
+class Replay:
+    """A replay of a plan in an order: the turns' lines, and the map."""
+
+    def __init__(self, plan, order):
+        status, out, err = run(HOST, ["replay"], with_order(plan, order))
+        assert (status, err) == (0, ""), (status, err, order)
+        lines = out.splitlines(keepends=True)
+        self.turns, self.map = lines[: len(order)], "".join(lines[len(order) :])
+
+    def ends(self):
+        """Each step that is used up: its build, its place, its text, and the refusal or `ok`."""
+        places = {}
+        for line in self.turns:
+            build, rest = line.rstrip("\n").split(" ", 1)
+            text, answer = rest.rsplit(" = ", 1)
+            if text in ("abort", "back") and answer.startswith("ok"):
+                continue
+            place = places.get(build, 0)
+            places[build] = place + 1
+            yield int(build), place, text, answer if answer.startswith("no ") else "ok"
+
+
+def left_behind(plan, builds, prefix):
+    """Which builds have a step left behind these turns."""
+    return [build for build in range(builds) if not Replay(plan, [*prefix, build]).turns[-1].endswith(" - idle\n")]
+
+
+def orders_of(plan, builds, prefix=()):
+    """Each order of the plan that begins so, the lowest first, with its replay."""
+    left = left_behind(plan, builds, prefix)
+    if not left:
+        yield list(prefix), Replay(plan, list(prefix))
+    for build in left:
+        yield from orders_of(plan, builds, (*prefix, build))
+
+
+class Shown(dict):
+    """How many orders show a thing, and the first of them."""
+
+    def add(self, thing, order):
+        count, first = self.get(thing, (0, order))
+        self[thing] = (count + 1, first)
+
+    def text(self, thing, orders):
+        count, first = self[thing]
+        return " in all\n" if count == orders else f" in {count}, order = {first}\n"
+
+
+class Totals:
+    """What orders come to."""
+
+    def __init__(self, builds):
+        self.builds, self.orders = builds, 0
+        self.wholes, self.ends, self.smooth, self.maps = Shown(), Shown(), Shown(), Shown()
+
+    def add(self, order, replay):
+        self.orders += 1
+        refused = set()
+        for build, place, text, answer in replay.ends():
+            self.ends.add((build, place, text, answer), order)
+            if answer != "ok":
+                refused.add(build)
+        self.wholes.add("some step refused" if refused else "no step refused", order)
+        for build in set(range(self.builds)) - refused:
+            self.smooth.add(build, order)
+        self.maps.add(replay.map, order)
+
+    def lines(self):
+        for words in self.wholes:
+            yield words + self.wholes.text(words, self.orders)
+        # of one step the ends come in the order in which orders first show them
+        for end in sorted(self.ends, key=lambda end: end[:2]):
+            yield "step {} {} {} = {}".format(*end) + self.ends.text(end, self.orders)
+        for build in range(self.builds):
+            yield f"never refused {build}" + (self.smooth.text(build, self.orders) if build in self.smooth else " in 0\n")
+        for map_text in self.maps:
+            yield "map" + self.maps.text(map_text, self.orders) + map_text
+
+
+def text_of(plan, builds, most):
+    """What `explore --most` has to write."""
+    totals, more = Totals(builds), ""
+    for order, replay in orders_of(plan, builds):
+        if totals.orders == most:
+            more = "more than "
+            break
+        totals.add(order, replay)
+    return f"orders {more}{totals.orders}\n" + "".join(totals.lines())
+
+
+def numbers_of(seed):
+    """The upper halves of the numbers of xoshiro256++, by Blackman and Vigna, seeded by splitmix64."""
+    mask = (1 << 64) - 1
+    rotated = lambda word, count: ((word << count) | (word >> (64 - count))) & mask
+    state = []
+    for _ in range(4):
+        seed = (seed + 0x9E3779B97F4A7C15) & mask
+        word = ((seed ^ (seed >> 30)) * 0xBF58476D1CE4E5B9) & mask
+        word = ((word ^ (word >> 27)) * 0x94D049BB133111EB) & mask
+        state.append(word ^ (word >> 31))
+    while True:
+        yield ((rotated((state[0] + state[3]) & mask, 23) + state[0]) & mask) >> 32
+        shifted = (state[1] << 17) & mask
+        state[2] ^= state[0]
+        state[3] ^= state[1]
+        state[1] ^= state[2]
+        state[0] ^= state[3]
+        state[2] ^= shifted
+        state[3] = rotated(state[3], 45)
+
+
+def text_of_sample(plan, builds, count, seed):
+    """What `explore --sample --seed` has to write."""
+    numbers, totals = numbers_of(seed), Totals(builds)
+    for _ in range(count):
+        order = []
+        while left := left_behind(plan, builds, order):
+            order.append(left[next(numbers) % len(left)])
+        totals.add(order, Replay(plan, order))
+    return f"orders drawn {count}\n" + "".join(totals.lines())
+
+
+def plan_of(builds, **settings):
+    """A plan of these builds' steps, with any order."""
+    head = "".join(f"{name} = {value}\n" for name, value in {"pages": 16, "vmids": 2, **settings}.items())
+    return head + "order = [0]\n" + "".join(f"[[build]]\nsteps = {list(steps)}\n".replace("'", '"') for steps in builds)
+
+
+def of_plan(name, plan, builds, most=MOST):
+    yield name, run(VIEW, ["explore", "--most", str(most)], plan), (0, text_of(plan, builds, most), "")
+
+
+def of_sample(name, plan, builds, count, seed):
+    words = ["explore", "--sample", str(count), "--seed", str(seed)]
+    yield f"{name}, drawn", run(VIEW, words, plan), (0, text_of_sample(plan, builds, count, seed), "")
+
+
+def of_counts():
+    """The multinomials of numbers of steps, each of one turn."""
+    for lengths in ((1,), (3,), (1, 1), (2, 2), (3, 4), (1, 2, 3), (1, 1, 1, 1), (2, 2, 2, 2), (1,) * 6, (10, 10)):
+        plan = plan_of([["take 0"] * length for length in lengths], pages=64)
+        count = math.factorial(sum(lengths)) // math.prod(map(math.factorial, lengths))
+        status, out, err = run(VIEW, ["explore"], plan)
+        yield f"steps {lengths}", (status, out.split("\n", 1)[0], err), (0, f"orders {count}", "")
+        status, out, err = run(VIEW, ["explore", "--most", str(count)], plan)
+        yield f"steps {lengths}, as many as there are", (status, out.split("\n", 1)[0], err), (0, f"orders {count}", "")
+        status, out, err = run(VIEW, ["explore", "--most", str(count - 1)], plan)
+        yield f"steps {lengths}, one less", (status, out.split("\n", 1)[0], err), (0, f"orders more than {count - 1}", "")
+
+
+def random_steps(source, length):
+    """Steps that are mostly accepted, some that compete, and one that gives all back."""
+    steps = ["take 2", "delegate 0", "delegate 1", "realm 0 1"]
+    pool = ["take 0", "take 1", "take 2", "take 3", "mark", "back", "undo", "abort", "fill 2 7", "peek 2 0", "delegate 3", "activate", "rtt 3 0 1"]
+    steps = steps[: source.randrange(5)]
+    return steps + [source.choice(pool) for _ in range(length - len(steps))]
+
+
+def of_random_plan(number):
+    source = random.Random(number)
+    builds = [random_steps(source, source.randrange(1, 7)) for _ in range(source.randrange(1, 4))]
+    plan = plan_of(builds, pages=source.choice([4, 8, 16]), vmids=source.choice([1, 2]))
+    yield from of_plan("all orders", plan, len(builds))
+    if number < 5:
+        yield from of_sample("some orders", plan, len(builds), 12, number * 1000003)
+
+
+def of_options():
+    """Where one option is given alone, and where more are to be drawn than may be run."""
+    plan = plan_of([["take 0"], ["take 1"]])
+    for words, first in (
+        (["--seed", "4294967295"], "orders drawn 1000"),
+        (["--sample", "7"], "orders drawn 7"),
+        (["--sample", "7", "--most", "7"], "orders drawn 7"),
+        (["--seed", "1", "--most", "3"], "orders drawn 3"),
+        (["--most", "1"], "orders more than 1"),
+        (["--most", "0"], "orders more than 0"),
+    ):
+        status, out, err = run(VIEW, ["explore", *words], plan)
+        yield f"{words}", (status, out.split("\n", 1)[0], err), (0, first, "")
+    for words, said in (
+        (["--sample", "8", "--most", "7"], "--sample 8 is above --most 7"),
+        (["--sample", "2000", "--most", "1000", "--seed", "1"], "--sample 2000 is above --most 1000"),
+        (["--sample", "1000001"], "--sample 1000001 is above --most 1000000"),
+    ):
+        status, out, err = run(VIEW, ["explore", *words], plan)
+        yield f"{words}", (status, out, err.split("\n", 1)[0]), (2, "", f"error: {said}")
+    alike = [run(VIEW, ["explore", *words], plan) for words in (["--sample", "20"], ["--sample", "20", "--seed", "0"])]
+    yield "the seed 0 where none is given", *alike
+
+
+def of_alike_refusals():
+    """A step whose refusals differ in a number alone: there is a table of level 2 where build 0 was first to take the last page."""
+    steps = ["take 2", "delegate 0", "delegate 1", "delegate 2", "realm 0 1", "take 0", "delegate 4", "rtt 4 0 2", "data 2 0 3"]
+    plan = plan_of([steps, ["take 0"]], pages=5)
+    yield from of_plan("refusals alike", plan, 2)
+    told = run(VIEW, ["explore"], plan)[1]
+    yield "refusals alike, both told", [words in told for words in ("no 13 Rmi 4 1 in 6,", "no 13 Rmi 4 2 in 4,")], [True, True]
+
+
+def on_a_terminal(words, given):
+    """Status, standard output, what a terminal got that is standard error, and the seconds that it took."""
+    ours, its = pty.openpty()
+    got = []
+
+    def read():
+        try:
+            while part := os.read(ours, 4096):
+                got.append(part)
+        except OSError:
+            # (so a terminal ends whose other side is closed)
+            pass
+
+    reader = threading.Thread(target=read)
+    reader.start()
+    begun = time.monotonic()
+    try:
+        ran = subprocess.run([VIEW, *words], input=given.encode(), stdout=subprocess.PIPE, stderr=its, timeout=SECONDS)
+    finally:
+        took = time.monotonic() - begun
+        os.close(its)
+        reader.join()
+        os.close(ours)
+    return (ran.returncode, ran.stdout.decode(), b"".join(got).decode(), took)
+
+
+def of_progress():
+    """What is told while orders are run, where standard error is a terminal; where it is none, `run` sees that nothing is."""
+    plan = (TOP / "plans/failed-build.toml").read_text()
+    turns = Counter(order_in(run(VIEW, ["order"], plan)[1])).values()
+    orders = math.factorial(sum(turns)) // math.prod(map(math.factorial, turns))
+    for words in (["--most", "60000"], ["--sample", "40000"]):
+        count = int(words[1])
+        status, out, told, took = on_a_terminal(["explore", *words], plan)
+        yield f"{words}, on a terminal", (status, out, ""), run(VIEW, ["explore", *words], plan)
+        first, *lines, last = told.split(CLEARED)
+        behind = f" of at most {count} orders run"
+        numbers = [int(line.removesuffix(behind)) for line in lines]
+        yield f"{words}, before", first, f"about {orders} orders, at most {count} are run\r\n"
+        yield f"{words}, lines", [f"{number}{behind}" for number in numbers], lines
+        yield f"{words}, the line is taken away", last, ""
+        yield f"{words}, numbers rise", [0, *numbers, count + 1], sorted({0, *numbers, count + 1})
+        yield f"{words}, how many lines", 2 <= len(lines) <= LINES_A_SECOND * took, True
+    for lengths, words, before in (
+        ((1, 1), [], ""),
+        ((8, 8), [], "12870 orders, all of them are run\r\n"),
+        ((8, 8), ["--most", "10000"], "12870 orders, at most 10000 are run\r\n"),
+        ((40, 40), ["--most", "10000"], "more than 2^64 orders, at most 10000 are run\r\n"),
+    ):
+        plan = plan_of([["take 0"] * length for length in lengths], pages=64)
+        told = on_a_terminal(["explore", *words], plan)[2]
+        yield f"steps {lengths}, {words}, before", told.split(CLEARED)[0], before
+
+
+# ---- order
+
+
+def order_in(plan):
+    return tomllib.loads(plan)["order"]
+
+
+def without_order(plan):
+    """The plan without the value of its order, or without the line of the key."""
+    return re.sub(r"(?ms)^order = \[.*?\]", "order", plan)
+
+
+def in_rotation(order):
+    """The same turns in rotation, as each build has as many."""
+    left, at = Counter(order), 0
+    while +left:
+        build = min(+left, key=lambda build: (build < at, build))
+        left[build] -= 1
+        at = build + 1
+        yield build
+
+
+def of_whole_order(name, plan, words):
+    """What `order` writes of a plan."""
+    name = f"{name}, order {words}"
+    status, text, err = run(VIEW, ["order", *words], plan)
+    yield name, (status, err), (0, "")
+    order = order_in(text)
+    replay = Replay(text, order)
+    yield f"{name}, idle turns", [line for line in replay.turns if line.endswith(" - idle\n")], []
+    builds = tomllib.loads(plan)["build"]
+    done = [[text for build, _, text, _ in replay.ends() if build == place] for place in range(len(builds))]
+    yield f"{name}, steps", done, [build["steps"] for build in builds]
+    yield f"{name}, whose turns", order, sorted(order) if words else list(in_rotation(order))
+    had = "order" in tomllib.loads(plan)
+    kept = without_order(text) if had else re.sub(r"(?ms)^order = \[.*?\]\n", "", text)
+    yield f"{name}, the rest of the text", kept, without_order(plan) if had else plan
+    lines = re.search(r"(?ms)^order = \[.*?\]", text)[0].splitlines()
+    yield f"{name}, columns", [line for line in lines if len(line) > 100], []
+    yield f"{name}, once more", run(VIEW, ["order", *words], text), (0, text, "")
+
+
+def of_stored_orders():
+    for path in sorted((TOP / "tests/reordered").glob("*.toml")):
+        for words, suffix in ([], ".txt"), (["--one-by-one"], ".one-by-one.txt"):
+            if path.with_suffix(suffix).exists():
+                yield f"{path.stem} {words}", run(VIEW, ["order", *words], path.read_text()), (0, path.with_suffix(suffix).read_text(), "")
+
+
+def of_no_order():
+    """What is no plan, and a plan that its order would make too long."""
+    status, findings, _ = run(VIEW, ["check"], "pages = 1\n")
+    yield "order of no plan", run(VIEW, ["order"], "pages = 1\n"), (status, "", findings)
+    plan = plan_of([["take 0", "take 1"]])
+    for bytes_more, wanted in ((0, (0, "")), (1, (1, OUTSIDE))):
+        # (a last line that fills the plan up; `[0, 0]` has three bytes more than its own `[0]`)
+        text = plan + "#" * (MOST_BYTES - len(", 0") - len(plan) - 1 + bytes_more) + "\n"
+        status, out, err = run(VIEW, ["order"], text)
+        yield f"a plan of {len(text)} bytes", (status, err), wanted
+
+
+# ---- tests
+
+
+ALONE = (of_counts, of_progress, of_options, of_alike_refusals, of_stored_orders, of_no_order)
+
+
+@pytest.mark.parametrize("cases", ALONE, ids=lambda it: it.__name__[3:])
+def test_orders(check, cases):
+    check.all(cases())
+
+
+@pytest.mark.parametrize("number", range(RANDOM_PLANS))
+def test_random_plan(check, number):
+    check.all(of_random_plan(number))
+
+
+@over("path", *PLANS)
+def test_plan(check, path):
+    plan = path.read_text()
+    check.all(of_plan(path.stem, plan, plan.count("[[build]]"), 6))
+
+
+@over("path", *PLANS, RUNS)
+def test_order_to_replay(check, path):
+    for words in ([], ["--one-by-one"]):
+        check.all(of_whole_order(path.stem, path.read_text(), words))
