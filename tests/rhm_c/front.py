@@ -14,7 +14,7 @@ from pathlib import Path
 sys.dont_write_bytecode = True
 TOP = Path(__file__).resolve().parent.parent.parent
 sys.path[:0] = [str(TOP / "python"), str(TOP / "tests")]
-from rhm import DONE, GRANULE_STATES, Host
+from rhm import GRANULE_STATES, Host
 from second_rmm.bench import Bench
 
 BASE, PAGES, AUX, BUILDS = 0x80000000, 96, 1, 3
