@@ -96,6 +96,21 @@ def pytest_configure(config):
     config.addinivalue_line("markers", "needs(program, ..): the test runs these programs, as `make build` or `make test` puts them into bin/")
 
 
+def pytest_addoption(parser):
+    parser.addoption("--of", metavar="NAMES", help="run the tests that need one of these programs and libraries, and those that need none")
+    parser.addoption("--without", metavar="NAMES", default="", help="with --of: run no test that needs one of these")
+
+
+def pytest_collection_modifyitems(config, items):
+    """Leaves out what --of does not ask for: a program or a library is named by its file, up to the first dot."""
+    if config.getoption("of") is not None:
+        some, none = (set(config.getoption(it).split(",")) for it in ("of", "without"))
+        needed = {it: {path.name.split(".")[0] for mark in it.iter_markers("needs") for path in mark.args} for it in items}
+        chosen = [it for it, names in needed.items() if not names or names & some and not names & none]
+        config.hook.pytest_deselected(items=[it for it in items if it not in chosen])
+        items[:] = chosen
+
+
 def pytest_runtest_setup(item):
     lacking = [it for mark in item.iter_markers("needs") for it in mark.args if not it.exists()]
     for it in lacking[:1]:

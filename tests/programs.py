@@ -1,4 +1,6 @@
 """The built programs, the repository's plans, and how the tests run them."""
+import importlib.machinery
+import importlib.util
 import os
 import shlex
 import shutil
@@ -41,6 +43,14 @@ def run(program, words, given=b"", **how):
     except subprocess.TimeoutExpired:
         return Ran(f"none within {how['timeout']} seconds", none, none)
     return Ran(ran.returncode, ran.stdout or none, ran.stderr or none)
+
+
+def module_of(path):
+    """A script as a module."""
+    loader = importlib.machinery.SourceFileLoader(path.name, str(path))
+    module = importlib.util.module_from_spec(importlib.util.spec_from_loader(path.name, loader))
+    loader.exec_module(module)
+    return module
 
 
 def files(*folders, suffix="toml"):
