@@ -26,13 +26,14 @@ from pathlib import Path
 
 import pytest
 
+from c_programs import ran as run
 from differences import same
 from programs import SHARED, STATIC, TOP, needs, parts
 
 HERE, EXAMPLES, TRACES = TOP / "tests/examples_c", TOP / "examples", TOP / "traces/rmm"
 FLAGS = ["-O1", "-g", "-Wall", "-Wextra", "-Wconversion", "-Wno-sign-conversion", "-Werror", f"-I{TOP}/include"]
 SANITIZERS = ["-fsanitize=address,undefined", "-fno-sanitize-recover=all"]
-COMPILERS, SECONDS, LEAKS = ("gcc", "clang"), 900, 5
+COMPILERS, LEAKS = ("gcc", "clang"), 5
 # Of so many traces and machines one is tried, if all of them would take long.
 EACH = 8
 HOST = [EXAMPLES / "c" / f"{name}.c" for name in ("host", "host_run", "granules", "window")]
@@ -62,15 +63,6 @@ off: 0 granules are in use
 """
 # The RIM after traces/rmm/kvm-boot.trace has made the same realm, page and REC.
 RIM = "3dfd809fc28200386ed791bc6d4dec892afae01d89a16dd888612e84f1673fa8"
-
-
-def run(words, status=0, **how):
-    """Runs a program. Its status has to be this one. Returns what it prints on both streams."""
-    words = [os.fspath(word) for word in words]
-    it = subprocess.run(words, stdout=subprocess.PIPE, stderr=subprocess.STDOUT, timeout=SECONDS, text=True, **how)
-    if it.returncode != status:
-        raise AssertionError(f"{Path(words[0]).name}: status {it.returncode}, and not {status}: {it.stdout[-2000:]}")
-    return it.stdout
 
 
 def judged(log):
