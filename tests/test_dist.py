@@ -3,6 +3,7 @@
 The .tar.gz is unpacked into a folder, and the .deb by `dpkg -x`. There the blocks of INSTALL.md are run, programs are compared
 with the stored texts, a program in C is linked with each library by pkg-config, and each link of each document is followed.
 """
+import fcntl
 import hashlib
 import os
 import re
@@ -36,10 +37,15 @@ def run(*words, **how):
 
 @pytest.fixture(scope="module")
 def packages(tmp_path_factory):
-    """The packages, made once; and made again in another time zone, with other rights of new files, under another user's name."""
-    made, again = (tmp_path_factory.mktemp(it) / "dist" for it in ("once", "twice"))
-    run(TOP / "tools/dist", made, cwd=TOP)
-    run("sh", "-c", f"umask 077; exec {TOP}/tools/dist {again}", cwd="/", env={**os.environ, "TZ": "Asia/Tokyo", "USER": "else", "LC_ALL": "C"})
+    """The packages, made once; and made again in another time zone, with other rights of new files. All workers share them."""
+    room = tmp_path_factory.getbasetemp()
+    room = room.parent if "PYTEST_XDIST_WORKER" in os.environ else room
+    made, again = room / "dist/once", room / "dist/twice"
+    with open(room / "dist.lock", "w") as lock:
+        fcntl.flock(lock, fcntl.LOCK_EX)
+        if not (again / "SHA256SUMS").exists():
+            run(TOP / "tools/dist", made, cwd=TOP)
+            run("sh", "-c", f"umask 077; exec {TOP}/tools/dist {again}", cwd="/", env={**os.environ, "TZ": "Asia/Tokyo", "LC_ALL": "C"})
     return made, again
 
 

@@ -128,6 +128,30 @@ def test_minutes_that_are_left(monkeypatch):
     ]
 
 
+# Lines of `rt ci`: of crates that are done, of their tests, and of something else.
+LINES = """\
+rt: one is kept: an earlier run
+fn two::it: proved
+rt: two proved
+rt: two: its tests are proved
+rt: three NOT PROVED
+2 passed, 1 failed
+"""
+
+
+def test_gate_passes_on_what_it_reads(monkeypatch, tmp_path, capfd):
+    (tmp_path / "rt").write_text(f"#!/bin/sh\nprintf '%s' '{LINES}'\nexit 1\n")
+    (tmp_path / "rt").chmod(0o755)
+    env = {**os.environ, "PATH": f"{tmp_path}{os.pathsep}{os.environ['PATH']}"}
+    monkeypatch.setenv("PATH", env["PATH"])
+    said = []
+    told = progress.Progress(["one", "two", "three"], 4)
+    monkeypatch.setattr(told, "say", lambda *how, is_done: said.append((*how, is_done)))
+    assert module_of(TOP / "tools/gate").run(env, told) == 1
+    assert capfd.readouterr().out == LINES
+    assert said == [("one", "is kept", False), ("two", "proved", True), ("three", "NOT PROVED", True)]
+
+
 # ---- linters
 
 
