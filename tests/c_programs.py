@@ -2,12 +2,10 @@
 import os
 import re
 import shutil
-import subprocess
-from pathlib import Path
 from typing import NamedTuple
 
 from differences import same
-from programs import TOP
+from programs import TOP, ran
 
 BUILD = TOP / "build"
 COMPILER, CXX = os.environ.get("CC", "cc"), os.environ.get("CXX", "c++")
@@ -15,20 +13,6 @@ FLAGS = ["-O2", "-Wall", "-Wextra", "-Wconversion", "-Werror", f"-I{TOP}/include
 # The calls for memory are those of a test.
 WRAPPED = [f"-Wl,--wrap={it}" for it in ("malloc", "realloc", "free")]
 MEMCHECK = ["valgrind", "--quiet", "--error-exitcode=99", "--leak-check=full", "--show-leak-kinds=all"]
-SECONDS = 900
-
-
-def ran(words, status=0, **how):
-    """What a program prints on both streams; its status has to be this one."""
-    words = [os.fspath(word) for word in words]
-    given = how.pop("input", None)
-    how["input"] = given.encode() if isinstance(given, str) else given
-    it = subprocess.run(words, stdout=subprocess.PIPE, stderr=subprocess.STDOUT, timeout=SECONDS, **how)
-    if it.returncode != status:
-        said = it.stdout.decode(errors="replace")[-2000:]
-        raise AssertionError(f"{Path(words[0]).name}: status {it.returncode}, and not {status}: {said}")
-    return it.stdout.decode()
-
 
 def last_line(text, form):
     line = text.splitlines()[-1]

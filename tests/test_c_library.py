@@ -27,9 +27,9 @@ from pathlib import Path
 
 import pytest
 
-from c_programs import BUILD, COMPILER, CXX, FLAGS, MEMCHECK, WRAPPED, Library, first_block, last_line, ran, without_comments
+from c_programs import BUILD, COMPILER, CXX, FLAGS, MEMCHECK, WRAPPED, Library, first_block, last_line, without_comments
 from differences import same
-from programs import SHARED, STATIC, TOP, needs, parts
+from programs import SHARED, STATIC, TOP, needs, parts, ran
 
 HERE, DOCUMENT = TOP / "tests/rmm_c", "docs/how-to/C.md"
 sys.path += [os.fspath(HERE), os.fspath(TOP / "python")]

@@ -8,18 +8,16 @@ import hashlib
 import os
 import re
 import shutil
-import subprocess
 import sys
 from pathlib import Path
 
 import pytest
 
 from help_text import version_of
-from programs import HOST, SHARED, STATIC, TOP, TRACER, VIEW, needs
+from programs import HOST, SHARED, STATIC, TOP, TRACER, VIEW, needs, ran
 
 HOST_STATIC, HOST_SHARED = TOP / "build/librhm.a", TOP / "build/librhm.so.0"
 GUIDE = (TOP / "docs/how-to/INSTALL.md").read_text(encoding="utf-8")
-SECONDS = 300
 pytestmark = [
     needs(HOST, VIEW, TRACER, STATIC, SHARED, HOST_STATIC, HOST_SHARED),
     pytest.mark.skipif(not shutil.which("pandoc"), reason="there is no pandoc"),
@@ -28,11 +26,7 @@ pytestmark = [
 
 
 def run(*words, **how):
-    """Runs a program, which has to end with status 0. Returns what it prints."""
-    how = {"stdin": subprocess.DEVNULL, "stderr": subprocess.STDOUT, "timeout": SECONDS, **how}
-    ran = subprocess.run(words, stdout=subprocess.PIPE, text=True, **how)
-    assert ran.returncode == 0, f"{words}: status {ran.returncode}: {ran.stdout[-2000:]}"
-    return ran.stdout
+    return ran(words, **how)
 
 
 @pytest.fixture(scope="module")

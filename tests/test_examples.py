@@ -26,9 +26,9 @@ from pathlib import Path
 
 import pytest
 
-from c_programs import ran as run
 from differences import same
 from programs import SHARED, STATIC, TOP, needs, parts
+from programs import ran as run
 
 HERE, EXAMPLES, TRACES = TOP / "tests/examples_c", TOP / "examples", TOP / "traces/rmm"
 FLAGS = ["-O1", "-g", "-Wall", "-Wextra", "-Wconversion", "-Wno-sign-conversion", "-Werror", f"-I{TOP}/include"]

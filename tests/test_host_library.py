@@ -20,9 +20,9 @@ from pathlib import Path
 
 import pytest
 
-from c_programs import BUILD, COMPILER, CXX, FLAGS, MEMCHECK, WRAPPED, Library, first_block, last_line, ran, without_comments
+from c_programs import BUILD, COMPILER, CXX, FLAGS, MEMCHECK, WRAPPED, Library, first_block, last_line, without_comments
 from differences import same
-from programs import TOP, needs, parts
+from programs import TOP, needs, parts, ran
 
 HERE, DOCUMENT = TOP / "tests/rhm_c", "docs/how-to/HOST-C.md"
 STATIC, SHARED, RMM = BUILD / "librhm.a", BUILD / "librhm.so.0", BUILD / "librmm.a"

@@ -60,13 +60,13 @@ def target_of(path, target):
     return (Path(os.path.normpath(path.parent / name)), anchor) if is_path else None
 
 
-def linked(path, target):
-    """What a link of an installed document leads to, from its place. Nothing if that is not installed."""
+def linked(path, target, start=None):
+    """What a link of an installed document leads to, from the folder of its place or another one. Nothing if that is not installed."""
     found = target_of(path, target)
     if found is None:
         return target
     place = place_of(found[0])
-    return place and os.path.relpath(place, place_of(path).parent) + (f"#{found[1]}" if found[1] else "")
+    return place and os.path.relpath(place, start or place_of(path).parent) + (f"#{found[1]}" if found[1] else "")
 
 
 def text_of(path, link=linked):
