@@ -14,6 +14,7 @@ FLAGS = ["-O2", "-Wall", "-Wextra", "-Wconversion", "-Werror", f"-I{TOP}/include
 WRAPPED = [f"-Wl,--wrap={it}" for it in ("malloc", "realloc", "free")]
 MEMCHECK = ["valgrind", "--quiet", "--error-exitcode=99", "--leak-check=full", "--show-leak-kinds=all"]
 
+
 def last_line(text, form):
     line = text.splitlines()[-1]
     if not re.fullmatch(form, line):
