@@ -18,8 +18,11 @@ from programs import HOST, SHARED, STATIC, TOP, TRACER, VIEW, needs, ran
 
 HOST_STATIC, HOST_SHARED = TOP / "build/librhm.a", TOP / "build/librhm.so.0"
 GUIDE = (TOP / "docs/how-to/INSTALL.md").read_text(encoding="utf-8")
+BUILT = HOST, VIEW, TRACER, STATIC, SHARED, HOST_STATIC, HOST_SHARED
+LACKING = [it.name for it in BUILT if not it.exists()]
 pytestmark = [
-    needs(HOST, VIEW, TRACER, STATIC, SHARED, HOST_STATIC, HOST_SHARED),
+    needs(*BUILT),
+    pytest.mark.skipif(bool(LACKING), reason=f"{', '.join(LACKING)} not built: make build c-library"),
     pytest.mark.skipif(not shutil.which("pandoc"), reason="there is no pandoc"),
     pytest.mark.skipif(not (TOP / ".git").exists(), reason="this is no clone"),
 ]
