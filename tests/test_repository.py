@@ -117,14 +117,14 @@ def test_choice_of_quick(monkeypatch, seconds, changed, chosen, built, left_out)
 def test_minutes_that_are_left(monkeypatch):
     """Half of the work in ten minutes: as much time is left. A crate that is kept says nothing of the speed."""
     monkeypatch.setattr(progress, "seconds_of", lambda _name: 1200)
-    clock, out = iter([0, 0, 600, 600]), io.StringIO()
+    clock, out = iter([0, 300, 900]), io.StringIO()
     monkeypatch.setattr(progress.time, "monotonic", lambda: next(clock))
     it = progress.Progress(["one", "two", "three"], 2, after=60, out=out)
     assert it.minutes_left(0) == 31
     it.say("one", "is kept", is_done=False)
     it.say("two", "proved")
     assert out.getvalue().splitlines() == [
-        "[ 0:00]  1 of 3  one: is kept, about 21 min left", "[10:00]  2 of 3  two: proved, about 11 min left",
+        "[ 5:00]  1 of 3  one: is kept, about 21 min left", "[15:00]  2 of 3  two: proved, about 11 min left",
     ]
 
 

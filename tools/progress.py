@@ -33,9 +33,11 @@ class Progress:
     def __init__(self, names, lanes, after=0, out=None):
         self.work, self.lanes, self.after, self.out = {name: seconds_of(name) for name in names}, lanes, after, out or sys.stdout
         self.left, self.lock, self.start = dict(self.work), threading.Lock(), time.monotonic()
+        # When the last crate was done, and how long it took to find those that nothing had to be done for.
+        self.last, self.kept = self.start, 0
 
     def minutes_left(self, gone):
-        """About how many minutes are left after so many seconds."""
+        """About how many minutes are left after so many seconds of work."""
         left = sum(self.left.values())
         speed = (sum(self.work.values()) - left + FULL * self.lanes) / (gone + FULL)
         return round((left / speed + self.after) / 60)
@@ -44,10 +46,12 @@ class Progress:
         """Says what has become of a crate. One that nothing had to be done for says nothing of the speed."""
         with self.lock:
             self.left.pop(name, None)
-            self.work[name] = self.work[name] if is_done else 0
-            gone = time.monotonic() - self.start
-            minutes, seconds = divmod(int(gone), 60)
-            rest = self.minutes_left(gone)
+            now = time.monotonic()
+            if not is_done:
+                self.work[name], self.kept = 0, self.kept + now - self.last
+            self.last = now
+            minutes, seconds = divmod(int(now - self.start), 60)
+            rest = self.minutes_left(now - self.start - self.kept)
             about = f", about {rest} min left" if rest else ""
             place = f"[{minutes:2}:{seconds:02}] {len(self.work) - len(self.left):2} of {len(self.work)}"
             print(f"{place}  {name}: {what}{about}", file=self.out, flush=True)
