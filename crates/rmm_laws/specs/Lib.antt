@@ -1,4 +1,6 @@
 pub mod Apart
+pub mod Owner
+pub mod Proper
 pub mod Refusal
 pub mod Role
 pub mod Walk

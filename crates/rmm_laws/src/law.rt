@@ -1,66 +1,86 @@
 //! Theorems of all calls by registers, of the host's stores, and of guests.
-ghost use Rattle.std.specs.Prelude.{◌≡◌, ◌≢◌, ℕ, ◌^◌, ◌<◌, ◌≤◌, true, false, Some, None};
+ghost use Rattle.std.specs.Prelude.{◌≡◌, ◌≢◌, ℕ, ◌-◌, ◌^◌, ◌<◌, ◌≤◌, true, false, List, length, Some, None};
+ghost use Rattle.page_arena.specs.Page.{page_at};
 ghost use Rattle.rmi_abi.specs.declared.registers.Registers.{Registers};
+ghost use Rattle.rmi_abi.specs.declared.settings.RmmSettings.{RmmSettings};
 ghost use Rattle.rmi_abi.specs.Call.{call_in};
+ghost use Rattle.rmi_abi.specs.Settings.{IsPlatform};
+ghost use Rattle.rmm_granules.specs.Inside.{platform_machine};
+ghost use Rattle.rmm_model.specs.declared.access.AccessSize.{AccessSize};
 ghost use Rattle.rmm_model.specs.declared.entry.RmmRttEntry.TheVariants.{Table};
-ghost use Rattle.rmm_model.specs.declared.granule.RmmGranuleState.TheVariants.{Undelegated, Rd};
+ghost use Rattle.rmm_model.specs.declared.granule.RmmGranuleState.TheVariants.{Undelegated, Data, Rd};
 ghost use Rattle.rmm_model.specs.declared.step.GuestStep.{GuestStep};
 ghost use Rattle.rmm_model.specs.declared.step.StepWords.{StepWords};
 ghost use Rattle.rmm_model.specs.declared.realm.RmmRealm.{RmmRealm};
 ghost use Rattle.rmm_model.specs.Call.{rmi};
+ghost use Rattle.rmm_model.specs.Granule.{of_no_realm, of_realm};
 ghost use Rattle.rmm_model.specs.Guest.{queued};
 ghost use Rattle.rmm_model.specs.Host.{can_access, can_fill, after_store, after_fill};
-ghost use Rattle.rmm_model.specs.Machine.{Machine, granule_at, page_in};
+ghost use Rattle.rmm_model.specs.Machine.{Machine, granule_at, number_of, page_in};
+ghost use Rattle.rmm_model.specs.Step.{access, after_write};
 ghost use Rattle.rmm_model.specs.Table.{entry_in_page};
 ghost use Rattle.rmm_model.specs.Walk.{walk};
 ghost use Rattle.rmm_model.specs.Command.RecEnter.{interrupted, step_outcome, after_step};
 ghost use Rattle.rmm_laws.specs.Apart.{IsOfAnother, IsSameAt};
-ghost use Rattle.rmm_laws.specs.Refusal.{IsRefused, IsNotQueued, IsAccess, IsNotDone};
-ghost use Rattle.rmm_laws.specs.Role.{Used, uses, IsSound, IsProper};
+ghost use Rattle.rmm_laws.specs.Proper.{IsProper};
+ghost use Rattle.rmm_laws.specs.Refusal.{IsRefused, IsRecEnter, IsNotQueued, IsNotRunning, IsAccess, IsNotDone};
+ghost use Rattle.rmm_laws.specs.Role.{Used, uses, IsSound};
 ghost use Rattle.rmm_laws.specs.Walk.{IsTableOf, EndsWell, LeadsToTable};
 
 /// What is refused changes nothing: calls by registers, and the host's stores and fills. So do steps that no REC takes,
-/// interrupts of RECs that do not run, and accesses of guests that are not done.
+/// interrupts of RECs that do not run, and accesses of guests that are not done. Only a call that enters a REC is
+/// answered with the word of a REC that runs on.
 pub fn refusals_change_nothing()
     ensures calls { (r : Registers) (m : Machine) → IsRefused (rmi r m).0.x0 → (rmi r m).1 ≡ m }
+    ensures running { (r : Registers) (m : Machine) → (rmi r m).0.x0 ≡ 2 ^ 64 - 2 → IsRecEnter (call_in r) }
     ensures stores { (m : Machine) (address word : ℕ) → can_access m address ≡ false → after_store m address word ≡ m }
     ensures fills { (m : Machine) (address value : ℕ) → can_fill m address ≡ false → after_fill m address value ≡ m }
     ensures steps { (m : Machine) (rec : ℕ) (w : StepWords) → IsNotQueued (queued m rec w).0 → (queued m rec w).1 ≡ m }
-    ensures interrupts { (m : Machine) (rec : ℕ) → (interrupted m rec).0 ≡ None → (interrupted m rec).1 ≡ m }
+    ensures interrupts { (m : Machine) (rec : ℕ) → IsNotRunning m rec → interrupted m rec ≡ (None, m) }
     ensures accesses { (m : Machine) (realm : RmmRealm) (rec flags : ℕ) (step : GuestStep) → IsAccess step
         → IsNotDone (step_outcome m realm rec flags step) → after_step m realm rec step (step_outcome m realm rec flags step) ≡ m }
 {}
 
 /// Granules have one role: each RTT, DATA and REC_AUX granule is used once, in the realm that owns it, and no other is.
-/// Each call keeps it so, and so do the host's stores and fills, steps that guests are given, and interrupts.
+/// Owners are RDs, each RD counts its RECs, and DELEGATED granules are zero. The machine of a platform is so. Each call
+/// keeps it so, and so do the host's stores and fills, steps that guests are given, and interrupts.
 pub fn granules_have_one_role()
-    ensures start { (m : Machine) → IsSound m → ((granule : ℕ) → (granule_at m granule).state ≡ Undelegated) → IsProper m }
+    ensures opened { (s : RmmSettings) (pages : List (List ℕ)) → IsPlatform s → length pages ≤ 4096 → ((k : ℕ) → k < length pages → length (page_at pages k) ≡ 4096)
+        → IsProper (platform_machine s pages) }
+    ensures start { (m : Machine) → IsSound m → ((granule : ℕ) → granule_at m granule ≡ of_no_realm Undelegated) → IsProper m }
     ensures calls { (r : Registers) (m : Machine) → IsProper m → IsProper (rmi r m).1 }
     ensures stores { (m : Machine) (address word : ℕ) → IsProper m → IsProper (after_store m address word) }
     ensures fills { (m : Machine) (address value : ℕ) → IsProper m → IsProper (after_fill m address value) }
     ensures steps { (m : Machine) (rec : ℕ) (w : StepWords) → IsProper m → IsProper (queued m rec w).1 }
     ensures interrupts { (m : Machine) (rec : ℕ) → IsProper m → IsProper (interrupted m rec).1 }
-    ensures used { (m : Machine) (proper : IsProper m) (user index part : ℕ) (u : Used) → uses m proper.level user index part ≡ Some u → granule_at m u.number ≡ u.attributes }
-    ensures once { (m : Machine) (proper : IsProper m) (x i k y j l : ℕ) (u v : Used) → uses m proper.level x i k ≡ Some u → uses m proper.level y j l ≡ Some v → u.number ≡ v.number
+    ensures used { (m : Machine) (proper : IsProper m) (user index part : ℕ) (u : Used) → uses m proper.linked.level user index part ≡ Some u → granule_at m u.number ≡ u.attributes }
+    ensures once { (m : Machine) (proper : IsProper m) (x i k y j l : ℕ) (u v : Used) → uses m proper.linked.level x i k ≡ Some u → uses m proper.linked.level y j l ≡ Some v → u.number ≡ v.number
         → (x ≡ y) × (i ≡ j) × (k ≡ l) }
 {}
 
-/// A walk ends at a table of its realm: at the level that it goes to, or at an entry that leads to no table.
+/// A walk ends at a table of its realm that serves the address: at the level that it goes to, or at an entry that is no
+/// TABLE.
 pub fn walks_end()
-    ensures { (m : Machine) (rd ipa level : ℕ) (realm : RmmRealm) → IsProper m → (granule_at m rd).state ≡ Rd realm → ipa < 2 ^ realm.s2sz → realm.start_level ≤ level
-        → EndsWell m rd ipa level (walk m realm ipa level) }
+    ensures { (m : Machine) (rd ipa level : ℕ) (realm : RmmRealm) (proper : IsProper m) → (granule_at m rd).state ≡ Rd realm → ipa < 2 ^ realm.s2sz → realm.start_level ≤ level
+        → EndsWell m proper.linked.level rd realm ipa level (walk m realm ipa level) }
 {}
 
 /// A TABLE entry leads to a table of its realm, one level below, at the address at which that granule begins.
 pub fn tables_lead_to_tables()
     ensures { (m : Machine) (proper : IsProper m) (rd table i address : ℕ) → IsTableOf m rd table → i < 512 → entry_in_page (page_in m table) i ≡ Table address
-        → LeadsToTable m proper.level rd table address }
+        → LeadsToTable m proper.linked.level rd table address }
 {}
 
 /// Other realms stay: a call leaves each granule as it was, but for those of the realm that it is on, and UNDELEGATED
-/// and DELEGATED ones. So it keeps the RDs, tables, pages and RECs of all other realms. A store of the host keeps all
-/// granules but UNDELEGATED ones.
+/// and DELEGATED ones. So it keeps the RDs, tables, pages and RECs of all other realms. Stores and fills of the host
+/// change UNDELEGATED granules alone, a step that a guest is given its REC, and an interrupt its REC and UNDELEGATED
+/// granules. A guest writes pages of its realm, and of the host.
 pub fn other_realms_stay()
     ensures calls { (r : Registers) (m : Machine) (granule : ℕ) → IsProper m → IsOfAnother m (call_in r) granule → IsSameAt m (rmi r m).1 granule }
     ensures stores { (m : Machine) (address word granule : ℕ) → (granule_at m granule).state ≢ Undelegated → IsSameAt m (after_store m address word) granule }
+    ensures fills { (m : Machine) (address value granule : ℕ) → (granule_at m granule).state ≢ Undelegated → IsSameAt m (after_fill m address value) granule }
+    ensures steps { (m : Machine) (rec granule : ℕ) (w : StepWords) → granule ≢ number_of m rec → IsSameAt m (queued m rec w).1 granule }
+    ensures interrupts { (m : Machine) (rec granule : ℕ) → granule ≢ number_of m rec → (granule_at m granule).state ≢ Undelegated → IsSameAt m (interrupted m rec).1 granule }
+    ensures writes { (m : Machine) (rd ipa value granule : ℕ) (size : AccessSize) (realm : RmmRealm) → IsProper m → (granule_at m rd).state ≡ Rd realm
+        → granule_at m granule ≢ of_realm rd Data → (granule_at m granule).state ≢ Undelegated → IsSameAt m (after_write m ipa size value (access m realm ipa true size value)) granule }
 {}
