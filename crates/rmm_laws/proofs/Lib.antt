@@ -8,6 +8,7 @@ pub mod Guests
 pub mod Keeping
 pub mod Mapped
 pub mod Mappings
+pub mod Mistakes
 pub mod Moves
 pub mod OneMore
 pub mod Ordering

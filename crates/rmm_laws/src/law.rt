@@ -1,5 +1,6 @@
 //! Theorems of all calls by registers, of the host's stores, and of guests.
 ghost use Rattle.std.specs.Prelude.{◌≡◌, ◌≢◌, ℕ, ◌-◌, ◌^◌, ◌<◌, ◌≤◌, true, false, List, length, Some, None};
+ghost use Rattle.granule_addr.specs.Page.{zero_page};
 ghost use Rattle.page_arena.specs.Page.{page_at};
 ghost use Rattle.rmi_abi.specs.declared.registers.Registers.{Registers};
 ghost use Rattle.rmi_abi.specs.declared.settings.RmmSettings.{RmmSettings};
@@ -7,19 +8,21 @@ ghost use Rattle.rmi_abi.specs.Call.{call_in};
 ghost use Rattle.rmi_abi.specs.Settings.{IsPlatform};
 ghost use Rattle.rmm_granules.specs.Inside.{platform_machine};
 ghost use Rattle.rmm_model.specs.declared.access.AccessSize.{AccessSize};
-ghost use Rattle.rmm_model.specs.declared.entry.RmmRttEntry.TheVariants.{Table};
-ghost use Rattle.rmm_model.specs.declared.granule.RmmGranuleState.TheVariants.{Undelegated, Data, Rd};
+ghost use Rattle.rmm_model.specs.declared.entry.RmmRttEntry.TheVariants.{Assigned, Table};
+ghost use Rattle.rmm_model.specs.declared.granule.RmmGranuleState.TheVariants.{Undelegated, Delegated, Data, Rd, Rec};
 ghost use Rattle.rmm_model.specs.declared.step.GuestStep.{GuestStep};
 ghost use Rattle.rmm_model.specs.declared.step.StepWords.{StepWords};
 ghost use Rattle.rmm_model.specs.declared.realm.RmmRealm.{RmmRealm};
+ghost use Rattle.rmm_model.specs.declared.entry.RmmRipas.{RmmRipas};
+ghost use Rattle.rmm_model.specs.declared.rec.RmmRec.{RmmRec};
 ghost use Rattle.rmm_model.specs.Call.{rmi};
 ghost use Rattle.rmm_model.specs.Granule.{of_no_realm, of_realm};
 ghost use Rattle.rmm_model.specs.Guest.{queued};
 ghost use Rattle.rmm_model.specs.Host.{can_access, can_fill, after_store, after_fill};
-ghost use Rattle.rmm_model.specs.Machine.{Machine, granule_at, number_of, page_in};
+ghost use Rattle.rmm_model.specs.Machine.{Machine, granule_at, number_of, page_in, with_blank};
 ghost use Rattle.rmm_model.specs.Step.{access, after_write};
 ghost use Rattle.rmm_model.specs.Table.{entry_in_page};
-ghost use Rattle.rmm_model.specs.Walk.{walk};
+ghost use Rattle.rmm_model.specs.Walk.{table_below, walk};
 ghost use Rattle.rmm_model.specs.Command.RecEnter.{interrupted, step_outcome, after_step};
 ghost use Rattle.rmm_laws.specs.Apart.{IsOfAnother, IsSameAt};
 ghost use Rattle.rmm_laws.specs.Proper.{IsProper};
@@ -83,4 +86,16 @@ pub fn other_realms_stay()
     ensures interrupts { (m : Machine) (rec granule : ℕ) → granule ≢ number_of m rec → (granule_at m granule).state ≢ Undelegated → IsSameAt m (interrupted m rec).1 granule }
     ensures writes { (m : Machine) (rd ipa value granule : ℕ) (size : AccessSize) (realm : RmmRealm) → IsProper m → (granule_at m rd).state ≡ Rd realm
         → granule_at m granule ≢ of_realm rd Data → (granule_at m granule).state ≢ Undelegated → IsSameAt m (after_write m ipa size value (access m realm ipa true size value)) granule }
+{}
+
+/// Machines that wrong definitions would lead to are refused: RTT_DESTROY leaves the entry of the table. A call maps a
+/// page that is mapped already. REC_DESTROY leaves the count of its realm. REALM_DESTROY removes the RD of a granule. A
+/// granule becomes DELEGATED and is not wiped.
+pub fn mistakes_are_refused()
+    ensures entry_left { (m : Machine) (rd table i g : ℕ) → IsProper m → IsTableOf m rd table → i < 512 → table_below m (entry_in_page (page_in m table) i) ≡ Some g → IsProper (with_blank m g Delegated) → ⊥ }
+    ensures named_twice { (m : Machine) (rd s x i y j address : ℕ) (a b : RmmRipas) → IsProper m → IsTableOf m rd x → IsTableOf m s y → i < 512 → j < 512
+        → entry_in_page (page_in m x) i ≡ Assigned a address → entry_in_page (page_in m y) j ≡ Assigned b address → (x ≡ y) × (i ≡ j) }
+    ensures rec_still_counted { (m : Machine) (g : ℕ) (rec : RmmRec) → IsProper m → (granule_at m g).state ≡ Rec rec → IsProper (with_blank m g Delegated) → ⊥ }
+    ensures owner_removed { (m : Machine) (rd g : ℕ) → IsProper m → (granule_at m g).owner ≡ Some rd → IsProper (with_blank m rd Delegated) → ⊥ }
+    ensures wipe_left_out { (m : Machine) (g : ℕ) → IsProper m → (granule_at m g).state ≡ Delegated → page_in m g ≡ zero_page }
 {}
