@@ -4,6 +4,7 @@ pub mod Blocks
 pub mod Children
 pub mod Entries
 pub mod EntryWords
+pub mod Freed
 pub mod Guests
 pub mod Keeping
 pub mod Mapped
@@ -25,6 +26,7 @@ pub mod RecsGone
 pub mod Refolding
 pub mod Serving
 pub mod Tables
+pub mod Tops
 pub mod Touching
 pub mod TouchingCalls
 pub mod Unfolding

@@ -1,4 +1,5 @@
 pub mod Apart
+pub mod Back
 pub mod Owner
 pub mod Proper
 pub mod Refusal

@@ -1,9 +1,9 @@
 -- Ends of walks. RMM 1.0, RttWalk.
-use Rattle.std.specs.Prelude.{◌≡◌, ℕ, zero, suc, ◌+◌, ◌*◌, ◌<◌, ◌≤◌, ◌⊎◌, false, Some}
+use Rattle.std.specs.Prelude.{◌≡◌, ℕ, zero, suc, ◌+◌, ◌*◌, ◌/◌, ◌<◌, ◌≤◌, ◌⊎◌, true, false, Some}
 use Rattle.rmm_model.specs.declared.granule.RmmGranuleState.TheVariants.{Rtt}
 use Rattle.rmm_model.specs.declared.realm.RmmRealm.{RmmRealm}
 use Rattle.rmm_model.specs.declared.realm.RttWalk.{RttWalk}
-use Rattle.rmm_model.specs.Entry.{is_table}
+use Rattle.rmm_model.specs.Entry.{is_live, is_table}
 use Rattle.rmm_model.specs.Granule.{of_realm}
 use Rattle.rmm_model.specs.Level.{entry_size}
 use Rattle.rmm_model.specs.Machine.{Machine, granule_at, page_in}
@@ -34,6 +34,11 @@ pub record EndsWell (m : Machine) (level : ℕ → ℕ) (rd : ℕ) (realm : RmmR
   pub depth : found.level ≡ realm.start_level + levels
   pub low : first ≤ ipa
   pub high : ipa < first + 512 * entry_size found.level
+
+-- A top is at a live entry of the table at which a walk ended, or at the first address that the table does not serve.
+abbrev pub IsAtLive : Machine → RttWalk → ℕ → ℕ → Type 0
+IsAtLive m found ipa to =
+    (is_live (entry_at m found to) ≡ true) ⊎ (to ≡ (ipa / entry_size found.level / 512 + 1) * (512 * entry_size found.level))
 
 -- The address of a TABLE entry is that at which a table of the realm begins, one level below, and of level 3 at most.
 pub record LeadsToTable (m : Machine) (level : ℕ → ℕ) (rd table address : ℕ) : Type 0 where

@@ -4,31 +4,35 @@ ghost use Rattle.granule_addr.specs.Page.{zero_page};
 ghost use Rattle.page_arena.specs.Page.{page_at};
 ghost use Rattle.rmi_abi.specs.declared.registers.Registers.{Registers};
 ghost use Rattle.rmi_abi.specs.declared.settings.RmmSettings.{RmmSettings};
+ghost use Rattle.rmi_abi.specs.declared.call.Call.TheVariants.{RttDestroy, RttFold, DataDestroy};
+ghost use Rattle.rmi_abi.specs.declared.word.Word.TheVariants.{Success};
 ghost use Rattle.rmi_abi.specs.Call.{call_in};
 ghost use Rattle.rmi_abi.specs.Settings.{IsPlatform};
 ghost use Rattle.rmm_granules.specs.Inside.{platform_machine};
 ghost use Rattle.rmm_model.specs.declared.access.AccessSize.{AccessSize};
 ghost use Rattle.rmm_model.specs.declared.entry.RmmRttEntry.TheVariants.{Assigned, Table};
-ghost use Rattle.rmm_model.specs.declared.granule.RmmGranuleState.TheVariants.{Undelegated, Delegated, Data, Rd, Rec};
+ghost use Rattle.rmm_model.specs.declared.granule.RmmGranuleState.TheVariants.{Undelegated, Delegated, Data, Rd, Rec, Rtt};
 ghost use Rattle.rmm_model.specs.declared.step.GuestStep.{GuestStep};
 ghost use Rattle.rmm_model.specs.declared.step.StepWords.{StepWords};
 ghost use Rattle.rmm_model.specs.declared.realm.RmmRealm.{RmmRealm};
 ghost use Rattle.rmm_model.specs.declared.entry.RmmRipas.{RmmRipas};
 ghost use Rattle.rmm_model.specs.declared.rec.RmmRec.{RmmRec};
-ghost use Rattle.rmm_model.specs.Call.{rmi};
+ghost use Rattle.rmm_model.specs.Call.{performed, rmi};
 ghost use Rattle.rmm_model.specs.Granule.{of_no_realm, of_realm};
 ghost use Rattle.rmm_model.specs.Guest.{queued};
 ghost use Rattle.rmm_model.specs.Host.{can_access, can_fill, after_store, after_fill};
 ghost use Rattle.rmm_model.specs.Machine.{Machine, granule_at, number_of, page_in, with_blank};
 ghost use Rattle.rmm_model.specs.Step.{access, after_write};
 ghost use Rattle.rmm_model.specs.Table.{entry_in_page};
-ghost use Rattle.rmm_model.specs.Walk.{table_below, walk};
+ghost use Rattle.rmm_model.specs.Entry.{is_live};
+ghost use Rattle.rmm_model.specs.Walk.{entry_at, table_below, walk, top};
 ghost use Rattle.rmm_model.specs.Command.RecEnter.{interrupted, step_outcome, after_step};
 ghost use Rattle.rmm_laws.specs.Apart.{IsOfAnother, IsSameAt};
+ghost use Rattle.rmm_laws.specs.Back.{ComesBack};
 ghost use Rattle.rmm_laws.specs.Proper.{IsProper};
 ghost use Rattle.rmm_laws.specs.Refusal.{IsRefused, IsRecEnter, IsNotQueued, IsNotRunning, IsAccess, IsNotDone};
 ghost use Rattle.rmm_laws.specs.Role.{Used, uses, IsSound};
-ghost use Rattle.rmm_laws.specs.Walk.{IsTableOf, EndsWell, LeadsToTable};
+ghost use Rattle.rmm_laws.specs.Walk.{IsTableOf, EndsWell, IsAtLive, LeadsToTable};
 
 /// What is refused changes nothing: calls by registers, and the host's stores and fills. So do steps that no REC takes,
 /// interrupts of RECs that do not run, and accesses of guests that are not done. Only a call that enters a REC is
@@ -72,6 +76,26 @@ pub fn walks_end()
 pub fn tables_lead_to_tables()
     ensures { (m : Machine) (proper : IsProper m) (rd table i address : ℕ) → IsTableOf m rd table → i < 512 → entry_in_page (page_in m table) i ≡ Table address
         → LeadsToTable m proper.linked.level rd table address }
+{}
+
+/// Granules come back: X1 of RTT_DESTROY, RTT_FOLD and DATA_DESTROY is the address of a table or a page of the realm.
+/// That granule is DELEGATED and zero from then on.
+pub fn granules_come_back()
+    ensures destroyed { (m : Machine) (rd ipa level : ℕ) → IsProper m → (performed (RttDestroy rd ipa level) m).0.word ≡ Success
+        → ComesBack m (performed (RttDestroy rd ipa level) m).1 (number_of m rd) Rtt (performed (RttDestroy rd ipa level) m).0.x1 }
+    ensures folded { (m : Machine) (rd ipa level : ℕ) → IsProper m → (performed (RttFold rd ipa level) m).0.word ≡ Success
+        → ComesBack m (performed (RttFold rd ipa level) m).1 (number_of m rd) Rtt (performed (RttFold rd ipa level) m).0.x1 }
+    ensures pages { (m : Machine) (rd ipa : ℕ) → IsProper m → (performed (DataDestroy rd ipa) m).0.word ≡ Success
+        → ComesBack m (performed (DataDestroy rd ipa) m).1 (number_of m rd) Data (performed (DataDestroy rd ipa) m).0.x1 }
+{}
+
+/// Tops are complete: from an address to the top of its walk's end there is no live entry. The top is at the next live
+/// entry of the table, or at its end.
+pub fn tops_are_complete()
+    ensures skipped { (m : Machine) (rd ipa level x : ℕ) (realm : RmmRealm) → IsProper m → (granule_at m rd).state ≡ Rd realm → ipa < 2 ^ realm.s2sz → realm.start_level ≤ level → level ≤ 3
+        → ipa ≤ x → x < top m (walk m realm ipa level) ipa → is_live (entry_at m (walk m realm x 3) x) ≡ false }
+    ensures met { (m : Machine) (rd ipa level : ℕ) (realm : RmmRealm) → IsProper m → (granule_at m rd).state ≡ Rd realm → ipa < 2 ^ realm.s2sz → realm.start_level ≤ level
+        → IsAtLive m (walk m realm ipa level) ipa (top m (walk m realm ipa level) ipa) }
 {}
 
 /// Other realms stay: a call leaves each granule as it was, but for those of the realm that it is on, and UNDELEGATED
