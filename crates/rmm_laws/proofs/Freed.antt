@@ -98,7 +98,7 @@ module _ (m : Machine) (proper : IsProper m) (rd ipa level : ℕ) (is : (granule
   end : IsPlace m proper.linked (number_of m rd) ipa found
   end = place_is m proper.linked (number_of m rd) ipa level (realm_at m rd) is within least
 
-  leads_at : LeadsInside m (entry_at m (walk m (realm_at m rd) ipa level) ipa)
+  pub leads_at : LeadsInside m (entry_at m (walk m (realm_at m rd) ipa level) ipa)
   unfolding entry_at
   leads_at = proper.linked.inside found.table (entry_index found.level ipa) (ap (λ (r : RmmGranule). r.state) end.table) (entry_index-few found.level ipa)
 

@@ -26,6 +26,7 @@ pub mod RecsGone
 pub mod Refolding
 pub mod Serving
 pub mod Tables
+pub mod Teardown
 pub mod Tops
 pub mod Touching
 pub mod TouchingCalls

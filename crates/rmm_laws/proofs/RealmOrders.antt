@@ -227,7 +227,7 @@ module _ (m : Machine) (proper : IsProper m) (rd : ℕ) (realm : RmmRealm) (is :
       (λ (r : HasNoUser (uses m level) (used_at m level) h). both_ways (has_user (granule_at m h).state) r.role used_is)
       (proper.linked.roles h)
 
-  not_owned : (h : ℕ) (s : RmmGranuleState) → NoStart realm h → (granule_at m h).state ≡ s → IsOrderly m s (granule_at m h).owner (page_in m h) → (granule_at m h).owner ≡ Some rd → ⊥
+  pub not_owned : (h : ℕ) (s : RmmGranuleState) → NoStart realm h → (granule_at m h).state ≡ s → IsOrderly m s (granule_at m h).owner (page_in m h) → (granule_at m h).owner ≡ Some rd → ⊥
   not_owned h Undelegated no_start state orderly owned = let never : None ≡ Some rd = sym orderly ∙ owned in cc
   not_owned h Delegated no_start state orderly owned = let never : None ≡ Some rd = sym orderly.0 ∙ owned in cc
   not_owned h (Rd other) no_start state orderly owned = let never : None ≡ Some rd = sym orderly ∙ owned in cc
@@ -251,13 +251,13 @@ module _ (m : Machine) (proper : IsProper m) (rd : ℕ) (realm : RmmRealm) (is :
   sound_then : IsSound cleared
   sound_then = gone_sound m realm proper.linked.sound fit_then.inside realm.table_count (omega arith)
 
-  rd_gone : granule_at gone rd ≡ of_no_realm Delegated
+  pub rd_gone : granule_at gone rd ≡ of_no_realm Delegated
   rd_gone = granule_at-same cleared rd (of_no_realm Delegated) rd_inside_then
 
-  rd_zero : page_in gone rd ≡ zero_page
+  pub rd_zero : page_in gone rd ≡ zero_page
   rd_zero = let p = sound_then.pages in let r = rd_inside_then in page_in-same (with_granule cleared rd (of_no_realm Delegated)) rd zero_page (omega arith)
 
-  start_gone : (i : ℕ) → i < realm.table_count → (granule_at gone (realm.first_table + i) ≡ of_no_realm Delegated) × (page_in gone (realm.first_table + i) ≡ zero_page)
+  pub start_gone : (i : ℕ) → i < realm.table_count → (granule_at gone (realm.first_table + i) ≡ of_no_realm Delegated) × (page_in gone (realm.first_table + i) ≡ zero_page)
   start_gone i lt =
       let g : ℕ = realm.first_table + i in
       let other : g ≢ rd = λ same. (
@@ -336,7 +336,7 @@ module _ (m : Machine) (proper : IsProper m) (rd : ℕ) (realm : RmmRealm) (is :
     ordered = ordered_vmid gone vmid false realm_gone_ordered;
   }
 
-none_if : (n : ℕ) → nat_lt 0 n ≡ false → n ≡ 0
+pub none_if : (n : ℕ) → nat_lt 0 n ≡ false → n ≡ 0
 none_if zero never = refl
 none_if (suc n) never = let sure : nat_lt 0 (suc n) ≡ true = lt-ltb 0 (suc n) (omega arith) in absurd (both_ways (nat_lt 0 (suc n)) never sure)
 

@@ -1,16 +1,16 @@
 //! Theorems of all calls by registers, of the host's stores, and of guests.
-ghost use Rattle.std.specs.Prelude.{◌≡◌, ◌≢◌, ℕ, ◌-◌, ◌^◌, ◌<◌, ◌≤◌, true, false, List, length, Some, None};
+ghost use Rattle.std.specs.Prelude.{◌≡◌, ◌≢◌, ℕ, ◌+◌, ◌-◌, ◌%◌, ◌^◌, ◌<◌, ◌≤◌, true, false, List, length, Some, None};
 ghost use Rattle.granule_addr.specs.Page.{zero_page};
 ghost use Rattle.page_arena.specs.Page.{page_at};
 ghost use Rattle.rmi_abi.specs.declared.registers.Registers.{Registers};
 ghost use Rattle.rmi_abi.specs.declared.settings.RmmSettings.{RmmSettings};
-ghost use Rattle.rmi_abi.specs.declared.call.Call.TheVariants.{RttDestroy, RttFold, DataDestroy};
+ghost use Rattle.rmi_abi.specs.declared.call.Call.TheVariants.{GranuleUndelegate, RealmDestroy, RecDestroy, RttDestroy, RttFold, RttUnmapUnprotected, DataDestroy};
 ghost use Rattle.rmi_abi.specs.declared.word.Word.TheVariants.{Success};
 ghost use Rattle.rmi_abi.specs.Call.{call_in};
 ghost use Rattle.rmi_abi.specs.Settings.{IsPlatform};
 ghost use Rattle.rmm_granules.specs.Inside.{platform_machine};
 ghost use Rattle.rmm_model.specs.declared.access.AccessSize.{AccessSize};
-ghost use Rattle.rmm_model.specs.declared.entry.RmmRttEntry.TheVariants.{Assigned, Table};
+ghost use Rattle.rmm_model.specs.declared.entry.RmmRttEntry.TheVariants.{Assigned, AssignedNs, Table};
 ghost use Rattle.rmm_model.specs.declared.granule.RmmGranuleState.TheVariants.{Undelegated, Delegated, Data, Rd, Rec, Rtt};
 ghost use Rattle.rmm_model.specs.declared.step.GuestStep.{GuestStep};
 ghost use Rattle.rmm_model.specs.declared.step.StepWords.{StepWords};
@@ -19,16 +19,22 @@ ghost use Rattle.rmm_model.specs.declared.entry.RmmRipas.{RmmRipas};
 ghost use Rattle.rmm_model.specs.declared.rec.RmmRec.{RmmRec};
 ghost use Rattle.rmm_model.specs.Call.{performed, rmi};
 ghost use Rattle.rmm_model.specs.Granule.{of_no_realm, of_realm};
-ghost use Rattle.rmm_model.specs.Guest.{queued};
+ghost use Rattle.rmm_model.specs.Guest.{is_rec_named, queued};
+ghost use Rattle.rmm_model.specs.Level.{entry_size};
+ghost use Rattle.rmm_model.specs.Realm.{is_protected, is_unprotected};
+ghost use Rattle.rmm_model.specs.Rec.{is_running};
+ghost use Rattle.rmm_model.specs.Command.Operand.{realm_at, rec_at};
+ghost use Rattle.rmm_model.specs.Command.RealmDestroy.{has_live_table};
 ghost use Rattle.rmm_model.specs.Host.{can_access, can_fill, after_store, after_fill};
-ghost use Rattle.rmm_model.specs.Machine.{Machine, granule_at, number_of, page_in, with_blank};
+ghost use Rattle.rmm_model.specs.Machine.{Machine, granule_at, is_inside, number_of, page_in, with_blank};
 ghost use Rattle.rmm_model.specs.Step.{access, after_write};
-ghost use Rattle.rmm_model.specs.Table.{entry_in_page};
+ghost use Rattle.rmm_model.specs.Table.{entry_in_page, has_live};
 ghost use Rattle.rmm_model.specs.Entry.{is_live};
 ghost use Rattle.rmm_model.specs.Walk.{entry_at, table_below, walk, top};
 ghost use Rattle.rmm_model.specs.Command.RecEnter.{interrupted, step_outcome, after_step};
-ghost use Rattle.rmm_laws.specs.Apart.{IsOfAnother, IsSameAt};
+ghost use Rattle.rmm_laws.specs.Apart.{rd_named, IsOfRealm, IsOfAnother, IsSameAt};
 ghost use Rattle.rmm_laws.specs.Back.{ComesBack};
+ghost use Rattle.rmm_laws.specs.Owner.{is_rec_in};
 ghost use Rattle.rmm_laws.specs.Proper.{IsProper};
 ghost use Rattle.rmm_laws.specs.Refusal.{IsRefused, IsRecEnter, IsNotQueued, IsNotRunning, IsAccess, IsNotDone};
 ghost use Rattle.rmm_laws.specs.Role.{Used, uses, IsSound};
@@ -96,6 +102,28 @@ pub fn tops_are_complete()
         → ipa ≤ x → x < top m (walk m realm ipa level) ipa → is_live (entry_at m (walk m realm x 3) x) ≡ false }
     ensures met { (m : Machine) (rd ipa level : ℕ) (realm : RmmRealm) → IsProper m → (granule_at m rd).state ≡ Rd realm → ipa < 2 ^ realm.s2sz → realm.start_level ≤ level
         → IsAtLive m (walk m realm ipa level) ipa (top m (walk m realm ipa level) ipa) }
+{}
+
+/// Steps of a teardown succeed: RMI_REC_DESTROY of a REC that does not run, and RMI_DATA_DESTROY of a page. So do
+/// RMI_RTT_UNMAP_UNPROTECTED of a mapping, and RMI_RTT_DESTROY of a table without live entries. RMI_REALM_DESTROY succeeds
+/// for a realm without RECs and live entries, and RMI_GRANULE_UNDELEGATE for a DELEGATED granule. What a realm had until
+/// its RMI_REALM_DESTROY is DELEGATED and zero.
+pub fn teardown_steps_succeed()
+    ensures recs { (m : Machine) (rec : ℕ) → is_rec_named m rec ≡ true → is_running (rec_at m rec).state ≡ false → (performed (RecDestroy rec) m).0.word ≡ Success }
+    ensures pages { (m : Machine) (rd ipa address : ℕ) (ripas : RmmRipas) → IsProper m → rd_named m rd ≡ Some (number_of m rd) → ipa % 4096 ≡ 0 → is_protected (realm_at m rd) ipa ≡ true
+        → (walk m (realm_at m rd) ipa 3).level ≡ 3 → entry_at m (walk m (realm_at m rd) ipa 3) ipa ≡ Assigned ripas address → (performed (DataDestroy rd ipa) m).0.word ≡ Success }
+    ensures mappings { (m : Machine) (rd ipa level desc : ℕ) → rd_named m rd ≡ Some (number_of m rd) → m.settings.block_level ≤ level → (realm_at m rd).start_level ≤ level → level ≤ 3
+        → ipa % entry_size level ≡ 0 → is_unprotected (realm_at m rd) ipa ≡ true → (walk m (realm_at m rd) ipa level).level ≡ level
+        → entry_at m (walk m (realm_at m rd) ipa level) ipa ≡ AssignedNs desc → (performed (RttUnmapUnprotected rd ipa level) m).0.word ≡ Success }
+    ensures tables { (m : Machine) (rd ipa level table : ℕ) → rd_named m rd ≡ Some (number_of m rd) → (realm_at m rd).start_level + 1 ≤ level → level ≤ 3 → ipa % entry_size (level - 1) ≡ 0
+        → ipa < 2 ^ (realm_at m rd).s2sz → (walk m (realm_at m rd) ipa (level - 1)).level ≡ level - 1 → table_below m (entry_at m (walk m (realm_at m rd) ipa (level - 1)) ipa) ≡ Some table
+        → has_live (page_in m table) ≡ false → (performed (RttDestroy rd ipa level) m).0.word ≡ Success }
+    ensures realms { (m : Machine) (rd : ℕ) → IsProper m → rd_named m rd ≡ Some (number_of m rd) → ((granule : ℕ) → is_rec_in (number_of m rd) (granule_at m granule) ≡ false)
+        → has_live_table m (realm_at m rd).first_table (realm_at m rd).table_count ≡ false → (performed (RealmDestroy rd) m).0.word ≡ Success }
+    ensures granules { (m : Machine) (address : ℕ) → address % 4096 ≡ 0 → is_inside m address ≡ true → (granule_at m (number_of m address)).state ≡ Delegated
+        → (performed (GranuleUndelegate address) m).0.word ≡ Success }
+    ensures nothing_left { (m : Machine) (rd granule : ℕ) → IsProper m → (performed (RealmDestroy rd) m).0.word ≡ Success → IsOfRealm m (Some (number_of m rd)) granule
+        → (granule_at (performed (RealmDestroy rd) m).1 granule ≡ of_no_realm Delegated) × (page_in (performed (RealmDestroy rd) m).1 granule ≡ zero_page) }
 {}
 
 /// Other realms stay: a call leaves each granule as it was, but for those of the realm that it is on, and UNDELEGATED
