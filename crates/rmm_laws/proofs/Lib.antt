@@ -18,6 +18,7 @@ pub mod Owning
 pub mod PageWords
 pub mod Passed
 pub mod Plain
+pub mod Reaching
 pub mod RealmOrders
 pub mod Realms
 pub mod RecLives

@@ -14,6 +14,10 @@ use Rattle.rmm_model.specs.Walk.{entry_at, table_below}
 abbrev pub IsTableOf : Machine → ℕ → ℕ → Type 0
 IsTableOf m rd granule = granule_at m granule ≡ of_realm rd Rtt
 
+-- the end of a walk at a table of a level
+abbrev pub walked_to : ℕ → ℕ → RttWalk
+walked_to table level = record { table = table; level = level }
+
 -- A table serves the addresses from one on, that many levels below the starting tables of a realm. It is a starting
 -- table, or an entry of one that serves leads to it, and it serves what that entry covers.
 unfoldable pub Serves : Machine → RmmRealm → ℕ → ℕ → ℕ → Type 0

@@ -1,5 +1,5 @@
 //! Theorems of all calls by registers, of the host's stores, and of guests.
-ghost use Rattle.std.specs.Prelude.{◌≡◌, ◌≢◌, ℕ, ◌+◌, ◌-◌, ◌%◌, ◌^◌, ◌<◌, ◌≤◌, true, false, List, length, Some, None};
+ghost use Rattle.std.specs.Prelude.{◌≡◌, ◌≢◌, ℕ, ◌+◌, ◌-◌, ◌*◌, ◌%◌, ◌^◌, ◌<◌, ◌≤◌, true, false, List, length, Some, None};
 ghost use Rattle.granule_addr.specs.Page.{zero_page};
 ghost use Rattle.page_arena.specs.Page.{page_at};
 ghost use Rattle.rmi_abi.specs.declared.registers.Registers.{Registers};
@@ -38,7 +38,7 @@ ghost use Rattle.rmm_laws.specs.Owner.{is_rec_in};
 ghost use Rattle.rmm_laws.specs.Proper.{IsProper};
 ghost use Rattle.rmm_laws.specs.Refusal.{IsRefused, IsRecEnter, IsNotQueued, IsNotRunning, IsAccess, IsNotDone};
 ghost use Rattle.rmm_laws.specs.Role.{Used, uses, IsSound};
-ghost use Rattle.rmm_laws.specs.Walk.{IsTableOf, EndsWell, IsAtLive, LeadsToTable};
+ghost use Rattle.rmm_laws.specs.Walk.{IsTableOf, Serves, EndsWell, IsAtLive, LeadsToTable, walked_to};
 
 /// What is refused changes nothing: calls by registers, and the host's stores and fills. So do steps that no REC takes,
 /// interrupts of RECs that do not run, and accesses of guests that are not done. Only a call that enters a REC is
@@ -76,6 +76,14 @@ pub fn granules_have_one_role()
 pub fn walks_end()
     ensures { (m : Machine) (rd ipa level : ℕ) (realm : RmmRealm) (proper : IsProper m) → (granule_at m rd).state ≡ Rd realm → ipa < 2 ^ realm.s2sz → realm.start_level ≤ level
         → EndsWell m proper.linked.level rd realm ipa level (walk m realm ipa level) }
+{}
+
+/// Each table of a realm serves 512 entries from some address on, and a walk of each of their addresses reaches it.
+pub fn tables_are_reached()
+    ensures some { (m : Machine) (rd table : ℕ) (realm : RmmRealm) (proper : IsProper m) → (granule_at m rd).state ≡ Rd realm → IsTableOf m rd table
+        → (levels : ℕ) × (first : ℕ) × Serves m realm levels table first × (proper.linked.level table ≡ realm.start_level + levels) }
+    ensures walks { (m : Machine) (realm : RmmRealm) (levels table first ipa : ℕ) → Serves m realm levels table first → realm.start_level + levels ≤ 3 → first ≤ ipa
+        → ipa < first + 512 * entry_size (realm.start_level + levels) → walk m realm ipa (realm.start_level + levels) ≡ walked_to table (realm.start_level + levels) }
 {}
 
 /// A TABLE entry leads to a table of its realm, one level below, at the address at which that granule begins.
