@@ -5,6 +5,7 @@ pub mod Children
 pub mod Entries
 pub mod EntryWords
 pub mod Freed
+pub mod Given
 pub mod Guests
 pub mod Keeping
 pub mod Mapped

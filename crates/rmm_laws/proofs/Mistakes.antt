@@ -40,7 +40,7 @@ below_at m linked rd table i g is lt leads =
     let gives = uses-entry m linked rd 0 place i 0 (at_level m linked rd table is) lt ∙ by_entry m linked rd 0 (Some rd) (linked.level table) g (entry_in_page (page_in m table) i) leads in
     table_right m linked (Some rd) (linked.level table + 1) g (right m linked table i 0 (used Rtt (Some rd) (linked.level table + 1) g) gives)
 
-below_same : (m n : Machine) (entry : RmmRttEntry) → n.settings ≡ m.settings → length n.granules ≡ length m.granules → table_below n entry ≡ table_below m entry
+pub below_same : (m n : Machine) (entry : RmmRttEntry) → n.settings ≡ m.settings → length n.granules ≡ length m.granules → table_below n entry ≡ table_below m entry
 below_same m n (Table address) settings count = named-same m n settings count address
 below_same m n _ settings count = refl
 

@@ -113,7 +113,7 @@ first_few : (page : List ℕ) → descriptor_of (entry_in_page page 0) < 2 ^ 48
 unfolding entry_in_page
 first_few page = descriptor-few (word_of_page page 0)
 
-free_left : (realm : RmmRealm) (ipa : ℕ) → (is_free (left_entry realm ipa) ≡ true) × (descriptor_of (left_entry realm ipa) < 2 ^ 48)
+pub free_left : (realm : RmmRealm) (ipa : ℕ) → (is_free (left_entry realm ipa) ≡ true) × (descriptor_of (left_entry realm ipa) < 2 ^ 48)
 free_left realm ipa = cond_both (is_protected realm ipa) _ _ (λ (e : RmmRttEntry). (is_free e ≡ true) × (descriptor_of e < 2 ^ 48)) (λ sure. (refl, omega arith)) (λ never. (refl, omega arith))
 
 pub table_gone : (rd ipa level : ℕ) (m : Machine) → IsLinked m → Passed (rtt_destroy rd ipa level m).checks → IsLinked (rtt_destroy rd ipa level m).machine

@@ -96,7 +96,7 @@ module _ (m : Machine) (ipa x : ℕ) where
   down_at levels place (Some table) rest = let far = rest table in omega arith
   down_at levels place None rest = omega arith
 
-  down : (levels : ℕ) (place : RttWalk) → place.level ≤ (walk_from m ipa levels place).level
+  pub down : (levels : ℕ) (place : RttWalk) → place.level ≤ (walk_from m ipa levels place).level
   unfolding walk_from
   down zero place = omega arith
   down (suc levels) place = down_at levels place (table_below m (entry_at m place ipa)) (λ table. down levels (child place table))

@@ -8,7 +8,7 @@ use Rattle.rmm_model.specs.Granule.{of_realm}
 use Rattle.rmm_model.specs.Level.{entry_size}
 use Rattle.rmm_model.specs.Machine.{Machine, granule_at, page_in}
 use Rattle.rmm_model.specs.Table.{entry_in_page}
-use Rattle.rmm_model.specs.Walk.{entry_at, table_below}
+use Rattle.rmm_model.specs.Walk.{entry_at, table_below, walk}
 
 -- a granule is a table of the realm of an RD
 abbrev pub IsTableOf : Machine → ℕ → ℕ → Type 0
@@ -38,6 +38,10 @@ pub record EndsWell (m : Machine) (level : ℕ → ℕ) (rd : ℕ) (realm : RmmR
   pub depth : found.level ≡ realm.start_level + levels
   pub low : first ≤ ipa
   pub high : ipa < first + 512 * entry_size found.level
+
+-- the walk of an address of a realm ends at an entry that is not live
+abbrev pub IsDeadAt : Machine → RmmRealm → ℕ → Type 0
+IsDeadAt m realm ipa = is_live (entry_at m (walk m realm ipa 3) ipa) ≡ false
 
 -- A top is at a live entry of the table at which a walk ended, or at the first address that the table does not serve.
 abbrev pub IsAtLive : Machine → RttWalk → ℕ → ℕ → Type 0

@@ -29,7 +29,6 @@ ghost use Rattle.rmm_model.specs.Host.{can_access, can_fill, after_store, after_
 ghost use Rattle.rmm_model.specs.Machine.{Machine, granule_at, is_inside, number_of, page_in, with_blank};
 ghost use Rattle.rmm_model.specs.Step.{access, after_write};
 ghost use Rattle.rmm_model.specs.Table.{entry_in_page, has_live};
-ghost use Rattle.rmm_model.specs.Entry.{is_live};
 ghost use Rattle.rmm_model.specs.Walk.{entry_at, table_below, walk, top};
 ghost use Rattle.rmm_model.specs.Command.RecEnter.{interrupted, step_outcome, after_step};
 ghost use Rattle.rmm_laws.specs.Apart.{rd_named, IsOfRealm, IsOfAnother, IsSameAt};
@@ -38,7 +37,7 @@ ghost use Rattle.rmm_laws.specs.Owner.{is_rec_in};
 ghost use Rattle.rmm_laws.specs.Proper.{IsProper};
 ghost use Rattle.rmm_laws.specs.Refusal.{IsRefused, IsRecEnter, IsNotQueued, IsNotRunning, IsAccess, IsNotDone};
 ghost use Rattle.rmm_laws.specs.Role.{Used, uses, IsSound};
-ghost use Rattle.rmm_laws.specs.Walk.{IsTableOf, Serves, EndsWell, IsAtLive, LeadsToTable, walked_to};
+ghost use Rattle.rmm_laws.specs.Walk.{IsTableOf, Serves, EndsWell, IsDeadAt, IsAtLive, LeadsToTable, walked_to};
 
 /// What is refused changes nothing: calls by registers, and the host's stores and fills. So do steps that no REC takes,
 /// interrupts of RECs that do not run, and accesses of guests that are not done. Only a call that enters a REC is
@@ -104,12 +103,19 @@ pub fn granules_come_back()
 {}
 
 /// Tops are complete: from an address to the top of its walk's end there is no live entry. The top is at the next live
-/// entry of the table, or at its end.
+/// entry of the table, or at its end. RTT_DESTROY, DATA_DESTROY and RTT_UNMAP_UNPROTECTED return such a top of the machine
+/// after them.
 pub fn tops_are_complete()
     ensures skipped { (m : Machine) (rd ipa level x : ℕ) (realm : RmmRealm) → IsProper m → (granule_at m rd).state ≡ Rd realm → ipa < 2 ^ realm.s2sz → realm.start_level ≤ level → level ≤ 3
-        → ipa ≤ x → x < top m (walk m realm ipa level) ipa → is_live (entry_at m (walk m realm x 3) x) ≡ false }
+        → ipa ≤ x → x < top m (walk m realm ipa level) ipa → IsDeadAt m realm x }
     ensures met { (m : Machine) (rd ipa level : ℕ) (realm : RmmRealm) → IsProper m → (granule_at m rd).state ≡ Rd realm → ipa < 2 ^ realm.s2sz → realm.start_level ≤ level
         → IsAtLive m (walk m realm ipa level) ipa (top m (walk m realm ipa level) ipa) }
+    ensures destroyed { (m : Machine) (rd ipa level x : ℕ) → IsProper m → (performed (RttDestroy rd ipa level) m).0.word ≡ Success → ipa ≤ x
+        → x < (performed (RttDestroy rd ipa level) m).0.x2 → IsDeadAt (performed (RttDestroy rd ipa level) m).1 (realm_at m rd) x }
+    ensures pages { (m : Machine) (rd ipa x : ℕ) → IsProper m → (performed (DataDestroy rd ipa) m).0.word ≡ Success → ipa ≤ x → x < (performed (DataDestroy rd ipa) m).0.x2
+        → IsDeadAt (performed (DataDestroy rd ipa) m).1 (realm_at m rd) x }
+    ensures unmapped { (m : Machine) (rd ipa level x : ℕ) → IsProper m → (performed (RttUnmapUnprotected rd ipa level) m).0.word ≡ Success → ipa ≤ x
+        → x < (performed (RttUnmapUnprotected rd ipa level) m).0.x1 → IsDeadAt (performed (RttUnmapUnprotected rd ipa level) m).1 (realm_at m rd) x }
 {}
 
 /// Steps of a teardown succeed: RMI_REC_DESTROY of a REC that does not run, and RMI_DATA_DESTROY of a page. So do
