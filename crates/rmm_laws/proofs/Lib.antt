@@ -26,6 +26,7 @@ pub mod RecLives
 pub mod Recs
 pub mod RecsGone
 pub mod Refolding
+pub mod Running
 pub mod Serving
 pub mod Tables
 pub mod Teardown

@@ -41,10 +41,10 @@ ghost use Rattle.rmm_laws.specs.Walk.{IsTableOf, Serves, EndsWell, IsDeadAt, IsA
 
 /// What is refused changes nothing: calls by registers, and the host's stores and fills. So do steps that no REC takes,
 /// interrupts of RECs that do not run, and accesses of guests that are not done. Only a call that enters a REC is
-/// answered with the word of a REC that runs on.
+/// answered with the word of a REC that runs on, and that REC is RUNNING then.
 pub fn refusals_change_nothing()
     ensures calls { (r : Registers) (m : Machine) → IsRefused (rmi r m).0.x0 → (rmi r m).1 ≡ m }
-    ensures running { (r : Registers) (m : Machine) → (rmi r m).0.x0 ≡ 2 ^ 64 - 2 → IsRecEnter (call_in r) }
+    ensures running { (r : Registers) (m : Machine) → (rmi r m).0.x0 ≡ 2 ^ 64 - 2 → IsRecEnter m (rmi r m).1 (call_in r) }
     ensures stores { (m : Machine) (address word : ℕ) → can_access m address ≡ false → after_store m address word ≡ m }
     ensures fills { (m : Machine) (address value : ℕ) → can_fill m address ≡ false → after_fill m address value ≡ m }
     ensures steps { (m : Machine) (rec : ℕ) (w : StepWords) → IsNotQueued (queued m rec w).0 → (queued m rec w).1 ≡ m }

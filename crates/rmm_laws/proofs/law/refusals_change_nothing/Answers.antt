@@ -49,6 +49,8 @@ use Rattle.rmm_model.specs.Command.RecEnter.{rec_enter, entered_answer, after_st
 use Rattle.rmm_model.specs.Machine.{Machine, number_of, page_in}
 use Rattle.rmm_model.specs.Step.{access, tried, after_write}
 use Rattle.rmm_laws.specs.Refusal.{IsRefused, IsRecEnter, IsAccess, IsNotDone}
+use Rattle.rmm_laws.proofs.Passed.{Passed, passed}
+use Rattle.rmm_laws.proofs.Running.{entered_runs}
 use Rattle.rmm_laws.proofs.law.refusals_change_nothing.Goals as goal
 
 -- ---- calls
@@ -171,17 +173,26 @@ quiet (RecDestroy rec) m = refl
 quiet (RecEnter rec run) m = refl
 quiet (PsciComplete calling target status) m = refl
 
+-- a REC that is entered runs on
+stays : (leaves : Bool) → runs (entered_answer leaves).word ≡ true → leaves ≡ false
+stays true is = absurd (cc)
+stays false is = refl
+
 -- only the own answer of REC_ENTER has that word
-enters : (call : Call) (m : Machine) → runs (command_of call m).answer.word ≡ true → IsRecEnter (Some call)
+enters : (call : Call) (m : Machine) → Passed (command_of call m).checks → runs (command_of call m).answer.word ≡ true → IsRecEnter m (command_of call m).machine (Some call)
 unfolding version features granule_delegate granule_undelegate realm_create realm_activate rec_aux_count rtt_read_entry rtt_create rtt_destroy realm_destroy rtt_fold rtt_map_unprotected rtt_unmap_unprotected data_create data_create_unknown data_destroy rtt_init_ripas rtt_set_ripas rec_create rec_destroy rec_enter psci_complete
-enters (RecEnter rec run) m is = tt
-enters _ m is = absurd (cc)
+enters (RecEnter rec run) m ok is =
+    let g = number_of m rec in
+    let flags = flags_in (page_in m (number_of m run)) in
+    entered_runs rec run m ok (stays (after_steps (after_entry m g run flags) g flags 16).0 is)
+enters _ m ok is = absurd (cc)
 
-by_word : (f : Option FailedCondition) (call : Call) (m : Machine) → first_failing (command_of call m).checks ≡ f → number (decided f (command_of call m) m).0.word ≡ 2 ^ 64 - 2 → IsRecEnter (Some call)
+by_word : (f : Option FailedCondition) (call : Call) (m : Machine) → first_failing (command_of call m).checks ≡ f → number (decided f (command_of call m) m).0.word ≡ 2 ^ 64 - 2
+    → IsRecEnter m (decided f (command_of call m) m).1 (Some call)
 by_word (Some refusal) call m is word = absurd (both_ways (runs refusal.answer.word) (refusal_word (command_of call m).checks refusal (quiet call m) is) (running_word refusal.answer.word word))
-by_word None call m is word = enters call m (running_word (command_of call m).answer.word word)
+by_word None call m is word = enters call m (passed (command_of call m).checks is) (running_word (command_of call m).answer.word word)
 
-by_running : (o : Option Call) (r : Registers) (m : Machine) → (rmi_at o r m).0.x0 ≡ 2 ^ 64 - 2 → IsRecEnter o
+by_running : (o : Option Call) (r : Registers) (m : Machine) → (rmi_at o r m).0.x0 ≡ 2 ^ 64 - 2 → IsRecEnter m (rmi_at o r m).1 o
 unfolding performed
 by_running (Some call) r m is = by_word (first_failing (command_of call m).checks) call m refl is
 by_running None r m is = absurd (omega arith)
