@@ -7,7 +7,7 @@ use Rattle.granule_addr.specs.Page.{zero_page}
 use Rattle.rmi_abi.specs.declared.registers.SmcResult.{SmcResult}
 use Rattle.rmi_abi.specs.declared.word.Word.TheVariants.{Success}
 use Rattle.rmi_abi.specs.declared.call.Call.{Call}
-use Rattle.rmi_abi.specs.declared.call.Call.TheVariants.{RttDestroy, RttFold, DataDestroy}
+use Rattle.rmi_abi.specs.declared.call.Call.TheVariants.{RecDestroy, RttDestroy, RttFold, DataDestroy}
 use Rattle.rmi_abi.specs.Word.{is_success}
 use Rattle.rmm_model.specs.declared.answer.FailedCondition.{FailedCondition}
 use Rattle.rmm_model.specs.declared.entry.RmmRttEntry.{RmmRttEntry}
@@ -26,15 +26,17 @@ use Rattle.rmm_model.specs.Realm.{is_in_space}
 use Rattle.rmm_model.specs.Walk.{entry_at, table_below, memory_below, walk}
 use Rattle.rmm_model.specs.Command.DataDestroy.{data_destroy}
 use Rattle.rmm_model.specs.Command.Operand.{realm_at}
+use Rattle.rmm_model.specs.Command.RecDestroy.{rec_destroy}
 use Rattle.rmm_model.specs.Command.RttDestroy.{rtt_destroy}
 use Rattle.rmm_model.specs.Command.RttFold.{rtt_fold}
-use Rattle.rmm_laws.specs.Back.{ComesBack}
+use Rattle.rmm_laws.specs.Back.{ComesBack, RecComesBack}
 use Rattle.rmm_laws.specs.Proper.{IsProper}
 use Rattle.rmm_laws.specs.Role.{IsSound, IsBegin, LeadsInside}
 use Rattle.rmm_laws.proofs.Accesses.{named_number}
 use Rattle.rmm_laws.proofs.Mappings.{served, place_is, protected_within, some_of}
 use Rattle.rmm_laws.proofs.Ordering.{memory_is}
 use Rattle.rmm_laws.proofs.Passed.{Passed, passed, yes_from, realm_of-some}
+use Rattle.rmm_laws.proofs.RecsGone.{destroyed_back}
 use Rattle.rmm_laws.proofs.Walks.{IsPlace, next, entry_index-few}
 use Rattle.rmm_laws.proofs.Writes.{granule_at-same, page_in-same, taken_inside}
 
@@ -161,3 +163,11 @@ data_destroy_back m rd ipa proper success =
     let then_is = blanked m g (walk m realm ipa 3).table (number_of m rd) _ (descriptor_of entry) proper.linked.sound (taken_inside m g (λ free. cc)) there.1 in
     subst (λ (p : SmcResult × Machine). ComesBack m p.1 (number_of m rd) Data p.0.x1) (sym now)
     (record { begins = there.0; was = ap (granule_at m) (sym there.1) ∙ page; is = then_is.0; blank = then_is.1 }))
+
+pub rec_destroy_back : (m : Machine) (rec : ℕ) → IsProper m → (performed (RecDestroy rec) m).0.word ≡ Success → RecComesBack m (performed (RecDestroy rec) m).1 (number_of m rec)
+unfolding rec_destroy
+rec_destroy_back m rec proper success =
+    succeeded (RecComesBack m (performed (RecDestroy rec) m).1 (number_of m rec)) (RecDestroy rec) m refl success
+    (λ ok now.
+    let back = destroyed_back rec m proper ok in
+    subst (λ (p : SmcResult × Machine). RecComesBack m p.1 (number_of m rec)) (sym now) (record { is = back.0.0; blank = back.0.1; aux = back.1 }))

@@ -16,7 +16,7 @@ use Rattle.rmm_model.specs.Machine.{Machine, granule_at, page_in, number_of, sta
 use Rattle.rmm_model.specs.Realm.{IsServed}
 use Rattle.rmm_model.specs.Rec.{aux_of}
 use Rattle.rmm_model.specs.Walk.{granule_named}
-use Rattle.rmm_model.specs.Command.Auxiliary.{with_aux}
+use Rattle.rmm_model.specs.Command.Auxiliary.{aux_granule, with_aux}
 use Rattle.rmm_model.specs.Command.Operand.{rec_at}
 use Rattle.rmm_model.specs.Command.RecDestroy.{rec_destroy, with_one_less, without_rec_of, without_rec}
 use Rattle.rmm_laws.specs.Apart.{Touches, realm_of_rec}
@@ -30,7 +30,7 @@ use Rattle.rmm_laws.proofs.Recs.{keep_realm}
 use Rattle.rmm_laws.proofs.Touching.{mine_before, touch_blank, touch_granule, untouched}
 use Rattle.rmm_laws.proofs.Walks.{right, one_place}
 use Rattle.rmm_laws.proofs.Wiping.{first_named, IsWiped, all_wiped, all_total, touch_wiped}
-use Rattle.rmm_laws.proofs.Writes.{granule_at-same, granule_at-other, page_in-same, page_in-other, taken_inside, sound-with_granule, sound-with_page}
+use Rattle.rmm_laws.proofs.Writes.{named-same, granule_at-same, granule_at-other, page_in-same, page_in-other, taken_inside, sound-with_granule, sound-with_page}
 
 module _ (m : Machine) (g aux : ℕ) (proper : IsLinked m) (old : RmmRec) (is_old : (granule_at m g).state ≡ IsRec old) (aux_is : m.settings.aux ≡ aux) where
   abbrev owner : Option ℕ
@@ -280,3 +280,22 @@ module _ (rec : ℕ) (m : Machine) (proper : IsProper m) (ok : Passed (rec_destr
   destroyed_touches =
       subst (λ (o : Option ℕ). Touches m (rec_destroy rec m).machine o) (sym (rec_named-is m rec ok.0 ok.1.0 ok.1.1.0 ∙ of_rec.1))
       (subst (λ (k : Machine). Touches m (with_blank (with_aux k here (of_no_realm Delegated) m.settings.aux) here Delegated) (Some w)) (sym less_is) after_touches)
+
+  -- what comes back: the REC, and its auxiliary granules
+  abbrev IsBack : Machine → ℕ → Type 0
+  IsBack n h = (granule_at n h ≡ of_no_realm Delegated) × (page_in n h ≡ zero_page)
+
+  abbrev AllBack : Machine → Type 0
+  AllBack n = IsBack n (number_of m rec) × ((k h : ℕ) → k < m.settings.aux → aux_granule m (number_of m rec) k ≡ Some h → IsBack n h)
+
+  all_back : AllBack after
+  all_back = (
+    rec_gone_is less here m.settings.aux less_linked (rec_at m rec) still_rec refl,
+    λ k h lt is.
+        aux_gone less here m.settings.aux less_linked (rec_at m rec) still_rec refl k h lt
+        (named-same m less refl (length-set m.granules w (of_no_realm (Rd (with_one_less realm)))) (aux_of (page_in m here) k) ∙ is),
+  )
+
+  pub destroyed_back : AllBack (rec_destroy rec m).machine
+  unfolding rec_destroy
+  destroyed_back = subst (λ (k : Machine). AllBack (with_blank (with_aux k here (of_no_realm Delegated) m.settings.aux) here Delegated)) (sym less_is) all_back

@@ -32,7 +32,7 @@ ghost use Rattle.rmm_model.specs.Table.{entry_in_page, has_live};
 ghost use Rattle.rmm_model.specs.Walk.{entry_at, table_below, walk, top};
 ghost use Rattle.rmm_model.specs.Command.RecEnter.{interrupted, step_outcome, after_step};
 ghost use Rattle.rmm_laws.specs.Apart.{rd_named, IsOfRealm, IsOfAnother, IsSameAt};
-ghost use Rattle.rmm_laws.specs.Back.{ComesBack};
+ghost use Rattle.rmm_laws.specs.Back.{ComesBack, RecComesBack};
 ghost use Rattle.rmm_laws.specs.Owner.{is_rec_in};
 ghost use Rattle.rmm_laws.specs.Proper.{IsProper};
 ghost use Rattle.rmm_laws.specs.Refusal.{IsRefused, IsRecEnter, IsNotQueued, IsNotRunning, IsAccess, IsNotDone};
@@ -92,7 +92,7 @@ pub fn tables_lead_to_tables()
 {}
 
 /// Granules come back: X1 of RTT_DESTROY, RTT_FOLD and DATA_DESTROY is the address of a table or a page of the realm.
-/// That granule is DELEGATED and zero from then on.
+/// That granule is DELEGATED and zero from then on. So is a REC that is destroyed, with its auxiliary granules.
 pub fn granules_come_back()
     ensures destroyed { (m : Machine) (rd ipa level : ℕ) → IsProper m → (performed (RttDestroy rd ipa level) m).0.word ≡ Success
         → ComesBack m (performed (RttDestroy rd ipa level) m).1 (number_of m rd) Rtt (performed (RttDestroy rd ipa level) m).0.x1 }
@@ -100,6 +100,7 @@ pub fn granules_come_back()
         → ComesBack m (performed (RttFold rd ipa level) m).1 (number_of m rd) Rtt (performed (RttFold rd ipa level) m).0.x1 }
     ensures pages { (m : Machine) (rd ipa : ℕ) → IsProper m → (performed (DataDestroy rd ipa) m).0.word ≡ Success
         → ComesBack m (performed (DataDestroy rd ipa) m).1 (number_of m rd) Data (performed (DataDestroy rd ipa) m).0.x1 }
+    ensures recs { (m : Machine) (rec : ℕ) → IsProper m → (performed (RecDestroy rec) m).0.word ≡ Success → RecComesBack m (performed (RecDestroy rec) m).1 (number_of m rec) }
 {}
 
 /// Tops are complete: from an address to the top of its walk's end there is no live entry. The top is at the next live
