@@ -18,7 +18,7 @@ from rhm import DONE, GRANULE_STATES, Host
 from second_rmm.bench import Bench
 
 BASE, PAGES, AUX, BUILDS = 0x80000000, 96, 1, 3
-RMI, NOT_EXPECTED, DIVERGED = 13, 16, 17
+RMI, NOT_EXPECTED = 13, 16
 BLOCK = 4
 
 
@@ -48,7 +48,7 @@ class Firmware:
         elif action.kind == "interrupt":
             self.bench.ask(f"interrupt {at:#x}")
         elif action.kind == "guest_spin":
-            # (an entry that is refused may name no REC, and leaves its step to the next one)
+            # (an entry that is refused leaves its step to the next one)
             self.bench.ask(f"guest {at:#x} spin")
         return None
 
@@ -102,12 +102,9 @@ class History:
         other = self.alone.ask(build, *step)
         self.commands += 1
         if other.status == RMI and isinstance(before, list):
+            # (what makes no call is refused before)
             self.refused += 1
-            if self.firmware.answer is None:
-                # (an exit, say, is no call: the model alone refuses it)
-                wanted((one.status, one.value), (DIVERGED, other.value))
-            else:
-                wanted((one.status, self.firmware.answer), (NOT_EXPECTED, other.value))
+            wanted((one.status, self.firmware.answer), (NOT_EXPECTED, other.value))
         else:
             wanted((one.status, one.value), (other.status, 0 if isinstance(before, tuple) else other.value))
 
