@@ -35,13 +35,13 @@ is_output x1 _ = true
 
 -- The RMM has performed the calls, with the outputs that are known; or 16, it has not performed them, or 18, there is
 -- another output.
-abbrev pub judged : FirmwareAnswer → List HostAction → Result (Unit {0}) CallAnswer
-judged answer actions =
+abbrev pub checked_answer : FirmwareAnswer → List HostAction → Result (Unit {0}) CallAnswer
+checked_answer answer actions =
     if list_all (is_performed answer.x0) actions then (if list_all (is_output answer.x1) actions then Ok tt else Err (only 18)) else Err (only 16)
 
 -- a call can be committed, or the answer to it
 abbrev pub committable : FirmwareAnswer → Result (ArrayVec HostAction) Refusal → Result (Unit {0}) CallAnswer
-committable answer (Ok actions) = judged answer actions.items
+committable answer (Ok actions) = checked_answer answer actions.items
 committable answer (Err refusal) = Err (refused_as refusal)
 
 -- ---- calls that are committed

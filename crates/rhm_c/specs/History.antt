@@ -39,8 +39,8 @@ realm_event place kind rd root vmid =
     record (on_granule place kind rd) { second = address place root.first; width = root.width; vmid = vmid }
 
 -- a REC that is created or removed, with the addresses of its auxiliary granules
-abbrev pub rec_event : Place → ℕ → ℕ → List ℕ → ℕ → RawEvent
-rec_event place kind granule auxiliaries number =
+abbrev pub rec_change : Place → ℕ → ℕ → List ℕ → ℕ → RawEvent
+rec_change place kind granule auxiliaries number =
     record (on_granule place kind granule) { rec = number; count = length auxiliaries; aux = padded (map (address place) auxiliaries) }
 
 abbrev pub page_event : Place → Act → RawEvent
@@ -65,8 +65,8 @@ table_event place act = page_event place act
 
 -- An operation as C has it. An Activate has the kind 8.
 abbrev pub act_event : Place → Act → RawEvent
-act_event place (Rec granule auxiliaries number) = rec_event place 15 granule auxiliaries.items number
-act_event place (UnRec granule auxiliaries number) = rec_event place 16 granule auxiliaries.items number
+act_event place (Rec granule auxiliaries number) = rec_change place 15 granule auxiliaries.items number
+act_event place (UnRec granule auxiliaries number) = rec_change place 16 granule auxiliaries.items number
 act_event place (Enter number) = record (plain_event 17) { rec = number }
 act_event place (Exit number) = record (plain_event 18) { rec = number }
 act_event place (Poke number ipa offset value) = record (plain_event 19) { rec = number; ipa = ipa; offset = offset; value = value }

@@ -90,13 +90,13 @@ exit_refusal (Some rec) = if is_ready rec.1.state then Some (Rmi error_rec) else
 exit_refusal None = Some (Rmi error_input)
 
 -- the state of a page of a build
-abbrev pub state_of_page : HostView → ℕ → ℕ → Option GranuleState
-state_of_page host build page = option_map (λ g. (cell_at (world_of host).machine g).state) (granule_of_page host build page)
+abbrev pub state_of_leased : HostView → ℕ → ℕ → Option GranuleState
+state_of_leased host build page = option_map (λ g. (cell_at (world_of host).machine g).state) (granule_of_page host build page)
 
 -- The refusal of a command that makes no call, or that names a REC which the realm has not.
 abbrev pub refused_before : HostView → ℕ → Cmd → Option Refusal
-refused_before host build (Fill page value) = access_refusal (state_of_page host build page)
-refused_before host build (Peek page offset) = access_refusal (state_of_page host build page)
+refused_before host build (Fill page value) = access_refusal (state_of_leased host build page)
+refused_before host build (Peek page offset) = access_refusal (state_of_leased host build page)
 refused_before host build (Enter number) = entry_refusal (rec_at (world_of host) build number)
 refused_before host build (Exit number) = exit_refusal (rec_at (world_of host) build number)
 refused_before host build (Poke number ipa offset value) = entry_refusal (rec_at (world_of host) build number)

@@ -78,8 +78,8 @@ fn are_outputs(actions: &[HostAction], x1: u64) -> bool
 }
 
 // Whether an answer says that the RMM has performed the operations, with these outputs; or the answer to it.
-fn judge(actions: &[HostAction], answer: &FirmwareAnswer) -> Result<(), CallAnswer>
-    ensures { result ≡ commits.judged answer.now actions.now }
+fn check_answer(actions: &[HostAction], answer: &FirmwareAnswer) -> Result<(), CallAnswer>
+    ensures { result ≡ commits.checked_answer answer.now actions.now }
 {
     if !are_performed(actions, answer.x0) {
         return Err(only(NOT_EXPECTED));
@@ -95,7 +95,7 @@ fn check(prepared: Result<Actions, Refusal>, answer: &FirmwareAnswer) -> Result<
     ensures { result ≡ commits.committable answer.now prepared }
 {
     match prepared {
-        Ok(actions) => judge(actions.as_slice(), answer),
+        Ok(actions) => check_answer(actions.as_slice(), answer),
         Err(refusal) => Err(refused(&refusal)),
     }
 }

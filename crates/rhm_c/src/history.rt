@@ -98,7 +98,7 @@ fn on_rec(
     auxiliaries: &ArrayVec<Gran, 16>,
     number: RecNo,
 ) -> RawEvent
-    ensures { result ≡ histories.rec_event frame kind granule auxiliaries.now.items number }
+    ensures { result ≡ histories.rec_change frame kind granule auxiliaries.now.items number }
 {
     RawEvent {
         rec: u64::from(number.number()),
