@@ -26,6 +26,7 @@ use Rattle.history_calls.specs.declared.action.HostAction.{HostAction}
 use Rattle.history_calls.specs.Actions.{actions_of}
 use Rattle.history_calls.specs.Frame.{Place}
 use Rattle.realm_host.specs.Allocation.{granules_named, act_asked}
+use Rattle.realm_host.specs.Answer.{IsActOf}
 use Rattle.realm_host.specs.Call.{Ask, Undo}
 use Rattle.realm_host.specs.Readings.{rec_at}
 use Rattle.realm_host.specs.Refusals.{refusal_of}
@@ -155,3 +156,8 @@ actions_of_back place host build None = Err NothingToUndo
 -- The operations on the RMM for an undo, or its refusal.
 abbrev pub actions_back : Place → HostView → ℕ → Result (ArrayVec HostAction) Refusal
 actions_back place host build = unless_refused (refusal_of host build Undo) (actions_of_back place host build (newest_back host build))
+
+-- An undo is prepared as the host performs it: with the host's refusal, or for the operation that the host records.
+pub record IsUndoPrepared (place : Place) (host : HostView) (build : ℕ) : Type 0 where
+  pub refused : (refusal : Refusal) → refusal_of host build Undo ≡ Some refusal → actions_back place host build ≡ Err refusal
+  pub performed : (act : Act) → refusal_of host build Undo ≡ None → IsActOf host build Undo act → actions_back place host build ≡ Ok (actions_for place host build 0 act)
