@@ -5,6 +5,8 @@
   names      no name of the header is one of a hypervisor's: each begins with rhm_ or RHM_
   memory     each allocation of rhm_open is refused in turn; every block is given back, and no other call takes one
   front      random builds in front of the second model of the RMM do what a host alone does
+  statuses   each status of rhm.h comes where rhm.h says, of a host in a state that is made for it
+  history    the history as text, from C and from Python, is the one that was written by hand
   vmm        three builds on three threads boot in front of the RMM for C; each call is refused in turn, and each of the
              abort that follows; the failed build leaves nothing, and the others are as without it
   C++        the header is C++11
@@ -93,6 +95,26 @@ def front(room):
     last_line(ran([sys.executable, HERE / "front.py", str(count)]), r"\d{3,} commands, [1-9]\d* refused by the RMM: both hosts agree")
 
 
+def statuses(_room):
+    last_line(ran([sys.executable, HERE / "statuses.py"]), r"[1-9]\d\d statuses are as rhm.h has them")
+
+
+def history(room):
+    hand = (HERE / "history.txt").read_text()
+    same("the text in C", ran([room.compiled(HERE / "history.c", STATIC)]), hand)
+    aux, pages = [7], range(8)
+    steps = [("take", 4), ("fill", 9, 7), ("peek", 9, 5), *[("delegate", page) for page in pages], ("realm", 0, 1, 39)]
+    steps += [("rtt", 2, 0, 2), ("rtt", 3, 0, 3), ("ripas", 0, 2), ("data", 4, 0, 9), ("unknown", 5, 1), ("rec", 6, aux)]
+    steps += [("activate",), ("enter", 0, 0), ("poke", 0, 0, 3, 200, 0), ("exit", 0)]
+    from rhm import Host
+
+    with Host(pages=16, vmids=8, aux=1, history=64, builds=2, base=0x88000000) as host:
+        for step in steps:
+            same(step, host.ask(0, *step).name, "RHM_DONE")
+        same("the abort", host.abort(0).value, 15)
+        same("the text in Python", host.history_text, hand)
+
+
 def vmm(room):
     program = room.vmm()
     said = re.findall(r"build (\d): the realm is ACTIVE, RIM (\w{4})\.\.", ran([program]))
@@ -162,7 +184,7 @@ def in_valgrind(room):
 # ---- tests
 
 
-PARTS = header, names, memory, front, vmm, of_the_document
+PARTS = header, names, memory, front, statuses, history, vmm, of_the_document
 
 
 pytestmark = [pytest.mark.skipif(not shutil.which(COMPILER), reason=f"there is no C compiler ({COMPILER})"), needs(STATIC, SHARED, RMM)]
