@@ -5,3 +5,6 @@ pub mod Numbers
 pub mod Counting
 pub mod Alone
 pub mod Graphs
+pub mod Firsts
+pub mod LayerNumbers
+pub mod Trimmed

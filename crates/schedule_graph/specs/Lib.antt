@@ -3,3 +3,4 @@ pub mod Number
 pub mod Paths
 pub mod Alone
 pub mod Graph
+pub mod First

@@ -2,12 +2,17 @@
 //!
 //! Positions of runs are one state if each build did the same and is as far in its plan. A state decides all further
 //! turns and their answers, whatever the schedule was (`law.rt`). So schedules are paths of a graph of states, which
-//! are counted layer by layer (`graph.rt`) in numbers of any size (`number.rt`).
+//! are counted layer by layer (`graph.rt`, `layers.rt`) in numbers of any size (`number.rt`). The numbers show
+//! the way to the first path that shows a label (`first.rt`).
 #![tactic(auto)]
 
+mod first;
 mod graph;
 pub mod law;
+mod layers;
 mod number;
 
+pub use first::{first_with, first_without};
 pub use graph::{Edge, Sign, count_paths, count_paths_with, count_paths_without};
+pub use layers::{count_all, count_all_with, count_all_without};
 pub use number::Count;

@@ -1,6 +1,6 @@
 //! Numbers of any size, to count schedules with.
-ghost use Rattle.std.specs.Prelude.{◌≡◌, ℕ, ◌+◌, ◌*◌, ◌^◌, ◌<◌, ◌≤◌, List, length, All, OnOk, IfOk};
-ghost use Rattle.schedule_graph.specs.Number.{number_of};
+ghost use Rattle.std.specs.Prelude.{◌≡◌, ℕ, ◌+◌, ◌*◌, ◌^◌, ◌<◌, ◌≤◌, ◌==◌, List, length, All, OnOk, IfOk};
+ghost use Rattle.schedule_graph.specs.Number.{number_of, trimmed};
 
 use std::alloc::{AllocError, Global};
 use std::marker::Model;
@@ -97,6 +97,19 @@ fn add_digits(digits: &mut Vec<u8>, more: &[u8]) -> Result<(), AllocError>
     Ok(())
 }
 
+// The digits without the zeros at the high end.
+fn trimmed(digits: &[u8]) -> &[u8]
+    ensures { result.now ≡ trimmed digits.now }
+{
+    let mut count = 0;
+    for place in 0..digits.len() {
+        if digits[place] != 0 {
+            count = place + 1;
+        }
+    }
+    &digits[..count]
+}
+
 impl Count {
     /// The number 0.
     pub fn zero(alloc: Global) -> Count
@@ -121,5 +134,12 @@ impl Count {
         ensures { OnOk result (self.new ≡ self.old + other.now) }
     {
         add_digits(&mut self.digits, &other.digits)
+    }
+
+    /// Whether it is 0.
+    pub fn is_zero(&self) -> bool
+        ensures { result ≡ (self.now == 0) }
+    {
+        trimmed(&self.digits).is_empty()
     }
 }

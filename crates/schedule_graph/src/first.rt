@@ -1,0 +1,143 @@
+//! The first paths that show a label, and that show none.
+ghost use Rattle.std.specs.Prelude.{◌≡◌, ◌<◌, nat_lt, Bool, true, not, ◌||◌, option_map, slice_index_or, [], IfOk, Some, map, vec_items};
+ghost use Rattle.std.specs.List.{find};
+ghost use Rattle.schedule_graph.specs.First.{layers_in, numbers_in, first_like, any_path, shows_none, AreNumbers, goes_on};
+ghost use Rattle.schedule_graph.specs.Paths.{paths, shows, count_at};
+
+use crate::graph::{Edge, Sign};
+use crate::number::Count;
+use std::alloc::{AllocError, Global};
+
+/// The numbers of a layer; none if there is no such layer.
+pub(crate) fn numbers_at(counts: &[Vec<Count>], depth: usize) -> &[Count]
+    ensures { result.now ≡ slice_index_or (numbers_in counts.now) depth [] }
+{
+    match counts.get(depth) {
+        Some(here) => here,
+        None => &[],
+    }
+}
+
+// Whether a state has paths.
+fn has_paths(counts: &[Count], state: usize) -> bool
+    ensures { result ≡ nat_lt 0 (count_at counts.now state) }
+{
+    match counts.get(state) {
+        Some(count) => !count.is_zero(),
+        None => false,
+    }
+}
+
+// Whether paths go on from an edge.
+fn goes_on<L, S: Sign<L>>(
+    edge: &Edge<L>,
+    sign: &S,
+    shown: bool,
+    with_it: &[Count],
+    without_it: &[Count],
+) -> bool
+    ensures { result ≡ goes_on (S.is_on sign.now) shown with_it.now without_it.now edge.now }
+{
+    if shown || sign.is_on(&edge.label) {
+        has_paths(with_it, edge.to)
+    } else {
+        has_paths(without_it, edge.to)
+    }
+}
+
+// The first edge from which paths go on.
+fn next_edge<'a, L, S: Sign<L>>(
+    edges: &'a [Edge<L>],
+    sign: &S,
+    shown: bool,
+    with_it: &[Count],
+    without_it: &[Count],
+) -> Option<&'a Edge<L>>
+    ensures { option_map (λ edge. edge.now) result
+        ≡ find (goes_on (S.is_on sign.now) shown with_it.now without_it.now) edges.now }
+{
+    for edge in edges {
+        if goes_on(edge, sign, shown, with_it, without_it) {
+            return Some(edge);
+        }
+    }
+    None
+}
+
+// The edges of a state; none if there is no such state.
+fn edges_at<L>(layer: &[Vec<Edge<L>>], state: usize) -> &[Edge<L>]
+    ensures { result.now ≡ slice_index_or (map vec_items layer.now) state [] }
+{
+    match layer.get(state) {
+        Some(edges) => edges,
+        None => &[],
+    }
+}
+
+// The labels of the first path from the first state that is like that. `accept` says whether a path is, by whether it
+// shows the sign. The numbers are those of the paths that are, if they have shown the sign before, and if not.
+fn walk<L: Copy, S: Sign<L>>(
+    alloc: Global,
+    layers: &[Vec<Vec<Edge<L>>>],
+    sign: &S,
+    with_it: &[Vec<Count>],
+    without_it: &[Vec<Count>],
+) -> Result<Vec<L>, AllocError>
+    ensures { IfOk result (λ labels. (accept : Bool → Bool)
+        → AreNumbers (λ path. accept true) (layers_in layers.now) (numbers_in with_it.now)
+        → AreNumbers (λ path. accept (shows (S.is_on sign.now) path)) (layers_in layers.now) (numbers_in without_it.now)
+        → 0 < count_at (slice_index_or (numbers_in without_it.now) 0 []) 0
+        → first_like (λ path. accept (shows (S.is_on sign.now) path)) (paths (layers_in layers.now) 0) ≡ Some labels.items) }
+{
+    let mut labels = Vec::new(alloc);
+    let mut state = 0;
+    let mut shown = false;
+    for depth in 0..layers.len() {
+        let edges = edges_at(&layers[depth], state);
+        let with_next = numbers_at(with_it, depth + 1);
+        let without_next = numbers_at(without_it, depth + 1);
+        let Some(edge) = next_edge(edges, sign, shown, with_next, without_next) else {
+            return Ok(labels);
+        };
+        labels.push(edge.label)?;
+        shown = shown || sign.is_on(&edge.label);
+        state = edge.to;
+    }
+    Ok(labels)
+}
+
+/// The labels of the first path from the first state that shows the sign, by the numbers of all paths and of those that
+/// do; None if none does. The one error is that allocation failed.
+pub fn first_with<L: Copy, S: Sign<L>>(
+    alloc: Global,
+    layers: &[Vec<Vec<Edge<L>>>],
+    sign: &S,
+    all: &[Vec<Count>],
+    with_it: &[Vec<Count>],
+) -> Result<Option<Vec<L>>, AllocError>
+    ensures { IfOk result (λ first. AreNumbers any_path (layers_in layers.now) (numbers_in all.now)
+        → AreNumbers (shows (S.is_on sign.now)) (layers_in layers.now) (numbers_in with_it.now)
+        → first_like (shows (S.is_on sign.now)) (paths (layers_in layers.now) 0) ≡ option_map vec_items first) }
+{
+    if !has_paths(numbers_at(with_it, 0), 0) {
+        return Ok(None);
+    }
+    Ok(Some(walk(alloc, layers, sign, all, with_it)?))
+}
+
+/// The labels of the first path from the first state that does not show the sign, by the numbers of those that do not;
+/// None if each does. The one error is that allocation failed.
+pub fn first_without<L: Copy, S: Sign<L>>(
+    alloc: Global,
+    layers: &[Vec<Vec<Edge<L>>>],
+    sign: &S,
+    without_it: &[Vec<Count>],
+) -> Result<Option<Vec<L>>, AllocError>
+    ensures { IfOk result (λ first. AreNumbers (shows_none (S.is_on sign.now)) (layers_in layers.now) (numbers_in without_it.now)
+        → first_like (shows_none (S.is_on sign.now)) (paths (layers_in layers.now) 0) ≡ option_map vec_items first) }
+{
+    if !has_paths(numbers_at(without_it, 0), 0) {
+        return Ok(None);
+    }
+    Ok(Some(walk(alloc, layers, sign, &[], without_it)?))
+}

@@ -1,0 +1,70 @@
+//! The numbers of paths from each state of all layers.
+ghost use Rattle.std.specs.Prelude.{◌≡◌, IfOk};
+ghost use Rattle.schedule_graph.specs.First.{layers_in, numbers_in, any_path, shows_none, AreNumbers};
+ghost use Rattle.schedule_graph.specs.Paths.{shows};
+
+use crate::first::numbers_at;
+use crate::graph::{Edge, Sign, count_paths, count_paths_with, count_paths_without};
+use crate::number::Count;
+use std::alloc::{AllocError, Global};
+
+/// The number of paths from each state of each layer. The one error is that allocation failed.
+pub fn count_all<L>(
+    alloc: Global,
+    layers: &[Vec<Vec<Edge<L>>>],
+) -> Result<Vec<Vec<Count>>, AllocError>
+    ensures { IfOk result (λ counts. AreNumbers any_path (layers_in layers.now) (numbers_in counts.items)) }
+{
+    let mut counts: Vec<Vec<Count>> = Vec::new(alloc);
+    for done in 0..layers.len() {
+        let depth = layers.len() - 1 - done;
+        let next = numbers_at(&counts, done.saturating_sub(1));
+        let here = count_paths(alloc, &layers[depth], next)?;
+        counts.push(here)?;
+    }
+    counts.reverse();
+    Ok(counts)
+}
+
+/// The number of paths from each state of each layer that show the sign, by the numbers of all paths. The one error is
+/// that allocation failed.
+pub fn count_all_with<L, S: Sign<L>>(
+    alloc: Global,
+    layers: &[Vec<Vec<Edge<L>>>],
+    sign: &S,
+    all: &[Vec<Count>],
+) -> Result<Vec<Vec<Count>>, AllocError>
+    ensures { IfOk result (λ counts. AreNumbers any_path (layers_in layers.now) (numbers_in all.now)
+        → AreNumbers (shows (S.is_on sign.now)) (layers_in layers.now) (numbers_in counts.items)) }
+{
+    let mut counts: Vec<Vec<Count>> = Vec::new(alloc);
+    for done in 0..layers.len() {
+        let depth = layers.len() - 1 - done;
+        let all_next = numbers_at(all, depth + 1);
+        let next = numbers_at(&counts, done.saturating_sub(1));
+        let here = count_paths_with(alloc, &layers[depth], sign, all_next, next)?;
+        counts.push(here)?;
+    }
+    counts.reverse();
+    Ok(counts)
+}
+
+/// The number of paths from each state of each layer that do not show the sign. The one error is that allocation
+/// failed.
+pub fn count_all_without<L, S: Sign<L>>(
+    alloc: Global,
+    layers: &[Vec<Vec<Edge<L>>>],
+    sign: &S,
+) -> Result<Vec<Vec<Count>>, AllocError>
+    ensures { IfOk result (λ counts. AreNumbers (shows_none (S.is_on sign.now)) (layers_in layers.now) (numbers_in counts.items)) }
+{
+    let mut counts: Vec<Vec<Count>> = Vec::new(alloc);
+    for done in 0..layers.len() {
+        let depth = layers.len() - 1 - done;
+        let next = numbers_at(&counts, done.saturating_sub(1));
+        let here = count_paths_without(alloc, &layers[depth], sign, next)?;
+        counts.push(here)?;
+    }
+    counts.reverse();
+    Ok(counts)
+}
