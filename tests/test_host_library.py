@@ -26,6 +26,7 @@ from c_programs import BUILD, COMPILER, CXX, FLAGS, MEMCHECK, WRAPPED, Library, 
 from differences import same
 from programs import TOP, needs, parts, ran
 
+sys.path.insert(0, os.fspath(TOP / "python"))
 HERE, DOCUMENT = TOP / "tests/rhm_c", "docs/how-to/HOST-C.md"
 STATIC, SHARED, RMM = BUILD / "librhm.a", BUILD / "librhm.so.0", BUILD / "librmm.a"
 # Random histories, and those of `make c-test`.
@@ -47,7 +48,6 @@ LIBRARY = Library("rhm", {
 
 def header(_room):
     wanted = LIBRARY.compare(19)
-    sys.path.insert(0, os.fspath(TOP / "python"))
     import rhm
 
     enums = {name: int(it) for name, it in re.findall(r"(RHM_\w+) = (\d+)", without_comments(LIBRARY.header))}
