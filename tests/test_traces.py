@@ -6,7 +6,7 @@
     names      raw lines as named ones: the log of a trace by registers becomes its log by names
     reasons    `why` has below each refused call the checks that the model in Python makes, in its sequence
     words      each check of each command has the words of rmm_requirements.py, in all traces
-    choices    --stop, --only and --skip
+    choices    --each, --stop, --only and --skip
     around     files, pipes, devices that fail, too little memory, and answers that come at once
     changed    traces with random changes: each answer is that of the second model
 """
@@ -270,6 +270,14 @@ def of_choices() -> Iterator[Finding]:
         status, out, err = ran(f"check {words}", bytes_of(CHOSEN))
         is_well = status == int(same == 0 or wrong > 0) and out.endswith(counted(same, 0, wrong)) and err == b""
         yield None if is_well else f"check {words}: {status}, {shown(out)}, {shown(err)}"
+    for words in "--each", "--stop --each", "--each --skip rmi_version", "--each --only smc":
+        said, status = report(CHOSEN, "--stop" in words, is_each=True)
+        left_out = {"rmi_version": (3, 4), "smc": (2, 3, 5, 6)}.get(words.split(" ")[-1], ())
+        kept = "".join(f"{it}\n" for it in said[:-1])
+        for number in left_out:
+            kept = re.sub(rf"trace:{number}: .*\n(?:(?!trace:).*\n)*", "", kept)
+        out = ran(f"check {words}", bytes_of(CHOSEN)).out
+        yield differs_in(f"check {words}", out.decode().splitlines()[:-1], kept.splitlines())
     status, out, err = ran("check --only rmi_rec_entre")
     yield None if status == 2 and b"rmi_rec_enter" in err and out == b"" else f"--only of no name: {status}, {shown(err)}"
 
