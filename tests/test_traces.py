@@ -5,7 +5,8 @@
     lines      what is no command, lines that are read alike, comments, long lines, carriage returns
     names      raw lines as named ones: the log of a trace by registers becomes its log by names
     reasons    `why` has below each refused call the checks that the model in Python makes, in its sequence
-    choices    --stop, --only and --skip
+    words      each check of each command has the words of rmm_requirements.py, in all traces
+    choices    --each, --stop, --only and --skip
     around     files, pipes, devices that fail, too little memory, and answers that come at once
     changed    traces with random changes: each answer is that of the second model
 """
@@ -26,8 +27,9 @@ from programs import TOP, TRACER, Ran, named as name_of, needs, run
 from random_plans import examples
 from rmm_cases import AFTER_ENTRY, ALIKE, COMMENTS, ENTRY, NO_COMMANDS, NO_COMMANDS_EITHER, REALM, VERDICTS
 from rmm_logs import FIDS, log_of, paths, raw_calls, without_answers
+from rmm_requirements import REQUIREMENTS
 from second_rmm.bench import Bench
-from second_rmm.command import COMMANDS
+from second_rmm.command import COMMANDS, names_of_checks
 from second_rmm.facts import STATUSES
 from second_rmm.judge import answer_of, report
 from second_rmm.printing import word_text
@@ -46,6 +48,10 @@ def ran(words: str, given: bytes | None = b"", **how: object) -> Ran:
 def differs(name: str, came: Ran, status: int, out: bytes = b"", err: bytes = b"") -> Finding:
     """What differs in an outcome, or none."""
     return differing(name, came, status, out, err)
+
+
+def differs_in(name: str, came: object, wanted: object) -> Finding:
+    return None if came == wanted else f"{name}: {came!r}, wanted: {wanted!r}"
 
 
 def counted(same: int, allowed: int = 0, wrong: int = 0) -> bytes:
@@ -226,6 +232,26 @@ def of_reasons(path: Path) -> Iterator[Finding]:
     yield differing("why", Ran(status, came, err), 0, wanted, b"")
 
 
+def said_of(path: Path) -> Iterator[tuple[str, str, str]]:
+    """Each check that `why` prints for a trace: its command, its name, and its words."""
+    asked = "", ""
+    for line in ran(f"why {path}").out.decode().splitlines():
+        it = REASON.fullmatch(line)
+        if it:
+            yield last_call(*asked)[0], it[2], it[3]
+        else:
+            asked = parts_of(line).question, parts_of(line).answer or ""
+
+
+def of_words() -> Iterator[Finding]:
+    for command in COMMANDS:
+        yield differs_in(f"the checks of {command}", {*REQUIREMENTS[command]}, {*names_of_checks(command)})
+    left = {(command, name): words for command, of in REQUIREMENTS.items() for name, words in of.items()}
+    for command, name, words in {it for path in paths() for it in said_of(path)}:
+        yield differs_in(f"{name} of {command}", words, left.pop((command, name), None))
+    yield f"`why` prints no words of {sorted(left)}" if left else None
+
+
 def of_no_reason() -> Iterator[Finding]:
     wrong = f"{PLATFORM}\nrmi_rec_entre 1\n".encode()
     yield differs("why of no command", ran("why", wrong), 0, wrong[:-1] + b" = no command\n    help: did you mean rmi_rec_enter?\n")
@@ -244,6 +270,14 @@ def of_choices() -> Iterator[Finding]:
         status, out, err = ran(f"check {words}", bytes_of(CHOSEN))
         is_well = status == int(same == 0 or wrong > 0) and out.endswith(counted(same, 0, wrong)) and err == b""
         yield None if is_well else f"check {words}: {status}, {shown(out)}, {shown(err)}"
+    for words in "--each", "--stop --each", "--each --skip rmi_version", "--each --only smc":
+        said, status = report(CHOSEN, "--stop" in words, is_each=True)
+        left_out = {"rmi_version": (3, 4), "smc": (2, 3, 5, 6)}.get(words.split(" ")[-1], ())
+        kept = "".join(f"{it}\n" for it in said[:-1])
+        for number in left_out:
+            kept = re.sub(rf"trace:{number}: .*\n(?:(?!trace:).*\n)*", "", kept)
+        out = ran(f"check {words}", bytes_of(CHOSEN)).out
+        yield differs_in(f"check {words}", out.decode().splitlines()[:-1], kept.splitlines())
     status, out, err = ran("check --only rmi_rec_entre")
     yield None if status == 2 and b"rmi_rec_enter" in err and out == b"" else f"--only of no name: {status}, {shown(err)}"
 
@@ -308,7 +342,7 @@ def of_a_pipe() -> Iterator[Finding]:
 # ---- tests
 
 OF_A_SUBJECT = [it for it in paths() if it.parent.name != "random"]
-ALONE = (of_model, of_lines, of_whole_texts, of_named_lines, of_no_reason, of_choices, of_a_file, of_surroundings, of_a_pipe)
+ALONE = (of_model, of_lines, of_whole_texts, of_named_lines, of_words, of_no_reason, of_choices, of_a_file, of_surroundings, of_a_pipe)
 
 
 @pytest.mark.parametrize("path", paths(), ids=name_of)

@@ -2,7 +2,7 @@ use Rattle.std.proofs.Common.{◌≡◌, ◌-◌, ◌≤◌, ◌==◌, ◌++◌,
 use Rattle.std.specs.List.{slice_split}
 use Rattle.rmm_trace.specs.Sentences.{words_in}
 use Rattle.rmm_trace.proofs.Parts.{parts_of, size_of}
-use Rattle.rmm_trace.proofs.sentence.read_words.Given as goal
+use Rattle.rmm_trace.proofs.sentence.read_into.Given as goal
 
 abbrev pub invariant-words : goal.invariant-words
 invariant-words l = record {
