@@ -89,7 +89,7 @@ fuzz: build ## runs COUNT plans and traces of each kind of random change, long i
 	@COUNT=$(or $(COUNT),2000) tools/pytest -q -n auto -m random
 
 bench: build ## CPU time and peak memory of the program over plans of several shapes, and how they grow, and CPU time of each command of the RMM by registers, beside plain Rust (needs cargo)
-	@tools/build test_rmm_speed
+	@tools/build test_memory
 	@bench/run --series
 	@bench/plot
 	@bench/rmm

@@ -127,6 +127,12 @@ def differences(operations, results):
     return (f"{it} came as {came}" for it, came in zip(operations, results, strict=True) if not is_met(it, came))
 
 
+def widened(operation):
+    """A guest that writes fewer than eight bytes has more bits in its register. They change nothing."""
+    bits = lambda it: f"{it[1]}{int(it[2], 16) | 0xA5 << 8 * int(it[3], 16):x} {it[3]}"
+    return re.sub(r"^(guest \w+ 0 \w+ )(\w+) ([124])\b", bits, operation)
+
+
 class Room:
     """A folder with the compiled tests, and what they replay."""
 
@@ -142,7 +148,9 @@ class Room:
     def traces(self):
         """The raw operations of each trace, with judgements."""
         paths = [*sorted(TRACES.glob("*.trace")), *sorted(TRACES.glob("random/*.trace"))]
-        return [(path.name, list(judged(raw(path.read_text().splitlines())))) for path in paths]
+        found = [(path.name, list(judged(raw(path.read_text().splitlines())))) for path in paths]
+        entries = dict(found)["raw-entries.trace"]
+        return [("wide writes", [*map(widened, entries)]), *found]
 
     @cached_property
     def histories(self):

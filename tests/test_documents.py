@@ -330,7 +330,6 @@ COUNTS = {
     r"each of the (\w+) commands and an undo": lambda: variants("host_commands/src/cmd.rt", "Cmd"),
     r"(?:each of|over) the (\w+) (?:acts|operations)\b": lambda: variants("realm_model/src/act.rt", "Act"),
     r"`make test` tries (\w+) mutants?\b": lambda: len(list(BELOW_CRATES.glob("*/must-fail/*.edit"))),
-    r"^## (\w+) examples": lambda: len(list(BELOW_CRATES.glob("example_*"))),
     r"(\w+) plans with random changes get": lambda: CHANGED_PLANS,
 }
 

@@ -276,13 +276,15 @@ def log(room):
 
 
 def table(room):
-    for path in traces() if room.is_all else traces()[::EACH]:
-        rows = room.folder / "rows.inc"
-        rows.write_text(run([sys.executable, EXAMPLES / "drive.py", "--c", path]))
-        sources = [EXAMPLES / "c/table.c", EXAMPLES / "c/table_rmm.c"]
-        said = run([room.compiled("table", sources, f'-DROWS="{rows}"')])
-        same(f"{path.name}: the end", said.splitlines()[-1].startswith("# 0 of "), True)
-        same(f"{path.name}: that answers are compared", judged(said) > 0, True)
+    """All tables in one program, which is compiled once."""
+    paths, rows = traces() if room.is_all else traces()[::EACH], room.folder / "rows.inc"
+    rows.write_text(run([sys.executable, EXAMPLES / "drive.py", "--c", *paths]))
+    sources = [EXAMPLES / "c/table.c", EXAMPLES / "c/table_rmm.c"]
+    said = run([room.compiled("table", sources, f'-DROWS="{rows}"')])
+    same("the end", said.splitlines()[-1].startswith("# 0 of "), True)
+    same("that the answers of each trace are compared", judged(said) >= len(paths), True)
+    made = [len(re.findall(r"\.compared = 0x[1-9a-f]", it)) for it in re.split(r"^/\* .*\.trace \*/$", rows.read_text(), flags=re.M)[1:]]
+    same("traces whose table compares nothing", (len(made), made.count(0)), (len(paths), 0))
 
 
 # ---- the installed package

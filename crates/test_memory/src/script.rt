@@ -1,4 +1,8 @@
-//! Scripts: a scene, and parts that are performed in each round.
+//! Scripts of calls by registers: a scene, and parts that are performed in each round, each of which is measured.
+//!
+//! Standard output is a sum of the results of all operations. Standard error has a line for each part: the least
+//! processor time of a round, in nanoseconds. `bench/rmm` has the scripts, and plain Rust beside it.
+use crate::Fault;
 use crate::operation::{Operation, perform};
 use page_arena::PlainStore;
 use rmi_abi::{Platform, RmmSettings};
@@ -15,9 +19,9 @@ struct Part {
     least: u64,
 }
 
-/// A script: the pages of its machine, the number of rounds, the operations of the scene, and the parts.
+// A script: the pages of its machine, the number of rounds, the operations of the scene, and the parts.
 #[derive(Drop)]
-pub(crate) struct Script {
+struct Script {
     pages: u16,
     rounds: u64,
     scene: Vec<Operation>,
@@ -59,7 +63,7 @@ impl Part {
 }
 
 impl Script {
-    pub(crate) fn new(alloc: Global) -> Script {
+    fn new(alloc: Global) -> Script {
         Script {
             pages: 0,
             rounds: 0,
@@ -77,8 +81,8 @@ impl Script {
         Ok(())
     }
 
-    /// Reads a line; one of no known kind is ignored.
-    pub(crate) fn read(&mut self, alloc: Global, line: &str) -> Result<(), AllocError> {
+    // Reads a line; one of no known kind is ignored.
+    fn read(&mut self, alloc: Global, line: &str) -> Result<(), AllocError> {
         let (kind, words) = line.split_once(' ').unwrap_or((line, ""));
         if kind == "part" {
             self.parts.push(Part {
@@ -96,16 +100,16 @@ impl Script {
         Ok(())
     }
 
-    /// The RMM over the pages of the script; `None` comes if there are none, or no memory for them.
-    pub(crate) fn open(&self, alloc: Global) -> Option<Rmm<PlainStore>> {
+    // The RMM over the pages of the script; `None` comes if there are none, or no memory for them.
+    fn open(&self, alloc: Global) -> Option<Rmm<PlainStore>> {
         let platform = Platform::new(RmmSettings::DEFAULT)?;
         let store = PlainStore::build(alloc, self.pages).ok()?;
         let granules = Granules::open(alloc, platform, store).ok()?;
         Some(Rmm::over(granules))
     }
 
-    /// Performs the scene, and then each part in each round. Returns the sum of all results.
-    pub(crate) fn run(&mut self, rt: &impl CpuClock, rmm: &mut Rmm<PlainStore>) -> io::Result<u64> {
+    // Performs the scene, and then each part in each round. Returns the sum of all results.
+    fn run(&mut self, rt: &impl CpuClock, rmm: &mut Rmm<PlainStore>) -> io::Result<u64> {
         let mut sum = perform(rmm, &self.scene, 0);
         for _round in 0..self.rounds {
             for part in self.parts.iter_mut() {
@@ -115,11 +119,53 @@ impl Script {
         Ok(sum)
     }
 
-    /// Prints the least time of each part.
-    pub(crate) fn print_times(&self, rt: &impl Eprint) -> io::Result<()> {
+    // Prints the least time of each part.
+    fn print_times(&self, rt: &impl Eprint) -> io::Result<()> {
         for part in &self.parts {
             eprintln!(rt; "{}", part.least)?;
         }
         Ok(())
+    }
+}
+
+fn read_all(alloc: Global, text: &str) -> Result<Script, AllocError> {
+    let mut script = Script::new(alloc);
+    for line in text.lines() {
+        script.read(alloc, line)?;
+    }
+    Ok(script)
+}
+
+fn measure(
+    rt: &(impl CpuClock + Print + Eprint),
+    script: &mut Script,
+    alloc: Global,
+) -> io::Result<()> {
+    if let Some(mut rmm) = script.open(alloc) {
+        let sum = script.run(rt, &mut rmm)?;
+        println!(rt; "{sum}")?;
+        script.print_times(rt)?;
+    }
+    Ok(())
+}
+
+/// Whether an input is a script, which begins with its machine. No plan begins so.
+pub(crate) fn is_script(bytes: &[u8]) -> bool {
+    bytes.starts_with(b"machine ")
+}
+
+/// Performs a script, and prints the sum and the times.
+pub(crate) fn perform_all(
+    rt: &(impl CpuClock + Print + Eprint),
+    alloc: Global,
+    bytes: &[u8],
+) -> Result<(), Fault> {
+    let Ok(text) = str::from_utf8(bytes) else {
+        return Err(Fault::Other);
+    };
+    let mut script = read_all(alloc, text)?;
+    match measure(rt, &mut script, alloc) {
+        Ok(()) => Ok(()),
+        Err(_) => Err(Fault::Other),
     }
 }

@@ -1,7 +1,4 @@
-//! An example of two builds in threads of their own, on one host behind a lock: each has a seat, and the seats close
-//! the host.
-#![tactic(auto)]
-
+//! Two builds in threads of their own, on one host behind a lock: each has a seat, and the seats close the host.
 ghost use Rattle.std.specs.Prelude.{◌≡◌, [], IfOk};
 ghost use Rattle.builders.specs.Names.{AreNamed};
 
@@ -64,7 +61,8 @@ fn run<R: Print + AllocGlobal + Threads + Wait + Sync, L: Ledgers + Send + Sync>
     }
 }
 
-fn main(rt: HostRuntime) -> Result<()> {
+/// Two builds of a host of their own, and what they leave.
+pub(crate) fn both<R: Print + AllocGlobal + Threads + Wait + Sync>(rt: &R) -> Result<()> {
     let host = booted(rt.alloc())?;
-    run::<HostRuntime, Brand>(&rt, Blanks::new(), host)
+    run::<R, Brand>(rt, Blanks::new(), host)
 }

@@ -1,8 +1,9 @@
-//! An example of one build: commands, a refusal that is matched on, an undo, an abort, and the history. Then it applies a
-//! history from standard input.
+//! Examples. One build: commands, a refusal that is matched on, an undo, an abort, and the history. Two builds in threads of
+//! their own. A history from standard input, applied to a host.
 #![tactic(auto)]
 
 mod history;
+mod threads;
 
 use anyhow::Result;
 use history_text::EventText;
@@ -59,5 +60,6 @@ fn show(rt: &impl Print, host: &mut Host<PlainStore>) -> io::Result<()> {
 fn main(rt: HostRuntime) -> Result<()> {
     let mut host = booted(rt.alloc())?;
     show(&rt, &mut host)?;
+    threads::both(&rt)?;
     history::run(&rt)
 }
