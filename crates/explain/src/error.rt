@@ -4,10 +4,12 @@ use crate::host_facts::{BuildFact, RoomFact, UndoFact};
 use crate::names::{entry_state, granule_state, realm_state, rec_state, refusal_name};
 use crate::phrase::Value::{self, Many, Number, Page, Word};
 use crate::phrase::{Phrase, four, one, pages, plain, three, two};
-use crate::readings::{count_of_recs, first_entry, ipa_of, newest_rec, page_of, served};
+use crate::readings::{
+    count_of_recs, first_entry, ipa_of, newest_rec, page_of, served, size_of_order,
+};
 use crate::rmi_facts::{InputFact, RealmFact, RecFact, WalkFact};
 use crate::roles::{role_by_state, role_of};
-use granule_addr::{BuildId, Gran, Order};
+use granule_addr::{BuildId, Gran};
 use host_commands::{Cmd, Step};
 use page_arena::PageStore;
 use realm_host::{GranuleState, Host};
@@ -76,13 +78,15 @@ fn missing_page(step: &Step, page: u16, count: u16) -> Phrase {
 
 // The RD of a realm that the build has already.
 fn second_realm<S: PageStore>(host: &Host<S>, build: BuildId, rd: Option<Gran>) -> Phrase {
-    match rd.and_then(|rd| page_of(host, build, rd)) {
-        Some(page) => one(
-            "the build must have no realm; it has one, with its RD in {}",
-            Page("", page),
-        ),
-        None => plain("the build must have no realm; it has one"),
+    if let Some(rd) = rd {
+        if let Some(page) = page_of(host, build, rd) {
+            return one(
+                "the build must have no realm; it has one, with its RD in {}",
+                Page("", page),
+            );
+        }
     }
+    plain("the build must have no realm; it has one")
 }
 
 fn of_build<S: PageStore>(host: &Host<S>, build: BuildId, step: &Step, fact: BuildFact) -> Phrase {
@@ -101,7 +105,7 @@ fn of_build<S: PageStore>(host: &Host<S>, build: BuildId, step: &Step, fact: Bui
 
 // A block that is not free, on a machine of that many pages.
 fn block_error(machine: u16, order: u8, free: u16) -> Phrase {
-    let size = Order::new(order).map_or(1, |order| order.size());
+    let size = size_of_order(order);
     let wanted = Number(size as u64);
     match free {
         _ if size == 1 => plain("a page must be free; none is"),

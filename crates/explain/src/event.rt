@@ -68,11 +68,14 @@ fn push_act<S: PageStore>(
     build: BuildId,
     act: &Act,
 ) -> Result<(), AllocError> {
-    if let Some(cmd) = command_of(alloc, host, build, act)? {
+    if let Some(cmd) = command_of(host, build, act) {
         let step = Step::Ask(cmd);
         let checks = step_checks(alloc, host, build, &PlanCursor::first(), &step)?;
-        if let Some(check) = checks.iter().find(|check| check.fails) {
-            if !matches!(check.refusal, Refusal::NoBlock(_)) {
+        for check in &checks {
+            if check.fails {
+                if matches!(check.refusal, Refusal::NoBlock(_)) {
+                    break;
+                }
                 return push_check(text, host, build, &step, check);
             }
         }
@@ -83,36 +86,38 @@ fn push_act<S: PageStore>(
     }
 }
 
+// The first of these granules that the build does not lease.
+fn first_foreign<S: PageStore>(host: &Host<S>, build: BuildId, granules: &[Gran]) -> Option<Gran> {
+    for granule in granules {
+        if page_of(host, build, *granule).is_none() {
+            return Some(*granule);
+        }
+    }
+    None
+}
+
 // The first granule of an operation that the build does not lease. A block that is taken is nobody's yet.
 fn foreign_granule<S: PageStore>(host: &Host<S>, build: BuildId, act: &Act) -> Option<Gran> {
-    let is_foreign = |granule: &Gran| page_of(host, build, *granule).is_none();
     match act {
         Act::Fill { granule, .. }
         | Act::Peek { granule, .. }
         | Act::Delegate { granule }
         | Act::Rtt { granule, .. }
-        | Act::Unknown { granule, .. } => Some(*granule).filter(is_foreign),
+        | Act::Unknown { granule, .. } => first_foreign(host, build, &[*granule]),
         Act::Data {
             granule,
             source,
             ..
-        } => {
-            Some(*granule)
-                .filter(is_foreign)
-                .or(Some(*source).filter(is_foreign))
-        }
-        Act::Realm { rd, root, .. } => {
-            Some(*rd)
-                .filter(is_foreign)
-                .or(Some(root.first).filter(is_foreign))
-        }
+        } => first_foreign(host, build, &[*granule, *source]),
+        Act::Realm { rd, root, .. } => first_foreign(host, build, &[*rd, root.first]),
         Act::Rec {
             granule,
             auxiliaries,
             ..
-        } => Some(*granule)
-            .filter(is_foreign)
-            .or(auxiliaries.as_slice().iter().copied().find(is_foreign)),
+        } => {
+            let first = first_foreign(host, build, &[*granule]);
+            first.or(first_foreign(host, build, auxiliaries.as_slice()))
+        }
         _ => None,
     }
 }
@@ -238,35 +243,38 @@ fn rec_command(act: &Act) -> Option<Cmd> {
     Some(cmd)
 }
 
-// The command of an operation, on pages of the build. A reverse has none.
-fn command_of<S: PageStore>(
-    alloc: Global,
+// The numbers of a build's pages.
+fn numbers_of<S: PageStore>(
     host: &Host<S>,
     build: BuildId,
-    act: &Act,
-) -> Result<Option<Cmd>, AllocError> {
+    granules: &[Gran],
+) -> ArrayVec<u16, 16> {
+    let mut pages = ArrayVec::new();
+    for granule in granules {
+        if !pages.is_full() {
+            pages.push(number_of(host, build, *granule));
+        }
+    }
+    pages
+}
+
+// The command of an operation, on pages of the build. A reverse has none.
+fn command_of<S: PageStore>(host: &Host<S>, build: BuildId, act: &Act) -> Option<Cmd> {
     let Act::Rec {
         granule,
         auxiliaries,
         ..
     } = act
     else {
-        return Ok(
-            page_command(host, build, act)
-                .or(realm_command(host, build, act))
-                .or(memory_command(host, build, act))
-                .or(rec_command(act)),
-        );
+        return page_command(host, build, act)
+            .or(realm_command(host, build, act))
+            .or(memory_command(host, build, act))
+            .or(rec_command(act));
     };
-    let numbers = auxiliaries
-        .as_slice()
-        .iter()
-        .map(|it| number_of(host, build, *it));
-    let pages: ArrayVec<u16, 16> = numbers.collect(alloc)?;
-    Ok(Some(Cmd::Rec {
+    Some(Cmd::Rec {
         page: number_of(host, build, *granule),
-        auxiliaries: pages,
-    }))
+        auxiliaries: numbers_of(host, build, auxiliaries.as_slice()),
+    })
 }
 
 // A block that cannot be leased.

@@ -4,8 +4,10 @@ use crate::host_facts::{BuildFact, RoomFact, UndoFact};
 use crate::of_block::has_block;
 use crate::phrase::Value::Number;
 use crate::phrase::{Phrase, four, one, plain, three, two};
-use crate::readings::{largest_free, newest_rec, order_for, other_pages, undos_of_realm};
-use granule_addr::{BuildId, Order};
+use crate::readings::{
+    largest_free, newest_rec, order_for, other_pages, size_of_order, undos_of_realm,
+};
+use granule_addr::BuildId;
 use host_commands::Step;
 use page_arena::PageStore;
 use realm_host::{GranuleState, Host};
@@ -100,7 +102,7 @@ pub(crate) fn build_help<S: PageStore>(
 
 // A block for one that is not free.
 fn other_block<S: PageStore>(host: &Host<S>, order: u8) -> Phrase {
-    let size = Order::new(order).map_or(1, |order| order.size());
+    let size = size_of_order(order);
     let (pages, largest) = (host.pages(), largest_free(host));
     match largest {
         Some(free) if size > pages => four(

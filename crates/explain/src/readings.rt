@@ -64,9 +64,11 @@ fn are_tables<S: PageStore>(
     }
     for place in 0..count {
         let page = first.saturating_add(place);
-        let granule = host.page_granule(build, page).map(|it| it.number());
+        let Some(granule) = host.page_granule(build, page) else {
+            return false;
+        };
         if page == rd
-            || granule != start.number().checked_add(place)
+            || granule.number() != start.number().saturating_add(place)
             || host.page_state(build, page) != Some(GranuleState::Delegated)
         {
             return false;
@@ -82,7 +84,12 @@ pub(crate) fn first_of_tables<S: PageStore>(
     rd: u16,
     count: u16,
 ) -> Option<u16> {
-    (0..host.page_count(build)).find(|first| are_tables(host, build, rd, *first, count))
+    for first in 0..host.page_count(build) {
+        if are_tables(host, build, rd, first, count) {
+            return Some(first);
+        }
+    }
+    None
 }
 
 /// The page of a build that is a granule.
@@ -106,6 +113,14 @@ pub(crate) fn largest_free<S: PageStore>(host: &Host<S>) -> Option<Order> {
         }
     }
     largest
+}
+
+/// The number of pages of a block; 1 if there is no such order.
+pub(crate) fn size_of_order(order: u8) -> u16 {
+    match Order::new(order) {
+        Some(order) => order.size(),
+        None => 1,
+    }
 }
 
 /// The least order of which a block has that many pages.
