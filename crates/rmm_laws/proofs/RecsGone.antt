@@ -20,9 +20,11 @@ use Rattle.rmm_model.specs.Command.Auxiliary.{aux_granule, with_aux}
 use Rattle.rmm_model.specs.Command.Operand.{rec_at}
 use Rattle.rmm_model.specs.Command.RecDestroy.{rec_destroy, with_one_less, without_rec_of, without_rec}
 use Rattle.rmm_laws.specs.Apart.{Touches, realm_of_rec}
+use Rattle.rmm_laws.specs.Half.{HasHalves}
 use Rattle.rmm_laws.specs.Owner.{is_rd, is_owner, IsOrderly, IsOrderlyAt, is_rec_in}
 use Rattle.rmm_laws.specs.Proper.{IsProper}
 use Rattle.rmm_laws.specs.Role.{Used, used, state_uses, uses, IsSound, IsLinked}
+use Rattle.rmm_laws.proofs.Halves.{has_space, kept_or_plain, same_space}
 use Rattle.rmm_laws.proofs.Orders.{owner_is, rd_is, rd_of, is_counter, counted, total-set, total-alike, orderly_same, orderly_but}
 use Rattle.rmm_laws.proofs.Passed.{Passed, some_same, rec_of-some, rec_named-is}
 use Rattle.rmm_laws.proofs.RecLives.{IsRecMade, rec_gone}
@@ -142,6 +144,17 @@ module _ (m : Machine) (g aux : ℕ) (proper : IsLinked m) (old : RmmRec) (is_ol
       (first_named called h aux))
       (cases_eq h g)
 
+  pub halves_gone : HasHalves m → HasHalves gone
+  halves_gone =
+      kept_or_plain m gone clean.settings gone_count (λ h.
+      ⊎_elim
+      (λ (here : h ≡ g). inr (ap (λ (x : ℕ). has_space (granule_at gone x).state) here ∙ ap (λ (r : RmmGranule). has_space r.state) rec_gone_is.0))
+      (λ (ne : h ≢ g). ⊎_elim
+      (λ (it : (i : ℕ) × (i < aux) × (called i ≡ Some h)). inr (ap (λ (r : RmmGranule). has_space r.state) (aux_gone it.0 h it.1 it.2).0))
+      (λ (none : (i : ℕ) → i < aux → called i ≢ Some h). inl (beside_gone h ne none))
+      (first_named called h aux))
+      (cases_eq h g))
+
   -- an RD of after is one of before
   pub rd_before : (x : ℕ) (realm : RmmRealm) → (granule_at gone x).state ≡ Rd realm → (granule_at m x).state ≡ Rd realm
   rd_before x realm is =
@@ -258,7 +271,12 @@ module _ (rec : ℕ) (m : Machine) (proper : IsProper m) (ok : Passed (rec_destr
   after_proper : IsProper after
   after_proper = record {
     linked = destroyed less here m.settings.aux less_linked (rec_at m rec) still_rec refl;
-    ordered = record { each = orderly_gone less here m.settings.aux less_linked (rec_at m rec) still_rec refl less_orderly; recs = recs_after };
+    ordered = record {
+      each = orderly_gone less here m.settings.aux less_linked (rec_at m rec) still_rec refl less_orderly;
+      recs = recs_after;
+      halves = halves_gone less here m.settings.aux less_linked (rec_at m rec) still_rec refl
+          (same_space m w realm (with_one_less realm) w_in of_rd.1 (refl, refl, refl, refl) proper.ordered.halves);
+    };
   }
 
   pub rec_destroyed : IsProper (rec_destroy rec m).machine

@@ -33,6 +33,7 @@ ghost use Rattle.rmm_model.specs.Walk.{entry_at, table_below, walk, top};
 ghost use Rattle.rmm_model.specs.Command.RecEnter.{interrupted, step_outcome, after_step};
 ghost use Rattle.rmm_laws.specs.Apart.{rd_named, IsOfRealm, IsOfAnother, IsSameAt};
 ghost use Rattle.rmm_laws.specs.Back.{ComesBack, RecComesBack};
+ghost use Rattle.rmm_laws.specs.Half.{IsOfHalf};
 ghost use Rattle.rmm_laws.specs.Owner.{is_rec_in};
 ghost use Rattle.rmm_laws.specs.Proper.{IsProper};
 ghost use Rattle.rmm_laws.specs.Refusal.{IsRefused, IsRecEnter, IsNotQueued, IsNotRunning, IsAccess, IsNotDone};
@@ -75,6 +76,12 @@ pub fn granules_have_one_role()
 pub fn walks_end()
     ensures { (m : Machine) (rd ipa level : ℕ) (realm : RmmRealm) (proper : IsProper m) → (granule_at m rd).state ≡ Rd realm → ipa < 2 ^ realm.s2sz → realm.start_level ≤ level
         → EndsWell m proper.linked.level rd realm ipa level (walk m realm ipa level) }
+{}
+
+/// Halves are apart: a walk of an address of a realm ends at an entry of the half that the address is in. So an ASSIGNED
+/// entry is at protected addresses alone, and an ASSIGNED_NS entry at unprotected ones.
+pub fn halves_are_apart()
+    ensures { (m : Machine) (rd ipa level : ℕ) (realm : RmmRealm) → IsProper m → (granule_at m rd).state ≡ Rd realm → ipa < 2 ^ realm.s2sz → IsOfHalf realm ipa (entry_at m (walk m realm ipa level) ipa) }
 {}
 
 /// Each table of a realm serves 512 entries from some address on, and a walk of each of their addresses reaches it.
