@@ -3,6 +3,7 @@ ghost use Rattle.std.specs.Prelude.{◌≡◌, ◌≢◌, ℕ, ◌+◌, ◌-◌,
 ghost use Rattle.granule_addr.specs.Page.{zero_page};
 ghost use Rattle.page_arena.specs.Page.{page_at};
 ghost use Rattle.rmi_abi.specs.declared.registers.Registers.{Registers};
+ghost use Rattle.rmi_abi.specs.declared.registers.SmcResult.{SmcResult};
 ghost use Rattle.rmi_abi.specs.declared.settings.RmmSettings.{RmmSettings};
 ghost use Rattle.rmi_abi.specs.declared.call.Call.TheVariants.{GranuleUndelegate, RealmDestroy, RecDestroy, RttDestroy, RttFold, RttUnmapUnprotected, DataDestroy};
 ghost use Rattle.rmi_abi.specs.declared.word.Word.TheVariants.{Success};
@@ -38,7 +39,7 @@ ghost use Rattle.rmm_laws.specs.Owner.{is_rec_in};
 ghost use Rattle.rmm_laws.specs.Proper.{IsProper};
 ghost use Rattle.rmm_laws.specs.Refusal.{IsRefused, IsRecEnter, IsNotQueued, IsNotRunning, IsAccess, IsNotDone};
 ghost use Rattle.rmm_laws.specs.Role.{Used, uses, IsSound};
-ghost use Rattle.rmm_laws.specs.Walk.{IsTableOf, Serves, EndsWell, IsDeadAt, IsAtLive, LeadsToTable, walked_to};
+ghost use Rattle.rmm_laws.specs.Walk.{IsTableOf, Serves, EndsWell, IsPassed, IsAtLive, IsNextTop, LeadsToTable, walked_to};
 
 /// What is refused changes nothing: calls by registers, and the host's stores and fills. So do steps that no REC takes,
 /// interrupts of RECs that do not run, and accesses of guests that are not done. Only a call that enters a REC is
@@ -112,18 +113,18 @@ pub fn granules_come_back()
 
 /// Tops are complete: from an address to the top of its walk's end there is no live entry. The top is at the next live
 /// entry of the table, or at its end. RTT_DESTROY, DATA_DESTROY and RTT_UNMAP_UNPROTECTED return such a top of the machine
-/// after them.
+/// after them, and it is after the address.
 pub fn tops_are_complete()
     ensures skipped { (m : Machine) (rd ipa level x : ℕ) (realm : RmmRealm) → IsProper m → (granule_at m rd).state ≡ Rd realm → ipa < 2 ^ realm.s2sz → realm.start_level ≤ level → level ≤ 3
-        → ipa ≤ x → x < top m (walk m realm ipa level) ipa → IsDeadAt m realm x }
+        → ipa ≤ x → x < top m (walk m realm ipa level) ipa → IsPassed m realm (walk m realm ipa level) x }
     ensures met { (m : Machine) (rd ipa level : ℕ) (realm : RmmRealm) → IsProper m → (granule_at m rd).state ≡ Rd realm → ipa < 2 ^ realm.s2sz → realm.start_level ≤ level
         → IsAtLive m (walk m realm ipa level) ipa (top m (walk m realm ipa level) ipa) }
-    ensures destroyed { (m : Machine) (rd ipa level x : ℕ) → IsProper m → (performed (RttDestroy rd ipa level) m).0.word ≡ Success → ipa ≤ x
-        → x < (performed (RttDestroy rd ipa level) m).0.x2 → IsDeadAt (performed (RttDestroy rd ipa level) m).1 (realm_at m rd) x }
-    ensures pages { (m : Machine) (rd ipa x : ℕ) → IsProper m → (performed (DataDestroy rd ipa) m).0.word ≡ Success → ipa ≤ x → x < (performed (DataDestroy rd ipa) m).0.x2
-        → IsDeadAt (performed (DataDestroy rd ipa) m).1 (realm_at m rd) x }
-    ensures unmapped { (m : Machine) (rd ipa level x : ℕ) → IsProper m → (performed (RttUnmapUnprotected rd ipa level) m).0.word ≡ Success → ipa ≤ x
-        → x < (performed (RttUnmapUnprotected rd ipa level) m).0.x1 → IsDeadAt (performed (RttUnmapUnprotected rd ipa level) m).1 (realm_at m rd) x }
+    ensures destroyed { (m n : Machine) (answer : SmcResult) (rd ipa level : ℕ) → IsProper m → performed (RttDestroy rd ipa level) m ≡ (answer, n) → answer.word ≡ Success
+        → IsNextTop n (realm_at m rd) (walk n (realm_at m rd) ipa (level - 1)) ipa answer.x2 }
+    ensures pages { (m n : Machine) (answer : SmcResult) (rd ipa : ℕ) → IsProper m → performed (DataDestroy rd ipa) m ≡ (answer, n) → answer.word ≡ Success
+        → IsNextTop n (realm_at m rd) (walk n (realm_at m rd) ipa 3) ipa answer.x2 }
+    ensures unmapped { (m n : Machine) (answer : SmcResult) (rd ipa level : ℕ) → IsProper m → performed (RttUnmapUnprotected rd ipa level) m ≡ (answer, n) → answer.word ≡ Success
+        → IsNextTop n (realm_at m rd) (walk n (realm_at m rd) ipa level) ipa answer.x1 }
 {}
 
 /// Steps of a teardown succeed: RMI_REC_DESTROY of a REC that does not run, and RMI_DATA_DESTROY of a page. So do
