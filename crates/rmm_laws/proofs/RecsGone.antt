@@ -20,6 +20,7 @@ use Rattle.rmm_model.specs.Command.Auxiliary.{aux_granule, with_aux}
 use Rattle.rmm_model.specs.Command.Operand.{rec_at}
 use Rattle.rmm_model.specs.Command.RecDestroy.{rec_destroy, with_one_less, without_rec_of, without_rec}
 use Rattle.rmm_laws.specs.Apart.{Touches, realm_of_rec}
+use Rattle.rmm_laws.specs.Back.{IsBeside}
 use Rattle.rmm_laws.specs.Half.{HasHalves}
 use Rattle.rmm_laws.specs.Owner.{is_rd, is_owner, IsOrderly, IsOrderlyAt, is_rec_in}
 use Rattle.rmm_laws.specs.Proper.{IsProper}
@@ -111,7 +112,7 @@ module _ (m : Machine) (g aux : ℕ) (proper : IsLinked m) (old : RmmRec) (is_ol
         page_in-other (with_granule cleared g (of_no_realm Delegated)) g h zero_page apart ∙ clean.blank i h lt is,
       )
 
-  beside_gone : (h : ℕ) → h ≢ g → ((i : ℕ) → i < aux → called i ≢ Some h) → (granule_at gone h ≡ granule_at m h) × (page_in gone h ≡ page_in m h)
+  pub beside_gone : (h : ℕ) → h ≢ g → ((i : ℕ) → i < aux → called i ≢ Some h) → (granule_at gone h ≡ granule_at m h) × (page_in gone h ≡ page_in m h)
   beside_gone h ne none =
       let same = clean.other h none in (
         granule_at-other cleared g h (of_no_realm Delegated) ne ∙ same.0,
@@ -122,7 +123,7 @@ module _ (m : Machine) (g aux : ℕ) (proper : IsLinked m) (old : RmmRec) (is_ol
   gone_count = length-set cleared.granules g (of_no_realm Delegated) ∙ clean.count
 
   -- an RD is none of these
-  rd_apart : (h : ℕ) → is_rd (granule_at m h).state ≡ true → (h ≢ g) × ((i : ℕ) → i < aux → called i ≢ Some h)
+  pub rd_apart : (h : ℕ) → is_rd (granule_at m h).state ≡ true → (h ≢ g) × ((i : ℕ) → i < aux → called i ≢ Some h)
   rd_apart h sure = (
     λ same. both_ways (is_rd (granule_at m h).state) (ap (λ (x : ℕ). is_rd (granule_at m x).state) same ∙ ap is_rd is_old) sure,
     λ i lt is. both_ways (is_rd (granule_at m h).state) (ap (λ (r : RmmGranule). is_rd r.state) (aux_there i h lt is)) sure,
@@ -317,3 +318,19 @@ module _ (rec : ℕ) (m : Machine) (proper : IsProper m) (ok : Passed (rec_destr
   pub destroyed_back : AllBack (rec_destroy rec m).machine
   unfolding rec_destroy
   destroyed_back = subst (λ (k : Machine). AllBack (with_blank (with_aux k here (of_no_realm Delegated) m.settings.aux) here Delegated)) (sym less_is) all_back
+
+  -- what is left as it was
+  abbrev OthersStay : Machine → Type 0
+  OthersStay n = (h : ℕ) → IsBeside m (number_of m rec) h → granule_at n h ≡ granule_at m h
+
+  others_stay : OthersStay after
+  others_stay h beside =
+      let apart : h ≢ w = λ same. beside.2 (of_rec.1 ∙ ap (λ (x : ℕ). Some x) (sym same)) in
+      let count = length-set m.granules w (of_no_realm (Rd (with_one_less realm))) in
+      (beside_gone less here m.settings.aux less_linked (rec_at m rec) still_rec refl h beside.0
+      (λ k lt is. beside.1 k lt (sym (named-same m less refl count (aux_of (page_in m here) k)) ∙ is))).0
+      ∙ granule_at-other m w h (of_no_realm (Rd (with_one_less realm))) apart
+
+  pub destroyed_beside : OthersStay (rec_destroy rec m).machine
+  unfolding rec_destroy
+  destroyed_beside = subst (λ (k : Machine). OthersStay (with_blank (with_aux k here (of_no_realm Delegated) m.settings.aux) here Delegated)) (sym less_is) others_stay

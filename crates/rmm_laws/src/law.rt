@@ -100,7 +100,8 @@ pub fn tables_lead_to_tables()
 {}
 
 /// Granules come back: X1 of RTT_DESTROY, RTT_FOLD and DATA_DESTROY is the address of a table or a page of the realm.
-/// That granule is DELEGATED and zero from then on. So is a REC that is destroyed, with its auxiliary granules.
+/// That granule is DELEGATED and zero after the call. So is a REC that is destroyed, with its auxiliary granules. Other
+/// granules keep their attributes, but for the RD that counts the REC.
 pub fn granules_come_back()
     ensures destroyed { (m : Machine) (rd ipa level : ℕ) → IsProper m → (performed (RttDestroy rd ipa level) m).0.word ≡ Success
         → ComesBack m (performed (RttDestroy rd ipa level) m).1 (number_of m rd) Rtt (performed (RttDestroy rd ipa level) m).0.x1 }
@@ -108,7 +109,7 @@ pub fn granules_come_back()
         → ComesBack m (performed (RttFold rd ipa level) m).1 (number_of m rd) Rtt (performed (RttFold rd ipa level) m).0.x1 }
     ensures pages { (m : Machine) (rd ipa : ℕ) → IsProper m → (performed (DataDestroy rd ipa) m).0.word ≡ Success
         → ComesBack m (performed (DataDestroy rd ipa) m).1 (number_of m rd) Data (performed (DataDestroy rd ipa) m).0.x1 }
-    ensures recs { (m : Machine) (rec : ℕ) → IsProper m → (performed (RecDestroy rec) m).0.word ≡ Success → RecComesBack m (performed (RecDestroy rec) m).1 (number_of m rec) }
+    ensures recs { (m : Machine) (rec : ℕ) → IsProper m → (performed (RecDestroy rec) m).0.word ≡ Success → RecComesBack m (performed (RecDestroy rec) m).1 rec }
 {}
 
 /// Tops are complete: from an address to the top of its walk's end there is no live entry. The top is at the next live
