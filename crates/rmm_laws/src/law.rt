@@ -1,5 +1,5 @@
 //! Theorems of all calls by registers, of the host's stores, and of guests.
-ghost use Rattle.std.specs.Prelude.{◌≡◌, ◌≢◌, ℕ, ◌+◌, ◌-◌, ◌*◌, ◌%◌, ◌^◌, ◌<◌, ◌≤◌, true, false, List, length, Some, None};
+ghost use Rattle.std.specs.Prelude.{◌≡◌, ◌≢◌, ℕ, ◌+◌, ◌-◌, ◌*◌, ◌%◌, ◌^◌, ◌<◌, ◌≤◌, ◌⊎◌, true, false, List, length, Some, None};
 ghost use Rattle.granule_addr.specs.Page.{zero_page};
 ghost use Rattle.page_arena.specs.Page.{page_at};
 ghost use Rattle.rmi_abi.specs.declared.registers.Registers.{Registers};
@@ -24,8 +24,9 @@ ghost use Rattle.rmm_model.specs.Guest.{is_rec_named, queued};
 ghost use Rattle.rmm_model.specs.Level.{entry_size};
 ghost use Rattle.rmm_model.specs.Realm.{is_protected, is_unprotected};
 ghost use Rattle.rmm_model.specs.Rec.{is_running};
+ghost use Rattle.rmm_model.specs.Command.Auxiliary.{with_aux};
 ghost use Rattle.rmm_model.specs.Command.Operand.{realm_at, rec_at};
-ghost use Rattle.rmm_model.specs.Command.RealmDestroy.{has_live_table};
+ghost use Rattle.rmm_model.specs.Command.RealmDestroy.{has_live_table, without_tables};
 ghost use Rattle.rmm_model.specs.Host.{can_access, can_fill, after_store, after_fill};
 ghost use Rattle.rmm_model.specs.Machine.{Machine, granule_at, is_inside, number_of, page_in, with_blank};
 ghost use Rattle.rmm_model.specs.Step.{access, after_write};
@@ -38,7 +39,7 @@ ghost use Rattle.rmm_laws.specs.Half.{IsOfHalf};
 ghost use Rattle.rmm_laws.specs.Owner.{is_rec_in};
 ghost use Rattle.rmm_laws.specs.Proper.{IsProper};
 ghost use Rattle.rmm_laws.specs.Refusal.{IsRefused, IsRecEnter, IsNotQueued, IsNotRunning, IsAccess, IsNotDone};
-ghost use Rattle.rmm_laws.specs.Role.{Used, uses, IsSound};
+ghost use Rattle.rmm_laws.specs.Role.{Used, page_count, uses, IsSound};
 ghost use Rattle.rmm_laws.specs.Walk.{IsTableOf, Serves, EndsWell, IsPassed, IsAtLive, IsNextTop, LeadsToTable, walked_to};
 
 /// What is refused changes nothing: calls by registers, and the host's stores and fills. So do steps that no REC takes,
@@ -130,8 +131,8 @@ pub fn tops_are_complete()
 
 /// Steps of a teardown succeed: RMI_REC_DESTROY of a REC that does not run, and RMI_DATA_DESTROY of a page. So do
 /// RMI_RTT_UNMAP_UNPROTECTED of a mapping, and RMI_RTT_DESTROY of a table without live entries. RMI_REALM_DESTROY succeeds
-/// for a realm without RECs and live entries, and RMI_GRANULE_UNDELEGATE for a DELEGATED granule. What a realm had until
-/// its RMI_REALM_DESTROY is DELEGATED and zero.
+/// for a realm without RECs and live entries, and RMI_GRANULE_UNDELEGATE for a DELEGATED granule, which is UNDELEGATED and
+/// zero then. What a realm had until its RMI_REALM_DESTROY is its RD and its starting tables, which are DELEGATED and zero.
 pub fn teardown_steps_succeed()
     ensures recs { (m : Machine) (rec : ℕ) → is_rec_named m rec ≡ true → is_running (rec_at m rec).state ≡ false → (performed (RecDestroy rec) m).0.word ≡ Success }
     ensures pages { (m : Machine) (rd ipa address : ℕ) (ripas : RmmRipas) → IsProper m → rd_named m rd ≡ Some (number_of m rd) → ipa % 4096 ≡ 0 → is_protected (realm_at m rd) ipa ≡ true
@@ -146,8 +147,12 @@ pub fn teardown_steps_succeed()
         → has_live_table m (realm_at m rd).first_table (realm_at m rd).table_count ≡ false → (performed (RealmDestroy rd) m).0.word ≡ Success }
     ensures granules { (m : Machine) (address : ℕ) → address % 4096 ≡ 0 → is_inside m address ≡ true → (granule_at m (number_of m address)).state ≡ Delegated
         → (performed (GranuleUndelegate address) m).0.word ≡ Success }
+    ensures undelegated { (m : Machine) (address : ℕ) → IsProper m → (performed (GranuleUndelegate address) m).0.word ≡ Success → (granule_at (performed (GranuleUndelegate address) m).1 (number_of m address) ≡ of_no_realm Undelegated)
+        × (page_in (performed (GranuleUndelegate address) m).1 (number_of m address) ≡ zero_page) }
     ensures nothing_left { (m : Machine) (rd granule : ℕ) → IsProper m → (performed (RealmDestroy rd) m).0.word ≡ Success → IsOfRealm m (Some (number_of m rd)) granule
         → (granule_at (performed (RealmDestroy rd) m).1 granule ≡ of_no_realm Delegated) × (page_in (performed (RealmDestroy rd) m).1 granule ≡ zero_page) }
+    ensures nothing_else { (m : Machine) (rd granule : ℕ) → IsProper m → (performed (RealmDestroy rd) m).0.word ≡ Success → IsOfRealm m (Some (number_of m rd)) granule
+        → (granule ≡ number_of m rd) ⊎ (((realm_at m rd).first_table ≤ granule) × (granule < (realm_at m rd).first_table + (realm_at m rd).table_count)) }
 {}
 
 /// Other realms stay: a call leaves each granule as it was, but for those of the realm that it is on, and UNDELEGATED
@@ -165,13 +170,16 @@ pub fn other_realms_stay()
 {}
 
 /// Machines that wrong definitions would lead to are refused: RTT_DESTROY leaves the entry of the table. A call maps a
-/// page that is mapped already. REC_DESTROY leaves the count of its realm. REALM_DESTROY removes the RD of a granule. A
+/// page that is mapped already. REC_DESTROY leaves the count of its realm. REALM_DESTROY leaves a granule of the realm. A
 /// granule becomes DELEGATED and is not wiped.
 pub fn mistakes_are_refused()
     ensures entry_left { (m : Machine) (rd table i g : ℕ) → IsProper m → IsTableOf m rd table → i < 512 → table_below m (entry_in_page (page_in m table) i) ≡ Some g → IsProper (with_blank m g Delegated) → ⊥ }
-    ensures named_twice { (m : Machine) (rd s x i y j address : ℕ) (a b : RmmRipas) → IsProper m → IsTableOf m rd x → IsTableOf m s y → i < 512 → j < 512
-        → entry_in_page (page_in m x) i ≡ Assigned a address → entry_in_page (page_in m y) j ≡ Assigned b address → (x ≡ y) × (i ≡ j) }
-    ensures rec_still_counted { (m : Machine) (g : ℕ) (rec : RmmRec) → IsProper m → (granule_at m g).state ≡ Rec rec → IsProper (with_blank m g Delegated) → ⊥ }
-    ensures owner_removed { (m : Machine) (rd g : ℕ) → IsProper m → (granule_at m g).owner ≡ Some rd → IsProper (with_blank m rd Delegated) → ⊥ }
+    ensures named_twice { (m : Machine) (proper : IsProper m) (rd s x i p y j q address other : ℕ) (a b : RmmRipas) → IsTableOf m rd x → IsTableOf m s y → i < 512 → j < 512
+        → entry_in_page (page_in m x) i ≡ Assigned a address → entry_in_page (page_in m y) j ≡ Assigned b other → p < page_count (proper.linked.level x) → q < page_count (proper.linked.level y)
+        → address + p * 4096 ≡ other + q * 4096 → (x ≡ y) × (i ≡ j) × (p ≡ q) }
+    ensures rec_still_counted { (m : Machine) (g : ℕ) (rec : RmmRec) → IsProper m → (granule_at m g).state ≡ Rec rec
+        → IsProper (with_blank (with_aux m g (of_no_realm Delegated) m.settings.aux) g Delegated) → ⊥ }
+    ensures owner_removed { (m : Machine) (rd g : ℕ) (realm : RmmRealm) → IsProper m → (granule_at m rd).state ≡ Rd realm → (granule_at m g).owner ≡ Some rd
+        → ((k : ℕ) → k < realm.table_count → g ≢ realm.first_table + k) → IsProper (with_blank (without_tables m realm realm.table_count) rd Delegated) → ⊥ }
     ensures wipe_left_out { (m : Machine) (g : ℕ) → IsProper m → (granule_at m g).state ≡ Delegated → page_in m g ≡ zero_page }
 {}
