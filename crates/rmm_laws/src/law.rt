@@ -73,8 +73,8 @@ pub fn granules_have_one_role()
         → (x ≡ y) × (i ≡ j) × (k ≡ l) }
 {}
 
-/// A walk ends at a table of its realm that serves the address: at the level that it goes to, or at an entry that is no
-/// TABLE.
+/// A walk that goes to the level of the starting tables, or below, ends at a table of its realm that serves the address:
+/// at the level that it goes to, or at an entry that is no TABLE.
 pub fn walks_end()
     ensures { (m : Machine) (rd ipa level : ℕ) (realm : RmmRealm) (proper : IsProper m) → (granule_at m rd).state ≡ Rd realm → ipa < 2 ^ realm.s2sz → realm.start_level ≤ level
         → EndsWell m proper.linked.level rd realm ipa level (walk m realm ipa level) }
