@@ -18,6 +18,7 @@ ghost use Rattle.rmm_model.specs.declared.realm.RmmRealm.{RmmRealm};
 ghost use Rattle.rmm_model.specs.declared.entry.RmmRipas.{RmmRipas};
 ghost use Rattle.rmm_model.specs.declared.rec.RmmRec.{RmmRec};
 ghost use Rattle.rmm_model.specs.Call.{performed, rmi};
+ghost use Rattle.rmm_model.specs.Entry.{is_live};
 ghost use Rattle.rmm_model.specs.Granule.{of_no_realm, of_realm};
 ghost use Rattle.rmm_model.specs.Guest.{is_rec_named, queued};
 ghost use Rattle.rmm_model.specs.Level.{entry_size};
@@ -38,6 +39,7 @@ ghost use Rattle.rmm_laws.specs.Owner.{is_rec_in};
 ghost use Rattle.rmm_laws.specs.Proper.{IsProper};
 ghost use Rattle.rmm_laws.specs.Refusal.{IsRefused, IsRecEnter, IsNotQueued, IsNotRunning, IsAccess, IsNotDone};
 ghost use Rattle.rmm_laws.specs.Role.{Used, uses, IsSound};
+ghost use Rattle.rmm_laws.specs.Step.{HasNextStep};
 ghost use Rattle.rmm_laws.specs.Walk.{IsTableOf, Serves, EndsWell, IsDeadAt, IsAtLive, LeadsToTable, walked_to};
 
 /// What is refused changes nothing: calls by registers, and the host's stores and fills. So do steps that no REC takes,
@@ -128,8 +130,8 @@ pub fn tops_are_complete()
 
 /// Steps of a teardown succeed: RMI_REC_DESTROY of a REC that does not run, and RMI_DATA_DESTROY of a page. So do
 /// RMI_RTT_UNMAP_UNPROTECTED of a mapping, and RMI_RTT_DESTROY of a table without live entries. RMI_REALM_DESTROY succeeds
-/// for a realm without RECs and live entries, and RMI_GRANULE_UNDELEGATE for a DELEGATED granule. What a realm had until
-/// its RMI_REALM_DESTROY is DELEGATED and zero.
+/// for a realm without RECs and live entries, and RMI_GRANULE_UNDELEGATE for a DELEGATED granule. While an entry of a
+/// realm is live, there is a step that succeeds. What a realm had until its RMI_REALM_DESTROY is DELEGATED and zero.
 pub fn teardown_steps_succeed()
     ensures recs { (m : Machine) (rec : ℕ) → is_rec_named m rec ≡ true → is_running (rec_at m rec).state ≡ false → (performed (RecDestroy rec) m).0.word ≡ Success }
     ensures pages { (m : Machine) (rd ipa address : ℕ) (ripas : RmmRipas) → IsProper m → rd_named m rd ≡ Some (number_of m rd) → ipa % 4096 ≡ 0 → is_protected (realm_at m rd) ipa ≡ true
@@ -144,6 +146,8 @@ pub fn teardown_steps_succeed()
         → has_live_table m (realm_at m rd).first_table (realm_at m rd).table_count ≡ false → (performed (RealmDestroy rd) m).0.word ≡ Success }
     ensures granules { (m : Machine) (address : ℕ) → address % 4096 ≡ 0 → is_inside m address ≡ true → (granule_at m (number_of m address)).state ≡ Delegated
         → (performed (GranuleUndelegate address) m).0.word ≡ Success }
+    ensures next { (m : Machine) (rd spare table i : ℕ) → IsProper m → rd_named m rd ≡ Some (number_of m rd) → spare % 4096 ≡ 0 → is_inside m spare ≡ true → (granule_at m (number_of m spare)).state ≡ Delegated
+        → IsTableOf m (number_of m rd) table → i < 512 → is_live (entry_in_page (page_in m table) i) ≡ true → HasNextStep m rd spare }
     ensures nothing_left { (m : Machine) (rd granule : ℕ) → IsProper m → (performed (RealmDestroy rd) m).0.word ≡ Success → IsOfRealm m (Some (number_of m rd)) granule
         → (granule_at (performed (RealmDestroy rd) m).1 granule ≡ of_no_realm Delegated) × (page_in (performed (RealmDestroy rd) m).1 granule ≡ zero_page) }
 {}

@@ -1,3 +1,4 @@
+use Rattle.rmm_laws.proofs.Steps.{next_step}
 use Rattle.rmm_laws.proofs.Teardown.{rec_step, page_step, mapping_step, table_step, realm_step, granule_step, nothing_left}
 use Rattle.rmm_laws.proofs.law.teardown_steps_succeed.Goals as goal
 
@@ -21,3 +22,6 @@ returns-clause-granules c = granule_step
 
 pub returns-clause-nothing_left : goal.returns-clause-nothing_left
 returns-clause-nothing_left c = nothing_left
+
+pub returns-clause-next : goal.returns-clause-next
+returns-clause-next c = λ m rd spare table i proper named aligned inside free there index live. next_step m proper rd spare named aligned inside free table i there index live
