@@ -1,5 +1,5 @@
 -- A realm with a live entry has a next step of its teardown.
-use Rattle.std.proofs.Common.{◌≡◌, ◌≢◌, ℕ, zero, suc, ◌+◌, ◌-◌, ◌*◌, ◌/◌, ◌%◌, ◌^◌, ◌<◌, ◌≤◌, ◌⊎◌, ◌==◌, ◌&&◌, Bool, true, false, not, List, Option, Some, None, refl, sym, ap, subst, ◌∙◌, ⊎_elim, arith}
+use Rattle.std.proofs.Common.{◌≡◌, ◌≢◌, ℕ, zero, suc, ◌+◌, ◌-◌, ◌*◌, ◌/◌, ◌%◌, ◌^◌, ◌<◌, ◌≤◌, ◌==◌, Bool, true, false, not, List, Some, refl, sym, ap, subst, ◌∙◌, ⊎_elim, arith}
 use Rattle.std.specs.Prelude.{nat_le}
 use Rattle.std.proofs.lemmas.Bool.{cases_Bool, cases_eq, cases_lt, and_from, eq-eqb, le-leb, lt-ltb, le-ltb, both_ways}
 use Rattle.rmi_abi.specs.declared.call.Call.TheVariants.{DataDestroy, RttCreate, RttDestroy, RttUnmapUnprotected}
@@ -14,9 +14,9 @@ use Rattle.rmm_model.specs.Call.{performed}
 use Rattle.rmm_model.specs.Entry.{is_live, is_table, is_assigned_ns}
 use Rattle.rmm_model.specs.Granule.{is_delegated}
 use Rattle.rmm_model.specs.Level.{entry_size, entry_index}
-use Rattle.rmm_model.specs.Machine.{Machine, granule_at, page_in, is_aligned, is_inside, number_of, state_at}
-use Rattle.rmm_model.specs.Realm.{is_in_space, is_protected, is_unprotected}
-use Rattle.rmm_model.specs.Table.{entry_in_page, first_live, first_live_from, has_live}
+use Rattle.rmm_model.specs.Machine.{Machine, granule_at, page_in, is_inside, number_of, state_at}
+use Rattle.rmm_model.specs.Realm.{is_in_space, is_protected}
+use Rattle.rmm_model.specs.Table.{entry_in_page, first_live, has_live}
 use Rattle.rmm_model.specs.Walk.{entry_at, table_below, walk}
 use Rattle.rmm_model.specs.Command.Operand.{realm_at, is_level}
 use Rattle.rmm_model.specs.Command.RttCreate.{rtt_create}
@@ -199,8 +199,8 @@ module _ (m : Machine) (proper : IsProper m) (rd spare : ℕ) (named : rd_named 
           RttCreate rd spare ipa (l + 1),
           (refl, refl),
           block_step m rd spare ipa (l + 1) named spare_aligned spare_inside spare_free (omega arith) (omega arith) (subst (λ (n : ℕ). ipa % entry_size n ≡ 0) (sym back) address.2) within
-          (subst (λ (n : ℕ). (walk m realm ipa n).level ≡ n) (sym back) reaches)
-          (subst (λ (n : ℕ). is_table (entry_at m (walk m realm ipa n) ipa) ≡ false) (sym back) (ap is_table entry_is ∙ leaf)),
+              (subst (λ (n : ℕ). (walk m realm ipa n).level ≡ n) (sym back) reaches)
+              (subst (λ (n : ℕ). is_table (entry_at m (walk m realm ipa n) ipa) ≡ false) (sym back) (ap is_table entry_is ∙ leaf)),
         )
 
     destroy_step : (child : ℕ) → table_below m (entry_in_page (page_in m table) i) ≡ Some child → ipa < 2 ^ realm.s2sz → has_live (page_in m child) ≡ false → HasNextStep m rd spare
@@ -211,8 +211,8 @@ module _ (m : Machine) (proper : IsProper m) (rd spare : ℕ) (named : rd_named 
           RttDestroy rd ipa (l + 1),
           refl,
           table_step m rd ipa (l + 1) child named (omega arith) most (subst (λ (n : ℕ). ipa % entry_size n ≡ 0) (sym back) address.2) within
-          (subst (λ (n : ℕ). (walk m realm ipa n).level ≡ n) (sym back) reaches)
-          (subst (λ (n : ℕ). table_below m (entry_at m (walk m realm ipa n) ipa) ≡ Some child) (sym back) (ap (table_below m) entry_is ∙ leads)) dead,
+              (subst (λ (n : ℕ). (walk m realm ipa n).level ≡ n) (sym back) reaches)
+              (subst (λ (n : ℕ). table_below m (entry_at m (walk m realm ipa n) ipa) ≡ Some child) (sym back) (ap (table_below m) entry_is ∙ leads)) dead,
         )
 
     page_size : l ≡ 3 → ipa % 4096 ≡ 0
@@ -232,15 +232,15 @@ module _ (m : Machine) (proper : IsProper m) (rd spare : ℕ) (named : rd_named 
           DataDestroy rd ipa,
           refl,
           page_step m rd ipa a ripas proper named (page_size deepest) (lt-ltb ipa (2 ^ (realm.s2sz - 1)) kind) (subst (λ (n : ℕ). (walk m realm ipa n).level ≡ n) deepest reaches)
-          (subst (λ (n : ℕ). entry_at m (walk m realm ipa n) ipa ≡ Assigned ripas a) deepest (entry_is ∙ at)),
+              (subst (λ (n : ℕ). entry_at m (walk m realm ipa n) ipa ≡ Assigned ripas a) deepest (entry_is ∙ at)),
         ))
         (cases_lt l 3)
     step_by (AssignedNs desc) at live kind leads rest = (
       RttUnmapUnprotected rd ipa l,
       refl,
       mapping_step m rd ipa l desc named
-      (subst (λ (n : ℕ). m.settings.block_level ≤ n) at_place.1 (proper.ordered.halves.is.block table i at_place.0 index (ap is_assigned_ns at))) (omega arith) few address.2
-      (and_from (not (is_protected realm ipa)) (is_in_space realm ipa) (ap not (le-ltb ipa (2 ^ (realm.s2sz - 1)) kind.0)) (lt-ltb ipa (2 ^ realm.s2sz) kind.1)) reaches (entry_is ∙ at),
+          (subst (λ (n : ℕ). m.settings.block_level ≤ n) at_place.1 (proper.ordered.halves.is.block table i at_place.0 index (ap is_assigned_ns at))) (omega arith) few address.2
+          (and_from (not (is_protected realm ipa)) (is_in_space realm ipa) (ap not (le-ltb ipa (2 ^ (realm.s2sz - 1)) kind.0)) (lt-ltb ipa (2 ^ realm.s2sz) kind.1)) reaches (entry_is ∙ at),
     )
     step_by (Table a) at live kind leads rest =
         let below : table_below m (entry_in_page (page_in m table) i) ≡ Some (number_of m a) = ap (table_below m) at ∙ named_inside m a leads.0 in
