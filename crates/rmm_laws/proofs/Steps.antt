@@ -1,8 +1,8 @@
 -- A realm with a live entry has a next step of its teardown.
-use Rattle.std.proofs.Common.{◌≡◌, ◌≢◌, ℕ, zero, suc, ◌+◌, ◌-◌, ◌*◌, ◌/◌, ◌%◌, ◌^◌, ◌<◌, ◌≤◌, ◌==◌, Bool, true, false, not, List, Some, refl, sym, ap, subst, ◌∙◌, ⊎_elim, arith}
+use Rattle.std.proofs.Common.{◌≡◌, ◌≢◌, ℕ, zero, suc, ◌+◌, ◌-◌, ◌*◌, ◌/◌, ◌%◌, ◌^◌, ◌<◌, ◌≤◌, ◌==◌, Bool, true, false, not, List, Some, refl, sym, ap, subst, ◌∙◌, ⊎_elim, arith, ◌⊎◌, ◌||◌, inl, inr}
 use Rattle.std.specs.Prelude.{nat_le}
 use Rattle.std.proofs.lemmas.Bool.{cases_Bool, cases_eq, cases_lt, and_from, eq-eqb, le-leb, lt-ltb, le-ltb, both_ways}
-use Rattle.rmi_abi.specs.declared.call.Call.TheVariants.{DataDestroy, RttCreate, RttDestroy, RttUnmapUnprotected}
+use Rattle.rmi_abi.specs.declared.call.Call.TheVariants.{DataDestroy, RealmDestroy, RttCreate, RttDestroy, RttUnmapUnprotected}
 use Rattle.rmi_abi.specs.declared.word.Word.TheVariants.{Success}
 use Rattle.rmm_model.specs.declared.entry.RmmRttEntry.{RmmRttEntry}
 use Rattle.rmm_model.specs.declared.entry.RmmRttEntry.TheVariants.{Unassigned, Assigned, Table, UnassignedNs, AssignedNs}
@@ -19,9 +19,11 @@ use Rattle.rmm_model.specs.Realm.{is_in_space, is_protected}
 use Rattle.rmm_model.specs.Table.{entry_in_page, first_live, has_live}
 use Rattle.rmm_model.specs.Walk.{entry_at, table_below, walk}
 use Rattle.rmm_model.specs.Command.Operand.{realm_at, is_level}
+use Rattle.rmm_model.specs.Command.RealmDestroy.{has_live_table}
 use Rattle.rmm_model.specs.Command.RttCreate.{rtt_create}
 use Rattle.rmm_laws.specs.Apart.{rd_named}
 use Rattle.rmm_laws.specs.Half.{IsOfHalf, HasHalves}
+use Rattle.rmm_laws.specs.Owner.{is_rec_in}
 use Rattle.rmm_laws.specs.Proper.{IsProper}
 use Rattle.rmm_laws.specs.Role.{IsLinked, LeadsInside}
 use Rattle.rmm_laws.specs.Step.{HasNextStep}
@@ -32,7 +34,7 @@ use Rattle.rmm_laws.proofs.Passed.{realm_of-some}
 use Rattle.rmm_laws.proofs.Reaching.{IsServer, serves_some, reached}
 use Rattle.rmm_laws.proofs.Seats.{start_table, child_table}
 use Rattle.rmm_laws.proofs.Serving.{level_cases}
-use Rattle.rmm_laws.proofs.Teardown.{own_word, no_more, rd_tests, page_step, mapping_step, table_step}
+use Rattle.rmm_laws.proofs.Teardown.{own_word, no_more, rd_tests, page_step, mapping_step, table_step, realm_step}
 use Rattle.rmm_laws.proofs.Tops.{first_live-live, first_live-most}
 use Rattle.rmm_laws.proofs.Walks.{IsPlace, next}
 
@@ -146,6 +148,26 @@ live_entry page some =
     (λ (inner : first_live page 512 0 ≢ 512).
     (first_live page 512 0, omega arith, ⊎_elim (λ (live : is_live (entry_in_page page (first_live page 512 0)) ≡ true). live) (λ (end : first_live page 512 0 ≡ 0 + 512). absurd (inner (omega arith))) (first_live-live page 512 0)))
     (cases_eq (first_live page 512 0) 512)
+
+or_right : (a b : Bool) → a ≡ false → (a || b) ≡ true → b ≡ true
+or_right true b never some = absurd (cc)
+or_right false b never some = some
+
+-- a starting table with a live entry
+live_start : (m : Machine) (first count : ℕ) → has_live_table m first count ≡ true → (k : ℕ) × (k < count) × (has_live (page_in m (first + k)) ≡ true)
+unfolding has_live_table
+live_start m first zero some = absurd (cc)
+live_start m first (suc count) some =
+    ⊎_elim
+    (λ (live : has_live (page_in m first) ≡ true).
+    let here : first ≡ first + 0 = omega arith in
+    (0, omega arith, subst (λ (g : ℕ). has_live (page_in m g) ≡ true) here live))
+    (λ (dead : has_live (page_in m first) ≡ false).
+    let rest = live_start m (first + 1) count (or_right (has_live (page_in m first)) (has_live_table m (first + 1) count) dead some) in
+    let within = rest.1 in
+    let next_one : first + 1 + rest.0 ≡ first + suc rest.0 = omega arith in
+    (suc rest.0, omega arith, subst (λ (g : ℕ). has_live (page_in m g) ≡ true) next_one rest.2))
+    (cases_Bool (has_live (page_in m first)))
 
 -- ---- the next step
 
@@ -264,3 +286,14 @@ module _ (m : Machine) (proper : IsProper m) (rd spare : ℕ) (named : rd_named 
 
   pub next_step : (table i : ℕ) → IsTableOf m (number_of m rd) table → i < 512 → is_live (entry_in_page (page_in m table) i) ≡ true → HasNextStep m rd spare
   next_step table i there index live = next_from 4 table i (omega arith) there index live
+
+  -- a realm without RECs has a next step, or it can be destroyed
+  pub step_or_end : ((g : ℕ) → is_rec_in (number_of m rd) (granule_at m g) ≡ false) → HasNextStep m rd spare ⊎ ((performed (RealmDestroy rd) m).0.word ≡ Success)
+  step_or_end no_rec =
+      ⊎_elim
+      (λ (some : has_live_table m realm.first_table realm.table_count ≡ true).
+      let start = live_start m realm.first_table realm.table_count some in
+      let entry = live_entry (page_in m (realm.first_table + start.0)) start.2 in
+      inl (next_step (realm.first_table + start.0) entry.0 (start_table m proper.linked (number_of m rd) start.0 realm is start.1) entry.1 entry.2))
+      (λ (dead : has_live_table m realm.first_table realm.table_count ≡ false). inr (realm_step m rd proper named no_rec dead))
+      (cases_Bool (has_live_table m realm.first_table realm.table_count))
