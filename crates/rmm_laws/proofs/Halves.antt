@@ -4,6 +4,7 @@ use Rattle.std.proofs.lemmas.List.{length-set}
 use Rattle.std.proofs.lemmas.Bool.{cases_eq, both_ways}
 use Rattle.page_arena.specs.Word.{word_of_page, page_with_word}
 use Rattle.page_arena.specs.Words.{word_of_page-page_with_word_same, word_of_page-page_with_word_other}
+use Rattle.rmi_abi.specs.declared.settings.RmmSettings.{RmmSettings}
 use Rattle.rmm_model.specs.declared.entry.RmmRipas.TheVariants.{Empty, Ram, Destroyed}
 use Rattle.rmm_model.specs.declared.entry.RmmRttEntry.{RmmRttEntry}
 use Rattle.rmm_model.specs.declared.entry.RmmRttEntry.TheVariants.{Unassigned, Assigned, Table, UnassignedNs, AssignedNs}
@@ -11,7 +12,7 @@ use Rattle.rmm_model.specs.declared.granule.RmmGranule.{RmmGranule}
 use Rattle.rmm_model.specs.declared.granule.RmmGranuleState.{RmmGranuleState}
 use Rattle.rmm_model.specs.declared.granule.RmmGranuleState.TheVariants.{Rd, Rtt}
 use Rattle.rmm_model.specs.declared.realm.RmmRealm.{RmmRealm}
-use Rattle.rmm_model.specs.Entry.{entry_of, entry_at_kind, entry_word, is_table}
+use Rattle.rmm_model.specs.Entry.{entry_of, entry_at_kind, entry_word, is_table, is_assigned_ns}
 use Rattle.rmm_model.specs.Granule.{of_no_realm, of_realm, realm_of}
 use Rattle.rmm_model.specs.Level.{entry_size}
 use Rattle.rmm_model.specs.Machine.{Machine, granule_at, page_in, with_granule, with_page, with_word, with_vmid}
@@ -114,6 +115,12 @@ module _ (m n : Machine) (step : HasNoMore m n) (level place : ℕ → ℕ) (hal
       subst (λ (p : List ℕ). IsOfHalf realm ipa (entry_in_page p i)) (sym same.1)
       (half_space realm was.0 ipa (entry_in_page (page_in m table) i) was.2.0 (halved.half rd table i ipa was.0 was.1 (sym same.0 ∙ owned) lt covers))
 
+  block_then : (table i : ℕ) → (granule_at n table).state ≡ Rtt → i < 512 → is_assigned_ns (entry_in_page (page_in n table) i) ≡ true → n.settings.block_level ≤ level table
+  block_then table i is lt mapped =
+      let was = step.tables table is in
+      subst (λ (s : RmmSettings). s.block_level ≤ level table) (sym step.settings)
+      (halved.block table i (sym (ap (λ (r : RmmGranule). r.state) was.0) ∙ is) lt (sym (ap (λ (p : List ℕ). is_assigned_ns (entry_in_page p i)) was.1) ∙ mapped))
+
   pub no_more_halved : IsHalved n level place
   no_more_halved = record {
     wide = λ rd realm is.
@@ -123,6 +130,7 @@ module _ (m n : Machine) (step : HasNoMore m n) (level place : ℕ → ℕ) (hal
     start = start_then;
     below = below_then;
     half = half_then;
+    block = block_then;
   }
 
 -- ---- the page of a table
@@ -132,9 +140,10 @@ abbrev pub Fits : Machine → (ℕ → ℕ) → (ℕ → ℕ) → ℕ → ℕ �
 Fits m level place table i e =
     ((rd ipa : ℕ) (realm : RmmRealm) → (granule_at m rd).state ≡ Rd realm → granule_at m table ≡ of_realm rd Rtt → ipa / entry_size (level table) ≡ place table * 512 + i → IsOfHalf realm ipa e)
     × ((child : ℕ) → table_below m e ≡ Some child → (level child ≡ level table + 1) × (place child ≡ place table * 512 + i))
+    × (is_assigned_ns e ≡ true → m.settings.block_level ≤ level table)
 
 pub fits_before : (m : Machine) (level place : ℕ → ℕ) → IsHalved m level place → (table i : ℕ) → (granule_at m table).state ≡ Rtt → i < 512 → Fits m level place table i (entry_in_page (page_in m table) i)
-fits_before m level place halved table i is lt = (λ rd ipa realm there owned covers. halved.half rd table i ipa realm there owned lt covers, λ child leads. halved.below table i child is lt leads)
+fits_before m level place halved table i is lt = (λ rd ipa realm there owned covers. halved.half rd table i ipa realm there owned lt covers, λ child leads. halved.below table i child is lt leads, λ mapped. halved.block table i is lt mapped)
 
 module _ (m : Machine) (table : ℕ) (page : List ℕ) (level place : ℕ → ℕ) (halved : IsHalved m level place)
     (fits : (i : ℕ) → i < 512 → Fits m level place table i (entry_in_page (page_in (with_page m table page) table) i)) where
@@ -167,6 +176,10 @@ module _ (m : Machine) (table : ℕ) (page : List ℕ) (level place : ℕ → �
     start = halved.start;
     below = λ t i child is lt leads. below_at t i child is lt (sym (below_same m n refl refl (entry_in_page (page_in n t) i)) ∙ leads);
     half = half_at;
+    block = λ t i is lt mapped. ⊎_elim
+        (λ (here : t ≡ table). subst (λ (x : ℕ). m.settings.block_level ≤ level x) (sym here) ((fits i lt).2 (subst (λ (x : ℕ). is_assigned_ns (entry_in_page (page_in n x) i) ≡ true) here mapped)))
+        (λ (other : t ≢ table). halved.block t i is lt (sym (ap (λ (p : List ℕ). is_assigned_ns (entry_in_page p i)) (page_in-other m table t page other)) ∙ mapped))
+        (cases_eq t table);
   }
 
 -- ---- single writes
@@ -277,6 +290,16 @@ no_below m UnassignedNs never = refl
 no_below m (AssignedNs desc) never = refl
 no_below m (Table address) never = absurd (cc)
 
+ns_kind : (e : RmmRttEntry) → is_assigned_ns (kind_of e) ≡ is_assigned_ns e
+ns_kind (Unassigned ripas) = refl
+ns_kind (Assigned ripas address) = refl
+ns_kind UnassignedNs = refl
+ns_kind (AssignedNs desc) = refl
+ns_kind (Table address) = refl
+
+pub ns_alike : (a b : RmmRttEntry) → kind_of a ≡ kind_of b → is_assigned_ns a ≡ is_assigned_ns b
+ns_alike a b same = sym (ns_kind a) ∙ ap is_assigned_ns same ∙ ns_kind b
+
 -- an entry of the kind of one that is no TABLE leads to no table
 pub none_below : (m : Machine) (a b : RmmRttEntry) → kind_of a ≡ kind_of b → is_table b ≡ false → table_below m a ≡ None
 none_below m a b same never = no_below m a (sym (table_kind a) ∙ ap is_table same ∙ table_kind b ∙ never)
@@ -317,16 +340,18 @@ entry_halved m t i e inside whole index table halves fits =
 
 -- an entry that is no TABLE
 pub leaf_halved : (m : Machine) (t i : ℕ) (e : RmmRttEntry) → t < length m.pages → length (page_in m t) ≡ 4096 → i < 512 → (granule_at m t).state ≡ Rtt → is_table e ≡ false → (halves : HasHalves m)
+    → (is_assigned_ns e ≡ true → m.settings.block_level ≤ halves.level t)
     → ((rd ipa : ℕ) (realm : RmmRealm) → (granule_at m rd).state ≡ Rd realm → granule_at m t ≡ of_realm rd Rtt → ipa / entry_size (halves.level t) ≡ halves.place t * 512 + i → IsOfHalf realm ipa e)
     → HasHalves (with_word m t i (entry_word e))
-leaf_halved m t i e inside whole index table leaf halves half =
+leaf_halved m t i e inside whole index table leaf halves block half =
     entry_halved m t i e inside whole index table halves (
       λ rd ipa realm is owned covers. half_alike realm ipa e (entry_of (entry_word e)) (sym (word_kind e)) (half rd ipa realm is owned covers),
       λ child leads. (let none = none_below m (entry_of (entry_word e)) e (word_kind e) leaf in absurd (cc)),
+      λ mapped. block (sym (ns_alike (entry_of (entry_word e)) e (word_kind e)) ∙ mapped),
     )
 
 -- an entry of the half of the one that was there
 pub alike_halved : (m : Machine) (t i : ℕ) (e : RmmRttEntry) → t < length m.pages → length (page_in m t) ≡ 4096 → i < 512 → (granule_at m t).state ≡ Rtt → is_table e ≡ false → HasHalves m
-    → ((ipa : ℕ) (realm : RmmRealm) → IsOfHalf realm ipa (entry_in_page (page_in m t) i) → IsOfHalf realm ipa e) → HasHalves (with_word m t i (entry_word e))
-alike_halved m t i e inside whole index table leaf halves same =
-    leaf_halved m t i e inside whole index table leaf halves (λ rd ipa realm is owned covers. same ipa realm (halves.is.half rd t i ipa realm is owned index covers))
+    → is_assigned_ns e ≡ false → ((ipa : ℕ) (realm : RmmRealm) → IsOfHalf realm ipa (entry_in_page (page_in m t) i) → IsOfHalf realm ipa e) → HasHalves (with_word m t i (entry_word e))
+alike_halved m t i e inside whole index table leaf halves none same =
+    leaf_halved m t i e inside whole index table leaf halves (λ mapped. absurd (both_ways (is_assigned_ns e) none mapped)) (λ rd ipa realm is owned covers. same ipa realm (halves.is.half rd t i ipa realm is owned index covers))

@@ -3,7 +3,7 @@ use Rattle.std.proofs.Common.{◌≡◌, ◌≢◌, ℕ, ◌+◌, ◌*◌, ◌/�
 use Rattle.std.specs.Int.{from_le_bytes, w64}
 use Rattle.std.specs.Prelude.{if◌then◌else◌}
 use Rattle.std.proofs.Common.{replicate}
-use Rattle.std.proofs.lemmas.Bool.{cases_eq, cases_lt, cond-true, cond-false, eq-eqb, ne_eqb}
+use Rattle.std.proofs.lemmas.Bool.{cases_eq, cases_lt, cond-true, cond-false, eq-eqb, ne_eqb, both_ways}
 use Rattle.std.proofs.lemmas.List.{length-set}
 use Rattle.granule_addr.specs.Page.{page_of, zero_page}
 use Rattle.page_arena.specs.Pages.{length-page_of}
@@ -16,7 +16,7 @@ use Rattle.rmm_model.specs.declared.granule.RmmGranule.{RmmGranule}
 use Rattle.rmm_model.specs.declared.granule.RmmGranuleState.TheVariants.{Delegated, Rd, Rtt}
 use Rattle.rmm_model.specs.declared.realm.RmmRealm.{RmmRealm}
 use Rattle.rmm_model.specs.declared.realm.RttWalk.{RttWalk}
-use Rattle.rmm_model.specs.Entry.{entry_of, entry_word, child_entry, entry_with_ripas, is_table}
+use Rattle.rmm_model.specs.Entry.{entry_of, entry_word, child_entry, entry_with_ripas, is_table, is_assigned_ns}
 use Rattle.rmm_model.specs.Granule.{of_realm}
 use Rattle.rmm_model.specs.Level.{entry_size, entry_index}
 use Rattle.rmm_model.specs.Machine.{Machine, granule_at, page_in, is_inside, number_of, with_granule, with_page}
@@ -28,7 +28,7 @@ use Rattle.rmm_laws.specs.Role.{IsLinked}
 use Rattle.rmm_laws.proofs.Children.{word_of_page-page_of, part_word}
 use Rattle.rmm_laws.proofs.Entries.{named_inside}
 use Rattle.rmm_laws.proofs.EntryWords.{entry_of-entry_word, entry_word-fits}
-use Rattle.rmm_laws.proofs.Halves.{kind_of, half_alike, word_kind, none_below, below_same, no_rtt, Fits, fits_before, page_halved, has_space, plain_both, entry_halved, leaf_halved, alike_halved}
+use Rattle.rmm_laws.proofs.Halves.{kind_of, half_alike, word_kind, none_below, ns_alike, below_same, no_rtt, Fits, fits_before, page_halved, has_space, plain_both, entry_halved, leaf_halved, alike_halved}
 use Rattle.rmm_laws.proofs.Mappings.{place_table, entry_changed, entry_kept}
 use Rattle.rmm_laws.proofs.PageWords.{word_of_page-with_words}
 use Rattle.rmm_laws.proofs.Passed.{some_same}
@@ -103,6 +103,7 @@ module _ (m : Machine) (linked : IsLinked m) (halves : HasHalves m) (t first cou
         λ rd ipa realm there owned covers. half_alike realm ipa (entry_in_page (page_in m t) j) (entry_with_ripas ripas (entry_in_page (page_in m t) j)) (sym (ripas_kind ripas (entry_in_page (page_in m t) j)))
             (before.0 rd ipa realm there owned covers),
         λ child leads. before.1 child (sym (ripas_below m ripas (entry_in_page (page_in m t) j)) ∙ leads),
+        λ mapped. before.2 (sym (ns_alike (entry_with_ripas ripas (entry_in_page (page_in m t) j)) (entry_in_page (page_in m t) j) (ripas_kind ripas (entry_in_page (page_in m t) j))) ∙ mapped),
       ))
       (λ (past : first + count ≤ j). kept (inr past))
       (cases_lt j (first + count)))
@@ -143,15 +144,16 @@ module _ (m : Machine) (linked : IsLinked m) (halves : HasHalves m) (rd ipa leve
   index : i < 512
   index = entry_index-few found.level ipa
 
-  pub entry_at_end : (e : RmmRttEntry) → is_table e ≡ false → ((x : ℕ) → x / entry_size (walk m realm ipa level).level ≡ ipa / entry_size (walk m realm ipa level).level → IsOfHalf realm x e)
+  pub entry_at_end : (e : RmmRttEntry) → is_table e ≡ false → (is_assigned_ns e ≡ true → m.settings.block_level ≤ (walk m realm ipa level).level)
+      → ((x : ℕ) → x / entry_size (walk m realm ipa level).level ≡ ipa / entry_size (walk m realm ipa level).level → IsOfHalf realm x e)
       → HasHalves (with_entry m (walk m realm ipa level) ipa e)
-  entry_at_end e leaf half =
-      leaf_halved m t i e has_page whole index table_is leaf halves (λ other x some there owned covers. at_seat m linked halves rd ipa realm is within level e half other x some there owned covers)
+  entry_at_end e leaf block half =
+      leaf_halved m t i e has_page whole index table_is leaf halves (λ mapped. subst (λ (l : ℕ). m.settings.block_level ≤ l) (sym (walk_seat m linked halves rd ipa realm is within level).depth) (block mapped)) (λ other x some there owned covers. at_seat m linked halves rd ipa realm is within level e half other x some there owned covers)
 
-  pub entry_alike : (e : RmmRttEntry) → is_table e ≡ false → ((x : ℕ) (some : RmmRealm) → IsOfHalf some x (entry_at m (walk m realm ipa level) ipa) → IsOfHalf some x e)
+  pub entry_alike : (e : RmmRttEntry) → is_table e ≡ false → is_assigned_ns e ≡ false → ((x : ℕ) (some : RmmRealm) → IsOfHalf some x (entry_at m (walk m realm ipa level) ipa) → IsOfHalf some x e)
       → HasHalves (with_entry m (walk m realm ipa level) ipa e)
   unfolding entry_at
-  entry_alike e leaf same = alike_halved m t i e has_page whole index table_is leaf halves same
+  entry_alike e leaf none same = alike_halved m t i e has_page whole index table_is leaf halves none same
 
   -- an entry, after a DELEGATED granule became one that is no table
   module _ (g : ℕ) (kept : RmmGranule) (content : List ℕ) (inside : g < length m.granules) (free : (granule_at m g).state ≡ Delegated) where
@@ -176,16 +178,17 @@ module _ (m : Machine) (linked : IsLinked m) (halves : HasHalves m) (rd ipa leve
     pub mid_halves : has_space kept.state ≡ false → HasHalves (with_page (with_granule m g kept) g content)
     mid_halves plain = plain_both m g kept content inside plain halves
 
-    pub entry_beside : (e : RmmRttEntry) → has_space kept.state ≡ false → is_table e ≡ false → ((x : ℕ) (some : RmmRealm) → IsOfHalf some x (entry_at m (walk m realm ipa level) ipa) → IsOfHalf some x e)
+    pub entry_beside : (e : RmmRttEntry) → has_space kept.state ≡ false → is_table e ≡ false → is_assigned_ns e ≡ false → ((x : ℕ) (some : RmmRealm) → IsOfHalf some x (entry_at m (walk m realm ipa level) ipa) → IsOfHalf some x e)
         → HasHalves (with_entry (with_page (with_granule m g kept) g content) (walk m realm ipa level) ipa e)
     unfolding entry_at
-    entry_beside e plain leaf same =
-        alike_halved mid t i e page_inside (ap (length {A = ℕ}) page_there ∙ whole) index (ap (λ (r : RmmGranule). r.state) table_there ∙ table_is) leaf (mid_halves plain)
+    entry_beside e plain leaf none same =
+        alike_halved mid t i e page_inside (ap (length {A = ℕ}) page_there ∙ whole) index (ap (λ (r : RmmGranule). r.state) table_there ∙ table_is) leaf (mid_halves plain) none
         (λ x some before. same x some (subst (λ (p : List ℕ). IsOfHalf some x (entry_in_page p i)) page_there before))
 
   -- the first entry of a table below, whose entries are all its children
   module _ (g to : ℕ) (named : table_below m (entry_at m (walk m realm ipa level) ipa) ≡ Some g) (few : (walk m realm ipa level).level ≤ 2) (leaf : is_table (entry_in_page (page_in m g) 0) ≡ false)
-      (parts : has_parts (page_in m g) (entry_in_page (page_in m g) 0) to 512 0 ≡ true) where
+      (parts : has_parts (page_in m g) (entry_in_page (page_in m g) 0) to 512 0 ≡ true)
+      (block : is_assigned_ns (entry_in_page (page_in m g) 0) ≡ true → m.settings.block_level ≤ (walk m realm ipa level).level) where
     part_kind : (j : ℕ) → j < 512 → kind_of (entry_in_page (page_in m g) j) ≡ kind_of (entry_in_page (page_in m g) 0)
     unfolding entry_in_page
     part_kind j lt =
@@ -198,7 +201,7 @@ module _ (m : Machine) (linked : IsLinked m) (halves : HasHalves m) (rd ipa leve
     entry_folded =
         let seat = walk_seat m linked halves rd ipa realm is within level in
         let below = halves.is.below t i g table_is index named in
-        leaf_halved m t i (entry_in_page (page_in m g) 0) has_page whole index table_is leaf halves (λ other x some there owned covers.
+        leaf_halved m t i (entry_in_page (page_in m g) 0) has_page whole index table_is leaf halves (λ mapped. subst (λ (l : ℕ). m.settings.block_level ≤ l) (sym seat.depth) (block mapped)) (λ other x some there owned covers.
         let l : ℕ = halves.level t in
         let depth = seat.depth in
         let j : ℕ = entry_index (halves.level t + 1) x in
@@ -316,8 +319,23 @@ module _ (m : Machine) (linked : IsLinked m) (halves : HasHalves m) (rd ipa leve
         (halves.is.half other table j x some was (sym same.0 ∙ owned) lt (ap (λ (l : ℕ). x / entry_size l) (sym at.0) ∙ covers ∙ ap (λ (p : ℕ). p * 512 + j) at.1)))
         (cases_eq table g)
 
+    block_made : (table j : ℕ) → (granule_at made table).state ≡ Rtt → j < 512 → is_assigned_ns (entry_in_page (page_in made table) j) ≡ true → m.settings.block_level ≤ deep table
+    unfolding entry_at
+    block_made table j there lt mapped =
+        ⊎_elim
+        (λ (here : table ≡ g).
+        let entry : entry_in_page (page_in made table) j ≡ entry_in_page content j = ap (λ (h : ℕ). entry_in_page (page_in made h) j) here ∙ ap (λ (p : List ℕ). entry_in_page p j) content_now in
+        let mapped_above : is_assigned_ns parent ≡ true = sym (ns_alike (entry_in_page content j) parent (children_kind parent to j lt)) ∙ sym (ap is_assigned_ns entry) ∙ mapped in
+        let high = halves.is.block t i table_is index mapped_above in
+        subst (λ (l : ℕ). m.settings.block_level ≤ l) (sym (ap deep here ∙ at_g.0)) (omega arith))
+        (λ (ne : table ≢ g).
+        let same = kept table ne in
+        subst (λ (l : ℕ). m.settings.block_level ≤ l) (sym (at_other table ne).0)
+        (halves.is.block table j (sym (ap (λ (r : RmmGranule). r.state) same.0) ∙ there) lt (sym (ap (λ (p : List ℕ). is_assigned_ns (entry_in_page p j)) same.1) ∙ mapped)))
+        (cases_eq table g)
+
     made_is : IsHalved made deep seat
-    made_is = record { wide = λ x some there. halves.is.wide x some (old_realm x some there); start = start_made; below = below_made; half = half_made }
+    made_is = record { wide = λ x some there. halves.is.wide x some (old_realm x some there); start = start_made; below = below_made; half = half_made; block = block_made }
 
     pub made_halves : HasHalves (with_page (with_granule m (number_of m rtt) (of_realm rd Rtt)) (number_of m rtt) (children_page (entry_at m (walk m realm ipa level) ipa) to))
     made_halves = record { level = deep; place = seat; is = made_is }
@@ -339,6 +357,9 @@ module _ (m : Machine) (linked : IsLinked m) (halves : HasHalves m) (rd ipa leve
                 ap deep (sym it) ∙ at_g.0 ∙ ap (λ (l : ℕ). l + 1) (sym at.0),
                 ap seat (sym it) ∙ at_g.1 ∙ ap (λ (p : ℕ). p * 512 + i) (sym at.1),
               ),
+          λ mapped.
+              let never : is_assigned_ns (entry_of (entry_word (Table rtt))) ≡ false = ns_alike (entry_of (entry_word (Table rtt))) (Table rtt) (word_kind (Table rtt)) in
+              absurd (both_ways (is_assigned_ns (entry_of (entry_word (Table rtt)))) never mapped),
         )
 
     pub table_halves : HasHalves (with_entry (with_page (with_granule m (number_of m rtt) (of_realm rd Rtt)) (number_of m rtt) (children_page (entry_at m (walk m realm ipa level) ipa) to)) (walk m realm ipa level) ipa (Table rtt))

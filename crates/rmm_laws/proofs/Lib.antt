@@ -33,6 +33,7 @@ pub mod Running
 pub mod Seats
 pub mod Serving
 pub mod Sides
+pub mod Steps
 pub mod Tables
 pub mod Teardown
 pub mod Tops

@@ -50,7 +50,7 @@ use Rattle.rmm_laws.proofs.Writes.{is_user, uses-plain, taken_inside, page_in-sa
 pub served : (m : Machine) (rd : ℕ) (realm : RmmRealm) → IsLinked m → (granule_at m rd).state ≡ Rd realm → IsServed (length m.granules) realm
 served m rd realm proper is = subst (λ (s : RmmGranuleState). IfSome (realm_of s) (IsServed (length m.granules))) is (proper.sound.tables.each rd)
 
-half : (s ipa : ℕ) → ipa < 2 ^ (s - 1) → ipa < 2 ^ s
+pub half : (s ipa : ℕ) → ipa < 2 ^ (s - 1) → ipa < 2 ^ s
 half s ipa lt =
     ⊎_elim
     (λ (some : 0 < s).

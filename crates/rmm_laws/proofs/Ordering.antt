@@ -1,7 +1,7 @@
 -- Commands keep the owners of granules, and the counts of RECs.
-use Rattle.std.proofs.Common.{◌≡◌, ◌≢◌, ℕ, ◌+◌, ◌-◌, ◌/◌, ◌%◌, ◌^◌, ◌<◌, ◌≤◌, ◌==◌, true, false, not, ◌&&◌, List, length, Option, Some, unwrap_or, refl, sym, ap, subst, ◌∙◌, arith}
+use Rattle.std.proofs.Common.{◌≡◌, ◌≢◌, ℕ, ◌+◌, ◌-◌, ◌/◌, ◌%◌, ◌^◌, ◌<◌, ◌≤◌, ◌==◌, true, false, not, ◌&&◌, List, length, Option, Some, unwrap_or, refl, sym, ap, subst, ◌∙◌, ⊎_elim, arith}
 use Rattle.std.specs.Prelude.{nat_le, is_some}
-use Rattle.std.proofs.lemmas.Bool.{and_parts, cond_both, eqb-true, leb-true, ltb-true, ltb-false, not-true}
+use Rattle.std.proofs.lemmas.Bool.{and_parts, and_from, both_ways, cases_lt, le-leb, cond_both, eqb-true, leb-true, ltb-true, ltb-false, not-true}
 use Rattle.std.proofs.lemmas.List.{length-set}
 use Rattle.granule_addr.specs.Page.{page_of, zero_page}
 use Rattle.rmm_model.specs.declared.entry.RmmRipas.TheVariants.{Ram, Destroyed}
@@ -12,7 +12,7 @@ use Rattle.rmm_model.specs.declared.granule.RmmGranuleState.{RmmGranuleState}
 use Rattle.rmm_model.specs.declared.granule.RmmGranuleState.TheVariants.{Undelegated, Delegated, Rd, Data, Rtt}
 use Rattle.rmm_model.specs.declared.realm.RmmRealm.{RmmRealm}
 use Rattle.rmm_model.specs.declared.realm.RttWalk.{RttWalk}
-use Rattle.rmm_model.specs.Entry.{is_table, is_unassigned, is_assigned_ns, ripas_in}
+use Rattle.rmm_model.specs.Entry.{is_table, is_unassigned, is_assigned_ns, is_mapping, ripas_in}
 use Rattle.rmm_model.specs.Granule.{of_no_realm, of_realm, is_undelegated, is_delegated}
 use Rattle.rmm_model.specs.Host.{is_host_page, can_access, can_fill, after_store, after_fill}
 use Rattle.rmm_model.specs.Level.{entry_index}
@@ -146,6 +146,7 @@ left_halves : (m : Machine) (linked : IsLinked m) → HasHalves m → (rd ipa le
 left_halves m linked halves rd ipa level realm is within least =
     entry_at_end m linked halves rd ipa level realm is within least (left_entry realm ipa)
     (cond_both (is_protected realm ipa) _ _ (λ (e : RmmRttEntry). is_table e ≡ false) (λ sure. refl) (λ never. refl))
+    (λ mapped. absurd (both_ways (is_assigned_ns (left_entry realm ipa)) (cond_both (is_protected realm ipa) _ _ (λ (e : RmmRttEntry). is_assigned_ns e ≡ false) (λ sure. refl) (λ never. refl)) mapped))
     (λ x same. cond_both (is_protected realm ipa) (Unassigned Destroyed) UnassignedNs (IsOfHalf realm x)
     (λ sure. in_half m linked halves rd ipa realm is within level x same (ltb-true _ _ sure))
     (λ never. in_upper m linked halves rd ipa realm is within level x same (ltb-false _ _ never)))
@@ -159,6 +160,21 @@ rtt_destroy_ordered rd ipa level m proper ok =
     let within : ipa < 2 ^ realm.s2sz = ltb-true _ _ (yes_from (is_in_space realm ipa) ok.1.1.1.1.1.0) in
     table_freed m proper rd ipa (level - 1) is within (omega arith) (yes_from _ ok.1.1.1.1.1.1.1.0) _
     (left_halves m proper.linked proper.ordered.halves (number_of m rd) ipa (level - 1) realm is within (omega arith))
+
+-- a mapping that is folded is at a level at which there are blocks
+mapping_of : (e : RmmRttEntry) → is_assigned_ns e ≡ true → is_mapping e ≡ true
+mapping_of (AssignedNs desc) is = refl
+mapping_of _ is = absurd (cc)
+
+folded_high : (m : Machine) (first : RmmRttEntry) (level above least : ℕ) → above ≡ level - 1 → least + 1 ≤ level → is_assigned_ns first ≡ true → (is_mapping first && nat_le level m.settings.block_level) ≡ false
+    → m.settings.block_level ≤ above
+folded_high m first level above least is more mapped passed =
+    ⊎_elim
+    (λ (low : m.settings.block_level < level). omega arith)
+    (λ (high : level ≤ m.settings.block_level).
+    absurd (both_ways (is_mapping first && nat_le level m.settings.block_level) passed
+    (and_from (is_mapping first) (nat_le level m.settings.block_level) (mapping_of first mapped) (le-leb level m.settings.block_level high))))
+    (cases_lt m.settings.block_level level)
 
 pub rtt_fold_ordered : (rd ipa level : ℕ) (m : Machine) → IsProper m → Passed (rtt_fold rd ipa level m).checks → IsOrdered (rtt_fold rd ipa level m).machine
 unfolding rtt_fold is_homogeneous
@@ -176,7 +192,7 @@ rtt_fold_ordered rd ipa level m proper ok =
     let tests = and_parts (not (is_table first) && is_aligned_above first level) (has_parts (page_in m g) first level 512 0) (yes_from _ ok.1.1.1.1.1.1.1.1.0) in
     let leaf = not-true _ (and_parts (not (is_table first)) (is_aligned_above first level) tests.0).0 in
     table_freed m proper rd ipa (level - 1) is within (omega arith) (yes_from _ ok.1.1.1.1.1.1.1.0) _
-    (entry_folded m proper.linked proper.ordered.halves (number_of m rd) ipa (level - 1) realm is within (omega arith) g level named (omega arith) leaf tests.1)
+    (entry_folded m proper.linked proper.ordered.halves (number_of m rd) ipa (level - 1) realm is within (omega arith) g level named (omega arith) leaf tests.1 (λ mapped. folded_high m first level place.level realm.start_level there least mapped ok.1.1.1.1.1.1.1.1.1.0))
 
 -- halves of entries that are replaced
 mapped_half : (realm : RmmRealm) (ipa : ℕ) (e : RmmRttEntry) → is_assigned_ns e ≡ true → IsOfHalf realm ipa e → 2 ^ (realm.s2sz - 1) ≤ ipa
@@ -200,9 +216,11 @@ map_ordered rd ipa level desc m proper ok =
     let least = leb-true _ _ (and_parts (nat_le realm.start_level level) (nat_le level 3) levels.1).0 in
     let unprotected = yes_from _ ok.1.1.1.1.1.0 in
     let within = unprotected_within realm ipa unprotected in
+    let there : (walk m realm ipa level).level ≡ level = eqb-true _ _ (yes_from _ ok.1.1.1.1.1.1.1.0) in
     let high : 2 ^ (realm.s2sz - 1) ≤ ipa = ltb-false _ _ (not-true _ (and_parts _ _ unprotected).0) in
     ordered_table m (walk m realm ipa level).table _ (place_table m proper.linked (number_of m rd) ipa level realm is within least) proper.ordered
     (entry_at_end m proper.linked proper.ordered.halves (number_of m rd) ipa level realm is within least (AssignedNs desc) refl
+    (λ mapped. subst (λ (l : ℕ). m.settings.block_level ≤ l) (sym there) (leb-true _ _ levels.0))
     (λ x same. (in_upper m proper.linked proper.ordered.halves (number_of m rd) ipa realm is within level x same high, in_space m proper.linked proper.ordered.halves (number_of m rd) ipa realm is within level x same)))
 
 pub unmap_ordered : (rd ipa level : ℕ) (m : Machine) → IsProper m → Passed (rtt_unmap_unprotected rd ipa level m).checks → IsOrdered (rtt_unmap_unprotected rd ipa level m).machine
@@ -214,7 +232,7 @@ unmap_ordered rd ipa level m proper ok =
     let least = leb-true _ _ (and_parts (nat_le realm.start_level level) (nat_le level 3) levels.1).0 in
     let within = unprotected_within realm ipa (yes_from _ ok.1.1.1.1.1.0) in
     ordered_table m (walk m realm ipa level).table _ (place_table m proper.linked (number_of m rd) ipa level realm is within least) proper.ordered
-    (entry_alike m proper.linked proper.ordered.halves (number_of m rd) ipa level realm is within least UnassignedNs refl (λ x some. mapped_half some x (entry_at m (walk m realm ipa level) ipa) (yes_from _ ok.1.1.1.1.1.1.1.0)))
+    (entry_alike m proper.linked proper.ordered.halves (number_of m rd) ipa level realm is within least UnassignedNs refl refl (λ x some. mapped_half some x (entry_at m (walk m realm ipa level) ipa) (yes_from _ ok.1.1.1.1.1.1.1.0)))
 
 -- ---- RIPAS
 
@@ -266,7 +284,7 @@ data_create_ordered rd target ipa source flags m proper ok =
     (place_table m proper.linked (number_of m rd) ipa 3 realm is within level)
     (mid_halves m proper.linked proper.ordered.halves (number_of m rd) ipa 3 realm is within level (number_of m target) (of_realm (number_of m rd) Data) (page_in m (number_of m source)) target_in free refl)
     (entry_beside m proper.linked proper.ordered.halves (number_of m rd) ipa 3 realm is within level (number_of m target) (of_realm (number_of m rd) Data) (page_in m (number_of m source)) target_in free
-    (Assigned Ram target) refl refl (λ x some. free_half some x (entry_at m (walk m realm ipa 3) ipa) (yes_from _ ok.1.1.1.1.1.1.1.1.1.1.1.1.1.1.0))))
+    (Assigned Ram target) refl refl refl (λ x some. free_half some x (entry_at m (walk m realm ipa 3) ipa) (yes_from _ ok.1.1.1.1.1.1.1.1.1.1.1.1.1.1.0))))
 
 pub data_create_unknown_ordered : (rd target ipa : ℕ) (m : Machine) → IsProper m → Passed (data_create_unknown rd target ipa m).checks → IsOrdered (data_create_unknown rd target ipa m).machine
 unfolding data_create_unknown
@@ -281,7 +299,7 @@ data_create_unknown_ordered rd target ipa m proper ok =
     (mid_halves m proper.linked proper.ordered.halves (number_of m rd) ipa 3 realm is within level (number_of m target) (of_realm (number_of m rd) Data) zero_page
     (number_inside m target (yes_from (is_inside m target) ok.1.0)) free refl)
     (entry_beside m proper.linked proper.ordered.halves (number_of m rd) ipa 3 realm is within level (number_of m target) (of_realm (number_of m rd) Data) zero_page
-    (number_inside m target (yes_from (is_inside m target) ok.1.0)) free (Assigned (ripas_in (entry_at m (walk m realm ipa 3) ipa)) target) refl refl
+    (number_inside m target (yes_from (is_inside m target) ok.1.0)) free (Assigned (ripas_in (entry_at m (walk m realm ipa 3) ipa)) target) refl refl refl
     (λ x some. free_half some x (entry_at m (walk m realm ipa 3) ipa) (yes_from _ ok.1.1.1.1.1.1.1.1.1.0)))
 
 -- the page that an entry of level 3 leads to
@@ -314,7 +332,7 @@ data_destroy_ordered rd ipa m proper ok =
     let state : (granule_at m (unwrap_or below 0)).state ≡ Data = ap (λ (r : RmmGranule). r.state) it in
     freed m (unwrap_or below 0) (walk m realm ipa 3).table _ proper.linked.sound proper.ordered (taken_inside m (unwrap_or below 0) (λ free. cc)) (ap is_counter state)
     (place_table m proper.linked (number_of m rd) ipa 3 realm is within level)
-    (entry_alike m proper.linked proper.ordered.halves (number_of m rd) ipa 3 realm is within level (Unassigned (left_ripas (ripas_in (entry_at m (walk m realm ipa 3) ipa)))) refl
+    (entry_alike m proper.linked proper.ordered.halves (number_of m rd) ipa 3 realm is within level (Unassigned (left_ripas (ripas_in (entry_at m (walk m realm ipa 3) ipa)))) refl refl
     (λ x some. memory_half m some x (entry_at m (walk m realm ipa 3) ipa) (yes_from (is_some below) ok.1.1.1.1.1.1.0)))
 
 -- ---- the host's memory

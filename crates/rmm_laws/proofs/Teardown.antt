@@ -51,11 +51,11 @@ none_failing [] ok = refl
 none_failing (c ∷ cs) ok = cond-false c.fails (Some c.refusal) (first_failing cs) ok.0 ∙ none_failing cs ok.1
 
 -- the word of a call whose checks pass is that of its own answer
-own_word : (call : Call) (m : Machine) → Passed (command_of call m).checks → (performed call m).0.word ≡ (command_of call m).answer.word
+pub own_word : (call : Call) (m : Machine) → Passed (command_of call m).checks → (performed call m).0.word ≡ (command_of call m).answer.word
 unfolding performed
 own_word call m ok = ap (λ f. (decided f (command_of call m) m).0.word) (none_failing (command_of call m).checks ok)
 
-no_more : (b : Bool) → b ≡ true → not b ≡ false
+pub no_more : (b : Bool) → b ≡ true → not b ≡ false
 no_more true is = refl
 no_more false is = sym is
 

@@ -36,14 +36,14 @@ first_live-dead page (suc count) i j low high =
     (cases_eq j i))
     (cases_Bool (is_live (entry_in_page page i)))
 
-first_live-most : (page : List ℕ) (count i : ℕ) → (i ≤ first_live page count i) × (first_live page count i ≤ i + count)
+pub first_live-most : (page : List ℕ) (count i : ℕ) → (i ≤ first_live page count i) × (first_live page count i ≤ i + count)
 unfolding first_live
 first_live-most page zero i = (omega arith, omega arith)
 first_live-most page (suc count) i =
     cond_both (is_live (entry_in_page page i)) i (first_live page count (i + 1)) (λ (n : ℕ). (i ≤ n) × (n ≤ i + suc count)) (λ live. (omega arith, omega arith))
     (λ dead. let rest = first_live-most page count (i + 1) in let low = rest.0 in let high = rest.1 in (omega arith, omega arith))
 
-first_live-live : (page : List ℕ) (count i : ℕ) → (is_live (entry_in_page page (first_live page count i)) ≡ true) ⊎ (first_live page count i ≡ i + count)
+pub first_live-live : (page : List ℕ) (count i : ℕ) → (is_live (entry_in_page page (first_live page count i)) ≡ true) ⊎ (first_live page count i ≡ i + count)
 unfolding first_live
 first_live-live page zero i = inr (omega arith)
 first_live-live page (suc count) i =

@@ -5,4 +5,5 @@ pub mod Owner
 pub mod Proper
 pub mod Refusal
 pub mod Role
+pub mod Step
 pub mod Walk

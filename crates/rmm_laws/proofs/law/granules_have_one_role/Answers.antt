@@ -59,6 +59,7 @@ fresh m sound all =
             start = λ rd k realm is lt. (let free = state rd in absurd (cc));
             below = λ table i child is lt leads. (let free = state table in absurd (cc));
             half = λ rd table i ipa realm is owned lt covers. (let free = state rd in absurd (cc));
+            block = λ table i is lt mapped. (let free = state table in absurd (cc));
           };
         };
       };
