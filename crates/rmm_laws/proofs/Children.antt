@@ -47,7 +47,7 @@ empty_table m page free owner level g j k =
 
 -- ---- children
 
-word_of_page-page_of : (byte i : ℕ) → i < 512 → word_of_page (page_of byte) i ≡ from_le_bytes w64 (replicate 8 byte)
+pub word_of_page-page_of : (byte i : ℕ) → i < 512 → word_of_page (page_of byte) i ≡ from_le_bytes w64 (replicate 8 byte)
 unfolding word_of_page page_of
 word_of_page-page_of byte i index =
     let eight : 8 * i + 8 - 8 * i ≡ 8 = omega arith in

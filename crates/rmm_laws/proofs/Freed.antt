@@ -1,5 +1,5 @@
 -- The granules that RTT_DESTROY, RTT_FOLD and DATA_DESTROY give back.
-use Rattle.std.proofs.Common.{◌≡◌, ℕ, ◌+◌, ◌-◌, ◌^◌, ◌<◌, ◌≤◌, ◌&&◌, List, [], ◌∷◌, Bool, true, false, not, length, Option, Some, None, unwrap_or, refl, sym, ap, subst, ◌∙◌, ⊎_elim, arith}
+use Rattle.std.proofs.Common.{◌≡◌, ◌≢◌, ℕ, ◌+◌, ◌-◌, ◌^◌, ◌<◌, ◌≤◌, ◌&&◌, List, [], ◌∷◌, Bool, true, false, not, length, Option, Some, None, unwrap_or, refl, sym, ap, subst, ◌∙◌, ⊎_elim, arith}
 use Rattle.std.specs.Prelude.{nat_le, is_some}
 use Rattle.std.proofs.lemmas.Bool.{cases_Bool, and_parts, both_ways, eqb-true, leb-true, ltb-true, not-true, cond-true, cond-false}
 use Rattle.std.proofs.lemmas.List.{length-set}
@@ -35,10 +35,10 @@ use Rattle.rmm_laws.specs.Role.{IsSound, IsBegin, LeadsInside}
 use Rattle.rmm_laws.proofs.Accesses.{named_number}
 use Rattle.rmm_laws.proofs.Mappings.{served, place_is, protected_within, some_of}
 use Rattle.rmm_laws.proofs.Ordering.{memory_is}
-use Rattle.rmm_laws.proofs.Passed.{Passed, passed, yes_from, realm_of-some}
-use Rattle.rmm_laws.proofs.RecsGone.{destroyed_back}
+use Rattle.rmm_laws.proofs.Passed.{Passed, passed, rec_named, yes_from, realm_of-some}
+use Rattle.rmm_laws.proofs.RecsGone.{destroyed_back, destroyed_beside}
 use Rattle.rmm_laws.proofs.Walks.{IsPlace, next, entry_index-few}
-use Rattle.rmm_laws.proofs.Writes.{granule_at-same, page_in-same, taken_inside}
+use Rattle.rmm_laws.proofs.Writes.{granule_at-same, granule_at-other, page_in-same, taken_inside}
 
 -- ---- commands that succeed
 
@@ -77,12 +77,14 @@ succeeded P call m none success then_do = success_at P (first_failing (command_o
 -- a granule that is blanked
 blanked : (m : Machine) (g t rd : ℕ) (page : List ℕ) (address : ℕ) → IsSound m → g < length m.granules → g ≡ number_of m address
     → (granule_at (with_blank (with_page m t page) g Delegated) (number_of m address) ≡ of_no_realm Delegated) × (page_in (with_blank (with_page m t page) g Delegated) (number_of m address) ≡ zero_page)
+    × ((x : ℕ) → x ≢ number_of m address → granule_at (with_blank (with_page m t page) g Delegated) x ≡ granule_at m x)
 blanked m g t rd page address sound inside same =
     let k : Machine = with_page m t page in
     let pages = sound.pages in
     let count = length-set m.pages t page in
-    subst (λ (x : ℕ). (granule_at (with_blank k g Delegated) x ≡ of_no_realm Delegated) × (page_in (with_blank k g Delegated) x ≡ zero_page)) same
-    (granule_at-same k g (of_no_realm Delegated) inside, page_in-same (with_granule k g (of_no_realm Delegated)) g zero_page (omega arith))
+    subst (λ (x : ℕ). (granule_at (with_blank k g Delegated) x ≡ of_no_realm Delegated) × (page_in (with_blank k g Delegated) x ≡ zero_page)
+    × ((y : ℕ) → y ≢ x → granule_at (with_blank k g Delegated) y ≡ granule_at m y)) same
+    (granule_at-same k g (of_no_realm Delegated) inside, page_in-same (with_granule k g (of_no_realm Delegated)) g zero_page (omega arith), λ y other. granule_at-other k g y (of_no_realm Delegated) other)
 
 -- the address of a table or of a page is that of the granule to which its entry leads
 table_address : (m : Machine) (entry : RmmRttEntry) (g : ℕ) → LeadsInside m entry → table_below m entry ≡ Some g → IsBegin m (descriptor_of entry) × (g ≡ number_of m (descriptor_of entry))
@@ -115,7 +117,7 @@ module _ (m : Machine) (proper : IsProper m) (rd ipa level : ℕ) (is : (granule
       let table = (next m proper.linked (number_of m rd) ipa found g end named).table in
       let state : (granule_at m g).state ≡ Rtt = ap (λ (r : RmmGranule). r.state) table in
       let then_is = blanked m g found.table (number_of m rd) page (descriptor_of entry) proper.linked.sound (taken_inside m g (λ free. cc)) there.1 in
-      record { begins = there.0; was = ap (granule_at m) (sym there.1) ∙ table; is = then_is.0; blank = then_is.1 }
+      record { begins = there.0; was = ap (granule_at m) (sym there.1) ∙ table; is = then_is.0; blank = then_is.1; others = then_is.2 }
 
 pub rtt_destroy_back : (m : Machine) (rd ipa level : ℕ) → IsProper m → (performed (RttDestroy rd ipa level) m).0.word ≡ Success
     → ComesBack m (performed (RttDestroy rd ipa level) m).1 (number_of m rd) Rtt (performed (RttDestroy rd ipa level) m).0.x1
@@ -162,12 +164,13 @@ data_destroy_back m rd ipa proper success =
     let state : (granule_at m g).state ≡ Data = ap (λ (r : RmmGranule). r.state) page in
     let then_is = blanked m g (walk m realm ipa 3).table (number_of m rd) _ (descriptor_of entry) proper.linked.sound (taken_inside m g (λ free. cc)) there.1 in
     subst (λ (p : SmcResult × Machine). ComesBack m p.1 (number_of m rd) Data p.0.x1) (sym now)
-    (record { begins = there.0; was = ap (granule_at m) (sym there.1) ∙ page; is = then_is.0; blank = then_is.1 }))
+    (record { begins = there.0; was = ap (granule_at m) (sym there.1) ∙ page; is = then_is.0; blank = then_is.1; others = then_is.2 }))
 
-pub rec_destroy_back : (m : Machine) (rec : ℕ) → IsProper m → (performed (RecDestroy rec) m).0.word ≡ Success → RecComesBack m (performed (RecDestroy rec) m).1 (number_of m rec)
+pub rec_destroy_back : (m : Machine) (rec : ℕ) → IsProper m → (performed (RecDestroy rec) m).0.word ≡ Success → RecComesBack m (performed (RecDestroy rec) m).1 rec
 unfolding rec_destroy
 rec_destroy_back m rec proper success =
-    succeeded (RecComesBack m (performed (RecDestroy rec) m).1 (number_of m rec)) (RecDestroy rec) m refl success
+    succeeded (RecComesBack m (performed (RecDestroy rec) m).1 rec) (RecDestroy rec) m refl success
     (λ ok now.
     let back = destroyed_back rec m proper ok in
-    subst (λ (p : SmcResult × Machine). RecComesBack m p.1 (number_of m rec)) (sym now) (record { is = back.0.0; blank = back.0.1; aux = back.1 }))
+    subst (λ (p : SmcResult × Machine). RecComesBack m p.1 rec) (sym now)
+    (record { was = rec_named m rec ok.0 ok.1.0 ok.1.1.0; is = back.0.0; blank = back.0.1; aux = back.1; others = λ g beside. destroyed_beside rec m proper ok g beside }))

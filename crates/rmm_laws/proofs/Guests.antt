@@ -165,7 +165,7 @@ module _ (o : Machine) (w : ℕ) where
   going_realm_off g rd m (Some realm) named is going =
       let there = realm_of-is (granule_at m rd).state realm is in
       let s = served m rd realm going.proper there in
-      going_realm o w g rd m realm _ going named there refl refl refl refl (record { few = s.few; inside = s.inside; most = s.most; level = s.level; width = s.width; served = s.served })
+      going_realm o w g rd m realm _ going named there refl refl refl refl refl (record { few = s.few; inside = s.inside; most = s.most; level = s.level; width = s.width; served = s.served })
   going_realm_off g rd m None named is going = going
 
   going_off : (g : ℕ) (m : Machine) (owner : Option ℕ) → owner ≡ Some w → IsGoing o w g m → IsGoing o w g (with_system_off m owner)

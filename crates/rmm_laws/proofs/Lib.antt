@@ -7,11 +7,14 @@ pub mod EntryWords
 pub mod Freed
 pub mod Given
 pub mod Guests
+pub mod Halves
+pub mod Halving
 pub mod Keeping
 pub mod Mapped
 pub mod Mappings
 pub mod Mistakes
 pub mod Moves
+pub mod NewRealms
 pub mod OneMore
 pub mod Ordering
 pub mod Orders
@@ -27,7 +30,10 @@ pub mod Recs
 pub mod RecsGone
 pub mod Refolding
 pub mod Running
+pub mod Seats
 pub mod Serving
+pub mod Sides
+pub mod Steps
 pub mod Tables
 pub mod Teardown
 pub mod Tops

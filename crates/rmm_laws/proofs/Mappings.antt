@@ -50,7 +50,7 @@ use Rattle.rmm_laws.proofs.Writes.{is_user, uses-plain, taken_inside, page_in-sa
 pub served : (m : Machine) (rd : ℕ) (realm : RmmRealm) → IsLinked m → (granule_at m rd).state ≡ Rd realm → IsServed (length m.granules) realm
 served m rd realm proper is = subst (λ (s : RmmGranuleState). IfSome (realm_of s) (IsServed (length m.granules))) is (proper.sound.tables.each rd)
 
-half : (s ipa : ℕ) → ipa < 2 ^ (s - 1) → ipa < 2 ^ s
+pub half : (s ipa : ℕ) → ipa < 2 ^ (s - 1) → ipa < 2 ^ s
 half s ipa lt =
     ⊎_elim
     (λ (some : 0 < s).
@@ -212,7 +212,7 @@ first_fixed-most changeable page zero i = omega arith
 first_fixed-most changeable page (suc count) i =
     cond_both (can_change changeable (entry_in_page page i)) _ i (λ (x : ℕ). x ≤ i + suc count) (λ sure. (let rest = first_fixed-most changeable page count (i + 1) in omega arith)) (λ never. omega arith)
 
-change_count-few : (m : Machine) (changeable : Changeable) (found : RttWalk) (base top : ℕ) → entry_index found.level base + change_count m changeable found base top ≤ 512
+pub change_count-few : (m : Machine) (changeable : Changeable) (found : RttWalk) (base top : ℕ) → entry_index found.level base + change_count m changeable found base top ≤ 512
 unfolding change_count entries_below
 change_count-few m changeable found base top =
     let first : ℕ = entry_index found.level base in
@@ -236,13 +236,13 @@ module _ (m : Machine) (t first count : ℕ) (ripas : RmmRipas) (proper : IsLink
   unfolding entry_in_page
   entry_few j = subst (λ (d : ℕ). d < 2 ^ 48) (sym (ripas_descriptor ripas (entry_in_page (page_in m t) j))) (descriptor-few (word_of_page (page_in m t) j))
 
-  entry_changed : (j : ℕ) → first ≤ j → j < first + count → entry_in_page ripas_page j ≡ entry_with_ripas ripas (entry_in_page (page_in m t) j)
+  pub entry_changed : (j : ℕ) → first ≤ j → j < first + count → entry_in_page ripas_page j ≡ entry_with_ripas ripas (entry_in_page (page_in m t) j)
   unfolding entry_in_page
   entry_changed j low high =
       ap entry_of (word_of_page-with_words_from_same first new_word (page_in m t) whole_page count j few low high (entry_word-fits (entry_with_ripas ripas (entry_in_page (page_in m t) j))))
       ∙ entry_of-entry_word (entry_with_ripas ripas (entry_in_page (page_in m t) j)) (entry_few j)
 
-  entry_kept : (j : ℕ) → j < 512 → (j < first) ⊎ (first + count ≤ j) → entry_in_page ripas_page j ≡ entry_in_page (page_in m t) j
+  pub entry_kept : (j : ℕ) → j < 512 → (j < first) ⊎ (first + count ≤ j) → entry_in_page ripas_page j ≡ entry_in_page (page_in m t) j
   unfolding entry_in_page
   entry_kept j lt beside = ap entry_of (word_of_page-with_words_from_other first new_word (page_in m t) whole_page count j few lt beside)
 

@@ -16,7 +16,9 @@ use Rattle.rmm_model.specs.Machine.{Machine, granule_at, page_in, with_granule, 
 use Rattle.rmm_model.specs.Rec.{aux_of}
 use Rattle.rmm_model.specs.Command.PsciComplete.{with_rec}
 use Rattle.rmm_laws.specs.Owner.{is_rd, IsOwner, IsOrderly, IsOrderlyAt, is_owner, is_rec_in, IsOrdered}
+use Rattle.rmm_laws.specs.Half.{HasHalves}
 use Rattle.rmm_laws.specs.Role.{IsBegin}
+use Rattle.rmm_laws.proofs.Halves.{SameSpace, has_space, plain_page, plain_granule, same_space, vmid_halves}
 use Rattle.rmm_laws.proofs.Writes.{granule_at-same, granule_at-other, page_in-same, page_in-other, begin-same}
 
 -- ---- owners
@@ -181,8 +183,9 @@ page_either m g page =
     (cases_lt g (length m.pages))
 
 -- another page
-pub ordered_page : (m : Machine) (g : ℕ) (page : List ℕ) → IsOrdered m → IsOrderly m (granule_at m g).state (granule_at m g).owner page → IsOrdered (with_page m g page)
-ordered_page m g page ordered fine =
+pub ordered_page : (m : Machine) (g : ℕ) (page : List ℕ) → IsOrdered m → IsOrderly m (granule_at m g).state (granule_at m g).owner page → HasHalves (with_page m g page)
+    → IsOrdered (with_page m g page)
+ordered_page m g page ordered fine halves =
     let n : Machine = with_page m g page in
     let there : (p : List ℕ) → page_in n g ≡ p → IsOrderly m (granule_at m g).state (granule_at m g).owner p → IsOrderlyAt n g =
     λ p is right. subst (λ (q : List ℕ). IsOrderly n (granule_at m g).state (granule_at m g).owner q) (sym is)
@@ -191,12 +194,13 @@ ordered_page m g page ordered fine =
       each = orderly_but m n refl refl g (λ h other. (refl, page_in-other m g h page other)) (λ sure. sure)
           (⊎_elim (λ (now : page_in n g ≡ page). there page now fine) (λ (old : page_in n g ≡ page_in m g). there (page_in m g) old (ordered.each g)) (page_either m g page)) ordered.each;
       recs = ordered.recs;
+      halves = halves;
     }
 
 -- other attributes
 pub ordered_granule : (m : Machine) (g : ℕ) (kept : RmmGranule) → g < length m.granules → IsOrdered m → (is_rd (granule_at m g).state ≡ true → is_rd kept.state ≡ true) → CountAlike (granule_at m g) kept
-    → IsOrderly m kept.state kept.owner (page_in m g) → IsOrdered (with_granule m g kept)
-ordered_granule m g kept inside ordered rds alike fine =
+    → IsOrderly m kept.state kept.owner (page_in m g) → HasHalves (with_granule m g kept) → IsOrdered (with_granule m g kept)
+ordered_granule m g kept inside ordered rds alike fine halves =
     let n : Machine = with_granule m g kept in
     let count : length n.granules ≡ length m.granules = length-set m.granules g kept in
     let now : granule_at n g ≡ kept = granule_at-same m g kept inside in
@@ -206,12 +210,13 @@ ordered_granule m g kept inside ordered rds alike fine =
           (subst (λ (r : RmmGranule). IsOrderly n r.state r.owner (page_in m g)) (sym now)
           (orderly_still m n refl count kept.state kept.owner (page_in m g) (λ rd named sure. rds_but m n refl count g (λ h other. granule_at-other m g h kept other) there rd sure) fine)) ordered.each;
       recs = recs-set m g kept inside alike ordered;
+      halves = halves;
     }
 
 -- other attributes and another page
 pub ordered_both : (m : Machine) (g : ℕ) (kept : RmmGranule) (page : List ℕ) → g < length m.granules → g < length m.pages → IsOrdered m → (is_rd (granule_at m g).state ≡ true → is_rd kept.state ≡ true)
-    → CountAlike (granule_at m g) kept → IsOrderly m kept.state kept.owner page → IsOrdered (with_page (with_granule m g kept) g page)
-ordered_both m g kept page inside has_page ordered rds alike fine =
+    → CountAlike (granule_at m g) kept → IsOrderly m kept.state kept.owner page → HasHalves (with_page (with_granule m g kept) g page) → IsOrdered (with_page (with_granule m g kept) g page)
+ordered_both m g kept page inside has_page ordered rds alike fine halves =
     let k : Machine = with_granule m g kept in
     let n : Machine = with_page k g page in
     let count : length n.granules ≡ length m.granules = length-set m.granules g kept in
@@ -223,22 +228,24 @@ ordered_both m g kept page inside has_page ordered rds alike fine =
           (subst (λ (p : List ℕ). IsOrderly n kept.state kept.owner p) (sym (page_in-same k g page has_page))
           (orderly_still m n refl count kept.state kept.owner page (λ rd named sure. rds_but m n refl count g (λ h other. granule_at-other m g h kept other) there rd sure) fine))) ordered.each;
       recs = recs-set m g kept inside alike ordered;
+      halves = halves;
     }
 
 -- ---- writes of RDs, RECs, tables and pages
 
-pub ordered_realm : (m : Machine) (rd : ℕ) (realm other : RmmRealm) → rd < length m.granules → (granule_at m rd).state ≡ Rd realm → other.rec_count ≡ realm.rec_count → IsOrdered m
-    → IsOrdered (with_granule m rd (of_no_realm (Rd other)))
-ordered_realm m rd realm other inside is same ordered =
+pub ordered_realm : (m : Machine) (rd : ℕ) (realm other : RmmRealm) → rd < length m.granules → (granule_at m rd).state ≡ Rd realm → other.rec_count ≡ realm.rec_count → SameSpace other realm
+    → IsOrdered m → IsOrdered (with_granule m rd (of_no_realm (Rd other)))
+ordered_realm m rd realm other inside is same space ordered =
     ordered_granule m rd (of_no_realm (Rd other)) inside ordered (λ sure. refl)
     (λ h. sym (and_left (is_some (rec_of (granule_at m rd).state)) (is_owner h (granule_at m rd).owner) (ap (λ (s : RmmGranuleState). is_some (rec_of s)) is)), ap (λ (n : ℕ). Some n) same ∙ sym (ap counted is))
-    refl
+    refl (same_space m rd realm other inside is space ordered.halves)
 
 pub ordered_rec : (m : Machine) (g : ℕ) (old rec : RmmRec) → g < length m.granules → (granule_at m g).state ≡ IsRec old → IsOrdered m → IsOrdered (with_rec m g rec)
 ordered_rec m g old rec inside is ordered =
     ordered_granule m g (record (granule_at m g) { state = IsRec rec }) inside ordered (λ sure. let never : false ≡ true = sym (ap is_rd is) ∙ sure in absurd (cc))
     (λ rd. sym (ap (λ (s : RmmGranuleState). is_some (rec_of s) && is_owner rd (granule_at m g).owner) is), sym (ap counted is))
     (subst (λ (s : RmmGranuleState). IsOrderly m s (granule_at m g).owner (page_in m g)) is (ordered.each g))
+    (plain_granule m g (record (granule_at m g) { state = IsRec rec }) inside refl ordered.halves)
 
 -- the page of a REC that names the same auxiliary granules
 pub ordered_rec_page : (m : Machine) (g : ℕ) (rec : RmmRec) (page : List ℕ) → (granule_at m g).state ≡ IsRec rec → ((k : ℕ) → k < m.settings.aux → aux_of page k ≡ aux_of (page_in m g) k) → IsOrdered m
@@ -247,12 +254,13 @@ ordered_rec_page m g rec page is same ordered =
     let before = subst (λ (s : RmmGranuleState). IsOrderly m s (granule_at m g).owner (page_in m g)) is (ordered.each g) in
     ordered_page m g page ordered
     (subst (λ (s : RmmGranuleState). IsOrderly m s (granule_at m g).owner page) (sym is) (before.0, λ k lt. subst (IsBegin m) (sym (same k lt)) (before.1 k lt)))
+    (plain_page m g page (ap has_space is) ordered.halves)
 
 -- the page of a table
-pub ordered_table : (m : Machine) (t : ℕ) (page : List ℕ) → (granule_at m t).state ≡ Rtt → IsOrdered m → IsOrdered (with_page m t page)
-ordered_table m t page is ordered =
+pub ordered_table : (m : Machine) (t : ℕ) (page : List ℕ) → (granule_at m t).state ≡ Rtt → IsOrdered m → HasHalves (with_page m t page) → IsOrdered (with_page m t page)
+ordered_table m t page is ordered halves =
     let before = subst (λ (s : RmmGranuleState). IsOrderly m s (granule_at m t).owner (page_in m t)) is (ordered.each t) in
-    ordered_page m t page ordered (subst (λ (s : RmmGranuleState). IsOrderly m s (granule_at m t).owner page) (sym is) before)
+    ordered_page m t page ordered (subst (λ (s : RmmGranuleState). IsOrderly m s (granule_at m t).owner page) (sym is) before) halves
 
 -- a granule is memory: a page of a realm, or one of the host
 abbrev pub is_memory_state : RmmGranuleState → Bool
@@ -265,8 +273,14 @@ memory_fine m Data owner page other is fine = fine
 memory_fine m Undelegated owner page other is fine = fine
 memory_fine m _ owner page other is fine = absurd (cc)
 
+memory_no_space : (s : RmmGranuleState) → is_memory_state s ≡ true → has_space s ≡ false
+memory_no_space Data is = refl
+memory_no_space Undelegated is = refl
+memory_no_space _ is = absurd (cc)
+
 pub ordered_memory : (m : Machine) (g : ℕ) (page : List ℕ) → is_memory_state (granule_at m g).state ≡ true → IsOrdered m → IsOrdered (with_page m g page)
 ordered_memory m g page is ordered = ordered_page m g page ordered (memory_fine m (granule_at m g).state (granule_at m g).owner (page_in m g) page is (ordered.each g))
+    (plain_page m g page (memory_no_space (granule_at m g).state is) ordered.halves)
 
 -- a granule of that state is of a realm
 abbrev pub has_owner : RmmGranuleState → Bool
@@ -292,6 +306,7 @@ pub ordered_vmid : (m : Machine) (vmid : ℕ) (is_used : Bool) → IsOrdered m �
 ordered_vmid m vmid is_used ordered = record {
   each = λ h. orderly_same m (with_vmid m vmid is_used) refl refl h refl refl (λ rd named sure. sure) (ordered.each h);
   recs = ordered.recs;
+  halves = vmid_halves m vmid is_used ordered.halves;
 }
 
 -- ---- RECs of a realm

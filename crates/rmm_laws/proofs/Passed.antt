@@ -8,6 +8,7 @@ use Rattle.rmm_model.specs.declared.granule.RmmGranuleState.TheVariants.{Undeleg
 use Rattle.rmm_model.specs.declared.realm.RmmRealm.{RmmRealm}
 use Rattle.rmm_model.specs.Check.{Check, Command, first_failing, decided, outcome}
 use Rattle.rmm_model.specs.Granule.{is_undelegated, is_delegated, realm_of, rec_of}
+use Rattle.rmm_model.specs.Guest.{is_rec_named}
 use Rattle.rmm_model.specs.Machine.{Machine, granule_at, is_aligned, is_inside, number_of, state_at}
 use Rattle.rmm_model.specs.Realm.{no_realm}
 use Rattle.rmm_model.specs.Rec.{no_rec}
@@ -89,8 +90,10 @@ rd_named-is m rd aligned inside is =
     (and_from (is_aligned rd && is_inside m rd) (is_some (realm_of (state_at m rd)))
     (and_from (is_aligned rd) (is_inside m rd) (yes_from (is_aligned rd) aligned) (yes_from (is_inside m rd) inside)) (not_none (realm_of (state_at m rd)) is))
 
+pub rec_named : (m : Machine) (rec : ℕ) → not (is_aligned rec) ≡ false → not (is_inside m rec) ≡ false → is_none (rec_of (state_at m rec)) ≡ false → is_rec_named m rec ≡ true
+rec_named m rec aligned inside is =
+    and_from (is_aligned rec && is_inside m rec) (is_some (rec_of (state_at m rec)))
+    (and_from (is_aligned rec) (is_inside m rec) (yes_from (is_aligned rec) aligned) (yes_from (is_inside m rec) inside)) (not_none (rec_of (state_at m rec)) is)
+
 pub rec_named-is : (m : Machine) (rec : ℕ) → not (is_aligned rec) ≡ false → not (is_inside m rec) ≡ false → is_none (rec_of (state_at m rec)) ≡ false → realm_of_rec m rec ≡ (granule_at m (number_of m rec)).owner
-rec_named-is m rec aligned inside is =
-    cond-true _ _ _
-    (and_from (is_aligned rec && is_inside m rec) (is_some (rec_of (state_at m rec)))
-    (and_from (is_aligned rec) (is_inside m rec) (yes_from (is_aligned rec) aligned) (yes_from (is_inside m rec) inside)) (not_none (rec_of (state_at m rec)) is))
+rec_named-is m rec aligned inside is = cond-true _ _ _ (rec_named m rec aligned inside is)

@@ -1,8 +1,8 @@
 -- RMI_REALM_CREATE and RMI_REALM_DESTROY keep the roles and the owners of granules.
-use Rattle.std.proofs.Common.{◌≡◌, ◌≢◌, ℕ, zero, suc, ◌+◌, ◌*◌, ◌%◌, ◌<◌, ◌≤◌, true, false, length, Option, Some, None, refl, sym, ap, subst, ◌∙◌, ⊎_elim, arith}
+use Rattle.std.proofs.Common.{◌≡◌, ◌≢◌, ℕ, zero, suc, ◌+◌, ◌*◌, ◌%◌, ◌<◌, ◌≤◌, ◌^◌, inl, inr, true, false, length, Option, Some, None, refl, sym, ap, subst, ◌∙◌, ⊎_elim, arith}
 use Rattle.std.specs.Prelude.{nat_le, nat_lt, is_some, IfSome}
 use Rattle.std.specs.List.{count_by}
-use Rattle.std.proofs.lemmas.Bool.{cases_eq, cases_Bool, and_left, and_parts, leb-true, eqb-true, lt-ltb, both_ways}
+use Rattle.std.proofs.lemmas.Bool.{cases_eq, cases_Bool, and_left, and_parts, leb-true, ltb-true, eqb-true, lt-ltb, both_ways}
 use Rattle.granule_addr.specs.Page.{zero_page}
 use Rattle.rmi_abi.specs.declared.realm_params.RealmParams.{RealmParams}
 use Rattle.rmm_model.specs.declared.granule.RmmGranule.{RmmGranule}
@@ -10,25 +10,30 @@ use Rattle.rmm_model.specs.declared.granule.RmmGranuleState.{RmmGranuleState}
 use Rattle.rmm_model.specs.declared.granule.RmmGranuleState.TheVariants.{Undelegated, Delegated, Rd, Rec as IsRec, RecAux, Data, Rtt}
 use Rattle.rmm_model.specs.declared.realm.RmmRealm.{RmmRealm}
 use Rattle.rmm_model.specs.Granule.{of_no_realm, of_realm, is_delegated, realm_of, rec_of}
+use Rattle.rmm_model.specs.Level.{entry_size}
 use Rattle.rmm_model.specs.Machine.{Machine, granule_at, granule_count, page_in, is_inside, number_of, state_at, with_granule, with_blank, with_vmid}
 use Rattle.rmm_model.specs.Realm.{IsServed, is_start}
 use Rattle.rmm_model.specs.Command.Operand.{realm_at}
 use Rattle.rmm_model.specs.Command.RealmCreate.{realm_create, params_at, params_checks, is_supported, are_delegated, can_start, realm_for, with_tables}
 use Rattle.rmm_model.specs.Command.RealmDestroy.{realm_destroy, has_live_table, is_realm_live, without_tables}
-use Rattle.rmm_laws.specs.Owner.{is_rd, is_owner, IsOrderly, IsOrderlyAt, is_rec_in, IsOrdered}
+use Rattle.rmm_laws.specs.Half.{HasHalves}
+use Rattle.rmm_laws.specs.Owner.{is_rd, IsOwner, is_owner, IsOrderly, IsOrderlyAt, is_rec_in, IsOrdered}
 use Rattle.rmm_laws.specs.Proper.{IsProper}
 use Rattle.rmm_laws.specs.Role.{Used, used_at, level_in, has_user, uses, IsUsed, HasNoUser, IsSound}
 use Rattle.rmm_laws.proofs.Entries.{number_inside}
-use Rattle.rmm_laws.proofs.Orders.{KeepsOwner, orderly_same, is_counter, counted, plain_in, total-alike, none_counted, some_rec, no_rec_of, rec_in, rec_in-true, ordered_vmid}
+use Rattle.rmm_laws.proofs.Halves.{has_space, kept_or_plain}
+use Rattle.rmm_laws.proofs.NewRealms.{new_halves}
+use Rattle.rmm_laws.proofs.Orders.{KeepsOwner, orderly_same, is_counter, counted, plain_in, total-alike, none_counted, some_rec, rd_of, no_rec_of, rec_in, rec_in-true, ordered_vmid}
 use Rattle.rmm_laws.proofs.Owning.{IsUserOf, user_of}
 use Rattle.rmm_laws.proofs.Passed.{Passed, yes_from, some_same, is_delegated-true, realm_of-some}
-use Rattle.rmm_laws.proofs.Realms.{IsRealm, NoStart, IsStart, start_or_none, start_uses, or_none, vmid_kept, made_other, made_count, count_is, levels, is_realm, realm_there, gone_count, gone_other, gone_sound, gone_tables, was_realm, cleared_count, rd_in, start_is, no_realm_there, all_delegated, fits, not_start, multiple}
+use Rattle.rmm_laws.proofs.Realms.{IsRealm, NoStart, IsStart, start_or_none, start_uses, or_none, vmid_kept, made_other, made_count, made_tables, count_is, levels, is_realm, realm_there, gone_count, gone_other, gone_sound, gone_tables, was_realm, cleared_count, rd_in, start_is, no_realm_there, all_delegated, fits, not_start, multiple}
 use Rattle.rmm_laws.proofs.Writes.{granule_at-same, granule_at-other, page_in-same, page_in-other, taken_inside}
 
 -- ---- RMI_REALM_CREATE
 
 module _ (m : Machine) (proper : IsProper m) (rd : ℕ) (realm : RmmRealm) (fit : IsServed (length m.granules) realm) (rd_inside : rd < length m.granules) (rd_free : (granule_at m rd).state ≡ Delegated)
-    (apart : (i : ℕ) → i < realm.table_count → realm.first_table + i ≢ rd) (free : (i : ℕ) → i < realm.table_count → (granule_at m (realm.first_table + i)).state ≡ Delegated) (fresh : realm.rec_count ≡ 0) where
+    (apart : (i : ℕ) → i < realm.table_count → realm.first_table + i ≢ rd) (free : (i : ℕ) → i < realm.table_count → (granule_at m (realm.first_table + i)).state ≡ Delegated) (fresh : realm.rec_count ≡ 0)
+    (wide : entry_size realm.start_level < 2 ^ realm.s2sz) where
   abbrev tables : Machine
   tables = with_tables m rd realm realm.table_count
 
@@ -105,14 +110,26 @@ module _ (m : Machine) (proper : IsProper m) (rd : ℕ) (realm : RmmRealm) (fit 
       (start_or_none realm x))
       (cases_eq x rd)
 
+  halves_then : HasHalves new
+  halves_then = new_halves m new proper.linked proper.ordered.halves rd realm (levels m proper.linked rd realm fit rd_inside rd_free apart free) step wide fit.level
+      (λ i lt. (made_tables m rd realm proper.linked.sound fit.inside realm.table_count i (omega arith) lt).1)
+      (λ g is.
+      let owns : IsOwner m (Some rd) = subst (IsOwner m) (ap (λ (r : RmmGranule). r.owner) is) (rd_of m g proper.ordered Rtt (ap (λ (r : RmmGranule). r.state) is) refl) in
+      both_ways (is_rd (granule_at m rd).state) (ap is_rd rd_free) owns)
+
   realm_ordered : IsOrdered new
-  realm_ordered = record { each = orderly_then; recs = recs_then }
+  realm_ordered = record { each = orderly_then; recs = recs_then; halves = halves_then }
 
   realm_proper : (vmid : ℕ) → IsProper (with_vmid new vmid true)
   realm_proper vmid = record {
     linked = vmid_kept new vmid true (realm_there m proper.linked rd realm fit rd_inside rd_free apart free);
     ordered = ordered_vmid new vmid true realm_ordered;
   }
+
+-- a level at which a width begins has more than one entry
+start_wide : (s2sz level count : ℕ) → is_start s2sz level count ≡ true → entry_size level < 2 ^ s2sz
+unfolding is_start
+start_wide s2sz level count is = ltb-true _ _ (and_parts _ _ (and_parts _ _ (and_parts _ _ is).0).0).1
 
 pub realm_created : (rd params : ℕ) (m : Machine) → IsProper m → Passed (realm_create rd params m).checks → IsProper (realm_create rd params m).machine
 unfolding realm_create params_checks can_start realm_for
@@ -130,7 +147,7 @@ realm_created rd params m proper ok =
     let range = and_parts (is_inside m p.rtt_base) (nat_le (number_of m p.rtt_base + p.rtt_num_start) (granule_count m)) starts.0 in
     realm_proper m proper (number_of m rd) (realm_for m p) (fits m p sound supported start (leb-true _ _ range.1)) (number_inside m rd rd_inside) free
     (λ i lt. not_start m p rd i alias rd_inside range.0 aligned (multiple p.rtt_base p.rtt_num_start base (omega arith)) sound.platform.base_aligned lt)
-    (λ i lt. all_delegated m (number_of m p.rtt_base) p.rtt_num_start i starts.1 lt) refl p.vmid
+    (λ i lt. all_delegated m (number_of m p.rtt_base) p.rtt_num_start i starts.1 lt) refl (start_wide p.s2sz p.rtt_level_start p.rtt_num_start start) p.vmid
 
 -- ---- RMI_REALM_DESTROY
 
@@ -327,8 +344,19 @@ module _ (m : Machine) (proper : IsProper m) (rd : ℕ) (realm : RmmRealm) (is :
       (start_or_none realm x))
       (cases_eq x rd)
 
+  halves_gone : HasHalves gone
+  halves_gone =
+      kept_or_plain m gone (sym was.settings) (sym was.count) (λ h.
+      ⊎_elim
+      (λ (here : h ≡ rd). inr (ap (λ (x : ℕ). has_space (granule_at gone x).state) here ∙ ap (λ (r : RmmGranule). has_space r.state) rd_gone))
+      (λ (other : h ≢ rd). ⊎_elim
+      (λ (start : IsStart realm h). inr (ap (λ (x : ℕ). has_space (granule_at gone x).state) start.2 ∙ ap (λ (r : RmmGranule). has_space r.state) (start_gone start.0 start.1).0))
+      (λ (no_start : NoStart realm h). (let same = was.beside h other no_start in inl (sym same.0, sym same.1)))
+      (start_or_none realm h))
+      (cases_eq h rd)) proper.ordered.halves
+
   realm_gone_ordered : IsOrdered gone
-  realm_gone_ordered = record { each = orderly_gone; recs = recs_gone }
+  realm_gone_ordered = record { each = orderly_gone; recs = recs_gone; halves = halves_gone }
 
   realm_gone_proper : (vmid : ℕ) → IsProper (with_vmid gone vmid false)
   realm_gone_proper vmid = record {

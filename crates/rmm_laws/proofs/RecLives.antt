@@ -24,10 +24,12 @@ use Rattle.rmm_model.specs.Command.Auxiliary.{with_aux}
 use Rattle.rmm_model.specs.Command.Operand.{realm_at}
 use Rattle.rmm_model.specs.Command.RecCreate.{rec_create, all_from, is_apart, can_be_aux, aux_checks, rec_word, rec_page, with_created_rec}
 use Rattle.rmm_laws.specs.Apart.{Touches, rd_named}
+use Rattle.rmm_laws.specs.Half.{HasHalves}
 use Rattle.rmm_laws.specs.Owner.{is_rd, is_owner, IsOrderly, IsOrderlyAt, is_rec_in, IsOrdered}
 use Rattle.rmm_laws.specs.Proper.{IsProper}
 use Rattle.rmm_laws.specs.Role.{Used, used, used_at, has_user, level_in, state_uses, uses, IsSound, IsLinked, IsBegin, LeadsInside}
 use Rattle.rmm_laws.proofs.Entries.{number_inside, address_few, begins, named_inside}
+use Rattle.rmm_laws.proofs.Halves.{SameSpace, has_space, kept_or_plain, same_space}
 use Rattle.rmm_laws.proofs.Orders.{is_counter, counted, plain_in, total-set, total-alike, orderly_same, orderly_but}
 use Rattle.rmm_laws.proofs.PageWords.{length-with_words, word_of_page-with_words}
 use Rattle.rmm_laws.proofs.Passed.{Passed, yes_from, some_same, is_delegated-true, realm_of-some, rd_named-is}
@@ -364,6 +366,17 @@ module _ (m : Machine) (proper : IsLinked m) (owner rec : ℕ) (realm : RmmRealm
       (first_named (λ i. granule_named one (aux_of (page_in one g) i)) h m.settings.aux))
       (cases_eq h g)
 
+  all_halves : HasHalves m → HasHalves all
+  all_halves =
+      kept_or_plain m all wiped.settings aux_count (λ h.
+      ⊎_elim
+      (λ (here : h ≡ g). inr (ap (λ (x : ℕ). has_space (granule_at all x).state) here ∙ ap (λ (r : RmmGranule). has_space r.state) is_made.made))
+      (λ (apart_from : h ≢ g). ⊎_elim
+      (λ (aux : (i : ℕ) × (i < m.settings.aux) × (granule_named one (aux_of (page_in one g) i) ≡ Some h)). inr (ap (λ (r : RmmGranule). has_space r.state) (wiped.hit aux.0 h aux.1 aux.2)))
+      (λ (none : (i : ℕ) → i < m.settings.aux → granule_named one (aux_of (page_in one g) i) ≢ Some h). inl (beside_all h apart_from none))
+      (first_named (λ i. granule_named one (aux_of (page_in one g) i)) h m.settings.aux))
+      (cases_eq h g))
+
   -- one REC more of that realm
   total_then : (x : ℕ) → count_by (is_rec_in x) all.granules ≡ count_by (is_rec_in x) m.granules + cond (owner == x) 1 0
   total_then x =
@@ -381,7 +394,7 @@ module _ (m : Machine) (proper : IsLinked m) (owner rec : ℕ) (realm : RmmRealm
   owner_in : owner < length all.granules
   owner_in = let s = owner_rd in taken_inside all owner (λ none. (let never : is_rd (granule_at all owner).state ≡ false = ap is_rd none in both_ways (is_rd (granule_at all owner).state) never s))
 
-  module _ (ordered : IsOrdered m) (next : RmmRealm) (one_more : next.rec_count ≡ realm.rec_count + 1) where
+  module _ (ordered : IsOrdered m) (next : RmmRealm) (one_more : next.rec_count ≡ realm.rec_count + 1) (space : SameSpace next realm) where
     abbrev full : Machine
     full = with_granule all owner (of_no_realm (Rd next))
 
@@ -422,6 +435,7 @@ module _ (m : Machine) (proper : IsLinked m) (owner rec : ℕ) (realm : RmmRealm
           (λ sure. ap (λ (r : RmmGranule). is_rd r.state) owner_now)
           (subst (λ (r : RmmGranule). IsOrderly full r.state r.owner (page_in full owner)) (sym owner_now) refl) (orderly_all ordered);
       recs = recs_then;
+      halves = same_space all owner realm next owner_in (ap (λ (r : RmmGranule). r.state) owner_still ∙ rd_is) space (all_halves ordered.halves);
     }
 
   pub created : (next : RmmRealm) → next.table_count ≡ realm.table_count → next.first_table ≡ realm.first_table → next.start_level ≡ realm.start_level → IsServed (length m.granules) next
@@ -503,7 +517,7 @@ module _ (rd rec params : ℕ) (m : Machine) (proper : IsProper m) (ok : Passed 
     linked = created m proper.linked (number_of m rd) rec (realm_at m rd) rd_there rec_begins.1 rec_begins.0 rec_begins.2 params_page aux_aligned aux_inside aux_free aux_other aux_distinct
         _ refl refl refl (still_served _ refl refl refl refl);
     ordered = created_ordered m proper.linked (number_of m rd) rec (realm_at m rd) rd_there rec_begins.1 rec_begins.0 rec_begins.2 params_page aux_aligned aux_inside aux_free aux_other aux_distinct
-        proper.ordered _ refl;
+        proper.ordered _ refl (refl, refl, refl, refl);
   }
 
   pub rec_created_touches : Touches m (rec_create rd rec params m).machine (rd_named m rd)

@@ -155,8 +155,8 @@ module _ (o : Machine) (w : ℕ) where
 
   -- the realm of an RD
   pub going_realm : (g rd : ℕ) (m : Machine) (realm other : RmmRealm) → IsGoing o w g m → rd ≡ w → (granule_at m rd).state ≡ Rd realm → other.table_count ≡ realm.table_count → other.first_table ≡ realm.first_table
-      → other.start_level ≡ realm.start_level → other.rec_count ≡ realm.rec_count → IsServed (length m.granules) other → IsGoing o w g (with_granule m rd (of_no_realm (Rd other)))
-  going_realm g rd m realm other going named is count first level recs served =
+      → other.start_level ≡ realm.start_level → other.rec_count ≡ realm.rec_count → other.s2sz ≡ realm.s2sz → IsServed (length m.granules) other → IsGoing o w g (with_granule m rd (of_no_realm (Rd other)))
+  going_realm g rd m realm other going named is count first level recs space served =
       let apart : g ≢ rd = λ same. (
       let states : (granule_at m g).state ≡ (granule_at m rd).state = ap (λ (k : ℕ). (granule_at m k).state) same in
       let rec_is = going.is in
@@ -164,7 +164,7 @@ module _ (o : Machine) (w : ℕ) where
       let still = granule_at-other m rd g (of_no_realm (Rd other)) apart in
       record {
         proper = keep_realm m rd realm other going.proper is count first level served;
-        ordered = ordered_realm m rd realm other (taken_inside m rd (λ free. cc)) is recs going.ordered;
+        ordered = ordered_realm m rd realm other (taken_inside m rd (λ free. cc)) is recs (space, level, first, count) going.ordered;
         rec = going.rec;
         is = ap (λ (r : RmmGranule). r.state) still ∙ going.is;
         touches = touch_granule o m (Some w) rd (of_no_realm (Rd other)) going.touches (inl (inl named));

@@ -20,9 +20,12 @@ use Rattle.rmm_model.specs.Command.Auxiliary.{aux_granule, with_aux}
 use Rattle.rmm_model.specs.Command.Operand.{rec_at}
 use Rattle.rmm_model.specs.Command.RecDestroy.{rec_destroy, with_one_less, without_rec_of, without_rec}
 use Rattle.rmm_laws.specs.Apart.{Touches, realm_of_rec}
+use Rattle.rmm_laws.specs.Back.{IsBeside}
+use Rattle.rmm_laws.specs.Half.{HasHalves}
 use Rattle.rmm_laws.specs.Owner.{is_rd, is_owner, IsOrderly, IsOrderlyAt, is_rec_in}
 use Rattle.rmm_laws.specs.Proper.{IsProper}
 use Rattle.rmm_laws.specs.Role.{Used, used, state_uses, uses, IsSound, IsLinked}
+use Rattle.rmm_laws.proofs.Halves.{has_space, kept_or_plain, same_space}
 use Rattle.rmm_laws.proofs.Orders.{owner_is, rd_is, rd_of, is_counter, counted, total-set, total-alike, orderly_same, orderly_but}
 use Rattle.rmm_laws.proofs.Passed.{Passed, some_same, rec_of-some, rec_named-is}
 use Rattle.rmm_laws.proofs.RecLives.{IsRecMade, rec_gone}
@@ -109,7 +112,7 @@ module _ (m : Machine) (g aux : ℕ) (proper : IsLinked m) (old : RmmRec) (is_ol
         page_in-other (with_granule cleared g (of_no_realm Delegated)) g h zero_page apart ∙ clean.blank i h lt is,
       )
 
-  beside_gone : (h : ℕ) → h ≢ g → ((i : ℕ) → i < aux → called i ≢ Some h) → (granule_at gone h ≡ granule_at m h) × (page_in gone h ≡ page_in m h)
+  pub beside_gone : (h : ℕ) → h ≢ g → ((i : ℕ) → i < aux → called i ≢ Some h) → (granule_at gone h ≡ granule_at m h) × (page_in gone h ≡ page_in m h)
   beside_gone h ne none =
       let same = clean.other h none in (
         granule_at-other cleared g h (of_no_realm Delegated) ne ∙ same.0,
@@ -120,7 +123,7 @@ module _ (m : Machine) (g aux : ℕ) (proper : IsLinked m) (old : RmmRec) (is_ol
   gone_count = length-set cleared.granules g (of_no_realm Delegated) ∙ clean.count
 
   -- an RD is none of these
-  rd_apart : (h : ℕ) → is_rd (granule_at m h).state ≡ true → (h ≢ g) × ((i : ℕ) → i < aux → called i ≢ Some h)
+  pub rd_apart : (h : ℕ) → is_rd (granule_at m h).state ≡ true → (h ≢ g) × ((i : ℕ) → i < aux → called i ≢ Some h)
   rd_apart h sure = (
     λ same. both_ways (is_rd (granule_at m h).state) (ap (λ (x : ℕ). is_rd (granule_at m x).state) same ∙ ap is_rd is_old) sure,
     λ i lt is. both_ways (is_rd (granule_at m h).state) (ap (λ (r : RmmGranule). is_rd r.state) (aux_there i h lt is)) sure,
@@ -141,6 +144,17 @@ module _ (m : Machine) (g aux : ℕ) (proper : IsLinked m) (old : RmmRec) (is_ol
       (λ x owns sure. let apart = rd_apart x sure in ap (λ (r : RmmGranule). is_rd r.state) (beside_gone x apart.0 apart.1).0 ∙ sure) (before h))
       (first_named called h aux))
       (cases_eq h g)
+
+  pub halves_gone : HasHalves m → HasHalves gone
+  halves_gone =
+      kept_or_plain m gone clean.settings gone_count (λ h.
+      ⊎_elim
+      (λ (here : h ≡ g). inr (ap (λ (x : ℕ). has_space (granule_at gone x).state) here ∙ ap (λ (r : RmmGranule). has_space r.state) rec_gone_is.0))
+      (λ (ne : h ≢ g). ⊎_elim
+      (λ (it : (i : ℕ) × (i < aux) × (called i ≡ Some h)). inr (ap (λ (r : RmmGranule). has_space r.state) (aux_gone it.0 h it.1 it.2).0))
+      (λ (none : (i : ℕ) → i < aux → called i ≢ Some h). inl (beside_gone h ne none))
+      (first_named called h aux))
+      (cases_eq h g))
 
   -- an RD of after is one of before
   pub rd_before : (x : ℕ) (realm : RmmRealm) → (granule_at gone x).state ≡ Rd realm → (granule_at m x).state ≡ Rd realm
@@ -258,7 +272,12 @@ module _ (rec : ℕ) (m : Machine) (proper : IsProper m) (ok : Passed (rec_destr
   after_proper : IsProper after
   after_proper = record {
     linked = destroyed less here m.settings.aux less_linked (rec_at m rec) still_rec refl;
-    ordered = record { each = orderly_gone less here m.settings.aux less_linked (rec_at m rec) still_rec refl less_orderly; recs = recs_after };
+    ordered = record {
+      each = orderly_gone less here m.settings.aux less_linked (rec_at m rec) still_rec refl less_orderly;
+      recs = recs_after;
+      halves = halves_gone less here m.settings.aux less_linked (rec_at m rec) still_rec refl
+          (same_space m w realm (with_one_less realm) w_in of_rd.1 (refl, refl, refl, refl) proper.ordered.halves);
+    };
   }
 
   pub rec_destroyed : IsProper (rec_destroy rec m).machine
@@ -299,3 +318,19 @@ module _ (rec : ℕ) (m : Machine) (proper : IsProper m) (ok : Passed (rec_destr
   pub destroyed_back : AllBack (rec_destroy rec m).machine
   unfolding rec_destroy
   destroyed_back = subst (λ (k : Machine). AllBack (with_blank (with_aux k here (of_no_realm Delegated) m.settings.aux) here Delegated)) (sym less_is) all_back
+
+  -- what is left as it was
+  abbrev OthersStay : Machine → Type 0
+  OthersStay n = (h : ℕ) → IsBeside m (number_of m rec) h → granule_at n h ≡ granule_at m h
+
+  others_stay : OthersStay after
+  others_stay h beside =
+      let apart : h ≢ w = λ same. beside.2 (of_rec.1 ∙ ap (λ (x : ℕ). Some x) (sym same)) in
+      let count = length-set m.granules w (of_no_realm (Rd (with_one_less realm))) in
+      (beside_gone less here m.settings.aux less_linked (rec_at m rec) still_rec refl h beside.0
+      (λ k lt is. beside.1 k lt (sym (named-same m less refl count (aux_of (page_in m here) k)) ∙ is))).0
+      ∙ granule_at-other m w h (of_no_realm (Rd (with_one_less realm))) apart
+
+  pub destroyed_beside : OthersStay (rec_destroy rec m).machine
+  unfolding rec_destroy
+  destroyed_beside = subst (λ (k : Machine). OthersStay (with_blank (with_aux k here (of_no_realm Delegated) m.settings.aux) here Delegated)) (sym less_is) others_stay

@@ -1,5 +1,5 @@
 -- The steps of a realm's teardown succeed.
-use Rattle.std.proofs.Common.{◌≡◌, ℕ, ◌+◌, ◌-◌, ◌%◌, ◌^◌, ◌<◌, ◌≤◌, ◌==◌, ◌&&◌, ◌||◌, List, [], ◌∷◌, Bool, true, false, not, Option, Some, None, unwrap_or, refl, sym, ap, subst, ◌∙◌, ⊎_elim}
+use Rattle.std.proofs.Common.{◌≡◌, ℕ, ◌+◌, ◌-◌, ◌%◌, ◌^◌, ◌<◌, ◌≤◌, ◌⊎◌, inl, inr, ◌==◌, ◌&&◌, ◌||◌, List, [], ◌∷◌, Bool, true, false, not, Option, Some, None, unwrap_or, refl, sym, ap, subst, ◌∙◌, ⊎_elim, arith}
 use Rattle.std.specs.Prelude.{nat_le, nat_lt, is_none, is_some}
 use Rattle.std.proofs.lemmas.Bool.{cases_Bool, and_parts, and_from, cond-false, eq-eqb, le-leb, lt-ltb}
 use Rattle.granule_addr.specs.Page.{zero_page}
@@ -10,7 +10,7 @@ use Rattle.rmi_abi.specs.declared.call.Call.TheVariants.{GranuleUndelegate, Real
 use Rattle.rmm_model.specs.declared.entry.RmmRipas.{RmmRipas}
 use Rattle.rmm_model.specs.declared.entry.RmmRttEntry.{RmmRttEntry}
 use Rattle.rmm_model.specs.declared.entry.RmmRttEntry.TheVariants.{Assigned, AssignedNs}
-use Rattle.rmm_model.specs.declared.granule.RmmGranuleState.TheVariants.{Delegated}
+use Rattle.rmm_model.specs.declared.granule.RmmGranuleState.TheVariants.{Delegated, Undelegated}
 use Rattle.rmm_model.specs.declared.realm.RmmRealm.{RmmRealm}
 use Rattle.rmm_model.specs.declared.realm.RttWalk.{RttWalk}
 use Rattle.rmm_model.specs.Call.{command_of, performed}
@@ -19,7 +19,7 @@ use Rattle.rmm_model.specs.Entry.{is_assigned_ns}
 use Rattle.rmm_model.specs.Granule.{of_no_realm, is_delegated, realm_of, rec_of}
 use Rattle.rmm_model.specs.Guest.{is_rec_named}
 use Rattle.rmm_model.specs.Level.{entry_size}
-use Rattle.rmm_model.specs.Machine.{Machine, granule_at, page_in, is_aligned, is_inside, number_of, state_at}
+use Rattle.rmm_model.specs.Machine.{Machine, granule_at, page_in, is_aligned, is_inside, number_of, state_at, with_granule}
 use Rattle.rmm_model.specs.Realm.{is_in_space, is_protected, is_unprotected}
 use Rattle.rmm_model.specs.Rec.{is_running}
 use Rattle.rmm_model.specs.Table.{has_live}
@@ -35,13 +35,14 @@ use Rattle.rmm_laws.specs.Apart.{rd_named, IsOfRealm}
 use Rattle.rmm_laws.specs.Owner.{is_rec_in}
 use Rattle.rmm_laws.specs.Proper.{IsProper}
 use Rattle.rmm_laws.specs.Role.{LeadsInside}
-use Rattle.rmm_laws.proofs.Entries.{named_inside}
+use Rattle.rmm_laws.proofs.Entries.{named_inside, number_inside}
 use Rattle.rmm_laws.proofs.Freed.{leads_at, succeeded}
 use Rattle.rmm_laws.proofs.Mappings.{served, protected_within}
 use Rattle.rmm_laws.proofs.Orders.{none_counted}
-use Rattle.rmm_laws.proofs.Passed.{Passed, realm_of-some}
+use Rattle.rmm_laws.proofs.Passed.{Passed, realm_of-some, yes_from}
 use Rattle.rmm_laws.proofs.RealmOrders.{not_owned, rd_gone, rd_zero, start_gone, none_if}
 use Rattle.rmm_laws.proofs.Realms.{IsStart, NoStart, start_or_none, or_none}
+use Rattle.rmm_laws.proofs.Writes.{granule_at-same, page_in-same}
 
 -- ---- commands whose checks pass
 
@@ -50,11 +51,11 @@ none_failing [] ok = refl
 none_failing (c ∷ cs) ok = cond-false c.fails (Some c.refusal) (first_failing cs) ok.0 ∙ none_failing cs ok.1
 
 -- the word of a call whose checks pass is that of its own answer
-own_word : (call : Call) (m : Machine) → Passed (command_of call m).checks → (performed call m).0.word ≡ (command_of call m).answer.word
+pub own_word : (call : Call) (m : Machine) → Passed (command_of call m).checks → (performed call m).0.word ≡ (command_of call m).answer.word
 unfolding performed
 own_word call m ok = ap (λ f. (decided f (command_of call m) m).0.word) (none_failing (command_of call m).checks ok)
 
-no_more : (b : Bool) → b ≡ true → not b ≡ false
+pub no_more : (b : Bool) → b ≡ true → not b ≡ false
 no_more true is = refl
 no_more false is = sym is
 
@@ -208,6 +209,19 @@ granule_step m address aligned inside free =
     own_word (GranuleUndelegate address) m
     (no_more (address % 4096 == 0) (eq-eqb (address % 4096) 0 aligned), (no_more (is_inside m address) inside, (no_more (is_delegated (state_at m address)) (ap is_delegated free), tt)))
 
+-- a granule that is UNDELEGATED again
+pub undelegated : (m : Machine) (address : ℕ) → IsProper m → (performed (GranuleUndelegate address) m).0.word ≡ Success
+    → (granule_at (performed (GranuleUndelegate address) m).1 (number_of m address) ≡ of_no_realm Undelegated) × (page_in (performed (GranuleUndelegate address) m).1 (number_of m address) ≡ zero_page)
+unfolding granule_undelegate
+undelegated m address proper success =
+    let g : ℕ = number_of m address in
+    succeeded ((granule_at (performed (GranuleUndelegate address) m).1 g ≡ of_no_realm Undelegated) × (page_in (performed (GranuleUndelegate address) m).1 g ≡ zero_page)) (GranuleUndelegate address) m refl success
+    (λ ok now.
+    let inside = number_inside m address (yes_from (is_inside m address) ok.1.0) in
+    let pages = proper.linked.sound.pages in
+    subst (λ (p : SmcResult × Machine). (granule_at p.1 g ≡ of_no_realm Undelegated) × (page_in p.1 g ≡ zero_page)) (sym now)
+    (granule_at-same m g (of_no_realm Undelegated) inside, page_in-same (with_granule m g (of_no_realm Undelegated)) g zero_page (omega arith)))
+
 -- ---- what is left of a realm
 
 pub nothing_left : (m : Machine) (rd g : ℕ) → IsProper m → (performed (RealmDestroy rd) m).0.word ≡ Success → IsOfRealm m (Some (number_of m rd)) g
@@ -235,3 +249,23 @@ nothing_left m rd g proper success ours =
     (λ (no_start : NoStart realm g). absurd (not_owned m proper n realm is dead none g (granule_at m g).state no_start refl (proper.ordered.each g) owned))
     (start_or_none realm g))
     ours))
+
+-- what a realm has until then
+pub nothing_else : (m : Machine) (rd g : ℕ) → IsProper m → (performed (RealmDestroy rd) m).0.word ≡ Success → IsOfRealm m (Some (number_of m rd)) g
+    → (g ≡ number_of m rd) ⊎ (((realm_at m rd).first_table ≤ g) × (g < (realm_at m rd).first_table + (realm_at m rd).table_count))
+unfolding realm_destroy is_realm_live
+nothing_else m rd g proper success ours =
+    let n : ℕ = number_of m rd in
+    let realm : RmmRealm = realm_at m rd in
+    succeeded ((g ≡ n) ⊎ ((realm.first_table ≤ g) × (g < realm.first_table + realm.table_count))) (RealmDestroy rd) m refl success
+    (λ ok now.
+    let is = realm_of-some (state_at m rd) ok.1.1.0 in
+    let parts = or_none (nat_lt 0 realm.rec_count) (has_live_table m realm.first_table realm.table_count) ok.1.1.1.0 in
+    ⊎_elim
+    (λ (it : g ≡ n). inl it)
+    (λ (owned : (granule_at m g).owner ≡ Some n).
+    ⊎_elim
+    (λ (start : IsStart realm g). let lt = start.1 in let at = start.2 in inr (omega arith, omega arith))
+    (λ (no_start : NoStart realm g). absurd (not_owned m proper n realm is parts.1 (none_if realm.rec_count parts.0) g (granule_at m g).state no_start refl (proper.ordered.each g) owned))
+    (start_or_none realm g))
+    ours)

@@ -1,7 +1,7 @@
 -- Steps by the top of a walk's end meet each live entry.
 use Rattle.std.proofs.Common.{◌≡◌, ◌≢◌, ℕ, zero, suc, ◌+◌, ◌-◌, ◌*◌, ◌/◌, ◌%◌, ◌^◌, ◌<◌, ◌≤◌, ◌⊎◌, inl, inr, ◌==◌, true, false, List, Option, Some, None, refl, sym, ap, subst, ◌∙◌, ⊎_elim, arith}
 use Rattle.std.specs.Option.{option_map_or}
-use Rattle.std.proofs.lemmas.Bool.{cases_Bool, cases_eq, cond_both, cond-true, cond-false, eq-eqb, ne_eqb}
+use Rattle.std.proofs.lemmas.Bool.{both_ways, cases_Bool, cases_eq, cases_lt, cond_both, cond-true, cond-false, eq-eqb, ne_eqb}
 use Rattle.rmm_model.specs.declared.entry.RmmRttEntry.{RmmRttEntry}
 use Rattle.rmm_model.specs.declared.entry.RmmRttEntry.TheVariants.{Unassigned, Assigned, Table, UnassignedNs, AssignedNs}
 use Rattle.rmm_model.specs.declared.granule.RmmGranuleState.TheVariants.{Rd}
@@ -13,7 +13,7 @@ use Rattle.rmm_model.specs.Machine.{Machine, granule_at, page_in}
 use Rattle.rmm_model.specs.Table.{entry_in_page, first_live, first_live_from}
 use Rattle.rmm_model.specs.Walk.{entry_at, table_below, walk_from, start_of, walk, top_at, top}
 use Rattle.rmm_laws.specs.Role.{IsLinked}
-use Rattle.rmm_laws.specs.Walk.{IsAtLive}
+use Rattle.rmm_laws.specs.Walk.{end_of, IsAtLive, IsPassed}
 use Rattle.rmm_laws.proofs.Serving.{level_cases, few_at}
 use Rattle.rmm_laws.proofs.Walks.{walk_ends, entry_index-few}
 
@@ -36,14 +36,14 @@ first_live-dead page (suc count) i j low high =
     (cases_eq j i))
     (cases_Bool (is_live (entry_in_page page i)))
 
-first_live-most : (page : List ℕ) (count i : ℕ) → (i ≤ first_live page count i) × (first_live page count i ≤ i + count)
+pub first_live-most : (page : List ℕ) (count i : ℕ) → (i ≤ first_live page count i) × (first_live page count i ≤ i + count)
 unfolding first_live
 first_live-most page zero i = (omega arith, omega arith)
 first_live-most page (suc count) i =
     cond_both (is_live (entry_in_page page i)) i (first_live page count (i + 1)) (λ (n : ℕ). (i ≤ n) × (n ≤ i + suc count)) (λ live. (omega arith, omega arith))
     (λ dead. let rest = first_live-most page count (i + 1) in let low = rest.0 in let high = rest.1 in (omega arith, omega arith))
 
-first_live-live : (page : List ℕ) (count i : ℕ) → (is_live (entry_in_page page (first_live page count i)) ≡ true) ⊎ (first_live page count i ≡ i + count)
+pub first_live-live : (page : List ℕ) (count i : ℕ) → (is_live (entry_in_page page (first_live page count i)) ≡ true) ⊎ (first_live page count i ≡ i + count)
 unfolding first_live
 first_live-live page zero i = inr (omega arith)
 first_live-live page (suc count) i =
@@ -79,7 +79,7 @@ above_same p l x ipa below few same = absurd (omega arith)
 
 -- ---- walks of addresses in one table
 
-dead_below : (m : Machine) (entry : RmmRttEntry) → is_live entry ≡ false → table_below m entry ≡ None
+pub dead_below : (m : Machine) (entry : RmmRttEntry) → is_live entry ≡ false → table_below m entry ≡ None
 dead_below m (Unassigned ripas) dead = refl
 dead_below m UnassignedNs dead = refl
 dead_below m (Table address) dead = absurd (cc)
@@ -181,7 +181,7 @@ module _ (m : Machine) (linked : IsLinked m) (rd ipa level : ℕ) (realm : RmmRe
   few_here : found_here.level ≤ 3
   few_here = few_at m linked rd ipa realm found_here (walk_ends m linked rd ipa realm level is within least).place_is
 
-  pub skipped : (x : ℕ) → ipa ≤ x → x < top m (walk m realm ipa level) ipa → is_live (entry_at m (walk m realm x 3) x) ≡ false
+  pub skipped : (x : ℕ) → ipa ≤ x → x < top m (walk m realm ipa level) ipa → IsPassed m realm (walk m realm ipa level) x
   unfolding walk start_of start_offset entry_index
   skipped x from to =
       let before = before_top m found_here ipa few_here x from to in
@@ -197,7 +197,7 @@ module _ (m : Machine) (linked : IsLinked m) (rd ipa level : ℕ) (realm : RmmRe
       let same_walk : walk m realm x 3 ≡ found_here =
       ap (walk_from m x (3 - realm.start_level)) start_is
       ∙ follows m ipa x (level - realm.start_level) (3 - realm.start_level) start (omega arith) (λ p below. ap (λ (q : ℕ). q % 512) (above p below)) before.0 in
-      ap (λ (f : RttWalk). is_live (entry_at m f x)) same_walk ∙ before.0
+      (ap (λ (f : RttWalk). is_live (entry_at m f x)) same_walk ∙ before.0, before.0)
 
 -- ---- where tops are
 
@@ -218,6 +218,44 @@ aligned_index : (l : ℕ) → l ≤ 3 → (ipa : ℕ) → entry_index l (ipa / e
 unfolding entry_size entry_index
 aligned_index l few =
     level_cases (λ (k : ℕ). (ipa : ℕ) → entry_index k (ipa / entry_size k * entry_size k) ≡ entry_index k ipa) (λ ipa. omega arith) (λ ipa. omega arith) (λ ipa. omega arith) (λ ipa. omega arith) l few
+
+-- where an address of a level is, against the entry of another one: not before it, at the beginning of an entry, and
+-- before the end of the table
+abbrev IsFrom : ℕ → ℕ → ℕ → Type 0
+IsFrom l ipa to = (ipa / entry_size l ≤ to / entry_size l) × (to % entry_size l ≡ 0)
+
+abbrev IsBefore : ℕ → ℕ → ℕ → Type 0
+IsBefore l ipa to = to < (ipa / entry_size l / 512 + 1) * (512 * entry_size l)
+
+own_place : (l : ℕ) → l ≤ 3 → (ipa : ℕ) → IsBefore l ipa ipa
+unfolding entry_size
+own_place l few =
+    level_cases (λ (k : ℕ). (ipa : ℕ) → IsBefore k ipa ipa) (λ ipa. omega arith) (λ ipa. omega arith) (λ ipa. omega arith) (λ ipa. omega arith) l few
+
+aligned_place : (l : ℕ) → l ≤ 3 → (ipa : ℕ) → IsFrom l ipa (ipa / entry_size l * entry_size l) × IsBefore l ipa (ipa / entry_size l * entry_size l)
+unfolding entry_size
+aligned_place l few =
+    level_cases (λ (k : ℕ). (ipa : ℕ) → IsFrom k ipa (ipa / entry_size k * entry_size k) × IsBefore k ipa (ipa / entry_size k * entry_size k))
+    (λ ipa. ((omega arith, omega arith), omega arith)) (λ ipa. ((omega arith, omega arith), omega arith)) (λ ipa. ((omega arith, omega arith), omega arith)) (λ ipa. ((omega arith, omega arith), omega arith)) l few
+
+further_place : (l : ℕ) → l ≤ 3 → (ipa live : ℕ) → IsFrom l ipa ((ipa / entry_size l + (live - entry_index l ipa)) * entry_size l)
+unfolding entry_size
+further_place l few =
+    level_cases (λ (k : ℕ). (ipa live : ℕ) → IsFrom k ipa ((ipa / entry_size k + (live - entry_index k ipa)) * entry_size k))
+    (λ ipa live. (omega arith, omega arith)) (λ ipa live. (omega arith, omega arith)) (λ ipa live. (omega arith, omega arith)) (λ ipa live. (omega arith, omega arith)) l few
+
+further_before : (l : ℕ) → l ≤ 3 → (ipa live : ℕ) → live < 512 → IsBefore l ipa ((ipa / entry_size l + (live - entry_index l ipa)) * entry_size l)
+unfolding entry_size entry_index
+further_before l few =
+    level_cases (λ (k : ℕ). (ipa live : ℕ) → live < 512 → IsBefore k ipa ((ipa / entry_size k + (live - entry_index k ipa)) * entry_size k))
+    (λ ipa live below. omega arith) (λ ipa live below. omega arith) (λ ipa live below. omega arith) (λ ipa live below. omega arith) l few
+
+-- an address of the entry of another one
+same_index : (l : ℕ) → l ≤ 3 → (ipa to : ℕ) → to ≤ ipa → ipa / entry_size l ≤ to / entry_size l → entry_index l ipa ≡ entry_index l to
+unfolding entry_size entry_index
+same_index l few =
+    level_cases (λ (k : ℕ). (ipa to : ℕ) → to ≤ ipa → ipa / entry_size k ≤ to / entry_size k → entry_index k ipa ≡ entry_index k to)
+    (λ ipa to least low. omega arith) (λ ipa to least low. omega arith) (λ ipa to least low. omega arith) (λ ipa to least low. omega arith) l few
 
 module _ (m : Machine) (found : RttWalk) (ipa : ℕ) (few : found.level ≤ 3) where
   abbrev at : ℕ
@@ -252,16 +290,40 @@ module _ (m : Machine) (found : RttWalk) (ipa : ℕ) (few : found.level ≤ 3) w
       ⊎_elim (λ (live : is_live (entry_in_page (page_in m found.table) next_live) ≡ true). live) (λ (end : next_live ≡ 512). absurd (omega arith)) end_or_live in
       subst (IsAtLive m found ipa) (sym (cond-true (next_live == at) _ _ (eq-eqb next_live at same)))
       (cond_both m.settings.aligns_live_top (ipa / entry_size found.level * entry_size found.level) ipa (IsAtLive m found ipa)
-      (λ sure. inl (live_there (ipa / entry_size found.level * entry_size found.level) (aligned_index found.level few ipa ∙ sym same) is))
-      (λ never. inl (live_there ipa (sym same) is))))
+      (λ sure.
+      let place = aligned_place found.level few ipa in
+      let there = live_there (ipa / entry_size found.level * entry_size found.level) (aligned_index found.level few ipa ∙ sym same) is in
+      record { is = inl (there, place.1); low = place.0.0; begins = inr place.0.1 })
+      (λ never. record { is = inl (live_there ipa (sym same) is, own_place found.level few ipa); low = omega arith; begins = inl refl })))
       (λ (other : next_live ≢ at).
+      let to : ℕ = (ipa / entry_size found.level + (next_live - at)) * entry_size found.level in
+      let place = further_place found.level few ipa next_live in
       subst (IsAtLive m found ipa) (sym (cond-false (next_live == at) _ _ (ne_eqb next_live at other)))
       (⊎_elim
-      (λ (last : next_live ≡ 512).
-      inr (ap (λ (n : ℕ). (ipa / entry_size found.level + (n - at)) * entry_size found.level) last ∙ further_end found.level few ipa))
+      (λ (last : next_live ≡ 512). record {
+        is = inr (ap (λ (n : ℕ). (ipa / entry_size found.level + (n - at)) * entry_size found.level) last ∙ further_end found.level few ipa);
+        low = place.0;
+        begins = inr place.1;
+      })
       (λ (inner : next_live ≢ 512).
       let is : is_live (entry_in_page (page_in m found.table) next_live) ≡ true =
       ⊎_elim (λ (live : is_live (entry_in_page (page_in m found.table) next_live) ≡ true). live) (λ (end : next_live ≡ 512). absurd (inner end)) end_or_live in
-      inl (live_there ((ipa / entry_size found.level + (next_live - at)) * entry_size found.level) (further_index found.level few ipa next_live low (omega arith)) is))
+      let there = live_there to (further_index found.level few ipa next_live low (omega arith)) is in
+      record { is = inl (there, further_before found.level few ipa next_live (omega arith)); low = place.0; begins = inr place.1 })
       (cases_eq next_live 512)))
       (cases_eq next_live at)
+
+-- the next top of an address whose entry is not live is after it
+pub after_dead : (m : Machine) (found : RttWalk) (ipa to : ℕ) → found.level ≤ 3 → is_live (entry_at m found ipa) ≡ false → IsAtLive m found ipa to → ipa < to
+unfolding entry_at
+after_dead m found ipa to few dead met =
+    ⊎_elim
+    (λ (it : (is_live (entry_at m found to) ≡ true) × (to < end_of found ipa)).
+    ⊎_elim
+    (λ (further : ipa < to). further)
+    (λ (least : to ≤ ipa).
+    let index = same_index found.level few ipa to least met.low in
+    absurd (both_ways (is_live (entry_at m found to)) (ap (λ (k : ℕ). is_live (entry_in_page (page_in m found.table) k)) (sym index) ∙ dead) it.0))
+    (cases_lt ipa to))
+    (λ (end : to ≡ end_of found ipa). subst (λ (t : ℕ). ipa < t) (sym end) (own_place found.level few ipa))
+    met.is

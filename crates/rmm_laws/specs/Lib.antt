@@ -1,7 +1,9 @@
 pub mod Apart
 pub mod Back
+pub mod Half
 pub mod Owner
 pub mod Proper
 pub mod Refusal
 pub mod Role
+pub mod Step
 pub mod Walk

@@ -10,6 +10,7 @@ use Rattle.rmm_model.specs.declared.realm.RmmRealm.{RmmRealm}
 use Rattle.rmm_model.specs.Granule.{rec_of}
 use Rattle.rmm_model.specs.Machine.{Machine, granule_at, page_in}
 use Rattle.rmm_model.specs.Rec.{aux_of}
+use Rattle.rmm_laws.specs.Half.{HasHalves}
 use Rattle.rmm_laws.specs.Role.{IsBegin}
 
 -- ---- owners
@@ -47,7 +48,9 @@ is_owner rd None = false
 abbrev pub is_rec_in : ℕ → RmmGranule → Bool
 is_rec_in rd granule = is_some (rec_of granule.state) && is_owner rd granule.owner
 
--- Each granule has the owner and the page that its state asks for, and each RD counts the RECs of its realm.
+-- Each granule has the owner and the page that its state asks for, and each RD counts the RECs of its realm. Entries of
+-- tables are of the half of the address space that they cover.
 pub record IsOrdered (m : Machine) : Type 0 where
   pub each : (granule : ℕ) → IsOrderlyAt m granule
   pub recs : (rd : ℕ) (realm : RmmRealm) → (granule_at m rd).state ≡ Rd realm → realm.rec_count ≡ count_by (is_rec_in rd) m.granules
+  pub halves : HasHalves m

@@ -1,5 +1,5 @@
 -- Ends of walks. RMM 1.0, RttWalk.
-use Rattle.std.specs.Prelude.{◌≡◌, ℕ, zero, suc, ◌+◌, ◌*◌, ◌/◌, ◌<◌, ◌≤◌, ◌⊎◌, true, false, Some}
+use Rattle.std.specs.Prelude.{◌≡◌, ℕ, zero, suc, ◌+◌, ◌*◌, ◌/◌, ◌%◌, ◌<◌, ◌≤◌, ◌⊎◌, true, false, Some}
 use Rattle.rmm_model.specs.declared.granule.RmmGranuleState.TheVariants.{Rtt}
 use Rattle.rmm_model.specs.declared.realm.RmmRealm.{RmmRealm}
 use Rattle.rmm_model.specs.declared.realm.RttWalk.{RttWalk}
@@ -43,10 +43,27 @@ pub record EndsWell (m : Machine) (level : ℕ → ℕ) (rd : ℕ) (realm : RmmR
 abbrev pub IsDeadAt : Machine → RmmRealm → ℕ → Type 0
 IsDeadAt m realm ipa = is_live (entry_at m (walk m realm ipa 3) ipa) ≡ false
 
--- A top is at a live entry of the table at which a walk ended, or at the first address that the table does not serve.
-abbrev pub IsAtLive : Machine → RttWalk → ℕ → ℕ → Type 0
-IsAtLive m found ipa to =
-    (is_live (entry_at m found to) ≡ true) ⊎ (to ≡ (ipa / entry_size found.level / 512 + 1) * (512 * entry_size found.level))
+-- the first address after those that the table serves at which a walk ended
+abbrev pub end_of : RttWalk → ℕ → ℕ
+end_of found ipa = (ipa / entry_size found.level / 512 + 1) * (512 * entry_size found.level)
+
+-- A top is at a live entry of the table at which a walk of an address ended, or at the first address that the table does
+-- not serve. It is at no entry before that of the address. It is the address, or an entry begins there.
+pub record IsAtLive (m : Machine) (found : RttWalk) (ipa to : ℕ) : Type 0 where
+  pub is : ((is_live (entry_at m found to) ≡ true) × (to < end_of found ipa)) ⊎ (to ≡ end_of found ipa)
+  pub low : ipa / entry_size found.level ≤ to / entry_size found.level
+  pub begins : (to ≡ ipa) ⊎ (to % entry_size found.level ≡ 0)
+
+-- No live entry is passed at an address: the walk of the address ends at none, and the table at which a walk ended has
+-- none there.
+abbrev pub IsPassed : Machine → RmmRealm → RttWalk → ℕ → Type 0
+IsPassed m realm found x = IsDeadAt m realm x × (is_live (entry_at m found x) ≡ false)
+
+-- A top is after an address, and no live entry is passed from one to the other.
+pub record IsNextTop (m : Machine) (realm : RmmRealm) (found : RttWalk) (ipa to : ℕ) : Type 0 where
+  pub further : ipa < to
+  pub met : IsAtLive m found ipa to
+  pub skipped : (x : ℕ) → ipa ≤ x → x < to → IsPassed m realm found x
 
 -- The address of a TABLE entry is that at which a table of the realm begins, one level below, and of level 3 at most.
 pub record LeadsToTable (m : Machine) (level : ℕ → ℕ) (rd table address : ℕ) : Type 0 where

@@ -1,8 +1,9 @@
 //! Theorems of all calls by registers, of the host's stores, and of guests.
-ghost use Rattle.std.specs.Prelude.{◌≡◌, ◌≢◌, ℕ, ◌+◌, ◌-◌, ◌*◌, ◌%◌, ◌^◌, ◌<◌, ◌≤◌, true, false, List, length, Some, None};
+ghost use Rattle.std.specs.Prelude.{◌≡◌, ◌≢◌, ℕ, ◌+◌, ◌-◌, ◌*◌, ◌%◌, ◌^◌, ◌<◌, ◌≤◌, ◌⊎◌, true, false, List, length, Some, None};
 ghost use Rattle.granule_addr.specs.Page.{zero_page};
 ghost use Rattle.page_arena.specs.Page.{page_at};
 ghost use Rattle.rmi_abi.specs.declared.registers.Registers.{Registers};
+ghost use Rattle.rmi_abi.specs.declared.registers.SmcResult.{SmcResult};
 ghost use Rattle.rmi_abi.specs.declared.settings.RmmSettings.{RmmSettings};
 ghost use Rattle.rmi_abi.specs.declared.call.Call.TheVariants.{GranuleUndelegate, RealmDestroy, RecDestroy, RttDestroy, RttFold, RttUnmapUnprotected, DataDestroy};
 ghost use Rattle.rmi_abi.specs.declared.word.Word.TheVariants.{Success};
@@ -18,13 +19,15 @@ ghost use Rattle.rmm_model.specs.declared.realm.RmmRealm.{RmmRealm};
 ghost use Rattle.rmm_model.specs.declared.entry.RmmRipas.{RmmRipas};
 ghost use Rattle.rmm_model.specs.declared.rec.RmmRec.{RmmRec};
 ghost use Rattle.rmm_model.specs.Call.{performed, rmi};
+ghost use Rattle.rmm_model.specs.Entry.{is_live};
 ghost use Rattle.rmm_model.specs.Granule.{of_no_realm, of_realm};
 ghost use Rattle.rmm_model.specs.Guest.{is_rec_named, queued};
 ghost use Rattle.rmm_model.specs.Level.{entry_size};
 ghost use Rattle.rmm_model.specs.Realm.{is_protected, is_unprotected};
 ghost use Rattle.rmm_model.specs.Rec.{is_running};
+ghost use Rattle.rmm_model.specs.Command.Auxiliary.{with_aux};
 ghost use Rattle.rmm_model.specs.Command.Operand.{realm_at, rec_at};
-ghost use Rattle.rmm_model.specs.Command.RealmDestroy.{has_live_table};
+ghost use Rattle.rmm_model.specs.Command.RealmDestroy.{has_live_table, without_tables};
 ghost use Rattle.rmm_model.specs.Host.{can_access, can_fill, after_store, after_fill};
 ghost use Rattle.rmm_model.specs.Machine.{Machine, granule_at, is_inside, number_of, page_in, with_blank};
 ghost use Rattle.rmm_model.specs.Step.{access, after_write};
@@ -33,11 +36,13 @@ ghost use Rattle.rmm_model.specs.Walk.{entry_at, table_below, walk, top};
 ghost use Rattle.rmm_model.specs.Command.RecEnter.{interrupted, step_outcome, after_step};
 ghost use Rattle.rmm_laws.specs.Apart.{rd_named, IsOfRealm, IsOfAnother, IsSameAt};
 ghost use Rattle.rmm_laws.specs.Back.{ComesBack, RecComesBack};
+ghost use Rattle.rmm_laws.specs.Half.{IsOfHalf};
 ghost use Rattle.rmm_laws.specs.Owner.{is_rec_in};
 ghost use Rattle.rmm_laws.specs.Proper.{IsProper};
 ghost use Rattle.rmm_laws.specs.Refusal.{IsRefused, IsRecEnter, IsNotQueued, IsNotRunning, IsAccess, IsNotDone};
-ghost use Rattle.rmm_laws.specs.Role.{Used, uses, IsSound};
-ghost use Rattle.rmm_laws.specs.Walk.{IsTableOf, Serves, EndsWell, IsDeadAt, IsAtLive, LeadsToTable, walked_to};
+ghost use Rattle.rmm_laws.specs.Role.{Used, page_count, uses, IsSound};
+ghost use Rattle.rmm_laws.specs.Step.{HasNextStep};
+ghost use Rattle.rmm_laws.specs.Walk.{IsTableOf, Serves, EndsWell, IsPassed, IsAtLive, IsNextTop, LeadsToTable, walked_to};
 
 /// What is refused changes nothing: calls by registers, and the host's stores and fills. So do steps that no REC takes,
 /// interrupts of RECs that do not run, and accesses of guests that are not done. Only a call that enters a REC is
@@ -70,11 +75,17 @@ pub fn granules_have_one_role()
         → (x ≡ y) × (i ≡ j) × (k ≡ l) }
 {}
 
-/// A walk ends at a table of its realm that serves the address: at the level that it goes to, or at an entry that is no
-/// TABLE.
+/// A walk that goes to the level of the starting tables, or below, ends at a table of its realm that serves the address:
+/// at the level that it goes to, or at an entry that is no TABLE.
 pub fn walks_end()
     ensures { (m : Machine) (rd ipa level : ℕ) (realm : RmmRealm) (proper : IsProper m) → (granule_at m rd).state ≡ Rd realm → ipa < 2 ^ realm.s2sz → realm.start_level ≤ level
         → EndsWell m proper.linked.level rd realm ipa level (walk m realm ipa level) }
+{}
+
+/// Halves are apart: a walk of an address of a realm ends at an entry of the half that the address is in. So an ASSIGNED
+/// entry is at protected addresses alone, and an ASSIGNED_NS entry at unprotected ones.
+pub fn halves_are_apart()
+    ensures { (m : Machine) (rd ipa level : ℕ) (realm : RmmRealm) → IsProper m → (granule_at m rd).state ≡ Rd realm → ipa < 2 ^ realm.s2sz → IsOfHalf realm ipa (entry_at m (walk m realm ipa level) ipa) }
 {}
 
 /// Each table of a realm serves 512 entries from some address on, and a walk of each of their addresses reaches it.
@@ -92,7 +103,8 @@ pub fn tables_lead_to_tables()
 {}
 
 /// Granules come back: X1 of RTT_DESTROY, RTT_FOLD and DATA_DESTROY is the address of a table or a page of the realm.
-/// That granule is DELEGATED and zero from then on. So is a REC that is destroyed, with its auxiliary granules.
+/// That granule is DELEGATED and zero after the call. So is a REC that is destroyed, with its auxiliary granules. Other
+/// granules keep their attributes, but for the RD that counts the REC.
 pub fn granules_come_back()
     ensures destroyed { (m : Machine) (rd ipa level : ℕ) → IsProper m → (performed (RttDestroy rd ipa level) m).0.word ≡ Success
         → ComesBack m (performed (RttDestroy rd ipa level) m).1 (number_of m rd) Rtt (performed (RttDestroy rd ipa level) m).0.x1 }
@@ -100,29 +112,30 @@ pub fn granules_come_back()
         → ComesBack m (performed (RttFold rd ipa level) m).1 (number_of m rd) Rtt (performed (RttFold rd ipa level) m).0.x1 }
     ensures pages { (m : Machine) (rd ipa : ℕ) → IsProper m → (performed (DataDestroy rd ipa) m).0.word ≡ Success
         → ComesBack m (performed (DataDestroy rd ipa) m).1 (number_of m rd) Data (performed (DataDestroy rd ipa) m).0.x1 }
-    ensures recs { (m : Machine) (rec : ℕ) → IsProper m → (performed (RecDestroy rec) m).0.word ≡ Success → RecComesBack m (performed (RecDestroy rec) m).1 (number_of m rec) }
+    ensures recs { (m : Machine) (rec : ℕ) → IsProper m → (performed (RecDestroy rec) m).0.word ≡ Success → RecComesBack m (performed (RecDestroy rec) m).1 rec }
 {}
 
 /// Tops are complete: from an address to the top of its walk's end there is no live entry. The top is at the next live
 /// entry of the table, or at its end. RTT_DESTROY, DATA_DESTROY and RTT_UNMAP_UNPROTECTED return such a top of the machine
-/// after them.
+/// after them, and it is after the address.
 pub fn tops_are_complete()
     ensures skipped { (m : Machine) (rd ipa level x : ℕ) (realm : RmmRealm) → IsProper m → (granule_at m rd).state ≡ Rd realm → ipa < 2 ^ realm.s2sz → realm.start_level ≤ level → level ≤ 3
-        → ipa ≤ x → x < top m (walk m realm ipa level) ipa → IsDeadAt m realm x }
+        → ipa ≤ x → x < top m (walk m realm ipa level) ipa → IsPassed m realm (walk m realm ipa level) x }
     ensures met { (m : Machine) (rd ipa level : ℕ) (realm : RmmRealm) → IsProper m → (granule_at m rd).state ≡ Rd realm → ipa < 2 ^ realm.s2sz → realm.start_level ≤ level
         → IsAtLive m (walk m realm ipa level) ipa (top m (walk m realm ipa level) ipa) }
-    ensures destroyed { (m : Machine) (rd ipa level x : ℕ) → IsProper m → (performed (RttDestroy rd ipa level) m).0.word ≡ Success → ipa ≤ x
-        → x < (performed (RttDestroy rd ipa level) m).0.x2 → IsDeadAt (performed (RttDestroy rd ipa level) m).1 (realm_at m rd) x }
-    ensures pages { (m : Machine) (rd ipa x : ℕ) → IsProper m → (performed (DataDestroy rd ipa) m).0.word ≡ Success → ipa ≤ x → x < (performed (DataDestroy rd ipa) m).0.x2
-        → IsDeadAt (performed (DataDestroy rd ipa) m).1 (realm_at m rd) x }
-    ensures unmapped { (m : Machine) (rd ipa level x : ℕ) → IsProper m → (performed (RttUnmapUnprotected rd ipa level) m).0.word ≡ Success → ipa ≤ x
-        → x < (performed (RttUnmapUnprotected rd ipa level) m).0.x1 → IsDeadAt (performed (RttUnmapUnprotected rd ipa level) m).1 (realm_at m rd) x }
+    ensures destroyed { (m n : Machine) (answer : SmcResult) (rd ipa level : ℕ) → IsProper m → performed (RttDestroy rd ipa level) m ≡ (answer, n) → answer.word ≡ Success
+        → IsNextTop n (realm_at m rd) (walk n (realm_at m rd) ipa (level - 1)) ipa answer.x2 }
+    ensures pages { (m n : Machine) (answer : SmcResult) (rd ipa : ℕ) → IsProper m → performed (DataDestroy rd ipa) m ≡ (answer, n) → answer.word ≡ Success
+        → IsNextTop n (realm_at m rd) (walk n (realm_at m rd) ipa 3) ipa answer.x2 }
+    ensures unmapped { (m n : Machine) (answer : SmcResult) (rd ipa level : ℕ) → IsProper m → performed (RttUnmapUnprotected rd ipa level) m ≡ (answer, n) → answer.word ≡ Success
+        → IsNextTop n (realm_at m rd) (walk n (realm_at m rd) ipa level) ipa answer.x1 }
 {}
 
 /// Steps of a teardown succeed: RMI_REC_DESTROY of a REC that does not run, and RMI_DATA_DESTROY of a page. So do
 /// RMI_RTT_UNMAP_UNPROTECTED of a mapping, and RMI_RTT_DESTROY of a table without live entries. RMI_REALM_DESTROY succeeds
-/// for a realm without RECs and live entries, and RMI_GRANULE_UNDELEGATE for a DELEGATED granule. What a realm had until
-/// its RMI_REALM_DESTROY is DELEGATED and zero.
+/// for a realm without RECs and live entries, and RMI_GRANULE_UNDELEGATE for a DELEGATED granule, which is UNDELEGATED and
+/// zero then. While an entry of a realm is live, there is a step that succeeds. What a realm had until its
+/// RMI_REALM_DESTROY is its RD and its starting tables, which are DELEGATED and zero.
 pub fn teardown_steps_succeed()
     ensures recs { (m : Machine) (rec : ℕ) → is_rec_named m rec ≡ true → is_running (rec_at m rec).state ≡ false → (performed (RecDestroy rec) m).0.word ≡ Success }
     ensures pages { (m : Machine) (rd ipa address : ℕ) (ripas : RmmRipas) → IsProper m → rd_named m rd ≡ Some (number_of m rd) → ipa % 4096 ≡ 0 → is_protected (realm_at m rd) ipa ≡ true
@@ -137,8 +150,16 @@ pub fn teardown_steps_succeed()
         → has_live_table m (realm_at m rd).first_table (realm_at m rd).table_count ≡ false → (performed (RealmDestroy rd) m).0.word ≡ Success }
     ensures granules { (m : Machine) (address : ℕ) → address % 4096 ≡ 0 → is_inside m address ≡ true → (granule_at m (number_of m address)).state ≡ Delegated
         → (performed (GranuleUndelegate address) m).0.word ≡ Success }
+    ensures undelegated { (m : Machine) (address : ℕ) → IsProper m → (performed (GranuleUndelegate address) m).0.word ≡ Success → (granule_at (performed (GranuleUndelegate address) m).1 (number_of m address) ≡ of_no_realm Undelegated)
+        × (page_in (performed (GranuleUndelegate address) m).1 (number_of m address) ≡ zero_page) }
+    ensures next { (m : Machine) (rd spare table i : ℕ) → IsProper m → rd_named m rd ≡ Some (number_of m rd) → spare % 4096 ≡ 0 → is_inside m spare ≡ true → (granule_at m (number_of m spare)).state ≡ Delegated
+        → IsTableOf m (number_of m rd) table → i < 512 → is_live (entry_in_page (page_in m table) i) ≡ true → HasNextStep m rd spare }
+    ensures end { (m : Machine) (rd spare : ℕ) → IsProper m → rd_named m rd ≡ Some (number_of m rd) → spare % 4096 ≡ 0 → is_inside m spare ≡ true → (granule_at m (number_of m spare)).state ≡ Delegated
+        → ((granule : ℕ) → is_rec_in (number_of m rd) (granule_at m granule) ≡ false) → HasNextStep m rd spare ⊎ ((performed (RealmDestroy rd) m).0.word ≡ Success) }
     ensures nothing_left { (m : Machine) (rd granule : ℕ) → IsProper m → (performed (RealmDestroy rd) m).0.word ≡ Success → IsOfRealm m (Some (number_of m rd)) granule
         → (granule_at (performed (RealmDestroy rd) m).1 granule ≡ of_no_realm Delegated) × (page_in (performed (RealmDestroy rd) m).1 granule ≡ zero_page) }
+    ensures nothing_else { (m : Machine) (rd granule : ℕ) → IsProper m → (performed (RealmDestroy rd) m).0.word ≡ Success → IsOfRealm m (Some (number_of m rd)) granule
+        → (granule ≡ number_of m rd) ⊎ (((realm_at m rd).first_table ≤ granule) × (granule < (realm_at m rd).first_table + (realm_at m rd).table_count)) }
 {}
 
 /// Other realms stay: a call leaves each granule as it was, but for those of the realm that it is on, and UNDELEGATED
@@ -156,13 +177,16 @@ pub fn other_realms_stay()
 {}
 
 /// Machines that wrong definitions would lead to are refused: RTT_DESTROY leaves the entry of the table. A call maps a
-/// page that is mapped already. REC_DESTROY leaves the count of its realm. REALM_DESTROY removes the RD of a granule. A
+/// page that is mapped already. REC_DESTROY leaves the count of its realm. REALM_DESTROY leaves a granule of the realm. A
 /// granule becomes DELEGATED and is not wiped.
 pub fn mistakes_are_refused()
     ensures entry_left { (m : Machine) (rd table i g : ℕ) → IsProper m → IsTableOf m rd table → i < 512 → table_below m (entry_in_page (page_in m table) i) ≡ Some g → IsProper (with_blank m g Delegated) → ⊥ }
-    ensures named_twice { (m : Machine) (rd s x i y j address : ℕ) (a b : RmmRipas) → IsProper m → IsTableOf m rd x → IsTableOf m s y → i < 512 → j < 512
-        → entry_in_page (page_in m x) i ≡ Assigned a address → entry_in_page (page_in m y) j ≡ Assigned b address → (x ≡ y) × (i ≡ j) }
-    ensures rec_still_counted { (m : Machine) (g : ℕ) (rec : RmmRec) → IsProper m → (granule_at m g).state ≡ Rec rec → IsProper (with_blank m g Delegated) → ⊥ }
-    ensures owner_removed { (m : Machine) (rd g : ℕ) → IsProper m → (granule_at m g).owner ≡ Some rd → IsProper (with_blank m rd Delegated) → ⊥ }
+    ensures named_twice { (m : Machine) (proper : IsProper m) (rd s x i p y j q address other : ℕ) (a b : RmmRipas) → IsTableOf m rd x → IsTableOf m s y → i < 512 → j < 512
+        → entry_in_page (page_in m x) i ≡ Assigned a address → entry_in_page (page_in m y) j ≡ Assigned b other → p < page_count (proper.linked.level x) → q < page_count (proper.linked.level y)
+        → address + p * 4096 ≡ other + q * 4096 → (x ≡ y) × (i ≡ j) × (p ≡ q) }
+    ensures rec_still_counted { (m : Machine) (g : ℕ) (rec : RmmRec) → IsProper m → (granule_at m g).state ≡ Rec rec
+        → IsProper (with_blank (with_aux m g (of_no_realm Delegated) m.settings.aux) g Delegated) → ⊥ }
+    ensures owner_removed { (m : Machine) (rd g : ℕ) (realm : RmmRealm) → IsProper m → (granule_at m rd).state ≡ Rd realm → (granule_at m g).owner ≡ Some rd
+        → ((k : ℕ) → k < realm.table_count → g ≢ realm.first_table + k) → IsProper (with_blank (without_tables m realm realm.table_count) rd Delegated) → ⊥ }
     ensures wipe_left_out { (m : Machine) (g : ℕ) → IsProper m → (granule_at m g).state ≡ Delegated → page_in m g ≡ zero_page }
 {}

@@ -51,6 +51,17 @@ fresh m sound all =
       ordered = record {
         each = λ g. subst (λ (r : RmmGranule). IsOrderly m r.state r.owner (page_in m g)) (sym (all g)) refl;
         recs = λ rd realm is. (let free = state rd in absurd (cc));
+        halves = record {
+          level = λ g. 0;
+          place = λ g. 0;
+          is = record {
+            wide = λ rd realm is. (let free = state rd in absurd (cc));
+            start = λ rd k realm is lt. (let free = state rd in absurd (cc));
+            below = λ table i child is lt leads. (let free = state table in absurd (cc));
+            half = λ rd table i ipa realm is owned lt covers. (let free = state rd in absurd (cc));
+            block = λ table i is lt mapped. (let free = state table in absurd (cc));
+          };
+        };
       };
     }
 

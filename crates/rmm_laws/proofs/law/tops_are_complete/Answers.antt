@@ -13,10 +13,10 @@ returns-clause-met c = λ m rd ipa level realm proper is within least.
     met m (walk m realm ipa level) ipa (few_at m proper.linked rd ipa realm (walk m realm ipa level) (walk_ends m proper.linked rd ipa realm level is within least).place_is)
 
 pub returns-clause-destroyed : goal.returns-clause-destroyed
-returns-clause-destroyed c = λ m rd ipa level x proper success from to. rtt_destroy_top m rd ipa level x proper success from to
+returns-clause-destroyed c = rtt_destroy_top
 
 pub returns-clause-pages : goal.returns-clause-pages
-returns-clause-pages c = λ m rd ipa x proper success from to. data_destroy_top m rd ipa x proper success from to
+returns-clause-pages c = data_destroy_top
 
 pub returns-clause-unmapped : goal.returns-clause-unmapped
-returns-clause-unmapped c = λ m rd ipa level x proper success from to. unmap_top m rd ipa level x proper success from to
+returns-clause-unmapped c = unmap_top
