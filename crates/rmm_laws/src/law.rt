@@ -39,7 +39,7 @@ ghost use Rattle.rmm_laws.specs.Owner.{is_rec_in};
 ghost use Rattle.rmm_laws.specs.Proper.{IsProper};
 ghost use Rattle.rmm_laws.specs.Refusal.{IsRefused, IsRecEnter, IsNotQueued, IsNotRunning, IsAccess, IsNotDone};
 ghost use Rattle.rmm_laws.specs.Role.{Used, uses, IsSound};
-ghost use Rattle.rmm_laws.specs.Step.{HasNextStep};
+ghost use Rattle.rmm_laws.specs.Step.{HasNextStep, HasRemoval};
 ghost use Rattle.rmm_laws.specs.Walk.{IsTableOf, Serves, EndsWell, IsDeadAt, IsAtLive, LeadsToTable, walked_to};
 
 /// What is refused changes nothing: calls by registers, and the host's stores and fills. So do steps that no REC takes,
@@ -131,7 +131,8 @@ pub fn tops_are_complete()
 /// Steps of a teardown succeed: RMI_REC_DESTROY of a REC that does not run, and RMI_DATA_DESTROY of a page. So do
 /// RMI_RTT_UNMAP_UNPROTECTED of a mapping, and RMI_RTT_DESTROY of a table without live entries. RMI_REALM_DESTROY succeeds
 /// for a realm without RECs and live entries, and RMI_GRANULE_UNDELEGATE for a DELEGATED granule. While an entry of a
-/// realm is live, there is a step that succeeds. What a realm had until its RMI_REALM_DESTROY is DELEGATED and zero.
+/// realm is live, there is a step that succeeds. If no REC of it runs, there is one until the realm is destroyed. What a
+/// realm had until its RMI_REALM_DESTROY is DELEGATED and zero.
 pub fn teardown_steps_succeed()
     ensures recs { (m : Machine) (rec : ℕ) → is_rec_named m rec ≡ true → is_running (rec_at m rec).state ≡ false → (performed (RecDestroy rec) m).0.word ≡ Success }
     ensures pages { (m : Machine) (rd ipa address : ℕ) (ripas : RmmRipas) → IsProper m → rd_named m rd ≡ Some (number_of m rd) → ipa % 4096 ≡ 0 → is_protected (realm_at m rd) ipa ≡ true
@@ -149,7 +150,7 @@ pub fn teardown_steps_succeed()
     ensures next { (m : Machine) (rd spare table i : ℕ) → IsProper m → rd_named m rd ≡ Some (number_of m rd) → spare % 4096 ≡ 0 → is_inside m spare ≡ true → (granule_at m (number_of m spare)).state ≡ Delegated
         → IsTableOf m (number_of m rd) table → i < 512 → is_live (entry_in_page (page_in m table) i) ≡ true → HasNextStep m rd spare }
     ensures end { (m : Machine) (rd spare : ℕ) → IsProper m → rd_named m rd ≡ Some (number_of m rd) → spare % 4096 ≡ 0 → is_inside m spare ≡ true → (granule_at m (number_of m spare)).state ≡ Delegated
-        → ((granule : ℕ) → is_rec_in (number_of m rd) (granule_at m granule) ≡ false) → HasNextStep m rd spare ⊎ ((performed (RealmDestroy rd) m).0.word ≡ Success) }
+        → ((granule : ℕ) (rec : RmmRec) → granule_at m granule ≡ of_realm (number_of m rd) (Rec rec) → is_running rec.state ≡ false) → HasNextStep m rd spare ⊎ HasRemoval m rd }
     ensures nothing_left { (m : Machine) (rd granule : ℕ) → IsProper m → (performed (RealmDestroy rd) m).0.word ≡ Success → IsOfRealm m (Some (number_of m rd)) granule
         → (granule_at (performed (RealmDestroy rd) m).1 granule ≡ of_no_realm Delegated) × (page_in (performed (RealmDestroy rd) m).1 granule ≡ zero_page) }
 {}
