@@ -1,24 +1,29 @@
 -- A realm with a live entry has a next step of its teardown.
-use Rattle.std.proofs.Common.{◌≡◌, ◌≢◌, ℕ, zero, suc, ◌+◌, ◌-◌, ◌*◌, ◌/◌, ◌%◌, ◌^◌, ◌<◌, ◌≤◌, ◌==◌, Bool, true, false, not, List, Some, refl, sym, ap, subst, ◌∙◌, ⊎_elim, arith, ◌⊎◌, ◌||◌, inl, inr}
-use Rattle.std.specs.Prelude.{nat_le}
-use Rattle.std.proofs.lemmas.Bool.{cases_Bool, cases_eq, cases_lt, and_from, eq-eqb, le-leb, lt-ltb, le-ltb, both_ways}
-use Rattle.rmi_abi.specs.declared.call.Call.TheVariants.{DataDestroy, RealmDestroy, RttCreate, RttDestroy, RttUnmapUnprotected}
+use Rattle.std.proofs.Common.{◌≡◌, ◌≢◌, ℕ, zero, suc, ◌+◌, ◌-◌, ◌*◌, ◌/◌, ◌%◌, ◌^◌, ◌<◌, ◌≤◌, ◌==◌, Bool, true, false, not, List, Some, refl, sym, ap, subst, ◌∙◌, ⊎_elim, arith, ◌⊎◌, ◌||◌, inl, inr, length, unwrap_or, Option, None, ◌&&◌}
+use Rattle.std.specs.Prelude.{nat_le, is_some}
+use Rattle.std.proofs.lemmas.Bool.{cases_Bool, cases_eq, cases_lt, and_from, eq-eqb, le-leb, lt-ltb, le-ltb, both_ways, cond-true}
+use Rattle.std.proofs.lemmas.List.{get_or_past}
+use Rattle.rmi_abi.specs.declared.call.Call.TheVariants.{DataDestroy, RealmDestroy, RecDestroy, RttCreate, RttDestroy, RttUnmapUnprotected}
 use Rattle.rmi_abi.specs.declared.word.Word.TheVariants.{Success}
 use Rattle.rmm_model.specs.declared.entry.RmmRttEntry.{RmmRttEntry}
 use Rattle.rmm_model.specs.declared.entry.RmmRttEntry.TheVariants.{Unassigned, Assigned, Table, UnassignedNs, AssignedNs}
 use Rattle.rmm_model.specs.declared.granule.RmmGranule.{RmmGranule}
-use Rattle.rmm_model.specs.declared.granule.RmmGranuleState.TheVariants.{Delegated, Rd, Rtt}
+use Rattle.rmm_model.specs.declared.granule.RmmGranuleState.{RmmGranuleState}
+use Rattle.rmm_model.specs.declared.granule.RmmGranuleState.TheVariants.{Undelegated, Delegated, Rd, Rec as IsRec, Rtt}
 use Rattle.rmm_model.specs.declared.realm.RmmRealm.{RmmRealm}
 use Rattle.rmm_model.specs.declared.realm.RttWalk.{RttWalk}
+use Rattle.rmm_model.specs.declared.rec.RmmRec.{RmmRec}
 use Rattle.rmm_model.specs.Call.{performed}
 use Rattle.rmm_model.specs.Entry.{is_live, is_table, is_assigned_ns}
-use Rattle.rmm_model.specs.Granule.{is_delegated}
+use Rattle.rmm_model.specs.Granule.{of_no_realm, of_realm, is_delegated, rec_of}
+use Rattle.rmm_model.specs.Guest.{is_rec_named}
 use Rattle.rmm_model.specs.Level.{entry_size, entry_index}
-use Rattle.rmm_model.specs.Machine.{Machine, granule_at, page_in, is_inside, number_of, state_at}
+use Rattle.rmm_model.specs.Machine.{Machine, granule_at, page_in, is_aligned, is_inside, number_of, state_at}
 use Rattle.rmm_model.specs.Realm.{is_in_space, is_protected}
+use Rattle.rmm_model.specs.Rec.{is_running, no_rec}
 use Rattle.rmm_model.specs.Table.{entry_in_page, first_live, has_live}
 use Rattle.rmm_model.specs.Walk.{entry_at, table_below, walk}
-use Rattle.rmm_model.specs.Command.Operand.{realm_at, is_level}
+use Rattle.rmm_model.specs.Command.Operand.{realm_at, rec_at, is_level}
 use Rattle.rmm_model.specs.Command.RealmDestroy.{has_live_table}
 use Rattle.rmm_model.specs.Command.RttCreate.{rtt_create}
 use Rattle.rmm_laws.specs.Apart.{rd_named}
@@ -26,17 +31,19 @@ use Rattle.rmm_laws.specs.Half.{IsOfHalf, HasHalves}
 use Rattle.rmm_laws.specs.Owner.{is_rec_in}
 use Rattle.rmm_laws.specs.Proper.{IsProper}
 use Rattle.rmm_laws.specs.Role.{IsLinked, LeadsInside}
-use Rattle.rmm_laws.specs.Step.{HasNextStep}
+use Rattle.rmm_laws.specs.Step.{HasNextStep, HasRemoval}
 use Rattle.rmm_laws.specs.Walk.{IsTableOf, Serves, walked_to}
 use Rattle.rmm_laws.proofs.Entries.{named_inside}
 use Rattle.rmm_laws.proofs.Mappings.{half}
+use Rattle.rmm_laws.proofs.Orders.{rec_in}
 use Rattle.rmm_laws.proofs.Passed.{realm_of-some}
 use Rattle.rmm_laws.proofs.Reaching.{IsServer, serves_some, reached}
 use Rattle.rmm_laws.proofs.Seats.{start_table, child_table}
 use Rattle.rmm_laws.proofs.Serving.{level_cases}
-use Rattle.rmm_laws.proofs.Teardown.{own_word, no_more, rd_tests, page_step, mapping_step, table_step, realm_step}
+use Rattle.rmm_laws.proofs.Teardown.{own_word, no_more, rd_tests, page_step, mapping_step, table_step, realm_step, rec_step}
 use Rattle.rmm_laws.proofs.Tops.{first_live-live, first_live-most}
 use Rattle.rmm_laws.proofs.Walks.{IsPlace, next}
+use Rattle.rmm_laws.proofs.Writes.{taken_inside}
 
 -- ---- addresses of entries
 
@@ -287,13 +294,74 @@ module _ (m : Machine) (proper : IsProper m) (rd spare : ℕ) (named : rd_named 
   pub next_step : (table i : ℕ) → IsTableOf m (number_of m rd) table → i < 512 → is_live (entry_in_page (page_in m table) i) ≡ true → HasNextStep m rd spare
   next_step table i there index live = next_from 4 table i (omega arith) there index live
 
+  -- the address at which a granule begins
+  begin_number : (g : ℕ) → number_of m (m.settings.base + g * 4096) ≡ g
+  unfolding number_of
+  begin_number g = omega arith
+
+  begin_aligned : (g : ℕ) → (m.settings.base + g * 4096) % 4096 ≡ 0
+  begin_aligned g = let base = proper.linked.sound.platform.base_aligned in omega arith
+
+  begin_inside : (g : ℕ) → g < length m.granules → is_inside m (m.settings.base + g * 4096) ≡ true
+  unfolding is_inside
+  begin_inside g within =
+      let number : (m.settings.base + g * 4096 - m.settings.base) / 4096 ≡ g = omega arith in
+      and_from _ _ (le-leb m.settings.base (m.settings.base + g * 4096) (omega arith)) (lt-ltb _ _ (subst (λ (n : ℕ). n < length m.granules) (sym number) within))
+
+  -- a REC of the realm that does not run
+  rec_removal : (g : ℕ) (rec : RmmRec) → granule_at m g ≡ of_realm (number_of m rd) (IsRec rec) → is_running rec.state ≡ false → HasRemoval m rd
+  rec_removal g rec there ready =
+      let a : ℕ = m.settings.base + g * 4096 in
+      let state : state_at m a ≡ IsRec rec = ap (λ (h : ℕ). (granule_at m h).state) (begin_number g) ∙ ap (λ (r : RmmGranule). r.state) there in
+      let within : g < length m.granules = (let s = ap (λ (r : RmmGranule). r.state) there in taken_inside m g (λ free. cc)) in
+      let tests : is_rec_named m (m.settings.base + g * 4096) ≡ true =
+      and_from (is_aligned a && is_inside m a) (is_some (rec_of (state_at m a))) (and_from (is_aligned a) (is_inside m a) (eq-eqb (a % 4096) 0 (begin_aligned g)) (begin_inside g within))
+      (ap (λ (s : RmmGranuleState). is_some (rec_of s)) state) in
+      let at : rec_at m a ≡ rec = ap (λ (s : RmmGranuleState). unwrap_or (rec_of s) no_rec) state in
+      let owner : (granule_at m (number_of m a)).owner ≡ Some (number_of m rd) = ap (λ (h : ℕ). (granule_at m h).owner) (begin_number g) ∙ ap (λ (r : RmmGranule). r.owner) there in
+      (RecDestroy a, cond-true (is_rec_named m a) (granule_at m (number_of m a)).owner None tests ∙ owner, rec_step m a tests (ap (λ (r : RmmRec). is_running r.state) at ∙ ready))
+
+  -- a REC of the realm among the first granules, or none
+  some_rec_or_none : (count : ℕ) → ((g : ℕ) × (is_rec_in (number_of m rd) (granule_at m g) ≡ true)) ⊎ ((g : ℕ) → g < count → is_rec_in (number_of m rd) (granule_at m g) ≡ false)
+  some_rec_or_none zero = inr (λ g lt. absurd (omega arith))
+  some_rec_or_none (suc count) =
+      ⊎_elim
+      (λ (some : (g : ℕ) × (is_rec_in (number_of m rd) (granule_at m g) ≡ true)). inl some)
+      (λ (none : (g : ℕ) → g < count → is_rec_in (number_of m rd) (granule_at m g) ≡ false). ⊎_elim
+      (λ (sure : is_rec_in (number_of m rd) (granule_at m count) ≡ true). inl (count, sure))
+      (λ (no : is_rec_in (number_of m rd) (granule_at m count) ≡ false).
+      inr (λ g lt. ⊎_elim
+      (λ (last : g ≡ count). ap (λ (h : ℕ). is_rec_in (number_of m rd) (granule_at m h)) last ∙ no)
+      (λ (before : g ≢ count). none g (omega arith))
+      (cases_eq g count)))
+      (cases_Bool (is_rec_in (number_of m rd) (granule_at m count))))
+      (some_rec_or_none count)
+
+  no_rec_past : ((g : ℕ) → g < length m.granules → is_rec_in (number_of m rd) (granule_at m g) ≡ false) → (g : ℕ) → is_rec_in (number_of m rd) (granule_at m g) ≡ false
+  no_rec_past none g =
+      ⊎_elim
+      (λ (within : g < length m.granules). none g within)
+      (λ (past : length m.granules ≤ g). ap (is_rec_in (number_of m rd)) (get_or_past m.granules g (of_no_realm Undelegated) past))
+      (cases_lt g (length m.granules))
+
   -- a realm without RECs has a next step, or it can be destroyed
-  pub step_or_end : ((g : ℕ) → is_rec_in (number_of m rd) (granule_at m g) ≡ false) → HasNextStep m rd spare ⊎ ((performed (RealmDestroy rd) m).0.word ≡ Success)
-  step_or_end no_rec =
+  without_recs : ((g : ℕ) → is_rec_in (number_of m rd) (granule_at m g) ≡ false) → HasNextStep m rd spare ⊎ HasRemoval m rd
+  without_recs none =
       ⊎_elim
       (λ (some : has_live_table m realm.first_table realm.table_count ≡ true).
       let start = live_start m realm.first_table realm.table_count some in
       let entry = live_entry (page_in m (realm.first_table + start.0)) start.2 in
       inl (next_step (realm.first_table + start.0) entry.0 (start_table m proper.linked (number_of m rd) start.0 realm is start.1) entry.1 entry.2))
-      (λ (dead : has_live_table m realm.first_table realm.table_count ≡ false). inr (realm_step m rd proper named no_rec dead))
+      (λ (dead : has_live_table m realm.first_table realm.table_count ≡ false). inr (RealmDestroy rd, refl, realm_step m rd proper named none dead))
       (cases_Bool (has_live_table m realm.first_table realm.table_count))
+
+  -- a realm none of whose RECs runs is never stuck
+  pub step_or_end : ((g : ℕ) (rec : RmmRec) → granule_at m g ≡ of_realm (number_of m rd) (IsRec rec) → is_running rec.state ≡ false) → HasNextStep m rd spare ⊎ HasRemoval m rd
+  step_or_end ready =
+      ⊎_elim
+      (λ (some : (g : ℕ) × (is_rec_in (number_of m rd) (granule_at m g) ≡ true)).
+      let it = rec_in (number_of m rd) (granule_at m some.0) some.1 in
+      let there : granule_at m some.0 ≡ of_realm (number_of m rd) (IsRec it.0) = ap (λ (s : RmmGranuleState). record { state = s; owner = (granule_at m some.0).owner }) it.1 ∙ ap (λ (o : Option ℕ). record { state = IsRec it.0; owner = o }) it.2 in
+      inr (rec_removal some.0 it.0 there (ready some.0 it.0 there)))
+      (λ (none : (g : ℕ) → g < length m.granules → is_rec_in (number_of m rd) (granule_at m g) ≡ false). without_recs (no_rec_past none))
+      (some_rec_or_none (length m.granules))

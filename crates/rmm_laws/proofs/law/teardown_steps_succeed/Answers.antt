@@ -33,4 +33,4 @@ pub returns-clause-next : goal.returns-clause-next
 returns-clause-next c = λ m rd spare table i proper named aligned inside free there index live. next_step m proper rd spare named aligned inside free table i there index live
 
 pub returns-clause-end : goal.returns-clause-end
-returns-clause-end c = λ m rd spare proper named aligned inside free no_rec. step_or_end m proper rd spare named aligned inside free no_rec
+returns-clause-end c = λ m rd spare proper named aligned inside free ready. step_or_end m proper rd spare named aligned inside free ready
