@@ -1,6 +1,6 @@
 //! Numbers of any size, to count schedules with.
-ghost use Rattle.std.specs.Prelude.{◌≡◌, ℕ, ◌+◌, ◌*◌, ◌^◌, ◌<◌, ◌≤◌, ◌==◌, List, length, All, OnOk, IfOk};
-ghost use Rattle.schedule_graph.specs.Number.{number_of, trimmed};
+ghost use Rattle.std.specs.Prelude.{◌≡◌, ℕ, ◌+◌, ◌*◌, ◌^◌, ◌<◌, ◌≤◌, ◌==◌, List, ◌++◌, length, map, reverse, All, OnOk, IfOk, string_bytes};
+ghost use Rattle.schedule_graph.specs.Number.{number_of, trimmed, numeral};
 
 use std::alloc::{AllocError, Global};
 use std::marker::Model;
@@ -63,6 +63,9 @@ fn carry_from(digits: &mut [u8], place: usize, amount: u8) -> u8
 {
     let mut carry = amount;
     for at in place..digits.len() {
+        if carry == 0 {
+            return 0;
+        }
         let sum = digits[at] + carry;
         digits[at] = sum % 10;
         carry = sum / 10;
@@ -110,8 +113,21 @@ fn trimmed(digits: &[u8]) -> &[u8]
     &digits[..count]
 }
 
+// Appends digits to a text, the highest first.
+fn push_digits(text: &mut String, digits: &[u8]) -> Result<(), AllocError>
+    requires { All (λ digit. digit < 10) digits.now }
+    ensures { OnOk result (string_bytes text.new ≡ string_bytes text.old ++ map (λ digit. 48 + digit) (reverse digits.now)) }
+{
+    for done in 0..digits.len() {
+        let digit = digits[digits.len() - 1 - done];
+        write!(text, "{digit}")?;
+    }
+    Ok(())
+}
+
 impl Count {
     /// The number 0.
+    #[tactic(auto, using(crate::proofs::Numbers::number_of_none))]
     pub fn zero(alloc: Global) -> Count
         ensures { result ≡ 0 }
     {
@@ -141,5 +157,24 @@ impl Count {
         ensures { result ≡ (self.now == 0) }
     {
         trimmed(&self.digits).is_empty()
+    }
+
+    /// Whether it is the same number.
+    pub fn is_same(&self, other: &Count) -> bool
+        ensures { result ≡ (self.now == other.now) }
+    {
+        trimmed(&self.digits) == trimmed(&other.digits)
+    }
+
+    /// Appends the number to a text, in decimal. At an `Err` allocation failed, and the text may have a part of it.
+    pub fn push_to(&self, text: &mut String) -> Result<(), AllocError>
+        ensures { OnOk result (string_bytes text.new ≡ string_bytes text.old ++ numeral self.now) }
+    {
+        let digits = trimmed(&self.digits);
+        if digits.is_empty() {
+            text.push_str("0")?;
+            return Ok(());
+        }
+        push_digits(text, digits)
     }
 }
