@@ -37,7 +37,7 @@ use Rattle.rmm_model.specs.Step.{access, after_write, is_exit}
 use Rattle.rmm_model.specs.Command.Operand.{rec_at}
 use Rattle.rmm_model.specs.Command.PsciComplete.{is_same_owner, request_checks, psci_complete, with_rec, with_target}
 use Rattle.rmm_model.specs.Command.RecEnter.{rec_enter, owner_realm, realm_by, with_realm_off, with_system_off, with_copied, with_gprs, with_gic, with_exit_gic, with_exit_words, with_exit, after_exit, with_step_ended, with_psci_result, emulated, with_host_answer, after_entry, step_outcome, with_exit_of, after_step, with_step_passed, after_step_in, after_first_step, first_step_outcome, continued, after_steps, runs_at, interrupted}
-use Rattle.rmm_laws.specs.Apart.{Touches, realm_of_rec}
+use Rattle.rmm_laws.specs.Apart.{realm_of_rec}
 use Rattle.rmm_laws.specs.Owner.{is_rd}
 use Rattle.rmm_laws.specs.Proper.{IsProper}
 use Rattle.rmm_laws.specs.Role.{IsLinked}
@@ -47,7 +47,7 @@ use Rattle.rmm_laws.proofs.Orders.{is_memory_state, owner_is, rd_of}
 use Rattle.rmm_laws.proofs.Passed.{Passed, yes_from, some_same, realm_of-is, rec_of-some, rec_of-there, rec_named-is}
 use Rattle.rmm_laws.proofs.Plain.{host_inside, host_plain}
 use Rattle.rmm_laws.proofs.Recs.{IsGoing, going_first, going_rec, going_word, going_words, going_plain, going_realm}
-use Rattle.rmm_laws.proofs.Touching.{IsMine}
+use Rattle.rmm_laws.proofs.Touching.{Touches, IsMine}
 use Rattle.rmm_laws.proofs.Writes.{granule_at-other}
 
 module _ (o : Machine) (w : ℕ) where

@@ -23,8 +23,7 @@ use Rattle.rmm_laws.proofs.Keeping.{keep_page, keep_granule}
 use Rattle.rmm_laws.proofs.Orders.{is_memory_state, ordered_realm, ordered_rec, ordered_rec_page, ordered_memory}
 use Rattle.rmm_laws.proofs.PageWords.{length-page_with_word, length-with_words_from, word_of_page-with_words_from_other}
 use Rattle.rmm_laws.proofs.Plain.{keep_plain_page}
-use Rattle.rmm_laws.specs.Apart.{Touches}
-use Rattle.rmm_laws.proofs.Touching.{IsMine, untouched, mine_before, touch_granule, touch_page}
+use Rattle.rmm_laws.proofs.Touching.{Touches, IsMine, untouched, mine_before, touch_granule, touch_page}
 use Rattle.rmm_laws.proofs.Writes.{is_user, granule_at-same, granule_at-other, taken_inside}
 
 -- memory uses nothing

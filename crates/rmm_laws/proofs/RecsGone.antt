@@ -19,7 +19,7 @@ use Rattle.rmm_model.specs.Walk.{granule_named}
 use Rattle.rmm_model.specs.Command.Auxiliary.{aux_granule, with_aux}
 use Rattle.rmm_model.specs.Command.Operand.{rec_at}
 use Rattle.rmm_model.specs.Command.RecDestroy.{rec_destroy, with_one_less, without_rec_of, without_rec}
-use Rattle.rmm_laws.specs.Apart.{Touches, realm_of_rec}
+use Rattle.rmm_laws.specs.Apart.{realm_of_rec}
 use Rattle.rmm_laws.specs.Back.{IsBeside}
 use Rattle.rmm_laws.specs.Half.{HasHalves}
 use Rattle.rmm_laws.specs.Owner.{is_rd, is_owner, IsOrderly, IsOrderlyAt, is_rec_in}
@@ -30,7 +30,7 @@ use Rattle.rmm_laws.proofs.Orders.{owner_is, rd_is, rd_of, is_counter, counted, 
 use Rattle.rmm_laws.proofs.Passed.{Passed, some_same, rec_of-some, rec_named-is}
 use Rattle.rmm_laws.proofs.RecLives.{IsRecMade, rec_gone}
 use Rattle.rmm_laws.proofs.Recs.{keep_realm}
-use Rattle.rmm_laws.proofs.Touching.{mine_before, touch_blank, touch_granule, untouched}
+use Rattle.rmm_laws.proofs.Touching.{Touches, mine_before, touch_blank, touch_granule, untouched}
 use Rattle.rmm_laws.proofs.Walks.{right, one_place}
 use Rattle.rmm_laws.proofs.Wiping.{first_named, IsWiped, all_wiped, all_total, touch_wiped}
 use Rattle.rmm_laws.proofs.Writes.{named-same, granule_at-same, granule_at-other, page_in-same, page_in-other, taken_inside, sound-with_granule, sound-with_page}

@@ -14,6 +14,8 @@ ghost use Rattle.rmm_model.specs.declared.access.AccessSize.{AccessSize};
 ghost use Rattle.rmm_model.specs.declared.entry.RmmRttEntry.TheVariants.{Assigned, AssignedNs, Table};
 ghost use Rattle.rmm_model.specs.declared.granule.RmmGranuleState.TheVariants.{Undelegated, Delegated, Data, Rd, Rec, Rtt};
 ghost use Rattle.rmm_model.specs.declared.step.GuestStep.{GuestStep};
+ghost use Rattle.rmm_model.specs.declared.step.GuestStep.TheVariants.{Write};
+ghost use Rattle.rmm_model.specs.declared.step.StepOutcome.{StepOutcome};
 ghost use Rattle.rmm_model.specs.declared.step.StepWords.{StepWords};
 ghost use Rattle.rmm_model.specs.declared.realm.RmmRealm.{RmmRealm};
 ghost use Rattle.rmm_model.specs.declared.entry.RmmRipas.{RmmRipas};
@@ -28,9 +30,8 @@ ghost use Rattle.rmm_model.specs.Rec.{is_running};
 ghost use Rattle.rmm_model.specs.Command.Auxiliary.{with_aux};
 ghost use Rattle.rmm_model.specs.Command.Operand.{realm_at, rec_at};
 ghost use Rattle.rmm_model.specs.Command.RealmDestroy.{has_live_table, without_tables};
-ghost use Rattle.rmm_model.specs.Host.{can_access, can_fill, after_store, after_fill};
+ghost use Rattle.rmm_model.specs.Host.{after_store, after_fill};
 ghost use Rattle.rmm_model.specs.Machine.{Machine, granule_at, is_inside, number_of, page_in, with_blank};
-ghost use Rattle.rmm_model.specs.Step.{access, after_write};
 ghost use Rattle.rmm_model.specs.Table.{entry_in_page, has_live};
 ghost use Rattle.rmm_model.specs.Walk.{entry_at, table_below, walk, top};
 ghost use Rattle.rmm_model.specs.Command.RecEnter.{interrupted, step_outcome, after_step};
@@ -39,21 +40,23 @@ ghost use Rattle.rmm_laws.specs.Back.{ComesBack, RecComesBack};
 ghost use Rattle.rmm_laws.specs.Half.{IsOfHalf};
 ghost use Rattle.rmm_laws.specs.Owner.{is_rec_in};
 ghost use Rattle.rmm_laws.specs.Proper.{IsProper};
-ghost use Rattle.rmm_laws.specs.Refusal.{IsRefused, IsRecEnter, IsNotQueued, IsNotRunning, IsAccess, IsNotDone};
+ghost use Rattle.rmm_laws.specs.Refusal.{IsRefused, IsRecEnter, IsFault, IsNotGiven, IsNotQueued, IsNotRunning, IsAccess, IsNotDone};
 ghost use Rattle.rmm_laws.specs.Role.{Used, page_count, uses, IsSound};
 ghost use Rattle.rmm_laws.specs.Step.{HasNextStep, HasRemoval};
 ghost use Rattle.rmm_laws.specs.Walk.{IsTableOf, Serves, EndsWell, IsPassed, IsAtLive, IsNextTop, LeadsToTable, walked_to};
 
 /// What is refused changes nothing: calls by registers, and the host's stores and fills. So do steps that no REC takes,
-/// interrupts of RECs that do not run, and accesses of guests that are not done. Only a call that enters a REC is
-/// answered with the word of a REC that runs on, and that REC is RUNNING then.
+/// interrupts that are answered `None`, as of each REC that does not run, and accesses of guests that are not done. Only
+/// a call that enters a REC is answered with the word of a REC that runs on. That REC is RUNNING then, and was not before.
 pub fn refusals_change_nothing()
     ensures calls { (r : Registers) (m : Machine) → IsRefused (rmi r m).0.x0 → (rmi r m).1 ≡ m }
     ensures running { (r : Registers) (m : Machine) → (rmi r m).0.x0 ≡ 2 ^ 64 - 2 → IsRecEnter m (rmi r m).1 (call_in r) }
-    ensures stores { (m : Machine) (address word : ℕ) → can_access m address ≡ false → after_store m address word ≡ m }
-    ensures fills { (m : Machine) (address value : ℕ) → can_fill m address ≡ false → after_fill m address value ≡ m }
+    ensures stores { (m : Machine) (address word : ℕ) → IsFault m 8 address → after_store m address word ≡ m }
+    ensures fills { (m : Machine) (address value : ℕ) → IsFault m 4096 address → after_fill m address value ≡ m }
     ensures steps { (m : Machine) (rec : ℕ) (w : StepWords) → IsNotQueued (queued m rec w).0 → (queued m rec w).1 ≡ m }
-    ensures interrupts { (m : Machine) (rec : ℕ) → IsNotRunning m rec → interrupted m rec ≡ (None, m) }
+    ensures not_given { (m : Machine) (rec : ℕ) (w : StepWords) → IsNotGiven m rec → IsNotQueued (queued m rec w).0 × ((queued m rec w).1 ≡ m) }
+    ensures interrupts { (m : Machine) (rec : ℕ) → (interrupted m rec).0 ≡ None → (interrupted m rec).1 ≡ m }
+    ensures not_running { (m : Machine) (rec : ℕ) → IsNotRunning m rec → interrupted m rec ≡ (None, m) }
     ensures accesses { (m : Machine) (realm : RmmRealm) (rec flags : ℕ) (step : GuestStep) → IsAccess step
         → IsNotDone (step_outcome m realm rec flags step) → after_step m realm rec step (step_outcome m realm rec flags step) ≡ m }
 {}
@@ -166,15 +169,16 @@ pub fn teardown_steps_succeed()
 /// Other realms stay: a call leaves each granule as it was, but for those of the realm that it is on, and UNDELEGATED
 /// and DELEGATED ones. So it keeps the RDs, tables, pages and RECs of all other realms. Stores and fills of the host
 /// change UNDELEGATED granules alone, a step that a guest is given its REC, and an interrupt its REC and UNDELEGATED
-/// granules. A guest writes pages of its realm, and of the host.
+/// granules. A guest writes pages of its realm, and of the host. Settings and the number of granules stay.
 pub fn other_realms_stay()
     ensures calls { (r : Registers) (m : Machine) (granule : ℕ) → IsProper m → IsOfAnother m (call_in r) granule → IsSameAt m (rmi r m).1 granule }
     ensures stores { (m : Machine) (address word granule : ℕ) → (granule_at m granule).state ≢ Undelegated → IsSameAt m (after_store m address word) granule }
     ensures fills { (m : Machine) (address value granule : ℕ) → (granule_at m granule).state ≢ Undelegated → IsSameAt m (after_fill m address value) granule }
     ensures steps { (m : Machine) (rec granule : ℕ) (w : StepWords) → granule ≢ number_of m rec → IsSameAt m (queued m rec w).1 granule }
     ensures interrupts { (m : Machine) (rec granule : ℕ) → granule ≢ number_of m rec → (granule_at m granule).state ≢ Undelegated → IsSameAt m (interrupted m rec).1 granule }
-    ensures writes { (m : Machine) (rd ipa value granule : ℕ) (size : AccessSize) (realm : RmmRealm) → IsProper m → (granule_at m rd).state ≡ Rd realm
-        → granule_at m granule ≢ of_realm rd Data → (granule_at m granule).state ≢ Undelegated → IsSameAt m (after_write m ipa size value (access m realm ipa true size value)) granule }
+    ensures writes { (m : Machine) (rd rec ipa value granule : ℕ) (size : AccessSize) (outcome : StepOutcome) (realm : RmmRealm) → IsProper m → (granule_at m rd).state ≡ Rd realm
+        → granule_at m granule ≢ of_realm rd Data → (granule_at m granule).state ≢ Undelegated → IsSameAt m (after_step m realm rec (Write ipa value size) outcome) granule }
+    ensures settings { (r : Registers) (m : Machine) → IsProper m → ((rmi r m).1.settings ≡ m.settings) × (length (rmi r m).1.granules ≡ length m.granules) }
 {}
 
 /// Machines that wrong definitions would lead to are refused: RTT_DESTROY leaves the entry of the table. A call maps a
