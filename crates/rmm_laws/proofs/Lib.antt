@@ -37,6 +37,7 @@ pub mod Steps
 pub mod Tables
 pub mod Teardown
 pub mod Tops
+pub mod TornDown
 pub mod Touching
 pub mod TouchingCalls
 pub mod Unfolding

@@ -42,7 +42,7 @@ ghost use Rattle.rmm_laws.specs.Owner.{is_rec_in};
 ghost use Rattle.rmm_laws.specs.Proper.{IsProper};
 ghost use Rattle.rmm_laws.specs.Refusal.{IsRefused, IsRecEnter, IsFault, IsNotGiven, IsNotQueued, IsNotRunning, IsAccess, IsNotDone};
 ghost use Rattle.rmm_laws.specs.Role.{Used, page_count, uses, IsSound};
-ghost use Rattle.rmm_laws.specs.Step.{HasNextStep, HasRemoval};
+ghost use Rattle.rmm_laws.specs.Step.{HasNextStep, HasRemoval, CanBeTornDown};
 ghost use Rattle.rmm_laws.specs.Walk.{IsTableOf, Serves, EndsWell, IsPassed, IsAtLive, IsNextTop, LeadsToTable, walked_to};
 
 /// What is refused changes nothing: calls by registers, and the host's stores and fills. So do steps that no REC takes,
@@ -164,6 +164,14 @@ pub fn teardown_steps_succeed()
         → (granule_at (performed (RealmDestroy rd) m).1 granule ≡ of_no_realm Delegated) × (page_in (performed (RealmDestroy rd) m).1 granule ≡ zero_page) }
     ensures nothing_else { (m : Machine) (rd granule : ℕ) → IsProper m → (performed (RealmDestroy rd) m).0.word ≡ Success → IsOfRealm m (Some (number_of m rd)) granule
         → (granule ≡ number_of m rd) ⊎ (((realm_at m rd).first_table ≤ granule) × (granule < (realm_at m rd).first_table + (realm_at m rd).table_count)) }
+{}
+
+/// Realms can be torn down. If no REC of a realm runs, and some granule is DELEGATED, there are calls that all succeed.
+/// After them each granule that the realm has now is UNDELEGATED and zero. They are the calls of a teardown alone. The
+/// DELEGATED granule is for the table of a block that has to be unfolded.
+pub fn realms_can_be_torn_down()
+    ensures { (m : Machine) (rd spare : ℕ) → IsProper m → rd_named m rd ≡ Some (number_of m rd) → (granule_at m spare).state ≡ Delegated
+        → ((granule : ℕ) (rec : RmmRec) → granule_at m granule ≡ of_realm (number_of m rd) (Rec rec) → is_running rec.state ≡ false) → CanBeTornDown m rd }
 {}
 
 /// Other realms stay: a call leaves each granule as it was, but for those of the realm that it is on, and UNDELEGATED

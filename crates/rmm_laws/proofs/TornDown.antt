@@ -1,0 +1,729 @@
+-- A realm none of whose RECs runs is torn down by calls that succeed.
+use Rattle.std.proofs.Common.{◌≡◌, ◌≢◌, ℕ, zero, suc, ◌+◌, ◌-◌, ◌*◌, ◌/◌, ◌%◌, ◌^◌, ◌<◌, ◌≤◌, ◌⊎◌, inl, inr, ◌==◌, Bool, true, false, not, List, [], ◌∷◌, length, Option, Some, None, unwrap_or, refl, sym, ap, subst, ◌∙◌, ⊎_elim, arith}
+use Rattle.std.specs.Prelude.{nat_le, nat_lt, is_none, is_some}
+use Rattle.std.proofs.lemmas.Bool.{cases_eq, cases_lt, and_parts, both_ways, cond-true, eq-eqb, eqb-true, leb-true, ltb-true, not-true}
+use Rattle.std.proofs.lemmas.List.{length-set}
+use Rattle.granule_addr.specs.Page.{zero_page}
+use Rattle.rmi_abi.specs.declared.call.Call.{Call}
+use Rattle.rmi_abi.specs.declared.call.Call.TheVariants.{DataDestroy, GranuleUndelegate, RealmDestroy, RecDestroy, RttCreate, RttDestroy, RttUnmapUnprotected}
+use Rattle.rmi_abi.specs.declared.registers.SmcResult.{SmcResult}
+use Rattle.rmi_abi.specs.declared.word.Word.TheVariants.{Success}
+use Rattle.rmm_model.specs.declared.entry.RmmRipas.{RmmRipas}
+use Rattle.rmm_model.specs.declared.entry.RmmRttEntry.{RmmRttEntry}
+use Rattle.rmm_model.specs.declared.entry.RmmRttEntry.TheVariants.{Assigned, Table, UnassignedNs}
+use Rattle.rmm_model.specs.declared.granule.RmmGranule.{RmmGranule}
+use Rattle.rmm_model.specs.declared.granule.RmmGranuleState.{RmmGranuleState}
+use Rattle.rmm_model.specs.declared.granule.RmmGranuleState.TheVariants.{Undelegated, Delegated, Rd, Rec as IsRec, Data, Rtt}
+use Rattle.rmm_model.specs.declared.realm.RmmRealm.{RmmRealm}
+use Rattle.rmm_model.specs.declared.realm.RttWalk.{RttWalk}
+use Rattle.rmm_model.specs.declared.rec.RmmRec.{RmmRec}
+use Rattle.rmm_model.specs.Call.{command_of, performed}
+use Rattle.rmm_model.specs.Entry.{is_assigned_ns, is_table}
+use Rattle.rmm_model.specs.Granule.{of_no_realm, of_realm, realm_of, rec_of, is_delegated}
+use Rattle.rmm_model.specs.Guest.{is_rec_named}
+use Rattle.rmm_model.specs.Level.{entry_size, entry_index}
+use Rattle.rmm_model.specs.Machine.{Machine, granule_at, page_in, is_aligned, is_inside, number_of, state_at, with_granule, with_blank}
+use Rattle.rmm_model.specs.Realm.{is_in_space}
+use Rattle.rmm_model.specs.Rec.{is_running}
+use Rattle.rmm_model.specs.Table.{entry_in_page, children_page}
+use Rattle.rmm_model.specs.Walk.{entry_at, with_entry, walk}
+use Rattle.rmm_model.specs.Command.DataDestroy.{data_destroy}
+use Rattle.rmm_model.specs.Command.GranuleUndelegate.{granule_undelegate}
+use Rattle.rmm_model.specs.Command.Operand.{realm_at, is_level}
+use Rattle.rmm_model.specs.Command.RealmDestroy.{realm_destroy, has_live_table, is_realm_live}
+use Rattle.rmm_model.specs.Command.RecDestroy.{rec_destroy}
+use Rattle.rmm_model.specs.Command.RttCreate.{rtt_create}
+use Rattle.rmm_model.specs.Command.RttDestroy.{rtt_destroy}
+use Rattle.rmm_model.specs.Command.RttUnmapUnprotected.{rtt_unmap_unprotected}
+use Rattle.rmm_laws.specs.Apart.{rd_named, realm_of_rec, IsOfRealm, IsSameAt}
+use Rattle.rmm_laws.specs.Back.{ComesBack}
+use Rattle.rmm_laws.specs.Owner.{is_rd, is_owner}
+use Rattle.rmm_laws.specs.Proper.{IsProper}
+use Rattle.rmm_laws.specs.Role.{page_count}
+use Rattle.rmm_laws.specs.Step.{IsAssignedAt, IsTeardown, HasNextStep, IsRemoval, HasRemoval, IsOfTeardown, LeadsDown, CanBeTornDown}
+use Rattle.rmm_laws.specs.Walk.{IsTableOf}
+use Rattle.rmm_laws.proofs.Blocks.{sizes}
+use Rattle.rmm_laws.proofs.Children.{length-children}
+use Rattle.rmm_laws.proofs.Entries.{number_inside, address_few, entry-same, entry-other}
+use Rattle.rmm_laws.proofs.Freed.{succeeded, rtt_destroy_back, data_destroy_back, rec_destroy_back}
+use Rattle.rmm_laws.proofs.Mapped.{content_now}
+use Rattle.rmm_laws.proofs.Mappings.{place_is, unprotected_within, data_gone, host_unmapped}
+use Rattle.rmm_laws.proofs.Mistakes.{named_twice}
+use Rattle.rmm_laws.proofs.Ordering.{rtt_create_ordered, rtt_destroy_ordered, unmap_ordered, data_destroy_ordered, undelegate_ordered}
+use Rattle.rmm_laws.proofs.Orders.{rd_is}
+use Rattle.rmm_laws.proofs.Passed.{Passed, yes_from, is_delegated-true, realm_of-some, rec_of-there, rd_named-is, some_same}
+use Rattle.rmm_laws.proofs.Plain.{undelegated as undelegated_linked}
+use Rattle.rmm_laws.proofs.RealmOrders.{gone_like, gone_spare, none_if, realm_destroyed}
+use Rattle.rmm_laws.proofs.Realms.{or_none}
+use Rattle.rmm_laws.proofs.RecsGone.{rec_destroyed, destroyed_changed}
+use Rattle.rmm_laws.proofs.Steps.{begin_number, begin_aligned, begin_inside, page_removal, step_or_end}
+use Rattle.rmm_laws.proofs.Tables.{table_made, table_gone}
+use Rattle.rmm_laws.proofs.Teardown.{rd_tests, granule_step, undelegated, nothing_left}
+use Rattle.rmm_laws.proofs.Unfolding.{page_in_machine, child_entry_is}
+use Rattle.rmm_laws.proofs.Walks.{IsPlace, entry_index-few}
+use Rattle.rmm_laws.proofs.Wiping.{is_or_not}
+use Rattle.rmm_laws.proofs.Writes.{granule_at-same, granule_at-other, page_in-other, inside-same, number-same, taken_inside}
+
+-- ---- sums
+
+-- the sum of a function below a bound
+total : (ℕ → ℕ) → ℕ → ℕ
+total f zero = 0
+total f (suc k) = total f k + f k
+
+total_most : (f h : ℕ → ℕ) (k : ℕ) → ((g : ℕ) → g < k → f g ≤ h g) → total f k ≤ total h k
+unfolding total
+total_most f h zero each = omega arith
+total_most f h (suc k) each =
+    let rest = total_most f h k (λ g lt. each g (omega arith)) in
+    let last = each k (omega arith) in
+    omega arith
+
+-- sums of two functions of which one is greater at one place at most
+total_but : (f h : ℕ → ℕ) (x k : ℕ) → x < k → ((g : ℕ) → g < k → g ≢ x → f g ≤ h g) → total f k + h x ≤ total h k + f x
+unfolding total
+total_but f h x zero within each = absurd (omega arith)
+total_but f h x (suc k) within each =
+    ⊎_elim
+    (λ (last : k ≡ x).
+    let rest = total_most f h k (λ g lt. each g (omega arith) (λ same. omega arith)) in
+    subst (λ (y : ℕ). total f k + f k + h y ≤ total h k + h k + f y) last (omega arith))
+    (λ (before : k ≢ x).
+    let rest = total_but f h x k (omega arith) (λ g lt other. each g (omega arith) other) in
+    let one = each k (omega arith) before in
+    omega arith)
+    (cases_eq k x)
+
+most_if : (a b : ℕ) → a ≡ b → a ≤ b
+most_if a b same = omega arith
+
+none_most : (a b : ℕ) → a ≡ 0 → a ≤ b
+none_most a b none = omega arith
+
+-- ---- weights
+
+abbrev weight_by : Bool → RmmGranuleState → ℕ
+weight_by false s = 0
+weight_by true Data = 2
+weight_by true _ = 1
+
+-- A granule of a realm weighs one, and a page of memory two. So a block that is unfolded, and of which a page is
+-- destroyed, weighs one less than before.
+abbrev weight : ℕ → RmmGranule → ℕ
+weight r a = weight_by (is_owner r a.owner) a.state
+
+owned_weight : (r : ℕ) (s : RmmGranuleState) → weight r (of_realm r s) ≡ weight_by true s
+owned_weight r s = ap (λ (b : Bool). weight_by b s) (eq-eqb r r refl)
+
+-- the weight of a realm
+heavy : ℕ → Machine → ℕ
+heavy r m = total (λ g. weight r (granule_at m g)) (length m.granules)
+
+abbrev one_if : Bool → ℕ
+one_if true = 1
+one_if false = 0
+
+abbrev ns_at : List ℕ → ℕ → ℕ
+ns_at page i = one_if (is_assigned_ns (entry_in_page page i))
+
+-- the number of entries that map memory of the host
+mapped : Machine → ℕ
+mapped m = total (λ g. total (ns_at (page_in m g)) 512) (length m.granules)
+
+-- ---- steps
+
+-- A granule becomes DELEGATED, or is the RD still, or stays as it was.
+abbrev IsLess : ℕ → ℕ → RmmGranule → RmmGranule → Type 0
+IsLess r g a b = (b ≡ a) ⊎ (((is_rd a.state ≡ false) × (b ≡ of_no_realm Delegated)) ⊎ ((g ≡ r) × (is_rd b.state ≡ true) × (b.owner ≡ None)))
+
+-- Or one granule becomes a table of the realm.
+abbrev IsNext : ℕ → ℕ → ℕ → RmmGranule → RmmGranule → Type 0
+IsNext r x g a b = IsLess r g a b ⊎ ((g ≡ x) × (a.state ≡ Delegated) × (b ≡ of_realm r Rtt))
+
+less_weight : (r g : ℕ) (a b : RmmGranule) → IsLess r g a b → weight r b ≤ weight r a
+less_weight r g a b (inl same) = most_if (weight r b) (weight r a) (ap (weight r) same)
+less_weight r g a b (inr (inl freed)) = none_most (weight r b) (weight r a) (ap (weight r) freed.1)
+less_weight r g a b (inr (inr rd)) = none_most (weight r b) (weight r a) (ap (λ (o : Option ℕ). weight_by (is_owner r o) b.state) rd.2)
+
+other_weight : (r x g : ℕ) (a b : RmmGranule) → IsNext r x g a b → g ≢ x → weight r b ≤ weight r a
+other_weight r x g a b (inl less) other = less_weight r g a b less
+other_weight r x g a b (inr made) other = absurd (other made.0)
+
+rd_then : (r x g : ℕ) (a b : RmmGranule) → IsNext r x g a b → is_rd a.state ≡ true → is_rd b.state ≡ true
+rd_then r x g a b (inl (inl same)) sure = ap (λ (c : RmmGranule). is_rd c.state) same ∙ sure
+rd_then r x g a b (inl (inr (inl freed))) sure = absurd (both_ways (is_rd a.state) freed.0 sure)
+rd_then r x g a b (inl (inr (inr rd))) sure = rd.1
+rd_then r x g a b (inr made) sure = absurd (both_ways (is_rd a.state) (ap is_rd made.1) sure)
+
+rec_before : (r x g : ℕ) (a b : RmmGranule) (rec : RmmRec) → IsNext r x g a b → b ≡ of_realm r (IsRec rec) → a ≡ of_realm r (IsRec rec)
+rec_before r x g a b rec (inl (inl same)) is = sym same ∙ is
+rec_before r x g a b rec (inl (inr (inl freed))) is = (let states : Delegated ≡ IsRec rec = ap (λ (c : RmmGranule). c.state) (sym freed.1 ∙ is) in absurd (cc))
+rec_before r x g a b rec (inl (inr (inr rd))) is = absurd (both_ways (is_rd b.state) (ap (λ (c : RmmGranule). is_rd c.state) is) rd.1)
+rec_before r x g a b rec (inr made) is = (let states : Rtt ≡ IsRec rec = ap (λ (c : RmmGranule). c.state) (sym made.2 ∙ is) in absurd (cc))
+
+-- a granule is one of the realm, or DELEGATED
+abbrev IsKept : Machine → ℕ → ℕ → Type 0
+IsKept m r g = IsOfRealm m (Some r) g ⊎ ((granule_at m g).state ≡ Delegated)
+
+kept_then : (m n : Machine) (r x g : ℕ) → IsNext r x g (granule_at m g) (granule_at n g) → IsKept m r g → IsKept n r g
+kept_then m n r x g (inl (inl same)) (inl (inl at)) = inl (inl at)
+kept_then m n r x g (inl (inl same)) (inl (inr owned)) = inl (inr (ap (λ (c : RmmGranule). c.owner) same ∙ owned))
+kept_then m n r x g (inl (inl same)) (inr free) = inr (ap (λ (c : RmmGranule). c.state) same ∙ free)
+kept_then m n r x g (inl (inr (inl freed))) was = inr (ap (λ (c : RmmGranule). c.state) freed.1)
+kept_then m n r x g (inl (inr (inr rd))) was = inl (inl rd.0)
+kept_then m n r x g (inr made) was = inl (inr (ap (λ (c : RmmGranule). c.owner) made.2))
+
+-- a proper machine with the same settings and as many granules
+abbrev IsKin : Machine → Machine → Type 0
+IsKin m n = IsProper n × (n.settings ≡ m.settings) × (length n.granules ≡ length m.granules)
+
+-- a step of a teardown, in which one granule may become a table
+record IsStep (m n : Machine) (r x : ℕ) : Type 0 where
+  kin : IsKin m n
+  each : (g : ℕ) → IsNext r x g (granule_at m g) (granule_at n g)
+
+step_weight : (m n : Machine) (r x : ℕ) → IsStep m n r x → x < length m.granules → heavy r n + weight r (granule_at m x) ≤ heavy r m + weight r (granule_at n x)
+unfolding heavy
+step_weight m n r x step inside =
+    subst (λ (k : ℕ). total (λ g. weight r (granule_at n g)) k + weight r (granule_at m x) ≤ total (λ g. weight r (granule_at m g)) (length m.granules) + weight r (granule_at n x)) (sym step.kin.2)
+    (total_but (λ g. weight r (granule_at n g)) (λ g. weight r (granule_at m g)) x (length m.granules) inside (λ g lt other. other_weight r x g (granule_at m g) (granule_at n g) (step.each g) other))
+
+-- ---- steps by which a granule comes back
+
+back_step : (m n : Machine) (r address : ℕ) (s : RmmGranuleState) → is_rd s ≡ false → ComesBack m n r s address → IsKin m n → IsStep m n r (number_of m address)
+back_step m n r address s plain back kin = record {
+  kin = kin;
+  each = λ g. ⊎_elim
+      (λ (here : g ≡ number_of m address).
+      inl (inr (inl (ap (λ (y : ℕ). is_rd (granule_at m y).state) here ∙ ap (λ (c : RmmGranule). is_rd c.state) back.was ∙ plain, ap (granule_at n) here ∙ back.is))))
+      (λ (other : g ≢ number_of m address). inl (inl (back.others g other)))
+      (cases_eq g (number_of m address));
+}
+
+-- a machine after a granule of the realm has come back
+record IsFreed (m n : Machine) (r x : ℕ) : Type 0 where
+  step : IsStep m n r x
+  inside : x < length m.granules
+  was : (granule_at m x).owner ≡ Some r
+  free : granule_at n x ≡ of_no_realm Delegated
+
+data_kin : (m : Machine) (rd ipa : ℕ) → IsProper m → (performed (DataDestroy rd ipa) m).0.word ≡ Success → IsKin m (performed (DataDestroy rd ipa) m).1
+unfolding data_destroy
+data_kin m rd ipa proper success =
+    succeeded (IsKin m (performed (DataDestroy rd ipa) m).1) (DataDestroy rd ipa) m refl success
+    (λ ok now.
+    subst (λ (p : SmcResult × Machine). IsKin m p.1) (sym now)
+    (record { linked = data_gone rd ipa m proper.linked ok; ordered = data_destroy_ordered rd ipa m proper ok }, refl, length-set m.granules _ (of_no_realm Delegated)))
+
+table_kin : (m : Machine) (rd ipa level : ℕ) → IsProper m → (performed (RttDestroy rd ipa level) m).0.word ≡ Success → IsKin m (performed (RttDestroy rd ipa level) m).1
+unfolding rtt_destroy
+table_kin m rd ipa level proper success =
+    succeeded (IsKin m (performed (RttDestroy rd ipa level) m).1) (RttDestroy rd ipa level) m refl success
+    (λ ok now.
+    subst (λ (p : SmcResult × Machine). IsKin m p.1) (sym now)
+    (record { linked = table_gone rd ipa level m proper.linked ok; ordered = rtt_destroy_ordered rd ipa level m proper ok }, refl, length-set m.granules _ (of_no_realm Delegated)))
+
+of_back : (m n : Machine) (r address : ℕ) (s : RmmGranuleState) → is_rd s ≡ false → s ≢ Undelegated → ComesBack m n r s address → IsKin m n → IsFreed m n r (number_of m address)
+of_back m n r address s plain taken back kin = record {
+  step = back_step m n r address s plain back kin;
+  inside = taken_inside m (number_of m address) (λ free. taken (sym (ap (λ (c : RmmGranule). c.state) back.was) ∙ free));
+  was = ap (λ (c : RmmGranule). c.owner) back.was;
+  free = back.is;
+}
+
+as_next : (r x g : ℕ) (a b : RmmGranule) (owner : Option ℕ) → owner ≡ Some r
+    → (b ≡ a) ⊎ (((is_rd a.state ≡ false) × (b ≡ of_no_realm Delegated)) ⊎ ((owner ≡ Some g) × (is_rd b.state ≡ true) × (b.owner ≡ None))) → IsNext r x g a b
+as_next r x g a b owner of_r (inl same) = inl (inl same)
+as_next r x g a b owner of_r (inr (inl freed)) = inl (inr (inl freed))
+as_next r x g a b owner of_r (inr (inr rd)) = inl (inr (inr (some_same (sym rd.0 ∙ of_r), rd.1, rd.2)))
+
+-- a REC that is destroyed
+rec_freed : (m : Machine) (rd rec : ℕ) → IsProper m → realm_of_rec m rec ≡ Some (number_of m rd) → (performed (RecDestroy rec) m).0.word ≡ Success
+    → IsFreed m (performed (RecDestroy rec) m).1 (number_of m rd) (number_of m rec)
+unfolding rec_destroy
+rec_freed m rd rec proper of_rd success =
+    let back = rec_destroy_back m rec proper success in
+    let x : ℕ = number_of m rec in
+    let state = rec_of-there (state_at m rec) (and_parts _ _ back.was).1 in
+    record {
+      step = succeeded (IsStep m (performed (RecDestroy rec) m).1 (number_of m rd) (number_of m rec)) (RecDestroy rec) m refl success
+          (λ ok now.
+          let changed = destroyed_changed rec m proper ok in
+          subst (λ (p : SmcResult × Machine). IsStep m p.1 (number_of m rd) (number_of m rec)) (sym now)
+          (record {
+            kin = (rec_destroyed rec m proper ok, changed.0, changed.1);
+            each = λ g. as_next (number_of m rd) (number_of m rec) g (granule_at m g) (granule_at (rec_destroy rec m).machine g) (realm_of_rec m rec) of_rd (changed.2 g);
+          }));
+      inside = taken_inside m x (λ free. cc);
+      was = sym (cond-true (is_rec_named m rec) (granule_at m x).owner None back.was) ∙ of_rd;
+      free = back.is;
+    }
+
+owner_weight : (r : ℕ) (s : RmmGranuleState) → 1 ≤ weight_by true s
+owner_weight r Undelegated = omega arith
+owner_weight r Delegated = omega arith
+owner_weight r (Rd realm) = omega arith
+owner_weight r (IsRec rec) = omega arith
+owner_weight r Data = omega arith
+owner_weight r _ = omega arith
+
+-- the realm weighs less when a granule of it has come back
+freed_weight : (m n : Machine) (r x : ℕ) → IsFreed m n r x → heavy r n < heavy r m
+freed_weight m n r x freed =
+    let sum = step_weight m n r x freed.step freed.inside in
+    let now : weight r (granule_at n x) ≡ 0 = ap (weight r) freed.free in
+    let owned : is_owner r (granule_at m x).owner ≡ true = ap (is_owner r) freed.was ∙ eq-eqb r r refl in
+    let before : weight r (granule_at m x) ≡ weight_by true (granule_at m x).state = ap (λ (b : Bool). weight_by b (granule_at m x).state) owned in
+    let some = owner_weight r (granule_at m x).state in
+    omega arith
+
+data_weight : (m n : Machine) (r x : ℕ) → IsFreed m n r x → granule_at m x ≡ of_realm r Data → heavy r n + 2 ≤ heavy r m
+data_weight m n r x freed was =
+    let sum = step_weight m n r x freed.step freed.inside in
+    let now : weight r (granule_at n x) ≡ 0 = ap (weight r) freed.free in
+    let before : weight r (granule_at m x) ≡ 2 = ap (weight r) was ∙ owned_weight r Data in
+    omega arith
+
+-- ---- a mapping that is removed
+
+record IsUnmapped (m n : Machine) : Type 0 where
+  kin : IsKin m n
+  same : (g : ℕ) → granule_at n g ≡ granule_at m g
+  less : mapped n < mapped m
+
+module _ (m : Machine) (found : RttWalk) (ipa : ℕ) (proper : IsProper m) (inside : found.table < length m.granules) (is : is_assigned_ns (entry_at m found ipa) ≡ true) where
+  abbrev i : ℕ
+  i = entry_index found.level ipa
+
+  abbrev n : Machine
+  n = with_entry m found ipa UnassignedNs
+
+  there : total (ns_at (page_in n found.table)) 512 + 1 ≤ total (ns_at (page_in m found.table)) 512
+  unfolding entry_at
+  there =
+      let sound = proper.linked.sound in
+      let index : i < 512 = entry_index-few found.level ipa in
+      let sum =
+      total_but (ns_at (page_in n found.table)) (ns_at (page_in m found.table)) i 512 index
+      (λ j lt other. most_if _ _ (ap (λ (e : RmmRttEntry). one_if (is_assigned_ns e)) (entry-other m found.table i UnassignedNs sound inside index j lt other))) in
+      let now : ns_at (page_in n found.table) i ≡ 0 = ap (λ (e : RmmRttEntry). one_if (is_assigned_ns e)) (entry-same m found.table i UnassignedNs sound inside index (omega arith)) in
+      let before : ns_at (page_in m found.table) i ≡ 1 = ap one_if is in
+      omega arith
+
+  less_mapped : mapped n < mapped m
+  unfolding mapped
+  less_mapped =
+      let sum =
+      total_but (λ g. total (ns_at (page_in n g)) 512) (λ g. total (ns_at (page_in m g)) 512) found.table (length m.granules) inside
+      (λ g lt other. most_if _ _ (ap (λ (p : List ℕ). total (ns_at p) 512) (page_in-other m found.table g _ other))) in
+      let one = there in
+      omega arith
+
+unmap_then : (m : Machine) (rd ipa level : ℕ) → IsProper m → (performed (RttUnmapUnprotected rd ipa level) m).0.word ≡ Success → IsUnmapped m (performed (RttUnmapUnprotected rd ipa level) m).1
+unfolding rtt_unmap_unprotected
+unmap_then m rd ipa level proper success =
+    succeeded (IsUnmapped m (performed (RttUnmapUnprotected rd ipa level) m).1) (RttUnmapUnprotected rd ipa level) m refl success
+    (λ ok now.
+    let realm : RmmRealm = realm_at m rd in
+    let is = realm_of-some (state_at m rd) ok.1.1.0 in
+    let levels = and_parts (nat_le m.settings.block_level level) (is_level realm.start_level level) (yes_from _ ok.1.1.1.0) in
+    let least : realm.start_level ≤ level = leb-true _ _ (and_parts (nat_le realm.start_level level) (nat_le level 3) levels.1).0 in
+    let within = unprotected_within realm ipa (yes_from _ ok.1.1.1.1.1.0) in
+    let found : RttWalk = walk m realm ipa level in
+    let end : IsPlace m proper.linked (number_of m rd) ipa found = place_is m proper.linked (number_of m rd) ipa level realm is within least in
+    let table_is : (granule_at m found.table).state ≡ Rtt = ap (λ (c : RmmGranule). c.state) end.table in
+    subst (λ (p : SmcResult × Machine). IsUnmapped m p.1) (sym now)
+    (record {
+      kin = (record { linked = host_unmapped rd ipa level m proper.linked ok; ordered = unmap_ordered rd ipa level m proper ok }, refl, refl);
+      same = λ g. refl;
+      less = less_mapped m found ipa proper (taken_inside m found.table (λ free. cc)) (yes_from _ ok.1.1.1.1.1.1.1.0);
+    }))
+
+-- ---- a block that is unfolded
+
+-- a block that is unfolded is of level 2: a machine has no memory for one above
+unfolded_deep : (m : Machine) (proper : IsProper m) (rd rtt ipa level : ℕ) (place : RttWalk) (end : IsPlace m proper.linked rd ipa place) → place.level + 1 ≡ level → level ≤ 3 → is_inside m rtt ≡ true → rtt % 4096 ≡ 0
+    → (granule_at m (number_of m rtt)).state ≡ Delegated → (ripas : RmmRipas) (a : ℕ) → entry_at m place ipa ≡ Assigned ripas a → level ≡ 3
+unfolded_deep m proper rd rtt ipa level place end one_below most inside aligned free ripas a at =
+    ⊎_elim
+    (λ (high : place.level < 2).
+    let first = sizes place.level (omega arith) in
+    let second = sizes (place.level + 1) (omega arith) in
+    let parts = first.1 in
+    let more = second.1 in
+    let some = second.2 in
+    let within = page_in_machine m proper.linked rd rtt ipa level place end one_below most inside aligned free ripas a at 4096 (omega arith) in
+    let few = proper.linked.sound.few in
+    absurd (omega arith))
+    (λ (low : 2 ≤ place.level). omega arith)
+    (cases_lt place.level 2)
+
+-- the spare granule is a table whose entries are the pages of a block
+record HasUnfolded (m n : Machine) (r x : ℕ) : Type 0 where
+  step : IsStep m n r x
+  inside : x < length m.granules
+  free : (granule_at m x).state ≡ Delegated
+  table : IsTableOf n r x
+  ripas : RmmRipas
+  first : ℕ
+  pages : (j : ℕ) → j < 512 → entry_in_page (page_in n x) j ≡ Assigned ripas (first + j * 4096)
+
+page_size_is : (l : ℕ) → l ≡ 3 → entry_size l ≡ 4096
+unfolding entry_size
+page_size_is l is = ap entry_size is
+
+unfold_then : (m : Machine) (rd rtt ipa level : ℕ) → IsProper m → IsAssignedAt m rd ipa (level - 1) → (performed (RttCreate rd rtt ipa level) m).0.word ≡ Success
+    → HasUnfolded m (performed (RttCreate rd rtt ipa level) m).1 (number_of m rd) (number_of m rtt)
+unfolding rtt_create
+unfold_then m rd rtt ipa level proper block success =
+    succeeded (HasUnfolded m (performed (RttCreate rd rtt ipa level) m).1 (number_of m rd) (number_of m rtt)) (RttCreate rd rtt ipa level) m refl success
+    (λ ok now.
+    let linked = proper.linked in
+    let r : ℕ = number_of m rd in
+    let x : ℕ = number_of m rtt in
+    let realm : RmmRealm = realm_at m rd in
+    let aligned : rtt % 4096 ≡ 0 = eqb-true _ _ (yes_from (is_aligned rtt) ok.0) in
+    let inside : is_inside m rtt ≡ true = yes_from (is_inside m rtt) ok.1.0 in
+    let free : state_at m rtt ≡ Delegated = is_delegated-true (state_at m rtt) (yes_from (is_delegated (state_at m rtt)) ok.1.1.0) in
+    let is = realm_of-some (state_at m rd) ok.1.1.1.1.1.0 in
+    let levels = and_parts (nat_le (realm.start_level + 1) level) (nat_le level 3) (yes_from _ ok.1.1.1.1.1.1.0) in
+    let least : realm.start_level + 1 ≤ level = leb-true _ _ levels.0 in
+    let most : level ≤ 3 = leb-true _ _ levels.1 in
+    let within : ipa < 2 ^ realm.s2sz = ltb-true _ _ (yes_from (is_in_space realm ipa) ok.1.1.1.1.1.1.1.1.0) in
+    let place : RttWalk = walk m realm ipa (level - 1) in
+    let there : place.level ≡ level - 1 = eqb-true _ _ (yes_from _ ok.1.1.1.1.1.1.1.1.1.0) in
+    let end : IsPlace m linked r ipa place = place_is m linked r ipa (level - 1) realm is within (omega arith) in
+    let one_below : place.level + 1 ≡ level = omega arith in
+    let ripas : RmmRipas = block.0 in
+    let a : ℕ = block.1 in
+    let at : entry_at m place ipa ≡ Assigned ripas a = block.2 in
+    let in_machine : x < length m.granules = number_inside m rtt inside in
+    let content : List ℕ = children_page (entry_at m place ipa) level in
+    let deepest : level ≡ 3 = unfolded_deep m proper r rtt ipa level place end one_below most inside aligned free ripas a at in
+    let size : entry_size (place.level + 1) ≡ 4096 = page_size_is (place.level + 1) (omega arith) in
+    subst (λ (p : SmcResult × Machine). HasUnfolded m p.1 (number_of m rd) (number_of m rtt)) (sym now)
+    (record {
+      step = record {
+        kin = (record { linked = table_made rd rtt ipa level m linked ok; ordered = rtt_create_ordered rd rtt ipa level m proper ok }, refl, length-set m.granules x (of_realm r Rtt));
+        each = λ g. ⊎_elim
+            (λ (here : g ≡ x).
+            inr (here, ap (λ (y : ℕ). (granule_at m y).state) here ∙ free, ap (granule_at (with_granule m x (of_realm r Rtt))) here ∙ granule_at-same m x (of_realm r Rtt) in_machine))
+            (λ (other : g ≢ x). inl (inl (granule_at-other m x g (of_realm r Rtt) other)))
+            (cases_eq g x);
+      };
+      inside = in_machine;
+      free = free;
+      table = granule_at-same m x (of_realm r Rtt) in_machine;
+      ripas = ripas;
+      first = a;
+      pages = λ j lt.
+          ap (λ (p : List ℕ). entry_in_page p j)
+          (content_now m linked r ipa place end x in_machine free Rtt content (length-children (entry_at m place ipa) level) (Table rtt) tt (address_few m rtt linked.sound inside))
+          ∙ ap (λ (e : RmmRttEntry). entry_in_page (children_page e level) j) at
+          ∙ child_entry_is m linked r rtt ipa level place end one_below most inside aligned free ripas a at j lt
+          ∙ ap (λ (s : ℕ). Assigned ripas (a + j * s)) size;
+    }))
+
+unfold_weight : (m n : Machine) (r x : ℕ) → HasUnfolded m n r x → heavy r n ≤ heavy r m + 1
+unfold_weight m n r x unfolded =
+    let sum = step_weight m n r x unfolded.step unfolded.inside in
+    let now : weight r (granule_at n x) ≡ 1 = ap (weight r) unfolded.table ∙ owned_weight r Rtt in
+    omega arith
+
+-- the table is of level 3: else two entries of it would map a page
+unfolded_level : (n : Machine) (proper : IsProper n) (r x first : ℕ) (ripas : RmmRipas) → IsTableOf n r x → ((j : ℕ) → j < 512 → entry_in_page (page_in n x) j ≡ Assigned ripas (first + j * 4096))
+    → proper.linked.level x ≡ 3
+unfolded_level n proper r x first ripas table pages =
+    ⊎_elim
+    (λ (high : proper.linked.level x < 3).
+    let s = sizes (proper.linked.level x) (omega arith) in
+    let whole = s.1 in
+    let some = s.2 in
+    let twice =
+    named_twice n proper r r x 0 1 x 1 0 (first + 0 * 4096) (first + 1 * 4096) ripas ripas table table (omega arith) (omega arith) (pages 0 (omega arith)) (pages 1 (omega arith)) (omega arith) (omega arith) (omega arith) in
+    let never : 0 ≡ 1 = twice.1 in
+    absurd (omega arith))
+    (λ (low : 3 ≤ proper.linked.level x). (let most = proper.linked.most x (ap (λ (c : RmmGranule). c.state) table) in omega arith))
+    (cases_lt (proper.linked.level x) 3)
+
+-- ---- granules that are undelegated
+
+-- one granule is UNDELEGATED and zero, and others are as they were
+record IsUndelegated (m n : Machine) (x : ℕ) : Type 0 where
+  kin : IsKin m n
+  others : (g : ℕ) → g ≢ x → IsSameAt m n g
+
+undelegate_then : (m : Machine) (address : ℕ) → IsProper m → (performed (GranuleUndelegate address) m).0.word ≡ Success → IsUndelegated m (performed (GranuleUndelegate address) m).1 (number_of m address)
+unfolding granule_undelegate
+undelegate_then m address proper success =
+    succeeded (IsUndelegated m (performed (GranuleUndelegate address) m).1 (number_of m address)) (GranuleUndelegate address) m refl success
+    (λ ok now.
+    let x : ℕ = number_of m address in
+    subst (λ (p : SmcResult × Machine). IsUndelegated m p.1 (number_of m address)) (sym now)
+    (record {
+      kin = (record { linked = undelegated_linked address m proper.linked ok; ordered = undelegate_ordered address m proper ok }, refl, length-set m.granules x (of_no_realm Undelegated));
+      others = λ g other. (granule_at-other m x g (of_no_realm Undelegated) other, page_in-other (with_granule m x (of_no_realm Undelegated)) x g zero_page other);
+    }))
+
+abbrev IsGivenBack : Machine → ℕ → Type 0
+IsGivenBack m g = (granule_at m g ≡ of_no_realm Undelegated) × (page_in m g ≡ zero_page)
+
+-- ---- the end of a realm
+
+-- no granule is of the realm after RMI_REALM_DESTROY, and DELEGATED ones are so still
+realm_then : (m : Machine) (rd : ℕ) → IsProper m → (performed (RealmDestroy rd) m).0.word ≡ Success
+    → IsKin m (performed (RealmDestroy rd) m).1 × ((g : ℕ) → (granule_at m g).state ≡ Delegated → (granule_at (performed (RealmDestroy rd) m).1 g).state ≡ Delegated)
+unfolding realm_destroy is_realm_live
+realm_then m rd proper success =
+    succeeded (IsKin m (performed (RealmDestroy rd) m).1 × ((g : ℕ) → (granule_at m g).state ≡ Delegated → (granule_at (performed (RealmDestroy rd) m).1 g).state ≡ Delegated)) (RealmDestroy rd) m refl success
+    (λ ok now.
+    let r : ℕ = number_of m rd in
+    let realm : RmmRealm = realm_at m rd in
+    let is = realm_of-some (state_at m rd) ok.1.1.0 in
+    let parts = or_none (nat_lt 0 realm.rec_count) (has_live_table m realm.first_table realm.table_count) ok.1.1.1.0 in
+    let none = none_if realm.rec_count parts.0 in
+    let like = gone_like m proper r realm is parts.1 none in
+    subst (λ (p : SmcResult × Machine). IsKin m p.1 × ((g : ℕ) → (granule_at m g).state ≡ Delegated → (granule_at p.1 g).state ≡ Delegated)) (sym now)
+    ((realm_destroyed rd m proper ok, like.0, like.1), gone_spare m proper r realm is parts.1 none))
+
+-- ---- the way from a machine
+
+some_rd : (s : RmmGranuleState) → is_rd s ≡ true → is_none (realm_of s) ≡ false
+some_rd (Rd realm) sure = refl
+some_rd _ sure = absurd (cc)
+
+module _ (o : Machine) (rd r : ℕ) where
+  -- the granules of the realm at the start are UNDELEGATED and zero after calls that succeed
+  abbrev Down : Machine → Type 0
+  Down m = (calls : List Call) × (after : Machine) × LeadsDown rd m calls after × ((g : ℕ) → IsOfRealm o (Some r) g → IsGivenBack after g)
+
+  one_call : (m : Machine) (call : Call) → IsOfTeardown m rd call → (performed call m).0.word ≡ Success → Down (performed call m).1 → Down m
+  one_call m call kind success rest = (call ∷ rest.0, rest.1, (kind, success, rest.2), rest.3)
+
+  -- ---- the granules are undelegated
+
+  -- the granules of the realm before one are UNDELEGATED, and the others are DELEGATED
+  record IsFreeing (p : ℕ) (m : Machine) : Type 0 where
+    proper : IsProper m
+    count : length m.granules ≡ length o.granules
+    done : (g : ℕ) → IsOfRealm o (Some r) g → g < p → IsGivenBack m g
+    rest : (g : ℕ) → IsOfRealm o (Some r) g → p ≤ g → (granule_at m g).state ≡ Delegated
+
+  is_ours : (g : ℕ) → IsOfRealm o (Some r) g ⊎ (IsOfRealm o (Some r) g → ⊥)
+  is_ours g =
+      ⊎_elim
+      (λ (it : g ≡ r). inl (inl it))
+      (λ (other : g ≢ r). ⊎_elim
+      (λ (owned : (granule_at o g).owner ≡ Some r). inl (inr owned))
+      (λ (not_owned : (granule_at o g).owner ≢ Some r). inr (λ had. ⊎_elim other not_owned had))
+      (is_or_not (granule_at o g).owner r))
+      (cases_eq g r)
+
+  free_one : (p : ℕ) (m : Machine) → IsFreeing p m → IsOfRealm o (Some r) p
+      → ((performed (GranuleUndelegate (m.settings.base + p * 4096)) m).0.word ≡ Success) × IsFreeing (suc p) (performed (GranuleUndelegate (m.settings.base + p * 4096)) m).1
+  free_one p m freeing had =
+      let a : ℕ = m.settings.base + p * 4096 in
+      let number : number_of m a ≡ p = begin_number m p in
+      let state : (granule_at m p).state ≡ Delegated = freeing.rest p had (omega arith) in
+      let within : p < length m.granules = taken_inside m p (λ free. cc) in
+      let there : (granule_at m (number_of m a)).state ≡ Delegated = ap (λ (g : ℕ). (granule_at m g).state) number ∙ state in
+      let success = granule_step m a (begin_aligned m p freeing.proper.linked.sound) (begin_inside m p within) there in
+      let n : Machine = (performed (GranuleUndelegate a) m).1 in
+      let then_is = undelegate_then m a freeing.proper success in
+      let now : IsGivenBack n p = subst (IsGivenBack n) number (undelegated m a freeing.proper success) in
+      let others : (g : ℕ) → g ≢ p → IsSameAt m n g = λ g other. then_is.others g (λ same. other (same ∙ number)) in (
+        success,
+        record {
+          proper = then_is.kin.0;
+          count = then_is.kin.2 ∙ freeing.count;
+          done = λ g was lt. ⊎_elim
+              (λ (here : g ≡ p). subst (IsGivenBack n) (sym here) now)
+              (λ (other : g ≢ p). (let same = others g other in let before = freeing.done g was (omega arith) in (same.0 ∙ before.0, same.1 ∙ before.1)))
+              (cases_eq g p);
+          rest = λ g was past.
+              let other : g ≢ p = λ same. omega arith in
+              ap (λ (c : RmmGranule). c.state) (others g other).0 ∙ freeing.rest g was (omega arith);
+        },
+      )
+
+  free_from : (fuel p : ℕ) (m : Machine) → p + fuel ≡ length o.granules → IsFreeing p m → Down m
+  free_from zero p m all freeing = (
+    [],
+    m,
+    refl,
+    λ g had. ⊎_elim
+        (λ (lt : g < p). freeing.done g had lt)
+        (λ (past : p ≤ g).
+        let state = freeing.rest g had past in
+        let within = taken_inside m g (λ free. cc) in
+        let count = freeing.count in
+        absurd (omega arith))
+        (cases_lt g p),
+  )
+  free_from (suc fuel) p m all freeing =
+      ⊎_elim
+      (λ (had : IsOfRealm o (Some r) p).
+      let a : ℕ = m.settings.base + p * 4096 in
+      let one = free_one p m freeing had in
+      one_call m (GranuleUndelegate a) tt one.0 (free_from fuel (suc p) (performed (GranuleUndelegate a) m).1 (omega arith) one.1))
+      (λ (none : IsOfRealm o (Some r) p → ⊥).
+      free_from fuel (suc p) m (omega arith)
+      (record {
+        proper = freeing.proper;
+        count = freeing.count;
+        done = λ g had lt. ⊎_elim
+            (λ (here : g ≡ p). absurd (none (subst (IsOfRealm o (Some r)) here had)))
+            (λ (other : g ≢ p). freeing.done g had (omega arith))
+            (cases_eq g p);
+        rest = λ g had past. freeing.rest g had (omega arith);
+      }))
+      (is_ours p)
+
+  -- ---- the realm is taken down
+
+  -- the realm is there still, and what it had is of it or DELEGATED
+  record IsGoingDown (m : Machine) : Type 0 where
+    kin : IsKin o m
+    number : number_of m rd ≡ r
+    named : rd_named m rd ≡ Some (number_of m rd)
+    ready : (g : ℕ) (rec : RmmRec) → granule_at m g ≡ of_realm r (IsRec rec) → is_running rec.state ≡ false
+    ours : (g : ℕ) → IsOfRealm o (Some r) g → IsKept m r g
+
+  step_down : (m n : Machine) (x : ℕ) → IsGoingDown m → IsStep m n r x → IsGoingDown n
+  step_down m n x going step =
+      let kin = step.kin in
+      let number : number_of n rd ≡ r = number-same m n kin.1 kin.2 rd ∙ going.number in
+      let tests = rd_tests m rd going.named in
+      let was : is_rd (granule_at m r).state ≡ true =
+      subst (λ (g : ℕ). is_rd (granule_at m g).state ≡ true) going.number (ap is_rd (realm_of-some (state_at m rd) tests.2)) in
+      let still : is_rd (granule_at n r).state ≡ true = rd_then r x r (granule_at m r) (granule_at n r) (step.each r) was in
+      record {
+        kin = (kin.0, kin.1 ∙ going.kin.1, kin.2 ∙ going.kin.2);
+        number = number;
+        named = rd_named-is n rd tests.0 (ap not (inside-same m n kin.1 kin.2 rd) ∙ tests.1) (some_rd (state_at n rd) (ap (λ (g : ℕ). is_rd (granule_at n g).state) number ∙ still));
+        ready = λ g rec is. going.ready g rec (rec_before r x g (granule_at m g) (granule_at n g) rec (step.each g) is);
+        ours = λ g had. kept_then m n r x g (step.each g) (going.ours g had);
+      }
+
+  -- after RMI_REALM_DESTROY
+  last_call : (m : Machine) → IsGoingDown m → (performed (RealmDestroy rd) m).0.word ≡ Success → Down m
+  last_call m going success =
+      let n : Machine = (performed (RealmDestroy rd) m).1 in
+      let then_is = realm_then m rd going.kin.0 success in
+      let count : length n.granules ≡ length o.granules = then_is.0.2 ∙ going.kin.2 in
+      one_call m (RealmDestroy rd) refl success
+      (free_from (length o.granules) 0 n (omega arith)
+      (record {
+        proper = then_is.0.0;
+        count = count;
+        done = λ g had lt. absurd (omega arith);
+        rest = λ g had past. ⊎_elim
+            (λ (still : IsOfRealm m (Some r) g).
+            ap (λ (c : RmmGranule). c.state) (nothing_left m rd g going.kin.0 success (subst (λ (h : ℕ). IsOfRealm m (Some h) g) (sym going.number) still)).0)
+            (λ (free : (granule_at m g).state ≡ Delegated). then_is.1 g free)
+            (going.ours g had);
+      }))
+
+  -- the rest of a teardown, from machines in which less is left
+  abbrev Lighter : ℕ → Type 0
+  Lighter w = (n : Machine) (spare : ℕ) → IsGoingDown n → (granule_at n spare).state ≡ Delegated → heavy r n < w → Down n
+
+  freed_down : (w : ℕ) (m : Machine) (call : Call) (x y : ℕ) → Lighter w → IsGoingDown m → heavy r m < suc w → IsOfTeardown m rd call → (performed call m).0.word ≡ Success → y ≡ r → IsFreed m (performed call m).1 y x → Down m
+  freed_down w m call x y rest going light kind success same freed =
+      let n : Machine = (performed call m).1 in
+      let it : IsFreed m n r x = subst (λ (h : ℕ). IsFreed m n h x) same freed in
+      let less = freed_weight m n r x it in
+      one_call m call kind success (rest n x (step_down m n x going it.step) (ap (λ (c : RmmGranule). c.state) it.free) (omega arith))
+
+  data_down : (w : ℕ) (m : Machine) (ipa : ℕ) → Lighter w → IsGoingDown m → heavy r m < suc w → (performed (DataDestroy rd ipa) m).0.word ≡ Success → Down m
+  data_down w m ipa rest going light success =
+      let back = data_destroy_back m rd ipa going.kin.0 success in
+      let x1 : ℕ = (performed (DataDestroy rd ipa) m).0.x1 in
+      freed_down w m (DataDestroy rd ipa) (number_of m x1) (number_of m rd) rest going light refl success going.number
+      (of_back m (performed (DataDestroy rd ipa) m).1 (number_of m rd) x1 Data refl (λ same. cc) back (data_kin m rd ipa going.kin.0 success))
+
+  table_down : (w : ℕ) (m : Machine) (ipa level : ℕ) → Lighter w → IsGoingDown m → heavy r m < suc w → (performed (RttDestroy rd ipa level) m).0.word ≡ Success → Down m
+  table_down w m ipa level rest going light success =
+      let back = rtt_destroy_back m rd ipa level going.kin.0 success in
+      let x1 : ℕ = (performed (RttDestroy rd ipa level) m).0.x1 in
+      freed_down w m (RttDestroy rd ipa level) (number_of m x1) (number_of m rd) rest going light refl success going.number
+      (of_back m (performed (RttDestroy rd ipa level) m).1 (number_of m rd) x1 Rtt refl (λ same. cc) back (table_kin m rd ipa level going.kin.0 success))
+
+  -- a block that is unfolded, and whose first page is destroyed
+  block_down : (w : ℕ) (m : Machine) (rtt ipa level : ℕ) → Lighter w → IsGoingDown m → heavy r m < suc w → IsAssignedAt m rd ipa (level - 1) → (performed (RttCreate rd rtt ipa level) m).0.word ≡ Success → Down m
+  block_down w m rtt ipa level rest going light block success =
+      let n : Machine = (performed (RttCreate rd rtt ipa level) m).1 in
+      let x : ℕ = number_of m rtt in
+      let unfolded : HasUnfolded m n r x = subst (λ (h : ℕ). HasUnfolded m n h x) going.number (unfold_then m rd rtt ipa level going.kin.0 block success) in
+      let next : IsGoingDown n = step_down m n x going unfolded.step in
+      let proper : IsProper n = next.kin.0 in
+      let deepest = unfolded_level n proper r x unfolded.first unfolded.ripas unfolded.table unfolded.pages in
+      let table : IsTableOf n (number_of n rd) x = subst (λ (h : ℕ). IsTableOf n h x) (sym next.number) unfolded.table in
+      let page = page_removal n proper rd next.named x 0 unfolded.ripas (unfolded.first + 0 * 4096) table (omega arith) deepest (unfolded.pages 0 (omega arith)) in
+      let back = data_destroy_back n rd page.0 proper page.1 in
+      let k : Machine = (performed (DataDestroy rd page.0) n).1 in
+      let y : ℕ = number_of n (performed (DataDestroy rd page.0) n).0.x1 in
+      let freed : IsFreed n k r y =
+      subst (λ (h : ℕ). IsFreed n k h y) next.number (of_back n k (number_of n rd) (performed (DataDestroy rd page.0) n).0.x1 Data refl (λ same. cc) back (data_kin n rd page.0 proper page.1)) in
+      let first_weight = unfold_weight m n r x unfolded in
+      let then_weight = data_weight n k r y freed (back.was ∙ ap (λ (h : ℕ). of_realm h Data) next.number) in
+      one_call m (RttCreate rd rtt ipa level) (refl, block) success
+      (one_call n (DataDestroy rd page.0) refl page.1 (rest k y (step_down n k y next freed.step) (ap (λ (c : RmmGranule). c.state) freed.free) (omega arith)))
+
+  -- the rest, from machines that are as light and have fewer mappings of the host's memory
+  abbrev Fewer : ℕ → ℕ → Type 0
+  Fewer w ns = (n : Machine) (spare : ℕ) → IsGoingDown n → (granule_at n spare).state ≡ Delegated → heavy r n < suc w → mapped n < ns → Down n
+
+  unmap_down : (w ns : ℕ) (m : Machine) (spare ipa level : ℕ) → Fewer w ns → IsGoingDown m → (granule_at m spare).state ≡ Delegated → heavy r m < suc w → mapped m < suc ns
+      → (performed (RttUnmapUnprotected rd ipa level) m).0.word ≡ Success → Down m
+  unmap_down w ns m spare ipa level again going free light few success =
+      let n : Machine = (performed (RttUnmapUnprotected rd ipa level) m).1 in
+      let it = unmap_then m rd ipa level going.kin.0 success in
+      let step : IsStep m n r spare = record { kin = it.kin; each = λ g. inl (inl (it.same g)) } in
+      let sum = step_weight m n r spare step (taken_inside m spare (λ undelegated_is. cc)) in
+      let same : weight r (granule_at n spare) ≡ weight r (granule_at m spare) = ap (weight r) (it.same spare) in
+      let less = it.less in
+      one_call m (RttUnmapUnprotected rd ipa level) refl success
+      (again n spare (step_down m n spare going step) (ap (λ (c : RmmGranule). c.state) (it.same spare) ∙ free) (omega arith) (omega arith))
+
+  next_down : (w ns : ℕ) (m : Machine) (spare address : ℕ) (call : Call) → Lighter w → Fewer w ns → IsGoingDown m → (granule_at m spare).state ≡ Delegated → heavy r m < suc w → mapped m < suc ns
+      → IsTeardown m rd address call → (performed call m).0.word ≡ Success → Down m
+  next_down w ns m spare address (DataDestroy of ipa) rest again going free light few kind success =
+      data_down w m ipa rest going light (subst (λ (d : ℕ). (performed (DataDestroy d ipa) m).0.word ≡ Success) kind success)
+  next_down w ns m spare address (RttUnmapUnprotected of ipa level) rest again going free light few kind success =
+      unmap_down w ns m spare ipa level again going free light few (subst (λ (d : ℕ). (performed (RttUnmapUnprotected d ipa level) m).0.word ≡ Success) kind success)
+  next_down w ns m spare address (RttDestroy of ipa level) rest again going free light few kind success =
+      table_down w m ipa level rest going light (subst (λ (d : ℕ). (performed (RttDestroy d ipa level) m).0.word ≡ Success) kind success)
+  next_down w ns m spare address (RttCreate of rtt ipa level) rest again going free light few kind success =
+      block_down w m rtt ipa level rest going light kind.2 (subst (λ (d : ℕ). (performed (RttCreate d rtt ipa level) m).0.word ≡ Success) kind.0 success)
+  next_down w ns m spare address _ rest again going free light few kind success = absurd kind
+
+  removal_down : (w : ℕ) (m : Machine) (call : Call) → Lighter w → IsGoingDown m → heavy r m < suc w → IsRemoval m rd call → (performed call m).0.word ≡ Success → Down m
+  removal_down w m (RecDestroy rec) rest going light kind success =
+      freed_down w m (RecDestroy rec) (number_of m rec) (number_of m rd) rest going light kind success going.number (rec_freed m rd rec going.kin.0 kind success)
+  removal_down w m (RealmDestroy of) rest going light kind success = last_call m going (subst (λ (d : ℕ). (performed (RealmDestroy d) m).0.word ≡ Success) kind success)
+  removal_down w m _ rest going light kind success = absurd kind
+
+  fewer : (w : ℕ) → Lighter w → (ns : ℕ) → Fewer w ns
+  fewer w rest zero m spare going free light few = absurd (omega arith)
+  fewer w rest (suc ns) m spare going free light few =
+      let a : ℕ = m.settings.base + spare * 4096 in
+      let within : spare < length m.granules = taken_inside m spare (λ undelegated_is. cc) in
+      let there : (granule_at m (number_of m a)).state ≡ Delegated = ap (λ (g : ℕ). (granule_at m g).state) (begin_number m spare) ∙ free in
+      ⊎_elim
+      (λ (next : HasNextStep m rd a). next_down w ns m spare a next.0 rest (fewer w rest ns) going free light few next.1 next.2)
+      (λ (removal : HasRemoval m rd). removal_down w m removal.0 rest going light removal.1 removal.2)
+      (step_or_end m going.kin.0 rd going.named a (begin_aligned m spare going.kin.0.linked.sound) (begin_inside m spare within) there
+      (λ g rec is. going.ready g rec (is ∙ ap (λ (h : ℕ). of_realm h (IsRec rec)) going.number)))
+
+  lighter : (w : ℕ) → Lighter w
+  lighter zero m spare going free light = absurd (omega arith)
+  lighter (suc w) m spare going free light = fewer w (lighter w) (suc (mapped m)) m spare going free light (omega arith)
+
+pub torn_down : (m : Machine) (rd spare : ℕ) → IsProper m → rd_named m rd ≡ Some (number_of m rd) → (granule_at m spare).state ≡ Delegated
+    → ((g : ℕ) (rec : RmmRec) → granule_at m g ≡ of_realm (number_of m rd) (IsRec rec) → is_running rec.state ≡ false) → CanBeTornDown m rd
+torn_down m rd spare proper named free ready =
+    let r : ℕ = number_of m rd in
+    let down =
+    lighter m rd r (suc (heavy r m)) m spare (record { kin = (proper, refl, refl); number = refl; named = named; ready = ready; ours = λ g had. inl had }) free (omega arith) in
+    record { calls = down.0; after = down.1; succeed = down.2; free = down.3 }
