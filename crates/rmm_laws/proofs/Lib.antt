@@ -1,4 +1,5 @@
 pub mod Accesses
+pub mod Answered
 pub mod Aside
 pub mod Blocks
 pub mod Children

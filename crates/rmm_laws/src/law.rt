@@ -1,11 +1,13 @@
 //! Theorems of all calls by registers, of the host's stores, and of guests.
-ghost use Rattle.std.specs.Prelude.{◌≡◌, ◌≢◌, ℕ, ◌+◌, ◌-◌, ◌*◌, ◌%◌, ◌^◌, ◌<◌, ◌≤◌, ◌⊎◌, true, false, List, length, Some, None};
+ghost use Rattle.std.specs.Prelude.{◌≡◌, ◌≢◌, ℕ, ◌+◌, ◌-◌, ◌*◌, ◌%◌, ◌^◌, ◌<◌, ◌≤◌, ◌⊎◌, true, false, List, [], ◌∷◌, length, Some, None};
 ghost use Rattle.granule_addr.specs.Page.{zero_page};
 ghost use Rattle.page_arena.specs.Page.{page_at};
 ghost use Rattle.rmi_abi.specs.declared.registers.Registers.{Registers};
 ghost use Rattle.rmi_abi.specs.declared.registers.SmcResult.{SmcResult};
 ghost use Rattle.rmi_abi.specs.declared.settings.RmmSettings.{RmmSettings};
+ghost use Rattle.rmi_abi.specs.declared.call.Call.{Call};
 ghost use Rattle.rmi_abi.specs.declared.call.Call.TheVariants.{GranuleUndelegate, RealmDestroy, RecDestroy, RttDestroy, RttFold, RttUnmapUnprotected, DataDestroy};
+ghost use Rattle.rmi_abi.specs.declared.word.Word.{Word};
 ghost use Rattle.rmi_abi.specs.declared.word.Word.TheVariants.{Success};
 ghost use Rattle.rmi_abi.specs.Call.{call_in};
 ghost use Rattle.rmi_abi.specs.Settings.{IsPlatform};
@@ -20,7 +22,8 @@ ghost use Rattle.rmm_model.specs.declared.step.StepWords.{StepWords};
 ghost use Rattle.rmm_model.specs.declared.realm.RmmRealm.{RmmRealm};
 ghost use Rattle.rmm_model.specs.declared.entry.RmmRipas.{RmmRipas};
 ghost use Rattle.rmm_model.specs.declared.rec.RmmRec.{RmmRec};
-ghost use Rattle.rmm_model.specs.Call.{performed, rmi};
+ghost use Rattle.rmm_model.specs.Allowed.{allowed_words};
+ghost use Rattle.rmm_model.specs.Call.{command_of, performed, rmi};
 ghost use Rattle.rmm_model.specs.Entry.{is_live};
 ghost use Rattle.rmm_model.specs.Granule.{of_no_realm, of_realm};
 ghost use Rattle.rmm_model.specs.Guest.{is_rec_named, queued};
@@ -40,7 +43,7 @@ ghost use Rattle.rmm_laws.specs.Back.{ComesBack, RecComesBack};
 ghost use Rattle.rmm_laws.specs.Half.{IsOfHalf};
 ghost use Rattle.rmm_laws.specs.Owner.{is_rec_in};
 ghost use Rattle.rmm_laws.specs.Proper.{IsProper};
-ghost use Rattle.rmm_laws.specs.Refusal.{IsRefused, IsRecEnter, IsFault, IsNotGiven, IsNotQueued, IsNotRunning, IsAccess, IsNotDone};
+ghost use Rattle.rmm_laws.specs.Refusal.{IsRefused, is_refusal, IsOneOf, IsRecEnter, IsFault, IsNotGiven, IsNotQueued, IsNotRunning, IsAccess, IsNotDone};
 ghost use Rattle.rmm_laws.specs.Role.{Used, page_count, uses, IsSound};
 ghost use Rattle.rmm_laws.specs.Step.{HasNextStep, HasRemoval, CanBeTornDown};
 ghost use Rattle.rmm_laws.specs.Walk.{IsTableOf, Serves, EndsWell, IsPassed, IsAtLive, IsNextTop, LeadsToTable, walked_to};
@@ -59,6 +62,14 @@ pub fn refusals_change_nothing()
     ensures not_running { (m : Machine) (rec : ℕ) → IsNotRunning m rec → interrupted m rec ≡ (None, m) }
     ensures accesses { (m : Machine) (realm : RmmRealm) (rec flags : ℕ) (step : GuestStep) → IsAccess step
         → IsNotDone (step_outcome m realm rec flags step) → after_step m realm rec step (step_outcome m realm rec flags step) ≡ m }
+{}
+
+/// Words that an RMM may answer beside the one that is answered refuse too. A call that is refused is answered one of the
+/// words that are allowed, and each of these refuses. If a call is not refused, RMI_SUCCESS alone is allowed.
+pub fn allowed_is_refused()
+    ensures done { (call : Call) (m : Machine) → is_refusal (performed call m).0.word ≡ false → allowed_words (command_of call m) ≡ Success ∷ [] }
+    ensures own { (call : Call) (m : Machine) → is_refusal (performed call m).0.word ≡ true → IsOneOf (performed call m).0.word (allowed_words (command_of call m)) }
+    ensures others { (call : Call) (m : Machine) (word : Word) → is_refusal (performed call m).0.word ≡ true → IsOneOf word (allowed_words (command_of call m)) → is_refusal word ≡ true }
 {}
 
 /// Granules have one role: each RTT, DATA and REC_AUX granule is used once, in the realm that owns it, and no other is.

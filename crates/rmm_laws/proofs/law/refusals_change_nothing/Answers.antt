@@ -53,57 +53,12 @@ use Rattle.rmm_model.specs.Command.RecEnter.{rec_enter, entered_answer, after_st
 use Rattle.rmm_model.specs.Machine.{Machine, is_inside, is_secure, number_of, page_in, state_at}
 use Rattle.rmm_model.specs.Step.{access, tried, after_write}
 use Rattle.rmm_laws.specs.Refusal.{IsRefused, IsRecEnter, IsFault, IsNotGiven, IsAccess, IsNotDone}
+use Rattle.rmm_laws.proofs.Answered.{IsOwn, own, not_refused}
 use Rattle.rmm_laws.proofs.Passed.{Passed, passed}
 use Rattle.rmm_laws.proofs.Running.{entered_runs}
 use Rattle.rmm_laws.proofs.law.refusals_change_nothing.Goals as goal
 
 -- ---- calls
-
--- the words of commands that are performed
-abbrev IsOwn : Word → Type 0
-IsOwn Success = Unit {0}
-IsOwn Running = Unit {0}
-IsOwn _ = ⊥
-
--- a REC that is entered leaves or runs on
-entered : (leaves : Bool) → IsOwn (entered_answer leaves).word
-entered true = tt
-entered false = tt
-
--- the own answer of no command refuses
-own : (call : Call) (m : Machine) → IsOwn (command_of call m).answer.word
-unfolding version features granule_delegate granule_undelegate realm_create realm_activate rec_aux_count rtt_read_entry rtt_create rtt_destroy realm_destroy rtt_fold rtt_map_unprotected rtt_unmap_unprotected data_create data_create_unknown data_destroy rtt_init_ripas rtt_set_ripas rec_create rec_destroy rec_enter psci_complete
-own (Version requested) m = tt
-own (Features index) m = tt
-own (GranuleDelegate address) m = tt
-own (GranuleUndelegate address) m = tt
-own (RealmCreate rd params) m = tt
-own (RealmActivate rd) m = tt
-own (RecAuxCount rd) m = tt
-own (RttReadEntry rd ipa level) m = tt
-own (RttCreate rd rtt ipa level) m = tt
-own (RttDestroy rd ipa level) m = tt
-own (RealmDestroy rd) m = tt
-own (RttFold rd ipa level) m = tt
-own (RttMapUnprotected rd ipa level descriptor) m = tt
-own (RttUnmapUnprotected rd ipa level) m = tt
-own (DataCreate rd page ipa source flags) m = tt
-own (DataCreateUnknown rd page ipa) m = tt
-own (DataDestroy rd ipa) m = tt
-own (RttInitRipas rd base top) m = tt
-own (RttSetRipas rd rec base top) m = tt
-own (RecCreate rd rec params) m = tt
-own (RecDestroy rec) m = tt
-own (RecEnter rec run) m =
-    let g = number_of m rec in
-    let flags = flags_in (page_in m (number_of m run)) in
-    entered (after_steps (after_entry m g run flags) g flags 16).0
-own (PsciComplete calling target status) m = tt
-
-not_refused : (word : Word) → IsOwn word → IsRefused (number word) → ⊥
-not_refused Success is refused = refused.0 refl
-not_refused Running is refused = refused.1 refl
-not_refused _ is refused = is
 
 by_command : (f : Option FailedCondition) (c : Command) (m : Machine) → IsOwn c.answer.word → IsRefused (number (decided f c m).0.word) → (decided f c m).1 ≡ m
 by_command (Some refusal) c m mine is = refl
