@@ -34,6 +34,8 @@ pub mod Running
 pub mod Seats
 pub mod Serving
 pub mod Sides
+pub mod StateCalls
+pub mod States
 pub mod Steps
 pub mod Tables
 pub mod Teardown

@@ -5,5 +5,6 @@ pub mod Owner
 pub mod Proper
 pub mod Refusal
 pub mod Role
+pub mod State
 pub mod Step
 pub mod Walk

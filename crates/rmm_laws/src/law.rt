@@ -45,6 +45,7 @@ ghost use Rattle.rmm_laws.specs.Owner.{is_rec_in};
 ghost use Rattle.rmm_laws.specs.Proper.{IsProper};
 ghost use Rattle.rmm_laws.specs.Refusal.{IsRefused, is_refusal, IsOneOf, IsRecEnter, IsFault, IsNotGiven, IsNotQueued, IsNotRunning, IsAccess, IsNotDone};
 ghost use Rattle.rmm_laws.specs.Role.{Used, page_count, uses, IsSound};
+ghost use Rattle.rmm_laws.specs.State.{KeepsStates, KeepsRims};
 ghost use Rattle.rmm_laws.specs.Step.{HasNextStep, HasRemoval, CanBeTornDown};
 ghost use Rattle.rmm_laws.specs.Walk.{IsTableOf, Serves, EndsWell, IsPassed, IsAtLive, IsNextTop, LeadsToTable, walked_to};
 
@@ -183,6 +184,23 @@ pub fn teardown_steps_succeed()
 pub fn realms_can_be_torn_down()
     ensures { (m : Machine) (rd spare : ℕ) → IsProper m → rd_named m rd ≡ Some (number_of m rd) → (granule_at m spare).state ≡ Delegated
         → ((granule : ℕ) (rec : RmmRec) → granule_at m granule ≡ of_realm (number_of m rd) (Rec rec) → is_running rec.state ≡ false) → CanBeTornDown m rd }
+{}
+
+/// A realm is activated once. It is NEW when it is created, RMI_REALM_ACTIVATE makes it ACTIVE if it is NEW, and an
+/// RMI_REC_ENTER of a REC of it makes it SYSTEM_OFF if it is ACTIVE. Nothing else changes its state: no other call, no step
+/// that a guest is given, and no interrupt.
+pub fn activated_once()
+    ensures calls { (r : Registers) (m : Machine) → IsProper m → KeepsStates m (call_in r) (rmi r m).1 }
+    ensures steps { (m : Machine) (rec : ℕ) (w : StepWords) → KeepsStates m None (queued m rec w).1 }
+    ensures interrupts { (m : Machine) (rec : ℕ) → KeepsStates m None (interrupted m rec).1 }
+{}
+
+/// RIMs are measured: RMI_REALM_CREATE gives a realm its first RIM. RMI_DATA_CREATE, RMI_RTT_INIT_RIPAS and RMI_REC_CREATE extend
+/// it while the realm is NEW. No other call changes it, and neither do steps that guests are given, and interrupts.
+pub fn rims_are_measured()
+    ensures calls { (r : Registers) (m : Machine) → IsProper m → KeepsRims m (call_in r) (rmi r m).1 }
+    ensures steps { (m : Machine) (rec : ℕ) (w : StepWords) → KeepsRims m None (queued m rec w).1 }
+    ensures interrupts { (m : Machine) (rec : ℕ) → KeepsRims m None (interrupted m rec).1 }
 {}
 
 /// Other realms stay: a call leaves each granule as it was, but for those of the realm that it is on, and UNDELEGATED
