@@ -204,6 +204,9 @@ def of_ripas(line: Line, before: Seen, after: Seen, asked: tuple[int, int, int] 
 
 def of_states(line: Line, before: Seen, after: Seen) -> Iterator[str]:
     by = {("NEW", "ACTIVE"): "rmi_realm_activate", ("ACTIVE", "SYSTEM_OFF"): "rmi_rec_enter"}
+    for rd, realm in after.realms.items():
+        if rd not in before.realms and (realm.state, line.kind) != ("NEW", "rmi_realm_create"):
+            yield f"states: a realm begins as {realm.state}"
     for rd, realm in before.realms.items():
         now = after.realms.get(rd)
         if now is None:
