@@ -5,6 +5,7 @@ pub mod Blocks
 pub mod Children
 pub mod Entries
 pub mod EntryWords
+pub mod Fold
 pub mod Freed
 pub mod Given
 pub mod Guests

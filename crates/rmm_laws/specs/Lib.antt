@@ -1,5 +1,6 @@
 pub mod Apart
 pub mod Back
+pub mod Fold
 pub mod Half
 pub mod Owner
 pub mod Proper

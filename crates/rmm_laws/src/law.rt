@@ -6,7 +6,7 @@ ghost use Rattle.rmi_abi.specs.declared.registers.Registers.{Registers};
 ghost use Rattle.rmi_abi.specs.declared.registers.SmcResult.{SmcResult};
 ghost use Rattle.rmi_abi.specs.declared.settings.RmmSettings.{RmmSettings};
 ghost use Rattle.rmi_abi.specs.declared.call.Call.{Call};
-ghost use Rattle.rmi_abi.specs.declared.call.Call.TheVariants.{GranuleUndelegate, RealmDestroy, RecDestroy, RttDestroy, RttFold, RttUnmapUnprotected, DataDestroy};
+ghost use Rattle.rmi_abi.specs.declared.call.Call.TheVariants.{GranuleUndelegate, RealmDestroy, RecDestroy, RttCreate, RttDestroy, RttFold, RttUnmapUnprotected, DataDestroy};
 ghost use Rattle.rmi_abi.specs.declared.word.Word.{Word};
 ghost use Rattle.rmi_abi.specs.declared.word.Word.TheVariants.{Success};
 ghost use Rattle.rmi_abi.specs.Call.{call_in};
@@ -40,6 +40,7 @@ ghost use Rattle.rmm_model.specs.Walk.{entry_at, table_below, walk, top};
 ghost use Rattle.rmm_model.specs.Command.RecEnter.{interrupted, step_outcome, after_step};
 ghost use Rattle.rmm_laws.specs.Apart.{rd_named, IsOfRealm, IsOfAnother, IsSameAt};
 ghost use Rattle.rmm_laws.specs.Back.{ComesBack, RecComesBack};
+ghost use Rattle.rmm_laws.specs.Fold.{CanStand, IsAlike};
 ghost use Rattle.rmm_laws.specs.Half.{IsOfHalf};
 ghost use Rattle.rmm_laws.specs.Owner.{is_rec_in};
 ghost use Rattle.rmm_laws.specs.Proper.{IsProper};
@@ -201,6 +202,14 @@ pub fn rims_are_measured()
     ensures calls { (r : Registers) (m : Machine) → IsProper m → KeepsRims m (call_in r) (rmi r m).1 }
     ensures steps { (m : Machine) (rec : ℕ) (w : StepWords) → KeepsRims m None (queued m rec w).1 }
     ensures interrupts { (m : Machine) (rec : ℕ) → KeepsRims m None (interrupted m rec).1 }
+{}
+
+/// RMI_RTT_FOLD undoes RMI_RTT_CREATE: it succeeds right after it, with its operands, if the entry can stand. Then each
+/// granule has the attributes that it had before both, and each entry of each table is as it was.
+pub fn fold_and_unfold()
+    ensures { (m : Machine) (rd rtt ipa level : ℕ) → IsProper m → (performed (RttCreate rd rtt ipa level) m).0.word ≡ Success
+        → CanStand m (entry_at m (walk m (realm_at m rd) ipa (level - 1)) ipa) level → ((performed (RttFold rd ipa level) (performed (RttCreate rd rtt ipa level) m).1).0.word ≡ Success)
+        × IsAlike m (performed (RttFold rd ipa level) (performed (RttCreate rd rtt ipa level) m).1).1 }
 {}
 
 /// Other realms stay: a call leaves each granule as it was, but for those of the realm that it is on, and UNDELEGATED
