@@ -32,7 +32,7 @@ use Rattle.rmm_model.specs.Walk.{entry_at, with_entry, table_below, walk_from, s
 use Rattle.rmm_model.specs.Command.Operand.{realm_at, delegated_checks, rd_checks, ipa_checks, entry_checks, is_level}
 use Rattle.rmm_model.specs.Command.RttCreate.{rtt_create}
 use Rattle.rmm_model.specs.Command.RttFold.{rtt_fold, fold_checks, is_homogeneous, is_aligned_above, is_block_too_high}
-use Rattle.rmm_laws.specs.Fold.{CanStand, IsAlike}
+use Rattle.rmm_laws.specs.Fold.{CanReplaceTable, IsAlike}
 use Rattle.rmm_laws.specs.Proper.{IsProper}
 use Rattle.rmm_laws.specs.Role.{IsSound, IsLinked, IsBegin}
 use Rattle.rmm_laws.specs.Owner.{IsOrderly}
@@ -274,20 +274,20 @@ module _ (m : Machine) (rd rtt ipa level : ℕ) (proper : IsProper m) (ok : Pass
       ∙ ap (λ (p : List ℕ). with_blank (with_entry n found ipa (entry_in_page p 0)) x Delegated) content_is
       ∙ ap (λ (e : RmmRttEntry). with_blank (with_entry n found ipa e) x Delegated) (first_is parent level parent_fits)
 
-  homo : CanStand m parent level → is_homogeneous (page_in n (unwrap_or (table_below n (entry_at n found ipa)) 0)) level ≡ true
+  homo : CanReplaceTable m parent level → is_homogeneous (page_in n (unwrap_or (table_below n (entry_at n found ipa)) 0)) level ≡ true
   homo stand =
       ap (λ (o : Option ℕ). is_homogeneous (page_in n (unwrap_or o 0)) level) leads
       ∙ ap (λ (p : List ℕ). is_homogeneous p level) content_is
       ∙ homogeneous parent level parent_fits leaf stand.0
 
-  low_enough : CanStand m parent level → is_block_too_high m.settings (page_in n (unwrap_or (table_below n (entry_at n found ipa)) 0)) level ≡ false
+  low_enough : CanReplaceTable m parent level → is_block_too_high m.settings (page_in n (unwrap_or (table_below n (entry_at n found ipa)) 0)) level ≡ false
   low_enough stand =
       ap (λ (o : Option ℕ). is_block_too_high m.settings (page_in n (unwrap_or o 0)) level) leads
       ∙ ap (λ (p : List ℕ). is_block_too_high m.settings p level) content_is
       ∙ ap (λ (e : RmmRttEntry). is_mapping e && nat_le level m.settings.block_level) (first_is parent level parent_fits)
       ∙ not_too_high m parent level stand.1
 
-  passes : CanStand m parent level → Passed (fold_at realm found)
+  passes : CanReplaceTable m parent level → Passed (fold_at realm found)
   unfolding rtt_create
   passes stand = (
     ok.1.1.1.0,
@@ -312,7 +312,7 @@ module _ (m : Machine) (rd rtt ipa level : ℕ) (proper : IsProper m) (ok : Pass
     ),
   )
 
-  folded_ok : CanStand m parent level → Passed (rtt_fold rd ipa level n).checks
+  folded_ok : CanReplaceTable m parent level → Passed (rtt_fold rd ipa level n).checks
   unfolding rtt_fold
   folded_ok stand =
       subst (λ (q : RmmRealm). Passed (fold_at q (walk n q ipa (level - 1)))) (sym realm_same) (subst (λ (w : RttWalk). Passed (fold_at realm w)) (sym walk_same) (passes stand))
@@ -382,7 +382,7 @@ module _ (m : Machine) (rd rtt ipa level : ℕ) (proper : IsProper m) (ok : Pass
         (cases_eq g x);
   }
 
-pub created_and_folded : (m : Machine) (rd rtt ipa level : ℕ) → IsProper m → (performed (RttCreate rd rtt ipa level) m).0.word ≡ Success → CanStand m (entry_at m (walk m (realm_at m rd) ipa (level - 1)) ipa) level
+pub created_and_folded : (m : Machine) (rd rtt ipa level : ℕ) → IsProper m → (performed (RttCreate rd rtt ipa level) m).0.word ≡ Success → CanReplaceTable m (entry_at m (walk m (realm_at m rd) ipa (level - 1)) ipa) level
     → ((performed (RttFold rd ipa level) (performed (RttCreate rd rtt ipa level) m).1).0.word ≡ Success) × IsAlike m (performed (RttFold rd ipa level) (performed (RttCreate rd rtt ipa level) m).1).1
 unfolding rtt_create rtt_fold
 created_and_folded m rd rtt ipa level proper success stand =

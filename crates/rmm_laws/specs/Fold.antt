@@ -7,9 +7,9 @@ use Rattle.rmm_model.specs.Machine.{Machine, granule_at, page_in}
 use Rattle.rmm_model.specs.Table.{entry_in_page}
 use Rattle.rmm_model.specs.Command.RttFold.{is_aligned_above}
 
--- an entry can stand above a table of a level: the memory of a mapping is aligned, and there are blocks above that level
-abbrev pub CanStand : Machine → RmmRttEntry → ℕ → Type 0
-CanStand m entry level = (is_aligned_above entry level ≡ true) × (is_mapping entry ≡ true → m.settings.block_level < level)
+-- an entry can replace a table of a level: the memory of a mapping is aligned, and there are blocks above that level
+abbrev pub CanReplaceTable : Machine → RmmRttEntry → ℕ → Type 0
+CanReplaceTable m entry level = (is_aligned_above entry level ≡ true) × (is_mapping entry ≡ true → m.settings.block_level < level)
 
 -- Each granule has the attributes that it had, each entry of a table is as it was, and so is the page of each other
 -- granule.

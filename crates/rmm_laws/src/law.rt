@@ -40,7 +40,7 @@ ghost use Rattle.rmm_model.specs.Walk.{entry_at, table_below, walk, top};
 ghost use Rattle.rmm_model.specs.Command.RecEnter.{interrupted, step_outcome, after_step};
 ghost use Rattle.rmm_laws.specs.Apart.{rd_named, IsOfRealm, IsOfAnother, IsSameAt};
 ghost use Rattle.rmm_laws.specs.Back.{ComesBack, RecComesBack};
-ghost use Rattle.rmm_laws.specs.Fold.{CanStand, IsAlike};
+ghost use Rattle.rmm_laws.specs.Fold.{CanReplaceTable, IsAlike};
 ghost use Rattle.rmm_laws.specs.Half.{IsOfHalf};
 ghost use Rattle.rmm_laws.specs.Owner.{is_rec_in};
 ghost use Rattle.rmm_laws.specs.Proper.{IsProper};
@@ -204,12 +204,12 @@ pub fn rims_are_measured()
     ensures interrupts { (m : Machine) (rec : ℕ) → KeepsRims m None (interrupted m rec).1 }
 {}
 
-/// RMI_RTT_FOLD undoes RMI_RTT_CREATE: it succeeds right after it, with its operands, if the entry can stand. And
-/// RMI_RTT_CREATE undoes RMI_RTT_FOLD, with the granule that comes back. Then each granule has the attributes that it had
-/// before both, and each entry of each table is as it was.
+/// RMI_RTT_FOLD undoes RMI_RTT_CREATE: it succeeds right after it, with its operands, if the entry can replace the table.
+/// And RMI_RTT_CREATE undoes RMI_RTT_FOLD, with the granule that comes back. Then each granule has the attributes that it
+/// had before both, and each entry of each table is as it was.
 pub fn fold_and_unfold()
     ensures created { (m : Machine) (rd rtt ipa level : ℕ) → IsProper m → (performed (RttCreate rd rtt ipa level) m).0.word ≡ Success
-        → CanStand m (entry_at m (walk m (realm_at m rd) ipa (level - 1)) ipa) level → ((performed (RttFold rd ipa level) (performed (RttCreate rd rtt ipa level) m).1).0.word ≡ Success)
+        → CanReplaceTable m (entry_at m (walk m (realm_at m rd) ipa (level - 1)) ipa) level → ((performed (RttFold rd ipa level) (performed (RttCreate rd rtt ipa level) m).1).0.word ≡ Success)
         × IsAlike m (performed (RttFold rd ipa level) (performed (RttCreate rd rtt ipa level) m).1).1 }
     ensures folded { (m : Machine) (rd ipa level : ℕ) → IsProper m → (performed (RttFold rd ipa level) m).0.word ≡ Success
         → ((performed (RttCreate rd (performed (RttFold rd ipa level) m).0.x1 ipa level) (performed (RttFold rd ipa level) m).1).0.word ≡ Success)
