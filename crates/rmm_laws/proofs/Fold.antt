@@ -1,8 +1,8 @@
 -- RMI_RTT_FOLD undoes RMI_RTT_CREATE.
-use Rattle.std.proofs.Common.{◌≡◌, ◌≢◌, ℕ, zero, suc, ◌+◌, ◌-◌, ◌*◌, ◌%◌, ◌^◌, ◌<◌, ◌≤◌, ◌==◌, ◌&&◌, ◌++◌, Bool, true, false, not, List, [], length, Option, Some, None, unwrap_or, refl, sym, ap, subst, ◌∙◌, ⊎_elim, arith, lit≤}
+use Rattle.std.proofs.Common.{◌≡◌, ◌≢◌, ℕ, zero, suc, ◌+◌, ◌-◌, ◌*◌, ◌%◌, ◌^◌, ◌<◌, ◌≤◌, ◌==◌, ◌&&◌, ◌++◌, true, false, not, List, [], length, Option, Some, None, unwrap_or, refl, sym, ap, subst, ◌∙◌, ⊎_elim, arith, lit≤}
 use Rattle.std.specs.Prelude.{nat_le, is_none, is_some}
 use Rattle.std.specs.Option.{option_map_or}
-use Rattle.std.proofs.lemmas.Bool.{cases_Bool, cases_eq, and_parts, and_from, and_left, and_right, eq-eqb, eqb-true, leb-true, lt-leb, ltb-true, not-true, both_ways}
+use Rattle.std.proofs.lemmas.Bool.{cases_Bool, cases_eq, and_parts, and_from, and_left, and_right, eq-eqb, eqb-true, leb-true, lt-leb, ltb-true, not-true}
 use Rattle.std.proofs.lemmas.List.{length-set}
 use Rattle.granule_addr.specs.Page.{zero_page}
 use Rattle.page_arena.specs.Pages.{length-page_of}
@@ -25,11 +25,11 @@ use Rattle.rmm_model.specs.Check.{Check, decided, error_rtt}
 use Rattle.rmm_model.specs.Entry.{entry_of, entry_word, child_entry, descriptor_of, is_mapping, is_table}
 use Rattle.rmm_model.specs.Granule.{of_no_realm, of_realm, is_delegated, realm_of}
 use Rattle.rmm_model.specs.Level.{entry_size, entry_index}
-use Rattle.rmm_model.specs.Machine.{Machine, granule_at, page_in, is_aligned, is_inside, number_of, state_at, with_granule, with_page, with_blank}
+use Rattle.rmm_model.specs.Machine.{Machine, granule_at, page_in, is_inside, number_of, state_at, with_granule, with_page, with_blank}
 use Rattle.rmm_model.specs.Realm.{is_in_space, no_realm}
 use Rattle.rmm_model.specs.Table.{entry_in_page, children_page, has_parts}
 use Rattle.rmm_model.specs.Walk.{entry_at, with_entry, table_below, walk_from, start_of, walk}
-use Rattle.rmm_model.specs.Command.Operand.{realm_at, delegated_checks, rd_checks, ipa_checks, entry_checks, is_level}
+use Rattle.rmm_model.specs.Command.Operand.{realm_at, delegated_checks, rd_checks, ipa_checks, entry_checks}
 use Rattle.rmm_model.specs.Command.RttCreate.{rtt_create}
 use Rattle.rmm_model.specs.Command.RttFold.{rtt_fold, fold_checks, is_homogeneous, is_aligned_above, is_block_too_high}
 use Rattle.rmm_laws.specs.Fold.{CanReplaceTable, IsAlike}

@@ -12,7 +12,6 @@ use Rattle.rmi_abi.specs.RecRun.{only_reason}
 use Rattle.rmi_abi.specs.declared.realm_params.RealmParams.{RealmParams}
 use Rattle.rmi_abi.specs.RecParams.{is_runnable_in, mpidr_in}
 use Rattle.rmm_model.specs.declared.granule.RmmGranule.{RmmGranule}
-use Rattle.rmm_model.specs.declared.granule.RmmGranuleState.{RmmGranuleState}
 use Rattle.rmm_model.specs.declared.granule.RmmGranuleState.TheVariants.{Delegated, Undelegated, Data, Rd, Rtt, RecAux, Rec as IsRec}
 use Rattle.rmm_model.specs.declared.realm.RmmRealm.{RmmRealm}
 use Rattle.rmm_model.specs.declared.realm.RmmRealmState.{RmmRealmState}
@@ -33,7 +32,7 @@ use Rattle.rmm_model.specs.Machine.{Machine, granule_at, page_in, number_of, sta
 use Rattle.rmm_model.specs.Realm.{is_new, with_rim}
 use Rattle.rmm_model.specs.Rec.{new_rec, is_on}
 use Rattle.rmm_model.specs.Host.{is_host_page}
-use Rattle.rmm_model.specs.Walk.{granule_named, walk}
+use Rattle.rmm_model.specs.Walk.{walk}
 use Rattle.rmm_model.specs.Level.{entry_size}
 use Rattle.rmm_model.specs.Command.Auxiliary.{with_aux, with_wiped_if, aux_granule}
 use Rattle.rmm_model.specs.Command.Operand.{realm_at, rec_at}
@@ -61,7 +60,7 @@ use Rattle.rmm_model.specs.Command.RttReadEntry.{rtt_read_entry}
 use Rattle.rmm_model.specs.Command.RttSetRipas.{rtt_set_ripas}
 use Rattle.rmm_model.specs.Command.RttUnmapUnprotected.{rtt_unmap_unprotected}
 use Rattle.rmm_model.specs.Command.Version.{version}
-use Rattle.rmm_model.specs.Command.RecEnter.{rec_enter, with_copied, with_exit_gic, with_exit_words, after_exit, runs_at, interrupted}
+use Rattle.rmm_model.specs.Command.RecEnter.{with_copied, with_exit_gic, with_exit_words, after_exit, runs_at, interrupted}
 use Rattle.rmm_laws.specs.Owner.{is_rd}
 use Rattle.rmm_laws.specs.Proper.{IsProper}
 use Rattle.rmm_laws.specs.State.{IsRealmIn, HasRim, IsBrought, KeepsStates, KeepsRims}

@@ -1,7 +1,7 @@
 -- A realm none of whose RECs runs is torn down by calls that succeed.
-use Rattle.std.proofs.Common.{◌≡◌, ◌≢◌, ℕ, zero, suc, ◌+◌, ◌-◌, ◌*◌, ◌/◌, ◌%◌, ◌^◌, ◌<◌, ◌≤◌, ◌⊎◌, inl, inr, ◌==◌, Bool, true, false, not, List, [], ◌∷◌, length, Option, Some, None, unwrap_or, refl, sym, ap, subst, ◌∙◌, ⊎_elim, arith}
-use Rattle.std.specs.Prelude.{nat_le, nat_lt, is_none, is_some}
-use Rattle.std.proofs.lemmas.Bool.{cases_eq, cases_lt, and_parts, both_ways, cond-true, eq-eqb, eqb-true, leb-true, ltb-true, not-true}
+use Rattle.std.proofs.Common.{◌≡◌, ◌≢◌, ℕ, zero, suc, ◌+◌, ◌-◌, ◌*◌, ◌%◌, ◌^◌, ◌<◌, ◌≤◌, ◌⊎◌, inl, inr, Bool, true, false, not, List, [], ◌∷◌, length, Option, Some, None, refl, sym, ap, subst, ◌∙◌, ⊎_elim, arith}
+use Rattle.std.specs.Prelude.{nat_le, nat_lt, is_none}
+use Rattle.std.proofs.lemmas.Bool.{cases_eq, cases_lt, and_parts, both_ways, cond-true, eq-eqb, eqb-true, leb-true, ltb-true}
 use Rattle.std.proofs.lemmas.List.{length-set}
 use Rattle.granule_addr.specs.Page.{zero_page}
 use Rattle.rmi_abi.specs.declared.call.Call.{Call}
@@ -17,12 +17,12 @@ use Rattle.rmm_model.specs.declared.granule.RmmGranuleState.TheVariants.{Undeleg
 use Rattle.rmm_model.specs.declared.realm.RmmRealm.{RmmRealm}
 use Rattle.rmm_model.specs.declared.realm.RttWalk.{RttWalk}
 use Rattle.rmm_model.specs.declared.rec.RmmRec.{RmmRec}
-use Rattle.rmm_model.specs.Call.{command_of, performed}
-use Rattle.rmm_model.specs.Entry.{is_assigned_ns, is_table}
-use Rattle.rmm_model.specs.Granule.{of_no_realm, of_realm, realm_of, rec_of, is_delegated}
+use Rattle.rmm_model.specs.Call.{performed}
+use Rattle.rmm_model.specs.Entry.{is_assigned_ns}
+use Rattle.rmm_model.specs.Granule.{of_no_realm, of_realm, realm_of, is_delegated}
 use Rattle.rmm_model.specs.Guest.{is_rec_named}
 use Rattle.rmm_model.specs.Level.{entry_size, entry_index}
-use Rattle.rmm_model.specs.Machine.{Machine, granule_at, page_in, is_aligned, is_inside, number_of, state_at, with_granule, with_blank}
+use Rattle.rmm_model.specs.Machine.{Machine, granule_at, page_in, is_aligned, is_inside, number_of, state_at, with_granule}
 use Rattle.rmm_model.specs.Realm.{is_in_space}
 use Rattle.rmm_model.specs.Rec.{is_running}
 use Rattle.rmm_model.specs.Table.{entry_in_page, children_page}
@@ -39,7 +39,6 @@ use Rattle.rmm_laws.specs.Apart.{rd_named, realm_of_rec, IsOfRealm, IsSameAt}
 use Rattle.rmm_laws.specs.Back.{ComesBack}
 use Rattle.rmm_laws.specs.Owner.{is_rd, is_owner}
 use Rattle.rmm_laws.specs.Proper.{IsProper}
-use Rattle.rmm_laws.specs.Role.{page_count}
 use Rattle.rmm_laws.specs.Step.{IsAssignedAt, IsTeardown, HasNextStep, IsRemoval, HasRemoval, IsOfTeardown, LeadsDown, CanBeTornDown}
 use Rattle.rmm_laws.specs.Walk.{IsTableOf}
 use Rattle.rmm_laws.proofs.Blocks.{sizes}
@@ -50,8 +49,7 @@ use Rattle.rmm_laws.proofs.Mapped.{content_now}
 use Rattle.rmm_laws.proofs.Mappings.{place_is, unprotected_within, data_gone, host_unmapped}
 use Rattle.rmm_laws.proofs.Mistakes.{named_twice}
 use Rattle.rmm_laws.proofs.Ordering.{rtt_create_ordered, rtt_destroy_ordered, unmap_ordered, data_destroy_ordered, undelegate_ordered}
-use Rattle.rmm_laws.proofs.Orders.{rd_is}
-use Rattle.rmm_laws.proofs.Passed.{Passed, yes_from, is_delegated-true, realm_of-some, rec_of-there, rd_named-is, some_same}
+use Rattle.rmm_laws.proofs.Passed.{yes_from, is_delegated-true, realm_of-some, rec_of-there, rd_named-is, some_same}
 use Rattle.rmm_laws.proofs.Plain.{undelegated as undelegated_linked}
 use Rattle.rmm_laws.proofs.RealmOrders.{gone_like, gone_spare, none_if, realm_destroyed}
 use Rattle.rmm_laws.proofs.Realms.{or_none}

@@ -1,5 +1,5 @@
 -- The states and RIMs of realms, and the calls that change them. RMM 1.0, Realm lifecycle, Realm Initial Measurement.
-use Rattle.std.specs.Prelude.{◌≡◌, ℕ, ◌⊎◌, false, List, Option, Some, None}
+use Rattle.std.specs.Prelude.{◌≡◌, ℕ, ◌⊎◌, false, List, Option, Some}
 use Rattle.rmi_abi.specs.declared.call.Call.{Call}
 use Rattle.rmi_abi.specs.declared.call.Call.TheVariants.{DataCreate, RealmCreate, RealmActivate, RecCreate, RecEnter, RttInitRipas}
 use Rattle.rmm_model.specs.declared.granule.RmmGranuleState.TheVariants.{Rd}

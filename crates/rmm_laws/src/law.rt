@@ -188,16 +188,16 @@ pub fn realms_can_be_torn_down()
 {}
 
 /// A realm is activated once. It is NEW when it is created, RMI_REALM_ACTIVATE makes it ACTIVE if it is NEW, and an
-/// RMI_REC_ENTER of a REC of it makes it SYSTEM_OFF if it is ACTIVE. Nothing else changes its state: no other call, no step
-/// that a guest is given, and no interrupt.
+/// RMI_REC_ENTER of a REC of it makes it SYSTEM_OFF if it is ACTIVE. Nothing else changes its state: no other call, no
+/// step that a guest is given, and no interrupt.
 pub fn activated_once()
     ensures calls { (r : Registers) (m : Machine) → IsProper m → KeepsStates m (call_in r) (rmi r m).1 }
     ensures steps { (m : Machine) (rec : ℕ) (w : StepWords) → KeepsStates m None (queued m rec w).1 }
     ensures interrupts { (m : Machine) (rec : ℕ) → KeepsStates m None (interrupted m rec).1 }
 {}
 
-/// RIMs are measured: RMI_REALM_CREATE gives a realm its first RIM. RMI_DATA_CREATE, RMI_RTT_INIT_RIPAS and RMI_REC_CREATE extend
-/// it while the realm is NEW. No other call changes it, and neither do steps that guests are given, and interrupts.
+/// RIMs are measured: RMI_REALM_CREATE gives a realm its first RIM. RMI_DATA_CREATE, RMI_RTT_INIT_RIPAS and RMI_REC_CREATE
+/// extend it while the realm is NEW. No other call changes it, and neither do steps that guests are given, and interrupts.
 pub fn rims_are_measured()
     ensures calls { (r : Registers) (m : Machine) → IsProper m → KeepsRims m (call_in r) (rmi r m).1 }
     ensures steps { (m : Machine) (rec : ℕ) (w : StepWords) → KeepsRims m None (queued m rec w).1 }
