@@ -12,6 +12,7 @@ pub mod Guests
 pub mod Halves
 pub mod Halving
 pub mod Keeping
+pub mod LeftAlone
 pub mod Mapped
 pub mod Mappings
 pub mod Mistakes

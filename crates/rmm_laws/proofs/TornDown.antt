@@ -35,7 +35,7 @@ use Rattle.rmm_model.specs.Command.RecDestroy.{rec_destroy}
 use Rattle.rmm_model.specs.Command.RttCreate.{rtt_create}
 use Rattle.rmm_model.specs.Command.RttDestroy.{rtt_destroy}
 use Rattle.rmm_model.specs.Command.RttUnmapUnprotected.{rtt_unmap_unprotected}
-use Rattle.rmm_laws.specs.Apart.{rd_named, realm_of_rec, IsOfRealm, IsSameAt}
+use Rattle.rmm_laws.specs.Apart.{rd_named, realm_of_rec, IsOfRealm, IsSameAt, named_realm, IsSpare}
 use Rattle.rmm_laws.specs.Back.{ComesBack}
 use Rattle.rmm_laws.specs.Owner.{is_rd, is_owner}
 use Rattle.rmm_laws.specs.Proper.{IsProper}
@@ -45,6 +45,7 @@ use Rattle.rmm_laws.proofs.Blocks.{sizes}
 use Rattle.rmm_laws.proofs.Children.{length-children}
 use Rattle.rmm_laws.proofs.Entries.{number_inside, address_few, entry-same, entry-other}
 use Rattle.rmm_laws.proofs.Freed.{succeeded, rtt_destroy_back, data_destroy_back, rec_destroy_back}
+use Rattle.rmm_laws.proofs.LeftAlone.{left_alone}
 use Rattle.rmm_laws.proofs.Mapped.{content_now}
 use Rattle.rmm_laws.proofs.Mappings.{place_is, unprotected_within, data_gone, host_unmapped}
 use Rattle.rmm_laws.proofs.Mistakes.{named_twice}
@@ -494,9 +495,35 @@ module _ (o : Machine) (rd r : ℕ) where
   -- the granules of the realm at the start are UNDELEGATED and zero after calls that succeed
   abbrev Down : Machine → Type 0
   Down m = (calls : List Call) × (after : Machine) × LeadsDown rd m calls after × ((g : ℕ) → IsOfRealm o (Some r) g → IsGivenBack after g)
+      × ((g : ℕ) → (IsOfRealm m (Some r) g → ⊥) → (IsSpare m g → ⊥) → IsSameAt m after g)
 
-  one_call : (m : Machine) (call : Call) → IsOfTeardown m rd call → (performed call m).0.word ≡ Success → Down (performed call m).1 → Down m
-  one_call m call kind success rest = (call ∷ rest.0, rest.1, (kind, success, rest.2), rest.3)
+  -- a call names the realm, or none
+  abbrev IsOn : Machine → Call → Type 0
+  IsOn m call = (g : ℕ) → IsOfRealm m (named_realm m call) g → IsOfRealm m (Some r) g
+
+  by_named : (m : Machine) (call : Call) → named_realm m call ≡ Some r → IsOn m call
+  by_named m call named g ours = subst (λ (owner : Option ℕ). IsOfRealm m owner g) named ours
+
+  then_same : (m n k : Machine) (g : ℕ) → (IsOfRealm m (Some r) g → ⊥) → (IsSpare m g → ⊥) → IsSameAt m n g → ((IsOfRealm n (Some r) g → ⊥) → (IsSpare n g → ⊥) → IsSameAt n k g) → IsSameAt m k g
+  then_same m n k g not_ours not_spare same rest =
+      let now =
+      rest
+      (λ ours. not_ours (⊎_elim (λ (it : g ≡ r). inl it) (λ (owned : (granule_at n g).owner ≡ Some r). inr (sym (ap (λ (c : RmmGranule). c.owner) same.0) ∙ owned)) ours))
+      (λ spare. not_spare (⊎_elim
+      (λ (host : (granule_at n g).state ≡ Undelegated). inl (sym (ap (λ (c : RmmGranule). c.state) same.0) ∙ host))
+      (λ (free : (granule_at n g).state ≡ Delegated). inr (sym (ap (λ (c : RmmGranule). c.state) same.0) ∙ free))
+      spare)) in
+      (now.0 ∙ same.0, now.1 ∙ same.1)
+
+  one_call : (m : Machine) (call : Call) → IsProper m → IsOn m call → IsOfTeardown m rd call → (performed call m).0.word ≡ Success → Down (performed call m).1 → Down m
+  one_call m call proper on kind success rest = (
+    call ∷ rest.0,
+    rest.1,
+    (kind, success, rest.2),
+    rest.3,
+    λ g not_ours not_spare.
+        then_same m (performed call m).1 rest.1 g not_ours not_spare (left_alone call m g proper (λ ours. not_ours (on g ours)) not_spare) (λ ours spare. rest.4 g ours spare),
+  )
 
   -- ---- the granules are undelegated
 
@@ -557,13 +584,14 @@ module _ (o : Machine) (rd r : ℕ) where
         let count = freeing.count in
         absurd (omega arith))
         (cases_lt g p),
+    λ g not_ours not_spare. (refl, refl),
   )
   free_from (suc fuel) p m all freeing =
       ⊎_elim
       (λ (had : IsOfRealm o (Some r) p).
       let a : ℕ = m.settings.base + p * 4096 in
       let one = free_one p m freeing had in
-      one_call m (GranuleUndelegate a) tt one.0 (free_from fuel (suc p) (performed (GranuleUndelegate a) m).1 (omega arith) one.1))
+      one_call m (GranuleUndelegate a) freeing.proper (λ g never. absurd never) tt one.0 (free_from fuel (suc p) (performed (GranuleUndelegate a) m).1 (omega arith) one.1))
       (λ (none : IsOfRealm o (Some r) p → ⊥).
       free_from fuel (suc p) m (omega arith)
       (record {
@@ -587,6 +615,9 @@ module _ (o : Machine) (rd r : ℕ) where
     ready : (g : ℕ) (rec : RmmRec) → granule_at m g ≡ of_realm r (IsRec rec) → is_running rec.state ≡ false
     ours : (g : ℕ) → IsOfRealm o (Some r) g → IsKept m r g
 
+  named_r : (m : Machine) → IsGoingDown m → rd_named m rd ≡ Some r
+  named_r m going = going.named ∙ ap (λ (h : ℕ). Some h) going.number
+
   step_down : (m n : Machine) (x : ℕ) → IsGoingDown m → IsStep m n r x → IsGoingDown n
   step_down m n x going step =
       let kin = step.kin in
@@ -609,7 +640,7 @@ module _ (o : Machine) (rd r : ℕ) where
       let n : Machine = (performed (RealmDestroy rd) m).1 in
       let then_is = realm_then m rd going.kin.0 success in
       let count : length n.granules ≡ length o.granules = then_is.0.2 ∙ going.kin.2 in
-      one_call m (RealmDestroy rd) refl success
+      one_call m (RealmDestroy rd) going.kin.0 (by_named m (RealmDestroy rd) (named_r m going)) refl success
       (free_from (length o.granules) 0 n (omega arith)
       (record {
         proper = then_is.0.0;
@@ -626,25 +657,25 @@ module _ (o : Machine) (rd r : ℕ) where
   abbrev Lighter : ℕ → Type 0
   Lighter w = (n : Machine) (spare : ℕ) → IsGoingDown n → (granule_at n spare).state ≡ Delegated → heavy r n < w → Down n
 
-  freed_down : (w : ℕ) (m : Machine) (call : Call) (x y : ℕ) → Lighter w → IsGoingDown m → heavy r m < suc w → IsOfTeardown m rd call → (performed call m).0.word ≡ Success → y ≡ r → IsFreed m (performed call m).1 y x → Down m
-  freed_down w m call x y rest going light kind success same freed =
+  freed_down : (w : ℕ) (m : Machine) (call : Call) (x y : ℕ) → Lighter w → IsGoingDown m → heavy r m < suc w → named_realm m call ≡ Some r → IsOfTeardown m rd call → (performed call m).0.word ≡ Success → y ≡ r → IsFreed m (performed call m).1 y x → Down m
+  freed_down w m call x y rest going light named kind success same freed =
       let n : Machine = (performed call m).1 in
       let it : IsFreed m n r x = subst (λ (h : ℕ). IsFreed m n h x) same freed in
       let less = freed_weight m n r x it in
-      one_call m call kind success (rest n x (step_down m n x going it.step) (ap (λ (c : RmmGranule). c.state) it.free) (omega arith))
+      one_call m call going.kin.0 (by_named m call named) kind success (rest n x (step_down m n x going it.step) (ap (λ (c : RmmGranule). c.state) it.free) (omega arith))
 
   data_down : (w : ℕ) (m : Machine) (ipa : ℕ) → Lighter w → IsGoingDown m → heavy r m < suc w → (performed (DataDestroy rd ipa) m).0.word ≡ Success → Down m
   data_down w m ipa rest going light success =
       let back = data_destroy_back m rd ipa going.kin.0 success in
       let x1 : ℕ = (performed (DataDestroy rd ipa) m).0.x1 in
-      freed_down w m (DataDestroy rd ipa) (number_of m x1) (number_of m rd) rest going light refl success going.number
+      freed_down w m (DataDestroy rd ipa) (number_of m x1) (number_of m rd) rest going light (named_r m going) refl success going.number
       (of_back m (performed (DataDestroy rd ipa) m).1 (number_of m rd) x1 Data refl (λ same. cc) back (data_kin m rd ipa going.kin.0 success))
 
   table_down : (w : ℕ) (m : Machine) (ipa level : ℕ) → Lighter w → IsGoingDown m → heavy r m < suc w → (performed (RttDestroy rd ipa level) m).0.word ≡ Success → Down m
   table_down w m ipa level rest going light success =
       let back = rtt_destroy_back m rd ipa level going.kin.0 success in
       let x1 : ℕ = (performed (RttDestroy rd ipa level) m).0.x1 in
-      freed_down w m (RttDestroy rd ipa level) (number_of m x1) (number_of m rd) rest going light refl success going.number
+      freed_down w m (RttDestroy rd ipa level) (number_of m x1) (number_of m rd) rest going light (named_r m going) refl success going.number
       (of_back m (performed (RttDestroy rd ipa level) m).1 (number_of m rd) x1 Rtt refl (λ same. cc) back (table_kin m rd ipa level going.kin.0 success))
 
   -- a block that is unfolded, and whose first page is destroyed
@@ -665,8 +696,8 @@ module _ (o : Machine) (rd r : ℕ) where
       subst (λ (h : ℕ). IsFreed n k h y) next.number (of_back n k (number_of n rd) (performed (DataDestroy rd page.0) n).0.x1 Data refl (λ same. cc) back (data_kin n rd page.0 proper page.1)) in
       let first_weight = unfold_weight m n r x unfolded in
       let then_weight = data_weight n k r y freed (back.was ∙ ap (λ (h : ℕ). of_realm h Data) next.number) in
-      one_call m (RttCreate rd rtt ipa level) (refl, block) success
-      (one_call n (DataDestroy rd page.0) refl page.1 (rest k y (step_down n k y next freed.step) (ap (λ (c : RmmGranule). c.state) freed.free) (omega arith)))
+      one_call m (RttCreate rd rtt ipa level) going.kin.0 (by_named m (RttCreate rd rtt ipa level) (named_r m going)) (refl, block) success
+      (one_call n (DataDestroy rd page.0) proper (by_named n (DataDestroy rd page.0) (named_r n next)) refl page.1 (rest k y (step_down n k y next freed.step) (ap (λ (c : RmmGranule). c.state) freed.free) (omega arith)))
 
   -- the rest, from machines that are as light and have fewer mappings of the host's memory
   abbrev Fewer : ℕ → ℕ → Type 0
@@ -681,7 +712,7 @@ module _ (o : Machine) (rd r : ℕ) where
       let sum = step_weight m n r spare step (taken_inside m spare (λ undelegated_is. cc)) in
       let same : weight r (granule_at n spare) ≡ weight r (granule_at m spare) = ap (weight r) (it.same spare) in
       let less = it.less in
-      one_call m (RttUnmapUnprotected rd ipa level) refl success
+      one_call m (RttUnmapUnprotected rd ipa level) going.kin.0 (by_named m (RttUnmapUnprotected rd ipa level) (named_r m going)) refl success
       (again n spare (step_down m n spare going step) (ap (λ (c : RmmGranule). c.state) (it.same spare) ∙ free) (omega arith) (omega arith))
 
   next_down : (w ns : ℕ) (m : Machine) (spare address : ℕ) (call : Call) → Lighter w → Fewer w ns → IsGoingDown m → (granule_at m spare).state ≡ Delegated → heavy r m < suc w → mapped m < suc ns
@@ -698,7 +729,7 @@ module _ (o : Machine) (rd r : ℕ) where
 
   removal_down : (w : ℕ) (m : Machine) (call : Call) → Lighter w → IsGoingDown m → heavy r m < suc w → IsRemoval m rd call → (performed call m).0.word ≡ Success → Down m
   removal_down w m (RecDestroy rec) rest going light kind success =
-      freed_down w m (RecDestroy rec) (number_of m rec) (number_of m rd) rest going light kind success going.number (rec_freed m rd rec going.kin.0 kind success)
+      freed_down w m (RecDestroy rec) (number_of m rec) (number_of m rd) rest going light (kind ∙ ap (λ (h : ℕ). Some h) going.number) kind success going.number (rec_freed m rd rec going.kin.0 kind success)
   removal_down w m (RealmDestroy of) rest going light kind success = last_call m going (subst (λ (d : ℕ). (performed (RealmDestroy d) m).0.word ≡ Success) kind success)
   removal_down w m _ rest going light kind success = absurd kind
 
@@ -724,4 +755,4 @@ torn_down m rd spare proper named free ready =
     let r : ℕ = number_of m rd in
     let down =
     lighter m rd r (suc (heavy r m)) m spare (record { kin = (proper, refl, refl); number = refl; named = named; ready = ready; ours = λ g had. inl had }) free (omega arith) in
-    record { calls = down.0; after = down.1; succeed = down.2; free = down.3 }
+    record { calls = down.0; after = down.1; succeed = down.2; others = down.4; free = down.3 }

@@ -12,7 +12,7 @@ use Rattle.rmm_model.specs.Granule.{of_no_realm}
 use Rattle.rmm_model.specs.Machine.{Machine, granule_at, page_in, number_of}
 use Rattle.rmm_model.specs.Walk.{entry_at, walk}
 use Rattle.rmm_model.specs.Command.Operand.{realm_at}
-use Rattle.rmm_laws.specs.Apart.{realm_of_rec, IsOfRealm}
+use Rattle.rmm_laws.specs.Apart.{realm_of_rec, IsOfRealm, IsSameAt, IsSpare}
 
 -- the walk of an address of a realm towards a level ends at an ASSIGNED entry
 abbrev pub IsAssignedAt : Machine → ℕ → ℕ → ℕ → Type 0
@@ -60,8 +60,10 @@ LeadsDown rd m [] n = m ≡ n
 LeadsDown rd m (call ∷ calls) n = IsOfTeardown m rd call × ((performed call m).0.word ≡ Success) × LeadsDown rd (performed call m).1 calls n
 
 -- Some such calls lead to a machine in which each granule that the realm has now, the RD too, is UNDELEGATED and zero.
+-- Each granule of another realm is as it was.
 pub record CanBeTornDown (m : Machine) (rd : ℕ) : Type 0 where
   pub calls : List Call
   pub after : Machine
   pub succeed : LeadsDown rd m calls after
+  pub others : (granule : ℕ) → (IsOfRealm m (Some (number_of m rd)) granule → ⊥) → (IsSpare m granule → ⊥) → IsSameAt m after granule
   pub free : (granule : ℕ) → IsOfRealm m (Some (number_of m rd)) granule → (granule_at after granule ≡ of_no_realm Undelegated) × (page_in after granule ≡ zero_page)

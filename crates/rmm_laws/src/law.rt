@@ -180,8 +180,8 @@ pub fn teardown_steps_succeed()
 {}
 
 /// Realms can be torn down. If no REC of a realm runs, and some granule is DELEGATED, there are calls that all succeed.
-/// After them each granule that the realm has now is UNDELEGATED and zero. They are the calls of a teardown alone. The
-/// DELEGATED granule is for the table of a block that has to be unfolded.
+/// After them each granule that the realm has now is UNDELEGATED and zero, and those of other realms are as they were. They
+/// are the calls of a teardown alone. The DELEGATED granule is for the table of a block that has to be unfolded.
 pub fn realms_can_be_torn_down()
     ensures { (m : Machine) (rd spare : ℕ) → IsProper m → rd_named m rd ≡ Some (number_of m rd) → (granule_at m spare).state ≡ Delegated
         → ((granule : ℕ) (rec : RmmRec) → granule_at m granule ≡ of_realm (number_of m rd) (Rec rec) → is_running rec.state ≡ false) → CanBeTornDown m rd }
