@@ -63,7 +63,7 @@ use Rattle.rmm_model.specs.Command.Version.{version}
 use Rattle.rmm_model.specs.Command.RecEnter.{with_copied, with_exit_gic, with_exit_words, after_exit, runs_at, interrupted}
 use Rattle.rmm_laws.specs.Owner.{is_rd}
 use Rattle.rmm_laws.specs.Proper.{IsProper}
-use Rattle.rmm_laws.specs.State.{IsRealmIn, HasRim, IsBrought, KeepsStates, KeepsRims}
+use Rattle.rmm_laws.specs.State.{IsRealmIn, HasRim, IsBrought, KeepsStates, KeepsRims, rim_with_range}
 use Rattle.rmm_laws.proofs.Guests.{entered_states}
 use Rattle.rmm_laws.proofs.Passed.{Passed, kept, yes_from, is_delegated-true, realm_of-some, realm_of-is}
 use Rattle.rmm_laws.proofs.States.{IsAsBefore, same_realm, write_back, Stay, stay_all, stay_plain, stay_realm}
@@ -224,14 +224,14 @@ data_more rd page ipa source flags m ok g new is =
     (realm_of-some (state_at m rd) ok.1.1.1.1.1.1.1.1.1.0) (new_if realm.state (yes_from (is_new realm.state) ok.1.1.1.1.1.1.1.1.1.1.1.1.0)) (with_rim realm rim) refl refl is
 
 ripas_more : (rd base top : ℕ) (m : Machine) → Passed (rtt_init_ripas rd base top m).checks → (g : ℕ) (new : RmmRealm) → (granule_at (rtt_init_ripas rd base top m).machine g).state ≡ Rd new
-    → (count : ℕ) × IsMore m (number_of m rd) (rim_with_ripas (realm_at m rd).hash (realm_at m rd).rim (entry_size (walk m (realm_at m rd) base 3).level) base count) g new
+    → IsMore m (number_of m rd) (rim_with_range m (realm_at m rd) base top) g new
 unfolding rtt_init_ripas range_checks with_ripas_from
 ripas_more rd base top m ok g new is =
     let realm : RmmRealm = realm_at m rd in
     let found : RttWalk = walk m realm base 3 in
     let count : ℕ = change_count m (init_changeable m.settings) found base top in
     let rim : List ℕ = rim_with_ripas realm.hash realm.rim (entry_size found.level) base count in
-    (count, by_rim m m (number_of m rd) realm rim g new (stay_all m) (realm_of-some (state_at m rd) ok.1.1.1.0) (new_if realm.state (yes_from (is_new realm.state) ok.1.1.1.1.1.1.1.1.0)) (with_rim realm rim) refl refl is)
+    by_rim m m (number_of m rd) realm rim g new (stay_all m) (realm_of-some (state_at m rd) ok.1.1.1.0) (new_if realm.state (yes_from (is_new realm.state) ok.1.1.1.1.1.1.1.1.0)) (with_rim realm rim) refl refl is
 
 rec_more : (rd rec params : ℕ) (m : Machine) → Passed (rec_create rd rec params m).checks → (g : ℕ) (new : RmmRealm) → (granule_at (rec_create rd rec params m).machine g).state ≡ Rd new
     → IsMore m (number_of m rd) (rim_with_rec m.settings (realm_at m rd) (page_in m (number_of m params))) g new
@@ -261,7 +261,7 @@ after (RealmActivate rd) m proper ok g new is =
     (λ (now : (g ≡ number_of m rd) × IsRealmIn m g New × (new.state ≡ Active) × HasRim m g new.rim). inr (subst (IsBrought m (Some (RealmActivate rd)) g) (sym now.2) (now.0, now.1)))
     (activated rd m ok g new is)
 after (DataCreate rd page ipa source flags) m proper ok g new is = inl (more_state m _ _ g new (data_more rd page ipa source flags m ok g new is))
-after (RttInitRipas rd base top) m proper ok g new is = inl (more_state m _ _ g new (ripas_more rd base top m ok g new is).1)
+after (RttInitRipas rd base top) m proper ok g new is = inl (more_state m _ _ g new (ripas_more rd base top m ok g new is))
 after (RecCreate rd rec params) m proper ok g new is = inl (more_state m _ _ g new (rec_more rd rec params m ok g new is))
 after (RecEnter rec run) m proper ok g new is =
     ⊎_elim
@@ -295,12 +295,10 @@ measured (DataCreate rd page ipa source flags) m proper ok g new is =
     (λ (more : (g ≡ number_of m rd) × IsRealmIn m g New × (new.rim ≡ rim_with_data (realm_at m rd) ipa flags (page_in m (number_of m source))) × (new.state ≡ New)). inr (more.0, more.1, more.2))
     (data_more rd page ipa source flags m ok g new is)
 measured (RttInitRipas rd base top) m proper ok g new is =
-    let found = ripas_more rd base top m ok g new is in
     ⊎_elim
     (λ (old : IsAsBefore m g new). inl (old.0, old.1, old.3))
-    (λ (more : (g ≡ number_of m rd) × IsRealmIn m g New × (new.rim ≡ rim_with_ripas (realm_at m rd).hash (realm_at m rd).rim (entry_size (walk m (realm_at m rd) base 3).level) base found.0) × (new.state ≡ New)).
-    inr (more.0, more.1, found.0, more.2))
-    found.1
+    (λ (more : (g ≡ number_of m rd) × IsRealmIn m g New × (new.rim ≡ rim_with_range m (realm_at m rd) base top) × (new.state ≡ New)). inr (more.0, more.1, more.2))
+    (ripas_more rd base top m ok g new is)
 measured (RecCreate rd rec params) m proper ok g new is =
     ⊎_elim
     (λ (old : IsAsBefore m g new). inl (old.0, old.1, old.3))

@@ -13,7 +13,8 @@ use Rattle.rmm_model.specs.Command.DataCreate.{rim_with_data}
 use Rattle.rmm_model.specs.Command.Operand.{realm_at}
 use Rattle.rmm_model.specs.Command.RealmCreate.{params_at, realm_for}
 use Rattle.rmm_model.specs.Command.RecMeasurement.{rim_with_rec}
-use Rattle.rmm_model.specs.Command.RttInitRipas.{rim_with_ripas}
+use Rattle.rmm_model.specs.Command.RipasRange.{change_count}
+use Rattle.rmm_model.specs.Command.RttInitRipas.{rim_with_ripas, init_changeable}
 use Rattle.rmm_laws.specs.Owner.{is_rd}
 
 -- a granule is the RD of a realm of a state
@@ -36,6 +37,12 @@ HasRim m rd rim = (realm : RmmRealm) × ((granule_at m rd).state ≡ Rd realm) �
 abbrev pub KeepsStates : Machine → Option Call → Machine → Type 0
 KeepsStates m call n = (rd : ℕ) (realm : RmmRealm) → (granule_at n rd).state ≡ Rd realm → IsRealmIn m rd realm.state ⊎ IsBrought m call rd realm.state
 
+-- the RIM of a realm after entries from an address on became RAM, as far as they can be changed and are below another one
+abbrev pub rim_with_range : Machine → RmmRealm → ℕ → ℕ → List ℕ
+rim_with_range m realm base top =
+    let found = walk m realm base 3 in
+    rim_with_ripas realm.hash realm.rim (entry_size found.level) base (change_count m (init_changeable m.settings) found base top)
+
 -- A call gives the realm of an RD a RIM: it creates the realm. Or it extends the RIM of a NEW one by a page of data, by a
 -- range of RIPAS, or by a REC.
 abbrev pub IsMeasured : Machine → Option Call → ℕ → List ℕ → Type 0
@@ -43,7 +50,7 @@ IsMeasured m (Some (RealmCreate of params)) rd rim = (rd ≡ number_of m of) × 
 IsMeasured m (Some (DataCreate of page ipa source flags)) rd rim =
     (rd ≡ number_of m of) × IsRealmIn m rd New × (rim ≡ rim_with_data (realm_at m of) ipa flags (page_in m (number_of m source)))
 IsMeasured m (Some (RttInitRipas of base top)) rd rim =
-    (rd ≡ number_of m of) × IsRealmIn m rd New × (count : ℕ) × (rim ≡ rim_with_ripas (realm_at m of).hash (realm_at m of).rim (entry_size (walk m (realm_at m of) base 3).level) base count)
+    (rd ≡ number_of m of) × IsRealmIn m rd New × (rim ≡ rim_with_range m (realm_at m of) base top)
 IsMeasured m (Some (RecCreate of rec params)) rd rim = (rd ≡ number_of m of) × IsRealmIn m rd New × (rim ≡ rim_with_rec m.settings (realm_at m of) (page_in m (number_of m params)))
 IsMeasured m call rd rim = ⊥
 
