@@ -45,8 +45,10 @@ pub mod Tops
 pub mod TornDown
 pub mod Touching
 pub mod TouchingCalls
+pub mod Unfold
 pub mod Unfolding
 pub mod Uses
 pub mod Walks
+pub mod Weights
 pub mod Wiping
 pub mod Writes

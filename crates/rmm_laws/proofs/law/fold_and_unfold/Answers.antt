@@ -1,4 +1,5 @@
-use Rattle.rmm_laws.proofs.Fold.{created_and_folded, folded_and_created}
+use Rattle.rmm_laws.proofs.Fold.{created_and_folded}
+use Rattle.rmm_laws.proofs.Unfold.{folded_and_created}
 use Rattle.rmm_laws.proofs.law.fold_and_unfold.Goals as goal
 
 pub returns-clause-created : goal.returns-clause-created
