@@ -147,7 +147,7 @@ def test_gate_passes_on_what_it_reads(monkeypatch, tmp_path, capfd):
     said = []
     told = progress.Progress(["one", "two", "three"], 4)
     monkeypatch.setattr(told, "say", lambda *how, is_done: said.append((*how, is_done)))
-    assert module_of(TOP / "tools/gate").run(env, told) == 1
+    assert module_of(TOP / "tools/gate").run(["rt", "ci"], env, told) == 1
     assert capfd.readouterr().out == LINES
     assert said == [("one", "is kept", False), ("two", "proved", True), ("three", "NOT PROVED", True)]
 
