@@ -147,9 +147,33 @@ def test_gate_passes_on_what_it_reads(monkeypatch, tmp_path, capfd):
     said = []
     told = progress.Progress(["one", "two", "three"], 4)
     monkeypatch.setattr(told, "say", lambda *how, is_done: said.append((*how, is_done)))
-    assert module_of(TOP / "tools/gate").run(env, told) == 1
+    assert module_of(TOP / "tools/gate").run(["rt", "ci"], env, told) == 1
     assert capfd.readouterr().out == LINES
     assert said == [("one", "is kept", False), ("two", "proved", True), ("three", "NOT PROVED", True)]
+
+
+# ---- make try
+
+# What `rt try` is called with, and then a line of the program and one of the build.
+TRIED = """\
+#!/bin/sh
+[ "$1" = version ] && exec cat "$NAMED"
+echo "$PWD: $* < $(cat)"
+echo "realmview: no plan" >&2
+echo "checked: ended" >&2
+exit 2
+"""
+
+
+def test_try_runs_a_program_over_a_file(tmp_path):
+    (tmp_path / "rt").write_text(TRIED)
+    (tmp_path / "rt").chmod(0o755)
+    env = {**os.environ, "PATH": f"{tmp_path}{os.pathsep}{os.environ['PATH']}", "NAMED": f"{TOP}/rattle-toolchain"}
+    (tmp_path / "a.toml").write_text("pages = 8")
+    words = ["tools/try", "realmview", f"{tmp_path}/a.toml", "--", "why", "--text"]
+    ran = subprocess.run(words, cwd=TOP, env=env, capture_output=True, text=True, timeout=SECONDS)
+    assert ran.stdout == f"{TOP}/crates/realmview: try -- why --text < pages = 8\n"
+    assert ran.stderr.splitlines()[1:] == ["realmview: no plan"] and ran.returncode == 2
 
 
 # ---- linters

@@ -6,7 +6,7 @@ use crate::Condition;
 use rmi_abi::{SmcResult, Word};
 
 /// The condition by which a command is refused, and the answer.
-#[derive(Clone, Copy, PartialEq, Eq, Drop)]
+#[derive(Clone, Copy, Drop)]
 pub struct FailedCondition {
     pub condition: Condition,
     pub answer: SmcResult,
