@@ -5,3 +5,4 @@ pub mod Owned
 pub mod Reading
 pub mod Settings
 pub mod Smc
+pub mod Lines
