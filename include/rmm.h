@@ -285,11 +285,11 @@ typedef struct rmm_rec {
     uint64_t ripas_value;
     uint64_t step_count;   /* how many steps its guest has yet to perform */
     uint64_t result_count; /* how many results there are since its last entry */
-    bool is_runnable;
-    bool is_psci_pending;
+    uint64_t is_runnable;     /* 1 if it is, and 0 if not */
+    uint64_t is_psci_pending; /* the same */
 } rmm_rec;
 
-RMM_STATIC_ASSERT(sizeof(rmm_rec) == 64 && offsetof(rmm_rec, is_runnable) == 56, "rmm_rec has 64 bytes");
+RMM_STATIC_ASSERT(sizeof(rmm_rec) == 72 && offsetof(rmm_rec, is_runnable) == 56, "rmm_rec has 72 bytes");
 
 /* The REC at an address.   Required: handle; `attributes` is not NULL, and may be written to. */
 bool rmm_read_rec(rmm_handle *handle, uint64_t rec, rmm_rec *attributes) RMM_NO_NULL;

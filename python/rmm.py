@@ -296,8 +296,11 @@ _Step = _structure("_Step", *_numbers("kind", "a", "b", "c", "d"))
 _Result = _structure("_Result", *_numbers("kind", "value"))
 _REALM = ("state", "hash_algo", "s2sz", "rtt_level_start", "rtt_num_start", "rtt_base", "vmid", "next_rec", "rec_count")
 _Realm = _structure("_Realm", *_numbers(*_REALM), ("rim", ctypes.c_uint8 * 64))
-_REC = ("state", "mpidr", "ripas_base", "ripas_top", "ripas_value", "step_count", "result_count")
-_Rec = _structure("_Rec", *_numbers(*_REC), ("is_runnable", _BOOL), ("is_psci_pending", _BOOL))
+_REC = (
+    "state", "mpidr", "ripas_base", "ripas_top", "ripas_value", "step_count", "result_count", "is_runnable",
+    "is_psci_pending",
+)
+_Rec = _structure("_Rec", *_numbers(*_REC))
 
 _LINE = ctypes.c_char_p, ctypes.c_size_t, ctypes.c_char_p, ctypes.c_size_t
 # Of each function its result, and its parameters after the handle.
@@ -547,7 +550,7 @@ class Rmm:
         it = _Rec()
         if not self._call("read_rec", _number(rec), ctypes.byref(it)):
             return None
-        flags = it.is_runnable, it.is_psci_pending
+        flags = bool(it.is_runnable), bool(it.is_psci_pending)
         ripas = it.ripas_base, it.ripas_top, RIPAS[it.ripas_value]
         return Rec(REC_STATES[it.state], it.mpidr, *flags, *ripas, it.step_count, it.result_count)
 

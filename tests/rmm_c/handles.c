@@ -174,12 +174,14 @@ static bool guests(void)
     rmm_step wait = {RMM_STEP_WFI, 0, 0, 0, 0};
     rmm_rec rec;
     uint64_t word = 0;
+    memset(&rec, 0xff, sizeof rec);
     CHECKED(opened(&handle, PAGE_COUNT) == RMM_OPENED && make_realm(&handle, 1, 3));
     for (unsigned k = 0; k < 16; k++)
         CHECKED(rmm_guest(&handle, REC, &wait) == RMM_QUEUED);
     CHECKED(rmm_guest(&handle, REC, &wait) == RMM_FULL);
     CHECKED(rmm_guest(&handle, REC + 8, &wait) == RMM_NO_REC && rmm_guest(&handle, RD, &wait) == RMM_NO_REC);
-    CHECKED(rmm_read_rec(&handle, REC, &rec) && rec.step_count == 16 && rec.state == RMM_READY && rec.is_runnable);
+    CHECKED(rmm_read_rec(&handle, REC, &rec) && rec.step_count == 16 && rec.state == RMM_READY);
+    CHECKED(rec.is_runnable == 1 && rec.is_psci_pending == 0);
     CHECKED(!rmm_read_rec(&handle, REC + 8, &rec) && !rmm_interrupt(&handle, REC, &word));
     CHECKED(!rmm_read_word(&handle, RD, 512, &word) && !rmm_read_word(&handle, RD, UINT64_MAX, &word));
     rmm_close(&handle);
