@@ -1,5 +1,5 @@
-/* Random calls, loads, stores, steps of guests and lines of traces, as the bytes of libFuzzer ask for them. After each of
- * them is checked:
+/* Random calls, loads, stores, steps of guests and lines of traces, as the bytes of libFuzzer ask for them. After each
+ * of them is checked:
  *
  *   - a call is refused exactly if a check decides it, and its word is one that is allowed;
  *   - a call that is refused or is no command changes the state of no granule, and is decided by the same check again;
@@ -379,10 +379,10 @@ static void read_next(void)
 static void line_next(void)
 {
     static const char *const words[] = {
-        "platform", "0x80000000", "16", "0x80001000", "aux", "1", "layout", "eac5", "repeat", "rmi_granule_delegate", "smc",
-        "rmi_granule_undelegate", "0xc4000151", "state", "sum", "load", "store", "fill", "0", "realm_params", "s2sz", "33",
-        "vmid", "rtt_base", "rtt_level_start", "2", "rtt_num_start", "8", "rmi_realm_create", "rim", "realm", "rec", "saw",
-        "guest", "spin", "interrupt", "rmi_version", "0x10000", "=", "#",
+        "platform", "0x80000000", "16", "0x80001000", "aux", "1", "layout", "eac5", "repeat", "rmi_granule_delegate",
+        "rmi_granule_undelegate", "smc", "0xc4000151", "state", "sum", "load", "store", "fill", "0", "realm_params",
+        "s2sz", "33", "vmid", "rtt_base", "rtt_level_start", "2", "rtt_num_start", "8", "rmi_realm_create", "rim",
+        "realm", "rec", "saw", "guest", "spin", "interrupt", "rmi_version", "0x10000", "=", "#",
     };
     char line[512] = "", answer[RMM_ANSWER_SIZE];
     size_t length = 0, capacity = next();
