@@ -1,3 +1,4 @@
 pub mod Allowed
 pub mod Bytes
+pub mod Lines
 pub mod Values

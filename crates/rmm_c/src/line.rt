@@ -15,6 +15,7 @@ const NOT_ANSWERED: u64 = 0xFFFF_FFFF_FFFF_FFFF;
 // ---- questions
 
 // Answers a question on the RMM of an open handle. After an error nothing has changed.
+#[tactic(auto, unfolding(rmm_answers::specs::Answering::answered))]
 fn answer_here(
     alloc: Global,
     plain: &mut PlainRmm,
@@ -39,6 +40,7 @@ fn answer_here(
 }
 
 // Answers a question on a closed handle: a platform opens an RMM.
+#[tactic(auto, unfolding(rmm_answers::specs::Answering::answered))]
 fn answer_closed(
     alloc: Global,
     question: &[TraceWord],
