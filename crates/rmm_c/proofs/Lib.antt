@@ -1,4 +1,3 @@
 pub mod Allowed
 pub mod Bytes
-pub mod Lines
 pub mod Values

@@ -1,5 +1,5 @@
 -- Lines of a trace on a handle.
-use Rattle.std.specs.Prelude.{◌≡◌, ◌⊎◌, ℕ, ◌+◌, ◌-◌, min, List, [], ◌∷◌, ◌++◌, length, take, drop, Option}
+use Rattle.std.specs.Prelude.{◌≡◌, ◌⊎◌, ℕ, List, [], ◌∷◌, ◌++◌, length, take, drop, Option}
 use Rattle.rmm_model.specs.Machine.{Machine}
 use Rattle.rmm_trace.specs.declared.line.LineKind.{LineKind}
 use Rattle.rmm_trace.specs.declared.line.LineKind.TheVariants.{Remark, Question, Neither}
@@ -30,8 +30,8 @@ put_text text [] = []
 put_text text (b ∷ bs) = let kept = take (length bs) text in kept ++ 0 ∷ drop (length kept) bs
 
 -- A line is answered: its text is in the buffer, and the length of the text is returned.
-pub record IsLineAnswered (bytes old : List ℕ) (before : Option Machine) (count : ℕ) (new : List ℕ) (after : Option Machine) : Type 0 where
-  pub count : count ≡ length (reply_text (on_line bytes before).0)
+pub record IsLineAnswered (bytes old : List ℕ) (before : Option Machine) (returned : ℕ) (new : List ℕ) (after : Option Machine) : Type 0 where
+  pub count : returned ≡ length (reply_text (on_line bytes before).0)
   pub text : new ≡ put_text (reply_text (on_line bytes before).0) old
   pub machine : after ≡ (on_line bytes before).1
 

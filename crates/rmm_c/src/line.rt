@@ -1,5 +1,5 @@
 //! Lines of a trace on a handle.
-ghost use Rattle.std.specs.Prelude.{◌≡◌, ◌≢◌, length, None, Some, IfOk, OnOk, OnErr, option_map};
+ghost use Rattle.std.specs.Prelude.{◌≡◌, ◌≢◌, None, Some, IfOk, OnOk, OnErr, option_map};
 ghost use Rattle.rmm_answers.specs.Answering.{answered};
 ghost use Rattle.rmm_answers.specs.Replies.{reply_text};
 ghost use Rattle.rmm_c.specs.Lines as lines;
