@@ -29,7 +29,7 @@ MOST_BYTES, MOST_INPUTS, FIRST_INPUTS = 1000, 20, 16
 LONG, EACH_PLANTED = 20, 60
 # The pairs of a command and its deciding check that inputs of LONG seconds reach at least.
 PAIRS = 100
-PLANTED = range(1, 5)
+PLANTED = range(1, 6)
 
 
 def ran(words, status=0, most=600):

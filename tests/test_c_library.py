@@ -8,9 +8,12 @@
   numbers    the checks in the header and in the Python module have the names and the numbers of the definitions
   traces     each answer in traces/rmm comes through C and through Python, and before each call the check that decides it
              and the words that are allowed, as the second model has them; an answer that is another one is found
+  lines      the lines of each trace of traces/ are answered as they are written, through C and through Python
   histories  the same in random histories of tests/random_rmm
-  handles    closed handles, settings out of their range, two machines at once, accesses that a host may not make
-  memory     each allocation of rmm_open is refused in turn; every block is given back, and no other call takes one
+  handles    closed handles, settings out of their range, two machines at once, accesses that a host may not make, and
+             texts without room
+  memory     each allocation of rmm_open and of rmm_line is refused in turn; every block is given back, and no other call
+             takes one
   threads    two handles in two threads answer as one does
   Python     exits, exceptions, closed RMMs, numbers that no register holds
   C++        both headers are C++11
@@ -36,6 +39,8 @@ sys.path += [os.fspath(HERE), os.fspath(TOP / "python")]
 from judging import judged
 from random_rmm.lives import history
 from rmm_lines import is_met, raw
+from rmm_logs import paths, without_answers
+from second_rmm.reading import parts_of
 
 TRACES = TOP / "traces/rmm"
 HEADERS = [TOP / "include/rmm.h", TOP / "include/rmm_commands.h"]
@@ -57,7 +62,7 @@ LIBRARY = Library("rmm", {
 
 
 def header(_room):
-    wanted = LIBRARY.compare(14)
+    wanted = LIBRARY.compare(15)
     # Each comment over functions says what is required of each pointer.
     text = HEADERS[0].read_text()
     for name, (_, kinds) in wanted.items():
@@ -183,6 +188,21 @@ def traces_of_python(room):
     replayed([sys.executable, HERE / "lines.py"], room.traces if room.is_all else room.traces[:: MANY // FEW])
 
 
+def lines(room):
+    """The lines of traces, without their answers, get these answers back."""
+    import rmm
+
+    program, count = room.compiled("trace"), 0
+    for path in paths():
+        text = path.read_text()
+        asked, answers = without_answers(text), [parts_of(it).answer or "" for it in text.splitlines()]
+        same(f"{path.name} in C", ran([program], input=asked.encode()).splitlines(), answers)
+        with rmm.Rmm(granules=1) as one:
+            same(f"{path.name} in Python", [*one.lines(asked.splitlines())], text.splitlines())
+        count += sum(it != "" for it in answers)
+    same("the number of answers", count > 10_000, True)
+
+
 def histories(room):
     replayed([room.compiled("lines")], room.histories)
     replayed([sys.executable, HERE / "lines.py"], room.histories[:FEW])
@@ -275,7 +295,7 @@ def traces(room):
     traces_of_python(room)
 
 
-PARTS = header, defaults, names, numbers, traces, histories, handles, memory, threads, python, of_the_document
+PARTS = header, defaults, names, numbers, traces, lines, histories, handles, memory, threads, python, of_the_document
 
 
 pytestmark = [pytest.mark.skipif(not shutil.which(COMPILER), reason=f"there is no C compiler ({COMPILER})"), needs(STATIC, SHARED)]
