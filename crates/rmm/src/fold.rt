@@ -80,6 +80,7 @@ fn find_foldable<S: PageStore>(
 }
 
 // RMI_RTT_FOLD
+#[inline(never)]
 #[tactic(auto, unfolding(rmm_model::specs::Command::RttFold::rtt_fold))]
 pub fn rtt_fold<S: PageStore>(
     granules: &mut Granules<S>,

@@ -46,6 +46,7 @@ fn find_undelegated<S: PageStore>(
 }
 
 // RMI_GRANULE_DELEGATE
+#[inline(never)]
 #[tactic(auto, unfolding(rmm_model::specs::Command::GranuleDelegate::granule_delegate))]
 pub fn granule_delegate<S: PageStore>(granules: &mut Granules<S>, address: u64) -> SmcResult
     ensures answer { result ≡ (outcome (delegating address granules.old) granules.old).0 }
@@ -61,6 +62,7 @@ pub fn granule_delegate<S: PageStore>(granules: &mut Granules<S>, address: u64) 
 }
 
 // RMI_GRANULE_UNDELEGATE
+#[inline(never)]
 #[tactic(auto, unfolding(rmm_model::specs::Command::GranuleUndelegate::granule_undelegate))]
 pub fn granule_undelegate<S: PageStore>(granules: &mut Granules<S>, address: u64) -> SmcResult
     ensures answer { result ≡ (outcome (undelegating address granules.old) granules.old).0 }

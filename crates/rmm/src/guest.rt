@@ -36,6 +36,7 @@ pub fn owner_realm<S: PageStore>(granules: &Granules<S>, g: Gran) -> Option<RmmR
 }
 
 // The first step of a guest.
+#[inline(always)]
 pub fn first_step<S: PageStore>(granules: &Granules<S>, g: Gran) -> GuestStep
     requires { g < granule_count granules.now }
     ensures { result ≡ guests.first_step granules.now g }
@@ -61,20 +62,20 @@ pub fn past_step<S: PageStore>(granules: &mut Granules<S>, g: Gran)
 }
 
 // The guest of a REC has one result more.
+#[inline(always)]
 #[tactic(auto, unfolding(rmm_model::specs::Guest::with_result))]
 pub fn push_result<S: PageStore>(granules: &mut Granules<S>, g: Gran, r: &StepResult)
     requires { g < granule_count granules.old }
     ensures machine { granules.new ≡ guests.with_result granules.old g r.now }
     ensures count { granule_count granules.new ≡ granule_count granules.old }
 {
-    let rec = rec_in(granules, g);
-    let place = rec.result_count % 32;
+    let place = rec_in(granules, g).result_count % 32;
     let first = 128 + 2 * place as u16;
     granules.set_word(g, first, r.code());
     granules.set_word(g, first + 1, r.value());
     let more = RmmRec {
         result_count: (place + 1) % 32,
-        ..rec
+        ..rec_in(granules, g)
     };
     set_rec(granules, g, more);
 }

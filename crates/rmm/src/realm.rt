@@ -73,6 +73,7 @@ fn find_new<S: PageStore>(granules: &Granules<S>, rd: u64) -> Result<Rd, FailedC
 }
 
 // RMI_REALM_ACTIVATE
+#[inline(never)]
 #[tactic(auto, unfolding(rmm_model::specs::Command::RealmActivate::realm_activate))]
 pub fn realm_activate<S: PageStore>(granules: &mut Granules<S>, rd: u64) -> SmcResult
     ensures answer { result ≡ (outcome (activating rd granules.old) granules.old).0 }

@@ -198,6 +198,7 @@ fn find_realm<S: PageStore>(
 }
 
 // RMI_REALM_CREATE
+#[inline(never)]
 #[tactic(auto, unfolding(rmm_model::specs::Command::RealmCreate::realm_create))]
 pub fn realm_create<S: PageStore>(granules: &mut Granules<S>, rd: u64, params: u64) -> SmcResult
     ensures answer { result

@@ -209,6 +209,7 @@ fn find_new<S: PageStore>(
 }
 
 // RMI_REC_CREATE
+#[inline(never)]
 #[tactic(auto, unfolding(rmm_model::specs::Command::RecCreate::rec_create))]
 pub fn rec_create<S: PageStore>(
     granules: &mut Granules<S>,

@@ -440,6 +440,7 @@ fn find_entry<S: PageStore>(
 }
 
 // RMI_REC_ENTER
+#[inline(never)]
 #[tactic(auto, unfolding(rmm_model::specs::Command::RecEnter::rec_enter))]
 pub fn rec_enter<S: PageStore>(granules: &mut Granules<S>, rec: u64, address: u64) -> SmcResult
     ensures answer { result ≡ (outcome (command.rec_enter rec address granules.old) granules.old).0 }
