@@ -91,7 +91,7 @@ pub fn data_create_unknown<S: PageStore>(
             write(granules, &vacancy.found, ipa, entry);
             SmcResult::only(Word::Success)
         }
-        Err(refusal) => refusal.answer,
+        Err(refusal) => refusal.into_answer(),
     }
 }
 
@@ -174,6 +174,6 @@ pub fn data_destroy<S: PageStore>(granules: &mut Granules<S>, rd: u64, ipa: u64)
                 ..SmcResult::only(Word::Success)
             }
         }
-        Err(refusal) => refusal.answer,
+        Err(refusal) => refusal.into_answer(),
     }
 }

@@ -207,6 +207,6 @@ pub fn data_create<S: PageStore>(
             set_rim(granules, &place.owner, &rim);
             SmcResult::only(Word::Success)
         }
-        Err(refusal) => refusal.answer,
+        Err(refusal) => refusal.into_answer(),
     }
 }

@@ -46,7 +46,6 @@ fn find_undelegated<S: PageStore>(
 }
 
 // RMI_GRANULE_DELEGATE
-#[inline(never)]
 #[tactic(auto, unfolding(rmm_model::specs::Command::GranuleDelegate::granule_delegate))]
 pub fn granule_delegate<S: PageStore>(granules: &mut Granules<S>, address: u64) -> SmcResult
     ensures answer { result ≡ (outcome (delegating address granules.old) granules.old).0 }
@@ -57,12 +56,11 @@ pub fn granule_delegate<S: PageStore>(granules: &mut Granules<S>, address: u64) 
             blank(granules, granule, RmmGranuleState::Delegated);
             SmcResult::only(Word::Success)
         }
-        Err(refusal) => refusal.answer,
+        Err(refusal) => refusal.into_answer(),
     }
 }
 
 // RMI_GRANULE_UNDELEGATE
-#[inline(never)]
 #[tactic(auto, unfolding(rmm_model::specs::Command::GranuleUndelegate::granule_undelegate))]
 pub fn granule_undelegate<S: PageStore>(granules: &mut Granules<S>, address: u64) -> SmcResult
     ensures answer { result ≡ (outcome (undelegating address granules.old) granules.old).0 }
@@ -73,6 +71,6 @@ pub fn granule_undelegate<S: PageStore>(granules: &mut Granules<S>, address: u64
             blank(granules, granule, RmmGranuleState::Undelegated);
             SmcResult::only(Word::Success)
         }
-        Err(refusal) => refusal.answer,
+        Err(refusal) => refusal.into_answer(),
     }
 }

@@ -128,6 +128,6 @@ pub fn rtt_init_ripas<S: PageStore>(
                 ..SmcResult::only(Word::Success)
             }
         }
-        Err(refusal) => refusal.answer,
+        Err(refusal) => refusal.into_answer(),
     }
 }

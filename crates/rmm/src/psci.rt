@@ -173,6 +173,6 @@ pub fn psci_complete<S: PageStore>(
             }
             SmcResult::only(Word::Success)
         }
-        Err(refusal) => refusal.answer,
+        Err(refusal) => refusal.into_answer(),
     }
 }

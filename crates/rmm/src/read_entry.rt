@@ -48,6 +48,6 @@ pub fn rtt_read_entry<S: PageStore>(
 {
     match find_entry(granules, rd, ipa, level) {
         Ok(answer) => answer,
-        Err(refusal) => refusal.answer,
+        Err(refusal) => refusal.into_answer(),
     }
 }

@@ -73,7 +73,6 @@ fn find_new<S: PageStore>(granules: &Granules<S>, rd: u64) -> Result<Rd, FailedC
 }
 
 // RMI_REALM_ACTIVATE
-#[inline(never)]
 #[tactic(auto, unfolding(rmm_model::specs::Command::RealmActivate::realm_activate))]
 pub fn realm_activate<S: PageStore>(granules: &mut Granules<S>, rd: u64) -> SmcResult
     ensures answer { result ≡ (outcome (activating rd granules.old) granules.old).0 }
@@ -92,6 +91,6 @@ pub fn realm_activate<S: PageStore>(granules: &mut Granules<S>, rd: u64) -> SmcR
             granules.set(found.granule, kept);
             SmcResult::only(Word::Success)
         }
-        Err(refusal) => refusal.answer,
+        Err(refusal) => refusal.into_answer(),
     }
 }

@@ -217,6 +217,6 @@ pub fn realm_create<S: PageStore>(granules: &mut Granules<S>, rd: u64, params: u
             granules.set_vmid(found.realm.vmid, true);
             SmcResult::only(Word::Success)
         }
-        Err(refusal) => refusal.answer,
+        Err(refusal) => refusal.into_answer(),
     }
 }

@@ -58,6 +58,6 @@ pub fn realm_destroy<S: PageStore>(granules: &mut Granules<S>, rd: u64) -> SmcRe
             granules.set_vmid(found.realm.vmid, false);
             SmcResult::only(Word::Success)
         }
-        Err(refusal) => refusal.answer,
+        Err(refusal) => refusal.into_answer(),
     }
 }

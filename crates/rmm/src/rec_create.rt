@@ -245,6 +245,6 @@ pub fn rec_create<S: PageStore>(
             granules.set(found.rd, kept);
             SmcResult::only(Word::Success)
         }
-        Err(refusal) => refusal.answer,
+        Err(refusal) => refusal.into_answer(),
     }
 }

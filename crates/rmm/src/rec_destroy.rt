@@ -79,6 +79,6 @@ pub fn rec_destroy<S: PageStore>(granules: &mut Granules<S>, rec: u64) -> SmcRes
             blank(granules, granule, RmmGranuleState::Delegated);
             SmcResult::only(Word::Success)
         }
-        Err(refusal) => refusal.answer,
+        Err(refusal) => refusal.into_answer(),
     }
 }

@@ -116,6 +116,6 @@ pub fn rtt_create<S: PageStore>(
             write(granules, &vacancy.found, ipa, RmmRttEntry::Table(rtt));
             SmcResult::only(Word::Success)
         }
-        Err(refusal) => refusal.answer,
+        Err(refusal) => refusal.into_answer(),
     }
 }

@@ -114,6 +114,6 @@ pub fn rtt_destroy<S: PageStore>(
                 ..SmcResult::only(Word::Success)
             }
         }
-        Err(refusal) => refusal.answer,
+        Err(refusal) => refusal.into_answer(),
     }
 }

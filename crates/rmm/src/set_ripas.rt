@@ -151,6 +151,6 @@ pub fn rtt_set_ripas<S: PageStore>(
                 ..SmcResult::only(Word::Success)
             }
         }
-        Err(refusal) => refusal.answer,
+        Err(refusal) => refusal.into_answer(),
     }
 }

@@ -74,7 +74,7 @@ pub fn rtt_map_unprotected<S: PageStore>(
             write(granules, &found, ipa, RmmRttEntry::AssignedNs(desc));
             SmcResult::only(Word::Success)
         }
-        Err(refusal) => refusal.answer,
+        Err(refusal) => refusal.into_answer(),
     }
 }
 
@@ -157,6 +157,6 @@ pub fn rtt_unmap_unprotected<S: PageStore>(
                 ..SmcResult::only(Word::Success)
             }
         }
-        Err(refusal) => refusal.answer,
+        Err(refusal) => refusal.into_answer(),
     }
 }
