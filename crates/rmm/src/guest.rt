@@ -1,5 +1,5 @@
 //! Guests of RECs: their steps and results.
-ghost use Rattle.std.specs.Prelude.{◌≡◌, ◌<◌, is_some, IfSome};
+ghost use Rattle.std.specs.Prelude.{◌≡◌, ◌+◌, ◌-◌, ◌%◌, ◌<◌, is_some, IfSome};
 ghost use Rattle.rmm_model.specs.Guest as guests;
 ghost use Rattle.rmm_model.specs.Machine.{granule_count, number_of};
 ghost use Rattle.rmm_model.specs.Realm.{IsServed};
