@@ -14,4 +14,4 @@ pub returns-in-None-clause-machine : goal.returns-in-None-clause-machine
 returns-in-None-clause-machine g c =
     c.add_result-in-None.ensures.machine
     ∙ ended c.args.granules.now c.args.g c.new.result c.past-in-None.result c.args.r.now c.requires
-      (c.new.ensures ∙ ap (λ (it : Option RmmRec). unwrap_or it no_rec) (sym c.in-None.is ∙ c.rec.ensures)) c.past-in-None.ensures
+    (c.new.ensures ∙ ap (λ (it : Option RmmRec). unwrap_or it no_rec) (sym c.in-None.is ∙ c.rec.ensures)) c.past-in-None.ensures

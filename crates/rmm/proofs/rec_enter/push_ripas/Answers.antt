@@ -1,6 +1,5 @@
 use Rattle.std.proofs.Common.{ap, ◌∙◌}
 use Rattle.rmm_model.specs.declared.rec.RmmRec.{RmmRec}
-use Rattle.rmm_model.specs.declared.step.StepResult.{StepResult}
 use Rattle.rmm_model.specs.Rec.{no_request}
 use Rattle.rmm_model.specs.Guest.{with_result}
 use Rattle.rmm_model.specs.Machine.{Machine}
