@@ -117,6 +117,7 @@ fn find_range<S: PageStore>(
 }
 
 // RMI_RTT_SET_RIPAS
+#[inline(never)]
 #[tactic(auto, unfolding(rmm_model::specs::Command::RttSetRipas::rtt_set_ripas))]
 pub fn rtt_set_ripas<S: PageStore>(
     granules: &mut Granules<S>,
@@ -150,6 +151,6 @@ pub fn rtt_set_ripas<S: PageStore>(
                 ..SmcResult::only(Word::Success)
             }
         }
-        Err(refusal) => refusal.answer,
+        Err(refusal) => refusal.into_answer(),
     }
 }

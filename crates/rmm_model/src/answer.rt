@@ -12,6 +12,21 @@ pub struct FailedCondition {
     pub answer: SmcResult,
 }
 
+impl FailedCondition {
+    /// The answer, copied field by field: so a caller keeps it in registers, where a copy of the whole goes through memory.
+    pub fn into_answer(self) -> SmcResult
+        ensures { result ≡ self.answer }
+    {
+        SmcResult {
+            word: self.answer.word,
+            x1: self.answer.x1,
+            x2: self.answer.x2,
+            x3: self.answer.x3,
+            x4: self.answer.x4,
+        }
+    }
+}
+
 /// RMI_ERROR_INPUT by a condition.
 pub fn error_input(condition: Condition) -> FailedCondition
     ensures { result ≡ record { condition = condition; answer = checks.error_input } }
