@@ -225,4 +225,4 @@ def test_completions(check, name):
 
 
 def test_stored_completions():
-    assert module_of(TOP / "tools/completions").differing() == [], "tools/completions writes them"
+    assert printed([TOP / "tools/completions", "--check"]) == (0, "")
