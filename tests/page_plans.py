@@ -1,10 +1,10 @@
 """Plans for `tests/test_page.py`: machines of many pages, with builds that use them all."""
+from programs import plan_of
 
 
-def text_of(pages, order, builds, title="", aux=0):
+def text_of(pages, order, builds, title=""):
     comment = f"# {title}\n" if title else ""
-    tables = "".join("[[build]]\nsteps = [{}]\n".format(", ".join(f'"{step}"' for step in steps)) for steps in builds)
-    return f"{comment}pages = {pages}\naux = {aux}\norder = {order}\n{tables}".encode()
+    return comment.encode() + plan_of(builds, pages=pages, order=order)
 
 
 def in_rotation(builds, more=0):
