@@ -15,12 +15,11 @@ from pathlib import Path
 from typing import NamedTuple
 
 sys.dont_write_bytecode = True
-from rmm_logs import log_of, paths
+from rmm_logs import answered_at, lines_of, log_of, paths
 from rmm_mistakes import MISTAKES, Mistake, planted
 from second_rmm.bench import Bench
 from second_rmm.command import LOST
 from second_rmm.judge import WRONG, judge
-from second_rmm.reading import parts_of
 
 TOP = Path(__file__).resolve().parent.parent
 TRACES, RULES = TOP / "traces", TOP / "docs/reference/RMI-RULES.md"
@@ -38,15 +37,11 @@ class Row(NamedTuple):
     line: str
 
 
-def lines_of(trace: str) -> list[str]:
-    return (TRACES / f"{trace}.trace").read_text().splitlines()
-
-
 def log(trace: str, it: Mistake | None) -> Iterator[str]:
     """The log of a trace by a model with a mistake, line for line. It ends where the model is lost."""
     bench = Bench()
     with planted(it) if it else nullcontext():
-        for line in lines_of(trace):
+        for line in lines_of(TRACES / trace):
             try:
                 yield next(log_of([line], bench), "")
             except LOST:
@@ -64,11 +59,10 @@ def first_wrong(program: list[str], lines: Iterator[str]) -> int:
 
 def finding(program: list[str], row: Row) -> str | None:
     """What is wrong with a row, or none."""
-    it, lines, what = MISTAKES.get(row.name), lines_of(row.trace), f"{row.name}: line {row.number} of {row.trace}.trace"
+    it, what = MISTAKES.get(row.name), f"{row.name}: line {row.number} of {row.trace}.trace"
     if it is None or (it.command, it.text) != (row.command, row.text):
         return f"{row.name} is no mistake, or another one"
-    asked = parts_of(lines[row.number - 1]) if row.number <= len(lines) else parts_of("")
-    if f"{asked.question} = {asked.answer}" != row.line:
+    if answered_at(lines_of(TRACES / row.trace), row.number) != row.line:
         return f"{what} is not {row.line!r}"
     right, found = first_wrong(program, log(row.trace, None)), first_wrong(program, log(row.trace, it))
     is_well = (right, found) == (0, row.number)
@@ -87,8 +81,8 @@ def first_row(name: str, it: Mistake) -> str:
         answers = list(log(trace, it))
         wrong = next((found for found in judge(answers) if found.verdict == WRONG), None)
         if wrong:
-            asked = parts_of(lines_of(trace)[wrong.number - 1])
-            return f"| {it.command} | {it.text} | `{name}` | {trace} | {wrong.number} | `{asked.question} = {asked.answer}` |"
+            line = answered_at(lines_of(TRACES / trace), wrong.number)
+            return f"| {it.command} | {it.text} | `{name}` | {trace} | {wrong.number} | `{line}` |"
     return f"| {it.command} | {it.text} | `{name}` | not found |"
 
 
