@@ -22,6 +22,8 @@ pytestmark = [
     pytest.mark.long, pytest.mark.random, needs(STATIC), pytest.mark.skipif(not shutil.which("clang"), reason="there is no clang"),
 ]
 FUZZER = ["-fsanitize=fuzzer,address,undefined", "-fno-sanitize-recover=all"]
+SOURCE = TOP / "tests/rmm_c/fuzz.c"
+PLANTED = sorted({int(it) for it in re.findall(r"PLANTED == (\d+)", SOURCE.read_text())})
 # The length of inputs in bytes, how many of them valgrind performs, and how many there are at first.
 MOST_BYTES, MOST_INPUTS, FIRST_INPUTS = 1000, 20, 16
 LONG, EACH_PLANTED = 20, 60
@@ -31,7 +33,7 @@ PAIRS = 100
 
 def compiled(folder, name, *flags):
     to = folder / name
-    ran(["clang", "-std=c11", *FLAGS, "-O1", "-g", *flags, TOP / "tests/rmm_c/fuzz.c", STATIC, "-o", to])
+    ran(["clang", "-std=c11", *FLAGS, "-O1", "-g", *flags, SOURCE, STATIC, "-o", to])
     return to
 
 
@@ -56,7 +58,7 @@ def test_random_calls(tmp_path):
 
 
 @pytest.mark.skipif(SECONDS < LONG, reason="it takes longer")
-@pytest.mark.parametrize("number", range(1, 5))
+@pytest.mark.parametrize("number", PLANTED)
 def test_planted_library(tmp_path, number):
     """Each of the wrong libraries in fuzz.c is found."""
     program = compiled(tmp_path, "wrong", *FUZZER, f"-DPLANTED={number}")
