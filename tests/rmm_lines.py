@@ -3,6 +3,8 @@
 
     tests/rmm_lines.py < TRACE      the raw operations of a trace
     tests/rmm_lines.py --run        performs raw operations by the second model; the status is 1 where one differs
+    tests/rmm_lines.py --by PROGRAM [WORD ..]       performs the operations of all traces by a program, as by
+                                    `bench/out/cargo/release/plain_rmm lines`, once bench/rmm has built it
 
 An operation is a line: what is done, and after ` = ` the result that it has to have. An operation without a result is
 not compared. Words are separated by one space. Numbers are hexadecimal with small digits, without 0x. HEX is bytes, two
@@ -30,10 +32,12 @@ where no granules are secure.
 """
 from __future__ import annotations
 
+import subprocess
 import sys
 from collections.abc import Callable, Iterator
 
 sys.dont_write_bytecode = True
+from rmm_logs import paths
 from second_rmm.command import COMMANDS, smc
 from second_rmm.facts import INPUT, PAGE, RUNNING, STATUSES, SUCCESS, Settings, word_of
 from second_rmm.guest import MOST_STEPS, interrupt
@@ -276,6 +280,20 @@ def raw(lines: list[str]) -> Iterator[str]:
 # ---- raw operations, performed
 
 
+def differing(operations: list[str], results: list[str]) -> Iterator[str]:
+    """The operations whose result is another one than what is written."""
+    return (f"{it} came as {came}" for it, came in zip(operations, results, strict=True) if not is_met(it, came))
+
+
+def differences_by(program: list[str]) -> Iterator[str]:
+    """Of each trace that a program performs otherwise, the first difference."""
+    for path in paths():
+        operations = list(raw(path.read_text().splitlines()))
+        text = "".join(f"{it}\n" for it in operations)
+        results = subprocess.run(program, input=text, capture_output=True, text=True, check=True).stdout.splitlines()
+        yield from (f"{path.stem}: {it}" for it in [*differing(operations, results)][:1])
+
+
 def is_met(operation: str, came: str) -> bool:
     """Whether a result is the one that stands beside its operation, if one does."""
     asked, is_written, wanted = operation.partition(" = ")
@@ -395,8 +413,10 @@ def differences(operations: list[str]) -> Iterator[tuple[int, str, str]]:
 
 
 def main(words: list[str]) -> int:
-    lines = sys.stdin.read().splitlines()
-    if words == ["--run"]:
+    lines = sys.stdin.read().splitlines() if words[:1] != ["--by"] else []
+    if words[:1] == ["--by"]:
+        told = list(differences_by(words[1:]))
+    elif words == ["--run"]:
         told = [f"operation {number}: {operation}, and here {came}" for number, operation, came in differences(lines)]
     else:
         try:
@@ -405,7 +425,7 @@ def main(words: list[str]) -> int:
             sys.stderr.write(f"rmm_lines: {why}\n")
             return 2
     sys.stdout.write("".join(f"{it}\n" for it in told))
-    return int(words == ["--run"] and bool(told))
+    return int(words != [] and bool(told))
 
 
 if __name__ == "__main__":

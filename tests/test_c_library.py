@@ -34,7 +34,7 @@ HERE = TOP / "tests/rmm_c"
 sys.path += [os.fspath(HERE), os.fspath(TOP / "python")]
 from judging import judged
 from random_rmm.lives import history
-from rmm_lines import is_met, raw
+from rmm_lines import differing, raw
 
 pytestmark = has_compiler(STATIC, SHARED)
 TRACES = TOP / "traces/rmm"
@@ -112,11 +112,6 @@ def names(_room):
 # ---- programs
 
 
-def differences(operations, results):
-    """The operations whose result is another one than what is written."""
-    return (f"{it} came as {came}" for it, came in zip(operations, results, strict=True) if not is_met(it, came))
-
-
 def widened(operation):
     """A guest that writes fewer than eight bytes has more bits in its register. They change nothing."""
     bits = lambda it: f"{it[1]}{int(it[2], 16) | 0xA5 << 8 * int(it[3], 16):x} {it[3]}"
@@ -148,7 +143,7 @@ def replayed(words, texts):
     for name, operations in texts:
         text = "".join(f"{it}\n" for it in operations)
         results = ran(words, input=text.encode()).splitlines()
-        same(f"what differs in {name}", next(differences(operations, results), None), None)
+        same(f"what differs in {name}", next(differing(operations, results), None), None)
         compared += sum(" = " in it for it in operations)
     same("the number of results", compared > 1000, True)
 
@@ -161,7 +156,7 @@ def traces_of_c(room):
     wrong.write_text(f"#!/bin/sh\n{room.folder}/lines | sed s/done/fault/\n")
     wrong.chmod(0o755)
     results = ran([wrong], input="".join(f"{it}\n" for it in operations).encode()).splitlines()
-    same("what is found", " = done came as fault" in next(differences(operations, results), ""), True)
+    same("what is found", " = done came as fault" in next(differing(operations, results), ""), True)
 
 
 def traces_of_python(room):
