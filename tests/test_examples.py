@@ -22,16 +22,16 @@ import resource
 import shutil
 import subprocess
 import sys
-from pathlib import Path
 
 import pytest
 
+import c_programs
+from c_programs import MEMCHECK, with_python
 from differences import same
 from programs import SHARED, STATIC, TOP, needs, parts
 from programs import ran as run
 
 HERE, EXAMPLES, TRACES = TOP / "tests/examples_c", TOP / "examples", TOP / "traces/rmm"
-FLAGS = ["-O1", "-g", "-Wall", "-Wextra", "-Wconversion", "-Wno-sign-conversion", "-Werror", f"-I{TOP}/include"]
 SANITIZERS = ["-fsanitize=address,undefined", "-fno-sanitize-recover=all"]
 COMPILERS, LEAKS = ("gcc", "clang"), 5
 # Of so many traces and machines one is tried, if all of them would take long.
@@ -73,16 +73,12 @@ def judged(log):
     return int(count)
 
 
-class Room:
+class Room(c_programs.Room):
     """A folder with the compiled programs."""
 
-    def __init__(self, folder, is_all):
-        self.folder, self.is_all = Path(folder), is_all
-
-    def compiled(self, name, sources, *flags, compiler=None, standard="-std=c11"):
-        to = self.folder / name
-        run([compiler or compilers()[0], standard, *FLAGS, *flags, *sources, STATIC, "-o", to])
-        return to
+    def compiled(self, name, sources, *flags, compiler=None, **how):
+        more = ["-O1", "-g", "-Wno-sign-conversion", *flags]
+        return super().compiled(name, [*sources, STATIC], *more, compiler=compiler or compilers()[0], **how)
 
 
 def compilers():
@@ -135,6 +131,8 @@ def fail_each(room):
 
 
 def window(room):
+    # (a program that ends by a fault leaves no file)
+    resource.setrlimit(resource.RLIMIT_CORE, (0, resource.getrlimit(resource.RLIMIT_CORE)[1]))
     program = room.compiled("wrong_access", [HERE / "wrong_access.c", EXAMPLES / "c/window.c"])
     same("a right access", run([program, "1"]), "")
     line = "window: the host has no access to 0x40003006: granule 0x40003000 is DELEGATED\n"
@@ -149,8 +147,7 @@ def lives(room):
         for standard in "c++11", "c++17":
             it = room.compiled(f"life-{compiler}-{standard}", source, compiler=compiler, standard=f"-std={standard}")
             printed.add(run([it]))
-    environment = {**os.environ, "PYTHONPATH": str(TOP / "python")}
-    printed.add(run([sys.executable, EXAMPLES / "c/realm_life.py"], env=environment))
+    printed.add(run([sys.executable, EXAMPLES / "c/realm_life.py"], env=with_python(TOP / "python")))
     same("the number of lives", len(printed), 1)
     same("the answers", judged(printed.pop()), 25)
 
@@ -290,16 +287,9 @@ def table(room):
 # ---- the installed package
 
 
-def installed(room):
-    """The folder of the package files, after `make install-c-library`."""
-    root = room.folder / "root"
-    if not root.exists():
-        run(["make", "-C", TOP, "--no-print-directory", "install-c-library", f"DESTDIR={root}", "PREFIX=/usr"])
-    return root / "usr"
-
-
 def builds(room):
-    prefix = installed(room)
+    run(["make", "-s", "-C", TOP, "install-c-library", f"DESTDIR={room.folder}", "PREFIX=/usr"])
+    prefix = room.folder / "usr"
     source = prefix / "share/realmhost/examples/c"
     paths = {"PKG_CONFIG_PATH": str(prefix / "lib/pkgconfig"), "LD_LIBRARY_PATH": str(prefix / "lib")}
     how = {"env": {**os.environ, **paths}}
@@ -329,21 +319,13 @@ def sanitized(room):
 
 
 def in_valgrind(room):
-    memcheck = ["valgrind", "--quiet", "--error-exitcode=99", "--leak-check=full"]
-    run([*memcheck, room.compiled("boot-memcheck", [EXAMPLES / "c/boot.c", *HOST]), "4"])
+    run([*MEMCHECK, room.compiled("boot-memcheck", [EXAMPLES / "c/boot.c", *HOST]), "4"])
 
 
 # ---- tests
 
 
 pytestmark = [pytest.mark.skipif(not compilers(), reason="there is no C compiler"), needs(STATIC, SHARED)]
-
-
-@pytest.fixture(scope="module")
-def room(tmp_path_factory, request):
-    # (a program that ends by a fault leaves no file)
-    resource.setrlimit(resource.RLIMIT_CORE, (0, resource.getrlimit(resource.RLIMIT_CORE)[1]))
-    return Room(tmp_path_factory.mktemp("examples"), getattr(request, "param", False))
 
 
 @parts(calls, first, boot, fail_each, window, lives, drive, mistakes, log, table)

@@ -16,14 +16,13 @@ Of each plan that realmhost replays, `check` has to find no error, and of each t
 import json
 import os
 import re
-import resource
 import tempfile
 
 import pytest
 from hypothesis import given
 
 from answers import fault_of_a_check, map_of
-from programs import HOST, PLANS, RUNS, TOP, TRACER, VIEW, files, named, needs, over, run
+from programs import HOST, LITTLE_MEMORY, PLANS, RUNS, TOP, TRACER, VIEW, data_of, files, named, needs, of_devices, over, run
 from random_plans import CHANGED_PLANS, broken_plans, examples, random_plans
 
 pytestmark = needs(HOST, VIEW, TRACER)
@@ -188,11 +187,6 @@ def refused_of(out):
             yield {"turn": number, **{kind: it for kind, _, it in words if kind in ("error", "help")}}
 
 
-def data_of(page):
-    """The data in a page."""
-    return json.loads(page[page.index(b'{"run":') :].split(b"</script>", 1)[0])
-
-
 def without_ok(out):
     """A run with all checks, without those that passed; each as many as are counted above them."""
     lines, left = [], 0
@@ -297,33 +291,25 @@ def test_the_largest_history(check):
     check("a line of 16 MiB", run(VIEW, ["apply"], long), (1, b"", b"line 2 is no event\n"))
 
 
-def test_devices(check):
-    history = b"history 1 1 1 0 16 1\n0 take 0 0\n"
-    closed = lambda number: lambda: os.close(number)
-    check("no line feed at the end", run(VIEW, ["apply"], history[:-1]), (0, b"0 page 0 UNDELEGATED 0\nfree 0\n", b""))
-    check("a folder as standard input", run(VIEW, ["apply"], None, stdin=os.open(TOP, os.O_RDONLY)), (5, b"", b"device\n"))
-    check("a full standard output", run(VIEW, ["apply"], history, stdout=open("/dev/full", "wb")), (5, b"", b"device\n"))
-    check("a closed standard output", run(VIEW, ["apply"], history, preexec_fn=closed(1)), (5, b"", b"device\n"))
-    check("a closed standard input", run(VIEW, ["apply"], None, preexec_fn=closed(0)), (5, b"", b"device\n"))
+HISTORY = b"history 1 1 1 0 16 1\n0 take 0 0\n"
+
+
+@pytest.mark.parametrize("word", ["apply", "check", "explore", "history", "json", "why"])
+def test_devices(check, word):
+    check.all(of_devices(VIEW, [word], HISTORY if word == "apply" else (TOP / "plans/first.toml").read_bytes()))
+
+
+def test_surroundings(check):
+    check("no line feed at the end", run(VIEW, ["apply"], HISTORY[:-1]), (0, b"0 page 0 UNDELEGATED 0\nfree 0\n", b""))
     check("a full standard error", run(VIEW, ["apply"], b"", stderr=open("/dev/full", "wb")), (1, b"", b""))
-    plan = (TOP / "plans/first.toml").read_bytes()
-    check("a history to a full output", run(VIEW, ["history"], plan, stdout=open("/dev/full", "wb")), (5, b"", b"device\n"))
-    check("reasons to a full output", run(VIEW, ["why"], plan, stdout=open("/dev/full", "wb")), (5, b"", b"device\n"))
-    check("reasons of a folder", run(VIEW, ["why"], None, stdin=os.open(TOP, os.O_RDONLY)), (5, b"", b"device\n"))
-    check("orders to a full output", run(VIEW, ["explore"], plan, stdout=open("/dev/full", "wb")), (5, b"", b"device\n"))
-    check("orders of a folder", run(VIEW, ["explore"], None, stdin=os.open(TOP, os.O_RDONLY)), (5, b"", b"device\n"))
-    check("a check to a full output", run(VIEW, ["check"], plan, stdout=open("/dev/full", "wb")), (5, b"", b"device\n"))
-    check("a check of a folder", run(VIEW, ["check"], None, stdin=os.open(TOP, os.O_RDONLY)), (5, b"", b"device\n"))
-    # The pages alone take all of these 16 MiB.
-    little = lambda: resource.setrlimit(resource.RLIMIT_AS, (1 << 24, 1 << 24))
-    large = b"history 1 4096 1 0 16 1\n"
-    check("too little memory", run(VIEW, ["apply"], large, preexec_fn=little), (3, b"", b"memory\n"))
+    check("too little memory", run(VIEW, ["apply"], b"history 1 4096 1 0 16 1\n", **LITTLE_MEMORY), (3, b"", b"memory\n"))
     check("help to a full output", run(VIEW, ["--help"], stdout=open("/dev/full", "wb")), (5, b"", b"device\n"))
 
 
 NO_WORDS = (
     [], ["look"], ["apply", "--erase", "8"], ["history", "--erase"], ["check", "--erase", "0"], ["explore", "--most"],
     ["explore", "--most", "4294967296"], ["explore", "--seed", "-1"], ["explore", "--erase", "0"], ["why", "one", "two"], ["help", "look"],
+    ["json", "--erase", "0"], ["json", "plan", "more"],
 )
 
 
