@@ -167,10 +167,10 @@ def test_try_runs_a_program_over_a_file(tmp_path):
     (tmp_path / "rt").chmod(0o755)
     env = {**os.environ, "PATH": f"{tmp_path}{os.pathsep}{os.environ['PATH']}", "NAMED": f"{TOP}/rattle-toolchain"}
     (tmp_path / "a.toml").write_text("pages = 8")
-    words = ["tools/try", "realmview", f"{tmp_path}/a.toml", "--", "why", "--text"]
-    ran = subprocess.run(words, cwd=TOP, env=env, capture_output=True, text=True, timeout=SECONDS)
-    assert ran.stdout == f"{TOP}/crates/realmview: try -- why --text < pages = 8\n"
-    assert ran.stderr.splitlines()[1:] == ["realmview: no plan"] and ran.returncode == 2
+    words = ["realmview", f"{tmp_path}/a.toml", "--", "why", "--text"]
+    status, said, errors = run("tools/try", words, "", cwd=TOP, env=env)
+    assert said == f"{TOP}/crates/realmview: try -- why --text < pages = 8\n"
+    assert errors.splitlines()[1:] == ["realmview: no plan"] and status == 2
 
 
 # ---- linters
