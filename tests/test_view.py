@@ -3,7 +3,8 @@
 Of each plan of plans/, plans/guide/ and tests/runs/, `history` and then `apply` have to print the map at the end of the run
 that is stored beside it; with `--erase B` at either of the two, they have to print what `realmhost replay --erase B` prints,
 for each build.
-`calls` has to print a trace of which `rmitrace check` finds each answer the same.
+`calls` has to print a trace of which `rmitrace check` finds each answer the same. With `--c` it has to print the rows that
+`examples/drive.py --c` makes of that trace.
 tests/histories/NAME.history is the standard input of `apply`, or of what NAME.args has, one word a line; NAME.txt is what is
 wanted: a line `status N`, standard output, and standard error, which begins behind a line `--`. They are written by hand.
 tests/lines/ has single lines, by hand too: those that `apply` has to take for an event or for an opening, and those that are none.
@@ -13,10 +14,13 @@ as well, and NAME.all that of `why --all`; of each plan, `why` has to print what
 each refusal and nothing else, and the data of its page has to have the same words.
 Of each plan that realmhost replays, `check` has to find no error, and of each that it refuses, one; so too of random plans.
 """
+import contextlib
+import io
 import json
 import os
 import re
 import resource
+import sys
 import tempfile
 
 import pytest
@@ -25,6 +29,9 @@ from hypothesis import given
 from answers import fault_of_a_check, map_of
 from programs import HOST, PLANS, RUNS, TOP, TRACER, VIEW, files, named, needs, over, run
 from random_plans import CHANGED_PLANS, broken_plans, examples, random_plans
+
+sys.path.append(str(TOP / "examples"))
+from c_table import Table
 
 pytestmark = needs(HOST, VIEW, TRACER)
 
@@ -57,6 +64,27 @@ def test_calls(check, path):
         answered = sum(b" = " in it for it in lines)
         wanted = b"%d same, 0 allowed, 0 wrong\n" % answered
         check("calls, answered", run(TRACER, ["check"], calls), (0 if answered else 1, wanted, b""))
+
+
+def rows_of(text):
+    """The rows of a table of C, without what the trace alone has: the field of an exit, and zeros at an end."""
+    rows = [it for it in text.splitlines() if it.startswith("{") and not re.search(r"LOAD.*, 0x1}, .out", it)]
+    rows = [re.sub(r"(, 0x0)+}, .out", "}, .out", it) for it in rows]
+    rows = [re.sub(r"(, 0)+}, .compared", "}, .compared", it) for it in rows]
+    return [re.sub(r"(, .\w+ = 0x0)+}}", "}}", it) for it in rows]
+
+
+@over("path", *PLANS, RUNS)
+def test_rows_of_calls(check, path):
+    """The rows of C are those that the driver makes of the trace."""
+    status, rows, err = run(VIEW, ["calls", "--c", "--base", "0x88000000"], path.read_bytes())
+    check("calls", (status, err), (0, b""))
+    trace = run(VIEW, ["calls", "--base", "0x88000000"], path.read_bytes())[1].decode()
+    with contextlib.redirect_stdout(io.StringIO()) as made:
+        Table().trace(path.name, [it for it in trace.splitlines() if not it.startswith("#")])
+    check("rows", rows_of(rows.decode()), rows_of(made.getvalue()))
+    turns = [it.removeprefix("# ") for it in trace.splitlines() if it.startswith("#")]
+    check("turns", [it.removeprefix("// ") for it in rows.decode().splitlines() if it.startswith("//")], turns)
 
 
 def test_bases(check):
