@@ -3,7 +3,7 @@
 Of each plan of plans/, plans/guide/ and tests/runs/, `history` and then `apply` have to print the map at the end of the run
 that is stored beside it; with `--erase B` at either of the two, they have to print what `realmhost replay --erase B` prints,
 for each build.
-`calls` has to print a trace of which `rmitrace check` finds each answer the same. With `--c` it has to print the rows that
+`calls` has to print a trace of which `rmitrace check` finds each answer the same, or of a refused call allowed. With `--c` it has to print the rows that
 `examples/drive.py --c` makes of that trace.
 tests/histories/NAME.history is the standard input of `apply`, or of what NAME.args has, one word a line; NAME.txt is what is
 wanted: a line `status N`, standard output, and standard error, which begins behind a line `--`. They are written by hand.
@@ -64,6 +64,33 @@ def test_calls(check, path):
         answered = sum(b" = " in it for it in lines)
         wanted = b"%d same, 0 allowed, 0 wrong\n" % answered
         check("calls, answered", run(TRACER, ["check"], calls), (0 if answered else 1, wanted, b""))
+
+
+# A plan of one build, in which the RMM refuses steps: each with the lines of its call, or with that there is none. The RMM
+# is that of TRACES.md, at 0x80000000. Parameters and pages of runs are after 16 pages, and the last page of a run is 0x80051000.
+OTHERWISE = "# no call: RMM 1.0 has none for it, or may answer otherwise"
+REFUSED = (
+    ("take 3", None), ("delegate 0", None), ("delegate 0", "rmi_granule_delegate 0x80000000 = RMI_ERROR_INPUT"), ("delegate 8", None),
+    ("delegate 1", None), ("realm 0 1", None), ("data 2 0 3", "rmi_data_create 0x80000000 0x80002000 0x0 0x80003000 0x1 = RMI_ERROR_INPUT"),
+    ("unknown 2 1", "rmi_data_create_unknown 0x80000000 0x80002000 0x1000 = RMI_ERROR_INPUT"),
+    ("rtt 4 0 2", "rmi_rtt_create 0x80000000 0x80004000 0x0 2 = RMI_ERROR_INPUT"), ("fill 0 1", OTHERWISE), ("delegate 4", None),
+    ("rtt 4 0 3", "rmi_rtt_create 0x80000000 0x80004000 0x0 3 = RMI_ERROR_RTT 1"), ("rtt 4 67108864 2", OTHERWISE),
+    ("ripas 511 2", OTHERWISE), ("ripas 0 0", "rmi_rtt_init_ripas 0x80000000 0x0 0x0 = RMI_ERROR_INPUT"), ("ripas 0 1", OTHERWISE),
+    ("delegate 5", None), ("delegate 6", None), ("rec 5 6", None), ("enter 0", "rmi_rec_enter 0x80005000 0x80051000 = RMI_ERROR_REALM"),
+    ("activate", None), ("activate", "rmi_realm_activate 0x80000000 = RMI_ERROR_REALM"), ("enter 0", None),
+    ("enter 0", "rmi_rec_enter 0x80005000 0x80051000 = RMI_ERROR_REC"), ("enter 1", OTHERWISE), ("poke 0 0 0 1", OTHERWISE),
+)
+
+
+def test_refused_calls(check):
+    """The RMM's refusals are calls with their words, where RMM 1.0 has the same."""
+    steps = [step for step, _ in REFUSED]
+    plan = f"pages = 16\naux = 1\norder = {[0] * len(steps)}\n[[build]]\nsteps = {steps}\n".encode()
+    status, calls, err = run(VIEW, ["calls"], plan)
+    check("calls", (status, err), (0, b""))
+    turns = re.split(r"^# 0 (.*) = (.*)\n", calls.decode(), flags=re.M)[1:]
+    found = [(step, lines.rstrip("\n") if answer.startswith("no 13") else None) for step, answer, lines in zip(*[iter(turns)] * 3)]
+    check("refused calls", found, list(REFUSED))
 
 
 def rows_of(text):

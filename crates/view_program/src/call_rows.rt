@@ -1,6 +1,7 @@
 //! The operations of a host as rows of a table of C: `examples/c/table.h` has the form of a row, and
 //! `examples/c/table.c` runs them.
 use history_calls::{Frame, HostAction};
+use realm_model::Rmi;
 use rmi_abi::{Call, encode_call};
 use std::alloc::AllocError;
 
@@ -138,10 +139,8 @@ fn push_step(text: &mut String, action: &HostAction) -> Result<(), AllocError> {
     }
 }
 
-/// Appends the rows of an operation. That a guest has done a write, no row says.
-///
-/// `AllocError`: the text may have a part of the rows.
-pub(crate) fn push_action_rows(text: &mut String, action: &HostAction) -> Result<(), AllocError> {
+// Appends the rows of an operation that is done. That a guest has done a write, no row says.
+fn push_done(text: &mut String, action: &HostAction) -> Result<(), AllocError> {
     match action {
         HostAction::Fill {
             address,
@@ -171,6 +170,25 @@ pub(crate) fn push_action_rows(text: &mut String, action: &HostAction) -> Result
         }
         HostAction::Interrupt { rec } => push_row(text, "INTERRUPT", &[*rec], &[0]),
         _ => push_step(text, action),
+    }
+}
+
+/// Appends the rows of an operation, as `push_action` appends its line.
+///
+/// `AllocError`: the text may have a part of the rows.
+pub(crate) fn push_action_rows(
+    text: &mut String,
+    action: &HostAction,
+    refusal: Option<Rmi>,
+) -> Result<(), AllocError> {
+    match (action, refusal) {
+        (HostAction::Spin { .. }, Some(_)) => Ok(()),
+        (HostAction::Call { call, .. }, Some(rmi)) => push_smc(text, *call, rmi.word(), None),
+        (HostAction::Enter { rec, run }, Some(rmi)) => {
+            let (rec, run) = (*rec, *run);
+            push_smc(text, Call::RecEnter { rec, run }, rmi.word(), None)
+        }
+        _ => push_done(text, action),
     }
 }
 

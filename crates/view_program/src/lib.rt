@@ -30,6 +30,7 @@ mod plan_schedules;
 mod plan_text;
 mod plan_title;
 mod printing;
+mod refused_calls;
 mod running;
 pub mod schedules;
 

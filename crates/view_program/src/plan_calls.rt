@@ -5,15 +5,17 @@ ghost use Rattle.view_program.specs.Calls.{IsCallsText};
 
 use crate::call_rows::{push_action_rows, push_platform_row};
 use crate::plan_text::ViewText;
+use crate::refused_calls::refused_calls;
 use buddy::BuddyArena;
 use command_line::BaseAddress;
 use command_line::realmview::CallsForm;
 use granule_addr::{BuildId, Level};
 use history_calls::{Frame, HostAction, RunPages, actions_of, push_action, push_platform};
-use plan_replay::{PlanCursor, push_turn, take_turn};
+use host_commands::{Cmd, Refusal, Step};
+use plan_replay::{PlanCursor, TurnAnswer, push_turn, take_turn};
 use realm_host::Host;
-use realm_model::{Act, Event, Ripas};
-use realm_plan::{Plan, push_idle};
+use realm_model::{Act, Event, Ripas, Rmi};
+use realm_plan::{Plan, PlanStep, push_idle};
 use realm_program::{Fault, boot};
 use std::alloc::{AllocError, Global};
 
@@ -21,40 +23,8 @@ use std::alloc::{AllocError, Global};
 const BESIDE_RAM: &str =
     "no call: the RIPAS there is not RAM, and in RMM 1.0 the guest's write is refused\n";
 
-// Appends what a comment begins with.
-fn push_comment(text: &mut String, form: CallsForm) -> Result<(), AllocError> {
-    match form {
-        CallsForm::Trace => text.push_str("# "),
-        CallsForm::Rows => text.push_str("// "),
-    }
-}
-
-// Appends the opening of the machine of a frame.
-fn push_opening(
-    text: &mut String,
-    form: CallsForm,
-    frame: Frame,
-    auxiliaries: u8,
-) -> Result<(), AllocError> {
-    match form {
-        CallsForm::Trace => {
-            push_platform(text, frame, auxiliaries)?;
-            text.push_str("\n")
-        }
-        CallsForm::Rows => push_platform_row(text, frame, auxiliaries),
-    }
-}
-
-// Appends an operation with its answer.
-fn push_in_form(text: &mut String, form: CallsForm, action: &HostAction) -> Result<(), AllocError> {
-    match form {
-        CallsForm::Trace => {
-            push_action(text, action)?;
-            text.push_str("\n")
-        }
-        CallsForm::Rows => push_action_rows(text, action),
-    }
-}
+// The comment in place of a refused call.
+const OTHERWISE: &str = "no call: RMM 1.0 has none for it, or may answer otherwise\n";
 
 // Whether an event is a guest's write at an address whose RIPAS is not RAM. RMM 1.0 has no write there.
 fn is_beside_ram(host: &Host<BuddyArena>, event: &Event) -> bool {
@@ -67,53 +37,126 @@ fn is_beside_ram(host: &Host<BuddyArena>, event: &Event) -> bool {
     }
 }
 
-// Appends the operations of a host for an event that it has just recorded.
-fn push_event(
-    text: &mut String,
+/// The text of the calls so far, and the pages of the runs under way.
+#[derive(Drop)]
+struct CallsText {
+    text: String,
     form: CallsForm,
     frame: Frame,
-    host: &Host<BuddyArena>,
-    runs: &mut RunPages,
-    event: &Event,
-) -> Result<(), AllocError> {
-    if !host.ledger().has_build(event.build) {
-        return Ok(());
-    }
-    if is_beside_ram(host, event) {
-        push_comment(text, form)?;
-        return text.push_str(BESIDE_RAM);
-    }
-    let subject = host.ledger().place(event.build, &event.act);
-    let run = runs.page_for(subject.rec, &event.act);
-    let actions = actions_of(frame, subject, run, &event.act);
-    for action in actions.as_slice() {
-        push_in_form(text, form, action)?;
-    }
-    Ok(())
+    runs: RunPages,
 }
 
-// Performs one turn of a build, and appends its line as a comment, and the operations for the event that it adds.
-fn push_one(
-    text: &mut String,
-    form: CallsForm,
-    frame: Frame,
-    host: &mut Host<BuddyArena>,
-    plan: &Plan,
-    places: &mut [PlanCursor; 8],
-    runs: &mut RunPages,
-    build: BuildId,
-) -> Result<(), AllocError>
-    requires { build < vec_len plan.now.builds }
-{
-    let before = host.history().len();
-    push_comment(text, form)?;
-    match take_turn(host, plan, places, build.number() as usize) {
-        Some((step, answer)) => push_turn(text, build, step, answer)?,
-        None => push_idle(text, build)?,
+impl CallsText {
+    // Begins a comment, which has the rest of its line.
+    fn begin_comment(&mut self) -> Result<(), AllocError> {
+        match self.form {
+            CallsForm::Trace => self.text.push_str("# "),
+            CallsForm::Rows => self.text.push_str("// "),
+        }
     }
-    match host.history().get(before) {
-        Some(event) => push_event(text, form, frame, host, runs, event),
-        None => Ok(()),
+
+    // Appends the opening of the machine.
+    fn push_opening(&mut self, auxiliaries: u8) -> Result<(), AllocError> {
+        match self.form {
+            CallsForm::Trace => push_platform(&mut self.text, self.frame, auxiliaries),
+            CallsForm::Rows => push_platform_row(&mut self.text, self.frame, auxiliaries),
+        }
+    }
+
+    // Appends an operation with its answer. A call is refused if there is a refusal.
+    fn push_action(&mut self, action: &HostAction, refusal: Option<Rmi>) -> Result<(), AllocError> {
+        match self.form {
+            CallsForm::Trace => push_action(&mut self.text, action, refusal),
+            CallsForm::Rows => push_action_rows(&mut self.text, action, refusal),
+        }
+    }
+
+    // Appends the operations of a host for an event that it has just recorded.
+    fn push_event(&mut self, host: &Host<BuddyArena>, event: &Event) -> Result<(), AllocError> {
+        if !host.ledger().has_build(event.build) {
+            return Ok(());
+        }
+        if is_beside_ram(host, event) {
+            self.begin_comment()?;
+            return self.text.push_str(BESIDE_RAM);
+        }
+        let subject = host.ledger().place(event.build, &event.act);
+        let run = self.runs.page_for(subject.rec, &event.act);
+        let actions = actions_of(self.frame, subject, run, &event.act);
+        for action in actions.as_slice() {
+            self.push_action(action, None)?;
+        }
+        Ok(())
+    }
+
+    // Appends the call of a command that the RMM has refused, or a comment in its place.
+    fn push_refused(
+        &mut self,
+        host: &Host<BuddyArena>,
+        build: BuildId,
+        cmd: &Cmd,
+        rmi: Rmi,
+    ) -> Result<(), AllocError> {
+        let Some(actions) = refused_calls(self.frame, host, build, cmd, rmi) else {
+            self.begin_comment()?;
+            return self.text.push_str(OTHERWISE);
+        };
+        for action in actions.as_slice() {
+            self.push_action(action, Some(rmi))?;
+        }
+        Ok(())
+    }
+
+    // Appends the call of a step, if the RMM has refused it.
+    fn push_if_refused(
+        &mut self,
+        host: &Host<BuddyArena>,
+        build: BuildId,
+        step: &PlanStep,
+        answer: &TurnAnswer,
+    ) -> Result<(), AllocError> {
+        let TurnAnswer::Refused(Refusal::Rmi(rmi)) = answer else {
+            return Ok(());
+        };
+        match step.asked() {
+            Step::Ask(cmd) => self.push_refused(host, build, &cmd, *rmi),
+            _ => Ok(()),
+        }
+    }
+
+    // Appends the line of a turn as a comment, and below it the operations for the event that it added, or the call that
+    // the RMM has refused. The history had `before` events.
+    fn push_answered(
+        &mut self,
+        host: &Host<BuddyArena>,
+        before: usize,
+        build: BuildId,
+        step: &PlanStep,
+        answer: TurnAnswer,
+    ) -> Result<(), AllocError> {
+        push_turn(&mut self.text, build, step, answer)?;
+        match host.history().get(before) {
+            Some(event) => self.push_event(host, event),
+            None => self.push_if_refused(host, build, step, &answer),
+        }
+    }
+
+    // Performs one turn of a build, and appends its line and its operations.
+    fn push_turn(
+        &mut self,
+        host: &mut Host<BuddyArena>,
+        plan: &Plan,
+        places: &mut [PlanCursor; 8],
+        build: BuildId,
+    ) -> Result<(), AllocError>
+        requires { build < vec_len plan.now.builds }
+    {
+        let before = host.history().len();
+        self.begin_comment()?;
+        match take_turn(host, plan, places, build.number() as usize) {
+            Some((step, answer)) => self.push_answered(host, before, build, step, answer),
+            None => push_idle(&mut self.text, build),
+        }
     }
 }
 
@@ -125,23 +168,18 @@ fn calls_text(
     frame: Frame,
 ) -> Result<String, AllocError> {
     let mut host = boot::<BuddyArena>(alloc, plan)?;
-    let mut text = String::new(alloc);
-    push_opening(&mut text, form, frame, plan.aux)?;
+    let mut calls = CallsText {
+        text: String::new(alloc),
+        form,
+        frame,
+        runs: RunPages::new(),
+    };
+    calls.push_opening(plan.aux)?;
     let mut places = [PlanCursor::first(); 8];
-    let mut runs = RunPages::new();
     for build in &plan.order {
-        push_one(
-            &mut text,
-            form,
-            frame,
-            &mut host,
-            plan,
-            &mut places,
-            &mut runs,
-            *build,
-        )?;
+        calls.push_turn(&mut host, plan, &mut places, *build)?;
     }
-    Ok(text)
+    Ok(calls.text)
 }
 
 /// The runs of plans as calls on an RMM by registers. A plan has none only if allocation failed.
