@@ -12,6 +12,7 @@
   mistakes   an RMM with a mistake is found, a line with one, and an RMM that does not answer
   log        what `drive.py --log` prints is right, says the second model
   table      the tables of `drive.py --c` run without a difference, and their output is right, says the second model
+  plans      so do those of `realmview calls --c` of all plans, if bin/ has it
 
 `make c-test` also has all tables, larger images, the sanitizers and valgrind; and CMake and Meson build the examples over the
 installed package, and run them. A C compiler is needed.
@@ -28,7 +29,7 @@ import pytest
 import c_programs
 from c_programs import MEMCHECK, with_python
 from differences import same
-from programs import SHARED, STATIC, TOP, needs, parts
+from programs import SHARED, STATIC, TOP, VIEW, needs, parts
 from programs import ran as run
 
 HERE, EXAMPLES, TRACES = TOP / "tests/examples_c", TOP / "examples", TOP / "traces/rmm"
@@ -284,6 +285,17 @@ def table(room):
     same("traces whose table compares nothing", (len(made), made.count(0)), (len(paths), 0))
 
 
+def plans(room):
+    """The tables of all plans in one program."""
+    rows = room.folder / "plans.inc"
+    paths = sorted(TOP.glob("plans/**/*.toml"))
+    rows.write_text("".join(run([VIEW, "calls", "--c", it]) for it in paths))
+    sources = [EXAMPLES / "c/table.c", EXAMPLES / "c/table_rmm.c"]
+    said = run([room.compiled("plans", sources, f'-DROWS="{rows}"')])
+    same("the end", said.splitlines()[-1].startswith("# 0 of "), True)
+    same("that the answers of each plan are compared", judged(said) >= len(paths), True)
+
+
 # ---- the installed package
 
 
@@ -328,7 +340,7 @@ def in_valgrind(room):
 pytestmark = [pytest.mark.skipif(not compilers(), reason="there is no C compiler"), needs(STATIC, SHARED)]
 
 
-@parts(calls, first, boot, fail_each, window, lives, drive, mistakes, log, table)
+@parts(calls, first, boot, fail_each, window, lives, drive, mistakes, log, table, (plans, os.fspath(VIEW)))
 def test_example(room, part):
     part(room)
 
