@@ -253,9 +253,6 @@ def made(bench: Bench, name: str, values: list[int]) -> list[tuple[str, str, str
     """The checks of a refused call that are made: the one that decides, those that fail too, and those that pass."""
     command = COMMANDS[name](bench.machine, *values[: len(COMMANDS[name].operands)])
     words = dict(command.failed(frozenset()))
-    # The program asks of `top_bound` that the base is protected too. It is not where a request has come to the end of that half.
-    if name == "rmi_rtt_set_ripas" and "size" in words and not command.realm.is_protected(command.base):
-        words.setdefault("top_bound", words["size"])
     rows, held = [], set()
     for check in command.checks():
         if held.issuperset(check.after):

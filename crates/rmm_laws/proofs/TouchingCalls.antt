@@ -219,7 +219,7 @@ set_ripas_touches rd rec base top m proper ok =
     by_rd m (rtt_set_ripas rd rec base top m).machine rd ok.1.0 ok.1.1.0 ok.1.1.1.0
     (let realm : RmmRealm = realm_at m rd in
     let is = realm_of-some (state_at m rd) ok.1.1.1.0 in
-    let within = protected_within realm base (owned_protected realm (is_rec_of m rd rec) _ base ok.1.1.1.1.1.1.1.1.1.0 (yes_from _ ok.1.1.1.1.1.1.1.1.1.1.1.0)) in
+    let within = protected_within realm base (owned_protected realm (is_rec_of m rd rec) _ (nat_le top base) base ok.1.1.1.1.1.1.1.1.1.0 ok.0 (yes_from _ ok.1.1.1.1.1.1.1.1.1.1.1.0)) in
     let owner = same_owner (granule_at m (number_of m rec)).owner (Some (number_of m rd)) (yes_from (is_rec_of m rd rec) ok.1.1.1.1.1.1.1.1.1.0) in
     touch_granule m _ (By m rd) (number_of m rec) _
     (touch_page m m (By m rd) (walk m realm base 3).table _ (untouched m (By m rd)) (own_place m proper rd base 3 is within (served m (number_of m rd) realm proper is).level))
