@@ -3,8 +3,8 @@
 Of each plan of plans/, plans/guide/ and tests/runs/, `history` and then `apply` have to print the map at the end of the run
 that is stored beside it; with `--erase B` at either of the two, they have to print what `realmhost replay --erase B` prints,
 for each build.
-`calls` has to print a trace of which `rmitrace check` finds each answer the same, or of a refused call allowed. With `--c` it has to print the rows that
-`examples/drive.py --c` makes of that trace.
+`calls` has to print a trace of which `rmitrace check` finds each answer the same, or of a refused call allowed. With `--c` it has
+to print the rows that `examples/drive.py --c` makes of that trace.
 tests/histories/NAME.history is the standard input of `apply`, or of what NAME.args has, one word a line; NAME.txt is what is
 wanted: a line `status N`, standard output, and standard error, which begins behind a line `--`. They are written by hand.
 tests/lines/ has single lines, by hand too: those that `apply` has to take for an event or for an opening, and those that are none.
