@@ -20,7 +20,8 @@ a method for a guest's line, this line and all below it are left out, up to the 
 
 Verdicts: `same`, `refused` if both refuse and by another word, `wrong` else. By the standard another refusal can be
 right: `rmitrace check` says so of a log. The names of checks are not compared. The status is 0 if an answer is the
-same and none is wrong.
+same and none is wrong. A trace that ends early is wrong too, and the last one: a machine that cannot be taken down, an
+entry that does not come back after an interrupt, a line that is none.
 """
 import argparse
 import os
@@ -455,6 +456,17 @@ class Report:
         self.counts = {"same": 0, "refused": 0, "wrong": 0, "left out": 0}
 
     def trace(self, name, lines):
+        """Drives a trace. False if it has ended early: what is left in the RMM is not known, and no trace can follow."""
+        try:
+            self.ask(name, lines)
+        except (Late, NoLine, NotUndone) as why:
+            self.driver.machine = None
+            self.counts["wrong"] += 1
+            print(f"{name}: {why}", file=sys.stderr if self.is_log else sys.stdout)
+            return False
+        return True
+
+    def ask(self, name, lines):
         for place, text in enumerate(lines, 1):
             line = line_of(text.rstrip("\r\n"))
             try:
@@ -506,12 +518,9 @@ def main(words):
             Table(given.base).trace(Path(path).name, lines_in(path))
         return 0
     report = Report(Driver(Simulated(), given.seconds, given.base), given.log)
-    try:
-        for path in given.traces:
-            report.trace(path, lines_in(path))
-    except (Late, NoLine, NotUndone) as why:
-        print(f"{path}: {why}")
-        return 1
+    for path in given.traces:
+        if not report.trace(path, lines_in(path)):
+            break
     print(report.total(), file=sys.stderr if given.log else sys.stdout)
     return 0 if report.counts["same"] and not report.counts["wrong"] else 1
 

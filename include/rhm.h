@@ -229,7 +229,8 @@ uint64_t rhm_prepare(rhm_handle *handle, uint64_t build, const rhm_command *comm
  * as by rhm_ask.
  *
  * RHM_NOT_EXPECTED: the RMM has not performed the call. X0 is not RMI_SUCCESS, nor 2^64 - 2 after an entry, which the RMM
- * of this repository answers while a guest runs on.
+ * of this repository answers while a guest runs on. All 64 bits are compared: of firmware that leaves an index beside
+ * RMI_SUCCESS, the hypervisor gives X0 & 0xff.
  * RHM_OTHER_OUTPUT: it has, and X1 is not the `output` of the call. The call is not to be made again. If the hypervisor
  * goes on nevertheless, it commits with `output` as X1.
  * RHM_DIVERGED: it has, with that output, and the model refuses the call with the result word `value`. It comes neither of
@@ -238,13 +239,15 @@ uint64_t rhm_prepare(rhm_handle *handle, uint64_t build, const rhm_command *comm
  *
  * What is recorded is what was performed if no other call came for the build since rhm_prepare; for a RHM_REALM, none that
  * creates or removes another realm; and for a RHM_REALM or a RHM_REC, no operation of another one, since they share the
- * page of their parameters.
+ * page of their parameters. For a RHM_ENTER other commands of the build may have come, but no undo, and no entry of the
+ * same REC.
  * Required: handle; `command` and `answer` are not NULL, and each of their fields is written; `value` is not NULL, and may
  * be written to. */
 uint64_t rhm_commit(rhm_handle *handle, uint64_t build, const rhm_command *command, const rhm_answer *answer,
                     uint64_t *value) RHM_NO_NULL;
 
 /* The same of an undo. An RMM that refuses it leaves the operation open: RHM_NOT_EXPECTED, and it can be tried again.
+ * After RHM_OTHER_OUTPUT it is open here, and performed there: rhm_settle_undo commits it.
  * Required: handle; `actions`, `answer` and `value` as above. */
 uint64_t rhm_prepare_undo(rhm_handle *handle, uint64_t build, rhm_actions *actions) RHM_NO_NULL;
 uint64_t rhm_commit_undo(rhm_handle *handle, uint64_t build, const rhm_answer *answer, uint64_t *value) RHM_NO_NULL;
@@ -643,8 +646,27 @@ static inline uint64_t rhm_run_undo(rhm_handle *handle, uint64_t build, rhm_perf
     return rhm_commit_undo(handle, build, &answer, value);
 }
 
+/* Commits the undo that is next, with `output` as X1, and performs nothing. It is for an undo that the RMM has performed:
+ * one that was RHM_OTHER_OUTPUT, or that the hypervisor has made by an SMC of its own. The undo of a RHM_TAKE is stores,
+ * and so rhm_run_undo's. The statuses are those of rhm_run_undo. */
+static inline uint64_t rhm_settle_undo(rhm_handle *handle, uint64_t build, uint64_t *value)
+{
+    rhm_actions actions;
+    rhm_answer answer = {0, 0};
+    uint64_t status = rhm_prepare_undo(handle, build, &actions);
+    *value = 0;
+    if (status != RHM_DONE)
+        return status;
+    for (uint64_t k = 0; k < actions.count && k < 5; k++)
+        if (actions.actions[k].has_output == 1)
+            answer.x1 = actions.actions[k].output;
+    return rhm_commit_undo(handle, build, &answer, value);
+}
+
 /* An abort likewise: it begins, unless the build is in abort, and one undo after another is run until nothing is open. If
- * one is not done, its status comes, the build stays in abort with what is left, and another rhm_run_abort goes on. */
+ * one is not done, its status comes, and the build stays in abort with what is left. After RHM_NOT_EXPECTED another
+ * rhm_run_abort goes on, with the same undo. After RHM_OTHER_OUTPUT rhm_settle_undo has to come first: the call was
+ * performed, and is not to be made again. */
 static inline uint64_t rhm_run_abort(rhm_handle *handle, uint64_t build, rhm_perform perform, void *context)
 {
     uint64_t left = 0, status = rhm_begin_abort(handle, build, &left);

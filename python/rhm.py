@@ -402,8 +402,16 @@ class Host:
             return actions
         return self.commit_undo(build, self._performed(actions, perform))
 
+    def settle_undo(self, build):
+        """Commits the next undo with the output that the host expects, and performs nothing: the RMM has performed it."""
+        actions = self.prepare_undo(build)
+        if isinstance(actions, Result):
+            return actions
+        return self.commit_undo(build, (0, sum(it.output for it in actions)))
+
     def run_abort(self, build, *, perform):
-        """Begins an abort or goes on with it, up to an undo that is not done. The Result of the last undo."""
+        """Begins an abort or goes on with it, up to an undo that is not done. The Result of the last undo. After
+        RHM_OTHER_OUTPUT settle_undo has to come first."""
         result = self.begin_abort(build)
         if result.status == ABORTING:
             result = Result(DONE, 1)

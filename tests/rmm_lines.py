@@ -3,8 +3,8 @@
 
     tests/rmm_lines.py < TRACE      the raw operations of a trace
     tests/rmm_lines.py --run        performs raw operations by the second model; the status is 1 where one differs
-    tests/rmm_lines.py --by PROGRAM [WORD ..]       performs the operations of all traces by a program, as by
-                                    `bench/out/cargo/release/plain_rmm lines`, once bench/rmm has built it
+    tests/rmm_lines.py --by PROGRAM [WORD ..]       in the repository: performs the operations of all traces by a program,
+                                    as by `bench/out/cargo/release/plain_rmm lines`, once bench/rmm has built it
 
 An operation is a line: what is done, and after ` = ` the result that it has to have. An operation without a result is
 not compared. Words are separated by one space. Numbers are hexadecimal with small digits, without 0x. HEX is bytes, two
@@ -37,7 +37,6 @@ import sys
 from collections.abc import Callable, Iterator
 
 sys.dont_write_bytecode = True
-from rmm_logs import paths
 from second_rmm.command import COMMANDS, smc
 from second_rmm.facts import INPUT, PAGE, RUNNING, STATUSES, SUCCESS, Settings, word_of
 from second_rmm.guest import MOST_STEPS, interrupt
@@ -287,6 +286,8 @@ def differing(operations: list[str], results: list[str]) -> Iterator[str]:
 
 def differences_by(program: list[str]) -> Iterator[str]:
     """Of each trace that a program performs otherwise, the first difference."""
+    from rmm_logs import paths
+
     for path in paths():
         operations = list(raw(path.read_text().splitlines()))
         text = "".join(f"{it}\n" for it in operations)

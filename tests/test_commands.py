@@ -66,11 +66,11 @@ def commands_of(block):
     return found
 
 
-def printed(commands):
+def printed(commands, cwd=TOP, env=os.environ):
     """Runs commands in one shell. Returns the lines that each prints."""
     script = "".join(f"{PROVED.get(it, it)}\nprintf '\\n%s\\n' '{BETWEEN}'\n" for it, _ in commands)
-    ran = subprocess.run(["bash", "-c", script], cwd=TOP, stdin=subprocess.DEVNULL, stdout=subprocess.PIPE,
-                         stderr=subprocess.STDOUT, text=True, errors="replace", timeout=SECONDS, env={**os.environ, "LC_ALL": "C.UTF-8"})
+    ran = subprocess.run(["bash", "-c", script], cwd=cwd, stdin=subprocess.DEVNULL, stdout=subprocess.PIPE,
+                         stderr=subprocess.STDOUT, text=True, errors="replace", timeout=SECONDS, env={**env, "LC_ALL": "C.UTF-8"})
     outputs = ran.stdout.split(f"\n{BETWEEN}\n")
     return [it.removesuffix("\n").split("\n") if it else [] for it in outputs[: len(commands)]]
 

@@ -13,6 +13,7 @@ from pathlib import Path
 
 import pytest
 
+import test_commands
 from help_text import version_of
 from programs import HOST, SHARED, STATIC, TOP, TRACER, VIEW, needs, ran
 
@@ -173,6 +174,29 @@ def test_c(prefix, env, tmp_path, name, kind):
     run("cc", "mine.c", *words, "-o", "mine", env=env, cwd=tmp_path)
     said = {"rmm": "RMI_ERROR_INPUT: gran_state\n", "rhm": "RHM_NOT_LEASED 2\n"}
     assert run(tmp_path / "mine", env={**env, **({"LD_LIBRARY_PATH": ""} if kind == "static" else {})}) == said[name]
+
+
+@pytest.mark.parametrize("name", ["README.md", "docs/how-to/DRIVE-AN-RMM.md", "docs/how-to/SIMULATE-A-BUILD.md", "docs/how-to/TEST-AN-RMM.md"])
+def test_command_lines(check, prefix, env, name):
+    """The command lines of a document as it is installed, typed where it says."""
+    text = (prefix / "share/doc/realmhost" / name).read_text(encoding="utf-8")
+    found = [test_commands.commands_of(it[2]) for it in test_commands.BLOCK.finditer(text) if it[1] == "console"]
+    env = {**env, "PATH": f"{prefix}/bin:{Path(sys.executable).parent}:/usr/bin:/bin"}
+    assert found
+    for commands in found:
+        outputs = test_commands.printed(commands, prefix / "share/realmhost", env)
+        for (command, wanted), lines in zip(commands, outputs, strict=True):
+            check(f"`{command}`", test_commands.shown(lines, wanted), wanted)
+
+
+def test_note(check, prefix):
+    """Each document but the one on packages says where command lines are typed. No line is typed that builds, or links what was
+    built."""
+    for path in sorted(it for it in (prefix / "share/doc/realmhost").rglob("*.md") if "licences" not in it.parts):
+        text = path.read_text(encoding="utf-8")
+        has_title = text.startswith("# ")
+        check(f"{path.name}: the note", "\n*As installed: " in text[:200], has_title and path.name != "INSTALL.md")
+        check(f"{path.name}: lines", re.findall(r"^\$ make .*|^cc -Iinclude.*", text, re.M), [])
 
 
 def test_python(prefix, env):

@@ -6,6 +6,7 @@
              page is the one that is known. The log of the calls is right, says the second model
   fail_each  if a call is refused, by any word, no granule stays delegated or lost; each of five planted leaks is found
   window     a host's wrong access ends the process with a line that names the granule; a right one does not
+  interrupt  a guest that spins is interrupted over window.h: the exit is in the run page, and the log is right
   lives      the lives of a realm in C++ and Python are the same, and right, says the second model
   drive      all traces by registers are answered as they are written, at their addresses and moved; each machine is
              taken down
@@ -92,7 +93,7 @@ def compilers():
 def calls(room):
     for compiler in compilers():
         program = room.compiled(f"smccc-{compiler}", [HERE / "smccc.c"], compiler=compiler)
-        same("the last line", run([program]).splitlines()[-1], "13 checks passed")
+        same("the last line", run([program]).splitlines()[-1], "18 checks passed")
 
 
 def first(room):
@@ -142,6 +143,18 @@ def window(room):
     same("an access to secure memory", run([program, "2"], status=-11), line)
 
 
+def interrupt(room):
+    for compiler in compilers():
+        log = room.folder / f"interrupt-{compiler}.log"
+        sources = [HERE / "interrupt.c", EXAMPLES / "c/window.c"]
+        program = room.compiled(f"interrupt-{compiler}", sources, compiler=compiler)
+        same("the last line", run([program, log]).splitlines()[-1], "9 checks passed")
+        lines = [it for it in log.read_text().splitlines() if it.startswith("interrupt")]
+        same("the line of the interrupt", lines, ["interrupt 0x40001000 = RMI_SUCCESS, exit IRQ"])
+        # (16 delegations, a realm, a REC, its activation, two entries, a step, the interrupt)
+        same("the answers", judged(log.read_text()), 23)
+
+
 def lives(room):
     source, printed = [EXAMPLES / "c/realm_life.cpp"], set()
     for compiler in (it for it in ("g++", "clang++") if shutil.which(it)):
@@ -178,9 +191,8 @@ def driven(rmm, paths, base=None, seconds=60.0):
         shown, sys.stdout = sys.stdout, nowhere
         try:
             for path in paths:
-                report.trace(path, path.read_text().splitlines())
-        except drive.NotUndone:
-            report.counts["wrong"] += 1
+                if not report.trace(path, path.read_text().splitlines()):
+                    break
         finally:
             sys.stdout = shown
     return report.counts
@@ -234,6 +246,12 @@ def mistakes(room):
         def smc(self, registers):
             return [0] * 5 if registers[0] == 0xC4000158 else super().smc(registers)
 
+    class KeepsRealm(module.Simulated):
+        """RMI_REALM_DESTROY is refused, so no machine is taken down."""
+
+        def smc(self, registers):
+            return [2, 0, 0, 0, 0] if registers[0] == 0xC4000159 else super().smc(registers)
+
     class Breaks(module.Simulated):
         """The connection to the RMM breaks at an entry."""
 
@@ -247,6 +265,9 @@ def mistakes(room):
     same("the verdicts without a guest", (counts["wrong"], counts["left out"] > 0, counts["same"] > 0), (0, True, True))
     counts = driven(MakesNoRealm(), [boot])
     same("that a mistake is found", counts["wrong"] > 0, True)
+    # (nothing is asked after it)
+    counts, wanted = driven(KeepsRealm(), [life, boot]), driven(module.Simulated(), [life])
+    same("a machine that is not taken down", counts, {**wanted, "wrong": 1})
     try:
         driven(Breaks(), [boot])
         raise AssertionError("an error of an entry is not raised")
@@ -340,7 +361,7 @@ def in_valgrind(room):
 pytestmark = [pytest.mark.skipif(not compilers(), reason="there is no C compiler"), needs(STATIC, SHARED)]
 
 
-@parts(calls, first, boot, fail_each, window, lives, drive, mistakes, log, table, (plans, os.fspath(VIEW)))
+@parts(calls, first, boot, fail_each, window, interrupt, lives, drive, mistakes, log, table, (plans, os.fspath(VIEW)))
 def test_example(room, part):
     part(room)
 

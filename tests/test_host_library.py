@@ -6,6 +6,7 @@
   memory     each allocation of rhm_open is refused in turn; every block is given back, and no other call takes one
   front      random builds in front of the second model of the RMM do what a host alone does
   statuses   each status of rhm.h comes where rhm.h says, of a host in a state that is made for it
+  differ     a host and an RMM that differ are made alike as HOST-C.md says, and the abort goes on
   history    the history as text, from C and from Python, is the one that was written by hand
   vmm        three builds on three threads boot in front of the RMM for C; each call is refused in turn, and each of the
              abort that follows; the failed build leaves nothing, and the others are as without it
@@ -86,6 +87,11 @@ def statuses(_room):
     last_line(ran([sys.executable, HERE / "statuses.py"]), r"[1-9]\d\d statuses are as rhm.h has them")
 
 
+def differ(room):
+    program = room.compiled("differ", [HERE / "differ.c", LIBRARY.static, STATIC])
+    last_line(ran([program]), r"23 checks passed")
+
+
 def history(room):
     hand = (HERE / "history.txt").read_text()
     same("the text in C", ran([room.test("history")]), hand)
@@ -159,7 +165,7 @@ def in_valgrind(room):
 
 
 @parts(
-    header, names, memory, front, statuses, history, vmm, of_the_document, (in_cpp, CXX), (by_pkg_config, "pkg-config"),
+    header, names, memory, front, statuses, differ, history, vmm, of_the_document, (in_cpp, CXX), (by_pkg_config, "pkg-config"),
     (installed, "make", "pkg-config"),
 )
 def test_library(room, part):

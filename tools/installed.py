@@ -3,9 +3,9 @@
 
     tools/installed.py PREFIX       copies all of it below PREFIX
 
-The documents are those for users. As installed they name and link what is installed: a program without bin/, and
-`second_rmm` without tests/. Command lines are typed in share/realmhost. A path of what is in the repository alone begins with
-SOURCES/, and of a link to it the text is left.
+The documents are those for users. As installed they name and link what is installed: a program without bin/, and `second_rmm`
+and `rmm_lines.py` without tests/. Command lines are typed in share/realmhost, as FORMS has them. A path of what is in the
+repository alone begins with SOURCES/, and of a link to it the text is left.
 """
 import functools
 import os
@@ -20,6 +20,7 @@ PLACES = {
     **dict.fromkeys(("README.md", "CHANGELOG.md", "SECURITY.md", "LICENSE", "docs/**/*.*"), DOC),
     **dict.fromkeys(("plans/**/*.*", "traces/**/*.*", "examples/**/*.*", "python/*.py"), SHARE),
     "tests/second_rmm/*.py": "share/realmhost/second_rmm/{path.name}",
+    "tests/rmm_lines.py": "share/realmhost/{path.name}",
     "include/*.h": "include/{path.name}",
     "man/*.1": "share/man/man1/{path.name}",
     "man/*.5": "share/man/man5/{path.name}",
@@ -30,10 +31,21 @@ PLACES = {
 # The documents on the sources, which are not installed.
 OF_THE_SOURCES = ("ARCHITECTURE.md", "CALLS.md", "CALLS-HOST.md", "DECISIONS.md", "DEFINITIONS.md", "MUTANTS.md", "PERFORMANCE.md")
 PROGRAM = re.compile(r"(?<![\w./-])bin/(?=(realmhost|realmview|rmitrace)\b)")
-MODEL = re.compile(r"(?<![\w./-])tests/(?=second_rmm\b)")
+MODEL = re.compile(r"(?<![\w./-])tests/(?=second_rmm\b|rmm_lines\.py\b)")
+# Command lines that have another form with a package.
+FORMS = (
+    (r"(?m)^\$ make try$", "$ realmview why plans/missing-tables.toml"),
+    (r"(?m)^cc -Iinclude (.*) build/lib(\w+)\.a ", r"cc \1 $(pkg-config --cflags --libs \2) "),
+    (r"(?m)^export PKG_CONFIG_PATH=build LD_LIBRARY_PATH=build$", 'export PKG_CONFIG_PATH="$PWD/../../lib/pkgconfig" LD_LIBRARY_PATH="$PWD/../../lib"'),
+)
 SOURCES = re.compile(r"(?<![\w./-])(?=(bench|bin|completions|crates|tests|tools)/[\w*`])")
 LINK = re.compile(r"\[((?:[^\[\]]|\[[^\]]*\])*)\]\(([^)\s]+)\)")
-NOTE = "\n*As installed: type command lines in `share/realmhost`. SOURCES is a clone of the repository.*\n"
+NOTE = (
+    "\n*As installed: type command lines in `share/realmhost`. What begins with SOURCES, or with `make`, needs a clone of the"
+    " repository.*\n"
+)
+# The document that says where share/realmhost is.
+OF_PACKAGES = "INSTALL.md"
 
 
 @functools.cache
@@ -80,9 +92,10 @@ def text_of(path, link=linked):
     # (targets are left as they are)
     parts = re.split(r"(\]\([^)\s]+\))", MODEL.sub("", PROGRAM.sub("", LINK.sub(turned, text))))
     text = "".join(part if part.startswith("](") else SOURCES.sub("SOURCES/", part) for part in parts)
+    for repository, package in FORMS:
+        text = re.sub(repository, package, text)
     title = re.match(r"# .*\n", text)
-    needs_note = title and ("SOURCES/" in text or "\n$ " in text)
-    return title[0] + NOTE + text[title.end() :] if needs_note else text
+    return title[0] + NOTE + text[title.end() :] if title and path.name != OF_PACKAGES else text
 
 
 def bytes_of(path):

@@ -1,13 +1,15 @@
 /* rmi_calls.h: RMI commands as a kernel calls them: inline functions over the calls of arm-smccc.h. Each returns X0.
  *
- * A kernel's own header of this form is compiled in its place. RMM 1.0, RMI commands.
+ * A kernel's own header of this form is compiled in its place, once the program has the types that it names. RMM 1.0,
+ * RMI commands.
  */
 #ifndef RMI_CALLS_H
 #define RMI_CALLS_H
 
 #include "smccc.h"
 
-#define SMC_RMI_CALL(NUMBER) (0xC4000000UL + (NUMBER))
+#define SMC_RMI_CALL(NUMBER) \
+    ARM_SMCCC_CALL_VAL(ARM_SMCCC_FAST_CALL, ARM_SMCCC_SMC_64, ARM_SMCCC_OWNER_STANDARD, (NUMBER))
 #define SMC_RMI_VERSION SMC_RMI_CALL(0x150)
 #define SMC_RMI_GRANULE_DELEGATE SMC_RMI_CALL(0x151)
 #define SMC_RMI_GRANULE_UNDELEGATE SMC_RMI_CALL(0x152)

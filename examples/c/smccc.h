@@ -1,7 +1,8 @@
 /* smccc.h: SMCs in the form of Linux's arm-smccc.h, to an RMM in this process. For C11 on a machine of 64 bits.
  *
  * A host's code that calls its RMM by arm_smccc_1_1_invoke(), arm_smccc_1_1_smc() or arm_smccc_1_2_smc() is compiled
- * with this header in place of the kernel's, and runs as a process. Arm DEN0028, SMC Calling Convention.
+ * with this header in place of the kernel's, and runs as a process. It gives calls and the numbers of functions. A type
+ * of the kernel's that the code names, as u64, is the program's to define. Arm DEN0028, SMC Calling Convention.
  */
 #ifndef SMCCC_H
 #define SMCCC_H
@@ -9,6 +10,32 @@
 #include <rmm.h>
 
 _Static_assert(sizeof(unsigned long) == 8, "a register has 64 bits");
+
+/* The number of a function, and its parts: the type of the call in bit 31, the convention in bit 30, the owner in bits 29
+ * to 24, and the function in bits 15 to 0. */
+#ifndef ARM_SMCCC_CALL_VAL
+#define ARM_SMCCC_CALL_VAL(TYPE, CONVENTION, OWNER, FUNCTION) \
+    ((TYPE) << 31 | (CONVENTION) << 30 | ((OWNER) & 0x3fUL) << 24 | ((FUNCTION) & 0xffffUL))
+#endif
+#ifndef ARM_SMCCC_FAST_CALL
+#define ARM_SMCCC_FAST_CALL 1UL
+#endif
+#ifndef ARM_SMCCC_SMC_32
+#define ARM_SMCCC_SMC_32 0UL
+#endif
+#ifndef ARM_SMCCC_SMC_64
+#define ARM_SMCCC_SMC_64 1UL
+#endif
+#ifndef ARM_SMCCC_OWNER_STANDARD
+#define ARM_SMCCC_OWNER_STANDARD 4UL
+#endif
+/* What a0 is of a function that there is not. */
+#ifndef SMCCC_RET_NOT_SUPPORTED
+#define SMCCC_RET_NOT_SUPPORTED (-1)
+#endif
+
+/* How a call is made. Here it is always an SMC, and arm_smccc_1_1_invoke has this value. */
+enum arm_smccc_conduit { SMCCC_CONDUIT_NONE, SMCCC_CONDUIT_SMC, SMCCC_CONDUIT_HVC };
 
 /* What an SMC does: X0 to X6 before the call, X0 to X4 after it. The program defines it, once. The simplest one is
  *
@@ -39,12 +66,13 @@ static inline void arm_smccc_1_2_smc(const struct arm_smccc_1_2_regs *args, stru
     res->a4 = it.x4;
 }
 
-static inline void smccc_1_1(const unsigned long x[8], struct arm_smccc_res *res)
+static inline enum arm_smccc_conduit smccc_1_1(const unsigned long x[8], struct arm_smccc_res *res)
 {
     rmm_registers it = {x[0], x[1], x[2], x[3], x[4], x[5], x[6]};
     smccc_conduit(&it);
     if (res != NULL)
         *res = (struct arm_smccc_res){it.x0, it.x1, it.x2, it.x3};
+    return SMCCC_CONDUIT_SMC;
 }
 
 /* X0 and up to seven registers more, and then a pointer to the results, or NULL. */

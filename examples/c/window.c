@@ -19,6 +19,7 @@ static struct {
     struct {
         bool is_host_s;   /* the host has access */
         bool is_mapped;   /* a realm may have it as unprotected memory */
+        uint64_t run;     /* of a REC that was entered: the address of its run page */
         uint64_t state;
     } granules[MOST];
 } window;
@@ -171,6 +172,8 @@ void window_smc(rmm_registers *registers)
         if (before.x0 == RMM_FID_RTT_MAP_UNPROTECTED)
             map(before.x4 & UINT64_C(0xfffffffff000), before.x3);
     }
+    if (is_entry && registers->x0 == RMM_RUNNING)
+        window.granules[number_of(before.x1)].run = before.x2;
 }
 
 bool window_guest(uint64_t rec, const rmm_step *step, const char *text)
@@ -179,6 +182,22 @@ bool window_guest(uint64_t rec, const rmm_step *step, const char *text)
     if (window.log != NULL && is_queued)
         fprintf(window.log, "guest 0x%" PRIx64 " %s = queued\n", rec, text);
     return is_queued;
+}
+
+/* What the host has written to the run page since the entry stays: the exit is another part of the page. */
+bool window_interrupt(uint64_t rec, uint64_t *word)
+{
+    rmm_rec it;
+    if (!rmm_read_rec(&window.rmm, rec, &it) || it.state != RMM_REC_RUNNING)
+        return false;
+    uint64_t run = window.granules[number_of(rec)].run;
+    copy_in(run);
+    rmm_interrupt(&window.rmm, rec, word);
+    copy_out(run);
+    if (window.log != NULL)
+        fprintf(window.log, "interrupt 0x%" PRIx64 " = %s%s\n", rec, rmm_status_name(*word),
+                *word == RMM_SUCCESS ? ", exit IRQ" : "");
+    return true;
 }
 
 rmm_handle *window_rmm(void) { return &window.rmm; }

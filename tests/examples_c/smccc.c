@@ -3,6 +3,22 @@
 
 #include <stdio.h>
 
+/* An inline function in the form of a kernel's header, with its types. */
+typedef uint64_t u64;
+typedef uint64_t phys_addr_t;
+#define SMC_OF_HEADER(func) \
+    ARM_SMCCC_CALL_VAL(ARM_SMCCC_FAST_CALL, ARM_SMCCC_SMC_64, ARM_SMCCC_OWNER_STANDARD, (func))
+#define SMC_OF_HEADER_AUX_COUNT SMC_OF_HEADER(0x0167)
+
+static inline int of_header_aux_count(phys_addr_t rd, u64 *count)
+{
+    struct arm_smccc_res res;
+    arm_smccc_1_1_invoke(SMC_OF_HEADER_AUX_COUNT, rd, &res);
+    if (count)
+        *count = res.a1;
+    return (int)res.a0;
+}
+
 static rmm_registers seen;
 static unsigned passed;
 
@@ -27,6 +43,7 @@ int main(void)
     struct arm_smccc_1_2_regs regs = {.a0 = 1, .a1 = 2, .a4 = 5, .a6 = 7, .a7 = 8, .a17 = 18}, after;
     unsigned long lower, higher;
     struct rmi_entry entry;
+    u64 count = 0;
     arm_smccc_1_1_smc(1, &res);
     CHECKED(seen.x0 == 1 && seen.x1 == 0 && seen.x6 == 0);
     CHECKED(res.a0 == 91 && res.a1 == 92 && res.a2 == 93 && res.a3 == 94);
@@ -47,6 +64,12 @@ int main(void)
     CHECKED(rmi_data_create(11, 12, 13, 14, 1) == 91 && seen.x0 == 0xC4000153 && seen.x5 == 1 && seen.x6 == 0);
     CHECKED(rmi_rtt_read_entry(11, 12, 3, &entry) == 91 && seen.x0 == 0xC4000161 && seen.x3 == 3);
     CHECKED(entry.level == 92 && entry.state == 93 && entry.desc == 94 && entry.ripas == 95);
+    CHECKED(of_header_aux_count(11, &count) == 91 && count == 92 && seen.x0 == 0xC4000167 && seen.x1 == 11);
+    /* DEN0028: SMCCC_VERSION is 0x80000000, PSCI_VERSION 0x84000000, and its CPU_ON of 64 bits 0xC4000003. */
+    CHECKED(ARM_SMCCC_CALL_VAL(ARM_SMCCC_FAST_CALL, ARM_SMCCC_SMC_32, 0, 0) == 0x80000000);
+    CHECKED(ARM_SMCCC_CALL_VAL(ARM_SMCCC_FAST_CALL, ARM_SMCCC_SMC_32, ARM_SMCCC_OWNER_STANDARD, 0) == 0x84000000);
+    CHECKED(ARM_SMCCC_CALL_VAL(0UL, ARM_SMCCC_SMC_32, 0x7f, 0x12345) == 0x3f002345);
+    CHECKED(arm_smccc_1_1_invoke(1, &res) == SMCCC_CONDUIT_SMC);
     printf("%u checks passed\n", passed);
     return 0;
 }

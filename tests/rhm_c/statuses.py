@@ -66,6 +66,7 @@ def answers():
     wanted("an entry that the model refuses", host.commit(0, "enter", 0, 0, answer=(0, 0)), "RHM_DIVERGED", REALM)
     wanted("the same", host.commit(0, "enter", 0, 0, answer=(2**64 - 2, 0)), "RHM_DIVERGED", REALM)
     wanted("a delegation", host.commit(0, "delegate", 8, answer=(INPUT, 0)), "RHM_NOT_EXPECTED")
+    wanted("an index beside RMI_SUCCESS", host.commit(0, "delegate", 8, answer=(0x100, 0)), "RHM_NOT_EXPECTED")
     wanted("a delegation", host.commit(0, "delegate", 8, answer=(0, 9)), "RHM_DONE")
     wanted("a block", host.prepare(0, "take", 9), "RHM_NO_BLOCK")
     wanted("a block", host.commit(0, "take", 9), "RHM_NO_BLOCK", 9)
@@ -80,6 +81,34 @@ def outputs():
         left = host.read_build(0)["open_count"]
         wanted("an undo", host.commit_undo(0, answer), name)
         wanted("it again", host.commit_undo(0, (0, BASE + 4096 * page)), "RHM_DONE", left - 1)
+
+
+def settled():
+    """An undo that the RMM has performed is committed without a call, whatever its output is."""
+    host = booted()
+    for left in reversed(range(14)):
+        wanted("an undo", host.settle_undo(0), "RHM_DONE", left)
+    wanted("one more", host.settle_undo(0), "RHM_NOTHING_TO_UNDO")
+
+
+def two_entries():
+    """Between the two steps of an entry another REC of the build is entered. Neither changes what the other one does."""
+    host = booted(("delegate", 10), ("delegate", 11))
+    wanted("a second REC", host.rec(0, 10, [11]), "RHM_DONE", 1)
+    wanted("the realm", host.activate(0), "RHM_DONE")
+    first = host.prepare(0, "enter", 0, 0)
+    wanted("the first REC", first, "RHM_DONE")
+    wanted("the second REC", host.prepare(0, "enter", 1, 1), "RHM_DONE")
+    wanted("the second REC", host.commit(0, "enter", 1, 1), "RHM_DONE")
+    again = host.prepare(0, "enter", 0, 0)
+    if repr(again) != repr(first):
+        raise AssertionError(f"the first REC: {again}, and not {first}")
+    wanted("the first REC", host.commit(0, "enter", 0, 0), "RHM_DONE")
+    wanted("the exits", host.exit(0, 0), "RHM_DONE")
+    wanted("the exits", host.exit(0, 1), "RHM_DONE")
+    came = [(it["kind"], it["rec"]) for it in host.history[-4:]]
+    if came != [("enter", 1), ("enter", 0), ("exit", 0), ("exit", 1)]:
+        raise AssertionError(f"the events: {came}")
 
 
 def way_back():
@@ -109,6 +138,6 @@ def full_history():
     wanted("an abort", host.abort(0), "RHM_DONE", 14)
 
 
-for part in refused_before, answers, outputs, way_back, full_history:
+for part in refused_before, answers, outputs, settled, two_entries, way_back, full_history:
     part()
 print(f"{counted} statuses are as rhm.h has them")
