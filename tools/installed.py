@@ -36,7 +36,10 @@ MODEL = re.compile(r"(?<![\w./-])tests/(?=second_rmm\b|rmm_lines\.py\b)")
 FORMS = (
     (r"(?m)^\$ make try$", "$ realmview why plans/missing-tables.toml"),
     (r"(?m)^cc -Iinclude (.*) build/lib(\w+)\.a ", r"cc \1 $(pkg-config --cflags --libs \2) "),
-    (r"(?m)^export PKG_CONFIG_PATH=build LD_LIBRARY_PATH=build$", 'export PKG_CONFIG_PATH="$PWD/../../lib/pkgconfig" LD_LIBRARY_PATH="$PWD/../../lib"'),
+    (
+        r"(?m)^export PKG_CONFIG_PATH=build LD_LIBRARY_PATH=build$",
+        'export PKG_CONFIG_PATH="$PWD/../../lib/pkgconfig" LD_LIBRARY_PATH="$PWD/../../lib"',
+    ),
 )
 SOURCES = re.compile(r"(?<![\w./-])(?=(bench|bin|completions|crates|tests|tools)/[\w*`])")
 LINK = re.compile(r"\[((?:[^\[\]]|\[[^\]]*\])*)\]\(([^)\s]+)\)")
