@@ -21,8 +21,8 @@ use Rattle.rmm_laws.specs.Owner.{is_rd}
 abbrev pub IsRealmIn : Machine → ℕ → RmmRealmState → Type 0
 IsRealmIn m rd state = (realm : RmmRealm) × ((granule_at m rd).state ≡ Rd realm) × (realm.state ≡ state)
 
--- A call brings a realm to a state: it creates a NEW one, or it activates one that is NEW. Or it enters a REC of one that
--- is ACTIVE, whose guest switches it off.
+-- A call can bring a realm to a state: it creates a NEW one, or it activates one that is NEW. Or it enters a REC of one
+-- that is ACTIVE, which can become SYSTEM_OFF.
 abbrev pub IsBrought : Machine → Option Call → ℕ → RmmRealmState → Type 0
 IsBrought m (Some (RealmCreate of params)) rd New = (rd ≡ number_of m of) × (is_rd (granule_at m rd).state ≡ false)
 IsBrought m (Some (RealmActivate of)) rd Active = (rd ≡ number_of m of) × IsRealmIn m rd New

@@ -67,7 +67,8 @@ pub fn refusals_change_nothing()
 {}
 
 /// Words that an RMM may answer beside the one that is answered refuse too. A call that is refused is answered one of the
-/// words that are allowed, and each of these refuses. If a call is not refused, RMI_SUCCESS alone is allowed.
+/// words that are allowed, and each of these refuses. If a call is not refused, RMI_SUCCESS alone is allowed, also of an RMI_REC_ENTER
+/// that is answered with the word of a REC that runs on.
 pub fn allowed_is_refused()
     ensures done { (call : Call) (m : Machine) → is_refusal (performed call m).0.word ≡ false → allowed_words (command_of call m) ≡ Success ∷ [] }
     ensures own { (call : Call) (m : Machine) → is_refusal (performed call m).0.word ≡ true → IsOneOf (performed call m).0.word (allowed_words (command_of call m)) }
@@ -150,8 +151,8 @@ pub fn tops_are_complete()
 /// Steps of a teardown succeed: RMI_REC_DESTROY of a REC that does not run, and RMI_DATA_DESTROY of a page. So do
 /// RMI_RTT_UNMAP_UNPROTECTED of a mapping, and RMI_RTT_DESTROY of a table without live entries. RMI_REALM_DESTROY succeeds
 /// for a realm without RECs and live entries, and RMI_GRANULE_UNDELEGATE for a DELEGATED granule, which is UNDELEGATED and
-/// zero then. While an entry of a realm is live, there is a step that succeeds. If no REC of it runs, there is one until
-/// the realm is destroyed. What a realm had until its RMI_REALM_DESTROY is its RD and its starting tables, which are
+/// zero then. If a granule is DELEGATED, a step succeeds while an entry of a realm is live. If no REC of it runs either,
+/// one succeeds until the realm is destroyed. What a realm had until its RMI_REALM_DESTROY is its RD and its starting tables, which are
 /// DELEGATED and zero.
 pub fn teardown_steps_succeed()
     ensures recs { (m : Machine) (rec : ℕ) → is_rec_named m rec ≡ true → is_running (rec_at m rec).state ≡ false → (performed (RecDestroy rec) m).0.word ≡ Success }
@@ -188,7 +189,7 @@ pub fn realms_can_be_torn_down()
 {}
 
 /// A realm is activated once. It is NEW when it is created, RMI_REALM_ACTIVATE makes it ACTIVE if it is NEW, and an
-/// RMI_REC_ENTER of a REC of it makes it SYSTEM_OFF if it is ACTIVE. Nothing else changes its state: no other call, no
+/// RMI_REC_ENTER of a REC of it can make it SYSTEM_OFF if it is ACTIVE. Nothing else changes its state: no other call, no
 /// step that a guest is given, and no interrupt.
 pub fn activated_once()
     ensures calls { (r : Registers) (m : Machine) → IsProper m → KeepsStates m (call_in r) (rmi r m).1 }
@@ -197,7 +198,7 @@ pub fn activated_once()
 {}
 
 /// RIMs are measured: RMI_REALM_CREATE gives a realm its first RIM. RMI_DATA_CREATE, RMI_RTT_INIT_RIPAS and RMI_REC_CREATE
-/// extend it while the realm is NEW. No other call changes it, and neither do steps that guests are given, and interrupts.
+/// of a REC that is measured extend it while the realm is NEW. No other call changes it, and neither do steps that guests are given, and interrupts.
 pub fn rims_are_measured()
     ensures calls { (r : Registers) (m : Machine) → IsProper m → KeepsRims m (call_in r) (rmi r m).1 }
     ensures steps { (m : Machine) (rec : ℕ) (w : StepWords) → KeepsRims m None (queued m rec w).1 }
