@@ -3,6 +3,7 @@ pub mod Answered
 pub mod Aside
 pub mod Blocks
 pub mod Children
+pub mod Effects
 pub mod Entries
 pub mod EntryWords
 pub mod Fold
@@ -32,6 +33,8 @@ pub mod RecLives
 pub mod Recs
 pub mod RecsGone
 pub mod Refolding
+pub mod Releasing
+pub mod ReleasingCalls
 pub mod Running
 pub mod Seats
 pub mod Serving

@@ -25,6 +25,7 @@ use Rattle.rmm_laws.proofs.Keeping.{keep_page, keep_granule}
 use Rattle.rmm_laws.proofs.Orders.{is_memory_state, ordered_realm, ordered_rec, ordered_rec_page, ordered_memory}
 use Rattle.rmm_laws.proofs.PageWords.{length-page_with_word, length-with_words_from, word_of_page-with_words_from_other}
 use Rattle.rmm_laws.proofs.Plain.{keep_plain_page}
+use Rattle.rmm_laws.proofs.Releasing.{Held, held_all, held_granule}
 use Rattle.rmm_laws.proofs.States.{IsAsBefore, same_realm, write_back}
 use Rattle.rmm_laws.proofs.Touching.{Touches, IsMine, untouched, mine_before, touch_granule, touch_page}
 use Rattle.rmm_laws.proofs.Writes.{is_user, granule_at-same, granule_at-other, taken_inside}
@@ -92,11 +93,13 @@ pub record IsGoing (o : Machine) (w : ℕ) (g : ℕ) (m : Machine) : Type 0 wher
   pub touches : Touches o m (Some w)
   pub owned : (granule_at m g).owner ≡ Some w
   pub mine : IsMine o (Some w) g
+  pub vmids : m.vmids ≡ o.vmids
+  pub held : Held o m
   pub states : (rd : ℕ) (realm : RmmRealm) → (granule_at m rd).state ≡ Rd realm → IsAsBefore o rd realm ⊎ ((rd ≡ w) × (realm.state ≡ IsSystemOff) × HasRim o rd realm.rim)
 
 -- a REC before any write
 pub going_first : (g w : ℕ) (m : Machine) (rec : RmmRec) → IsProper m → (granule_at m g).state ≡ IsRec rec → (granule_at m g).owner ≡ Some w → IsGoing m w g m
-going_first g w m rec proper is owned = record { proper = proper.linked; ordered = proper.ordered; rec = rec; is = is; touches = untouched m (Some w); owned = owned; mine = inl (inr owned); states = λ rd realm at. inl (realm, at, refl, refl) }
+going_first g w m rec proper is owned = record { proper = proper.linked; ordered = proper.ordered; rec = rec; is = is; touches = untouched m (Some w); owned = owned; mine = inl (inr owned); vmids = refl; held = held_all m; states = λ rd realm at. inl (realm, at, refl, refl) }
 
 module _ (o : Machine) (w : ℕ) where
   pub going_inside : (g : ℕ) (m : Machine) → IsGoing o w g m → g < length m.granules
@@ -114,6 +117,8 @@ module _ (o : Machine) (w : ℕ) where
         touches = touch_granule o m (Some w) g kept going.touches going.mine;
         owned = ap (λ (r : RmmGranule). r.owner) now ∙ going.owned;
         mine = going.mine;
+        vmids = going.vmids;
+        held = held_granule o m g kept refl going.held;
         states = λ rd realm at. ⊎_elim
             (λ (written : (rd ≡ g) × (IsRec rec ≡ Rd realm)). (let never = written.1 in absurd (cc)))
             (λ (before : (granule_at m rd).state ≡ Rd realm). going.states rd realm before)
@@ -131,6 +136,8 @@ module _ (o : Machine) (w : ℕ) where
         touches = touch_page o m (Some w) g page going.touches going.mine;
         owned = going.owned;
         mine = going.mine;
+        vmids = going.vmids;
+        held = going.held;
         states = going.states;
       }
 
@@ -159,6 +166,8 @@ module _ (o : Machine) (w : ℕ) where
     touches = touch_page o m (Some w) h page going.touches (mine_before o m (Some w) h going.touches mine);
     owned = going.owned;
     mine = going.mine;
+    vmids = going.vmids;
+    held = going.held;
     states = going.states;
   }
 
@@ -180,6 +189,8 @@ module _ (o : Machine) (w : ℕ) where
         touches = touch_granule o m (Some w) rd (of_no_realm (Rd other)) going.touches (inl (inl named));
         owned = ap (λ (r : RmmGranule). r.owner) still ∙ going.owned;
         mine = going.mine;
+        vmids = going.vmids;
+        held = held_granule o m rd (of_no_realm (Rd other)) refl going.held;
         states = λ x new at. ⊎_elim
             (λ (written : (x ≡ rd) × (Rd other ≡ Rd new)).
             let it : other ≡ new = same_realm written.1 in

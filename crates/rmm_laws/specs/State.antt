@@ -46,13 +46,21 @@ rim_with_range m realm base top =
 -- A call gives the realm of an RD a RIM: it creates the realm. Or it extends the RIM of a NEW one by a page of data, by a
 -- range of RIPAS, or by a REC.
 abbrev pub IsMeasured : Machine → Option Call → ℕ → List ℕ → Type 0
-IsMeasured m (Some (RealmCreate of params)) rd rim = (rd ≡ number_of m of) × (rim ≡ (realm_for m (params_at m params)).rim)
+IsMeasured m (Some (RealmCreate of params)) rd rim = (rd ≡ number_of m of) × (is_rd (granule_at m rd).state ≡ false) × (rim ≡ (realm_for m (params_at m params)).rim)
 IsMeasured m (Some (DataCreate of page ipa source flags)) rd rim =
     (rd ≡ number_of m of) × IsRealmIn m rd New × (rim ≡ rim_with_data (realm_at m of) ipa flags (page_in m (number_of m source)))
 IsMeasured m (Some (RttInitRipas of base top)) rd rim =
     (rd ≡ number_of m of) × IsRealmIn m rd New × (rim ≡ rim_with_range m (realm_at m of) base top)
 IsMeasured m (Some (RecCreate of rec params)) rd rim = (rd ≡ number_of m of) × IsRealmIn m rd New × (rim ≡ rim_with_rec m.settings (realm_at m of) (page_in m (number_of m params)))
 IsMeasured m call rd rim = ⊥
+
+-- a call is one that gives the realm of an RD a RIM if it succeeds
+abbrev pub Measures : Machine → Call → ℕ → Type 0
+Measures m (RealmCreate of params) rd = rd ≡ number_of m of
+Measures m (DataCreate of page ipa source flags) rd = rd ≡ number_of m of
+Measures m (RttInitRipas of base top) rd = rd ≡ number_of m of
+Measures m (RecCreate of rec params) rd = rd ≡ number_of m of
+Measures m call rd = ⊥
 
 -- Each realm after a call was there with that RIM before it, or the call gave it.
 abbrev pub KeepsRims : Machine → Option Call → Machine → Type 0
