@@ -156,7 +156,7 @@ wiped_length : (m : Machine) (o : Option ℕ) (r : RmmGranule) → length (with_
 wiped_length m (Some g) r = length-set m.granules g r
 wiped_length m None r = refl
 
-aux_length : (m : Machine) (g : ℕ) (r : RmmGranule) (count : ℕ) → length (with_aux m g r count).granules ≡ length m.granules
+pub aux_length : (m : Machine) (g : ℕ) (r : RmmGranule) (count : ℕ) → length (with_aux m g r count).granules ≡ length m.granules
 unfolding with_aux
 aux_length m g r zero = refl
 aux_length m g r (suc count) = wiped_length (with_aux m g r count) (aux_granule (with_aux m g r count) g count) r ∙ aux_length m g r count

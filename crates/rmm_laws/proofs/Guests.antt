@@ -50,6 +50,7 @@ use Rattle.rmm_laws.proofs.Orders.{is_memory_state, owner_is, rd_is, rd_of}
 use Rattle.rmm_laws.proofs.Passed.{Passed, yes_from, some_same, realm_of-is, rec_of-some, rec_of-there, rec_named-is}
 use Rattle.rmm_laws.proofs.Plain.{host_inside, host_plain}
 use Rattle.rmm_laws.proofs.Recs.{IsGoing, going_first, going_rec, going_word, going_words, going_plain, going_realm}
+use Rattle.rmm_laws.proofs.Lasting.{Lasts}
 use Rattle.rmm_laws.proofs.Releasing.{Held}
 use Rattle.rmm_laws.proofs.States.{IsAsBefore}
 use Rattle.rmm_laws.proofs.Touching.{Touches, IsMine}
@@ -170,7 +171,7 @@ module _ (o : Machine) (w : ℕ) where
   going_realm_off g rd m (Some realm) named is going =
       let there = realm_of-is (granule_at m rd).state realm is in
       let s = served m rd realm going.proper there in
-      going_realm o w g rd m realm _ going named there refl refl refl refl refl refl refl (record { few = s.few; inside = s.inside; most = s.most; level = s.level; width = s.width; served = s.served })
+      going_realm o w g rd m realm _ going named there refl refl refl refl refl refl refl refl (record { few = s.few; inside = s.inside; most = s.most; level = s.level; width = s.width; served = s.served })
   going_realm_off g rd m None named is going = going
 
   going_off : (g : ℕ) (m : Machine) (owner : Option ℕ) → owner ≡ Some w → IsGoing o w g m → IsGoing o w g (with_system_off m owner)
@@ -242,6 +243,7 @@ module _ (o : Machine) (w : ℕ) where
         mine = mine;
         vmids = (going_rec o w g m rec going).vmids;
         held = (going_rec o w g m rec going).held;
+        lasts = (going_rec o w g m rec going).lasts;
         states = (going_rec o w g m rec going).states;
       })
       (cases_eq h g)
@@ -301,6 +303,9 @@ module _ (rec address : ℕ) (m : Machine) (proper : IsProper m) (ok : Passed (r
   pub entered_held : Held m (rec_enter rec address m).machine
   entered_held = entry_going.held
 
+  pub entered_lasts : Lasts m (rec_enter rec address m).machine
+  entered_lasts = entry_going.lasts
+
   -- each realm is in the state that it was in, or it is that of the REC, and is off
   pub entered_states : (rd : ℕ) (realm : RmmRealm) → (granule_at (rec_enter rec address m).machine rd).state ≡ Rd realm
       → IsAsBefore m rd realm ⊎ ((realm.state ≡ IsSystemOff) × ((granule_at m (number_of m rec)).owner ≡ Some rd) × IsRealmIn m rd Active × HasRim m rd realm.rim)
@@ -354,6 +359,9 @@ module _ (calling target status : ℕ) (m : Machine) (proper : IsProper m) (ok :
 
   pub completed_held : Held m (psci_complete calling target status m).machine
   completed_held = target_going.held
+
+  pub completed_lasts : Lasts m (psci_complete calling target status m).machine
+  completed_lasts = target_going.lasts
 
   pub completed_touches : Touches m (psci_complete calling target status m).machine (realm_of_rec m calling)
   unfolding psci_complete

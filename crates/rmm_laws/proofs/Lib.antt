@@ -13,6 +13,8 @@ pub mod Guests
 pub mod Halves
 pub mod Halving
 pub mod Keeping
+pub mod Lasting
+pub mod LastingCalls
 pub mod LeftAlone
 pub mod Mapped
 pub mod Mappings

@@ -25,6 +25,7 @@ use Rattle.rmm_laws.specs.Half.{HasHalves}
 use Rattle.rmm_laws.specs.Owner.{is_rd, is_owner, IsOrderly, IsOrderlyAt, is_rec_in}
 use Rattle.rmm_laws.specs.Proper.{IsProper}
 use Rattle.rmm_laws.specs.Role.{Used, used, state_uses, uses, IsSound, IsLinked}
+use Rattle.rmm_laws.specs.State.{fixed}
 use Rattle.rmm_laws.proofs.Halves.{has_space, kept_or_plain, same_space}
 use Rattle.rmm_laws.proofs.Orders.{owner_is, rd_is, rd_of, is_counter, counted, total-set, total-alike, orderly_same, orderly_but}
 use Rattle.rmm_laws.proofs.Passed.{Passed, some_same, rec_of-some, rec_named-is}
@@ -180,9 +181,9 @@ less_one before after is = omega arith
 
 -- ---- with one REC less
 
--- the VMID of the realm of an RD
-abbrev pub vmid_of : RmmGranuleState → ℕ
-vmid_of s = (unwrap_or (realm_of s) no_realm).vmid
+-- what the realm of an RD keeps from its creation on
+abbrev pub fixed_of : RmmGranuleState → RmmRealm
+fixed_of s = fixed (unwrap_or (realm_of s) no_realm)
 
 module _ (rec : ℕ) (m : Machine) (proper : IsProper m) (ok : Passed (rec_destroy rec m).checks) where
   abbrev here : ℕ
@@ -348,7 +349,7 @@ module _ (rec : ℕ) (m : Machine) (proper : IsProper m) (ok : Passed (rec_destr
   abbrev AllChanged : Machine → Type 0
   AllChanged n = (n.settings ≡ m.settings) × (length n.granules ≡ length m.granules)
       × ((h : ℕ) → (granule_at n h ≡ granule_at m h) ⊎ (((is_rd (granule_at m h).state ≡ false) × (granule_at n h ≡ of_no_realm Delegated))
-      ⊎ ((realm_of_rec m rec ≡ Some h) × (is_rd (granule_at n h).state ≡ true) × ((granule_at n h).owner ≡ None) × (vmid_of (granule_at n h).state ≡ vmid_of (granule_at m h).state))))
+      ⊎ ((realm_of_rec m rec ≡ Some h) × (is_rd (granule_at n h).state ≡ true) × ((granule_at n h).owner ≡ None) × (fixed_of (granule_at n h).state ≡ fixed_of (granule_at m h).state))))
 
   all_changed : AllChanged after
   all_changed =
@@ -365,7 +366,7 @@ module _ (rec : ℕ) (m : Machine) (proper : IsProper m) (ok : Passed (rec_destr
               destroyed_of ∙ ap (λ (x : ℕ). Some x) (sym it),
               ap (λ (x : ℕ). is_rd (granule_at after x).state) it ∙ ap (λ (r : RmmGranule). is_rd r.state) w_then,
               ap (λ (x : ℕ). (granule_at after x).owner) it ∙ ap (λ (r : RmmGranule). r.owner) w_then,
-              subst (λ (x : ℕ). vmid_of (granule_at after x).state ≡ vmid_of (granule_at m x).state) (sym it) (ap (λ (r : RmmGranule). vmid_of r.state) w_then ∙ sym (ap vmid_of of_rd.1)),
+              subst (λ (x : ℕ). fixed_of (granule_at after x).state ≡ fixed_of (granule_at m x).state) (sym it) (ap (λ (r : RmmGranule). fixed_of r.state) w_then ∙ sym (ap fixed_of of_rd.1)),
             )))
             (λ (other : h ≢ w). ⊎_elim
             (λ (gone_here : h ≡ here).

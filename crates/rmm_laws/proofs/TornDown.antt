@@ -8,6 +8,7 @@ use Rattle.rmi_abi.specs.declared.word.Word.TheVariants.{Success}
 use Rattle.rmm_model.specs.declared.granule.RmmGranule.{RmmGranule}
 use Rattle.rmm_model.specs.declared.granule.RmmGranuleState.{RmmGranuleState}
 use Rattle.rmm_model.specs.declared.granule.RmmGranuleState.TheVariants.{Undelegated, Delegated, Rd, Rec as IsRec, Data, Rtt}
+use Rattle.rmm_model.specs.declared.realm.RmmRealm.{RmmRealm}
 use Rattle.rmm_model.specs.declared.rec.RmmRec.{RmmRec}
 use Rattle.rmm_model.specs.Call.{performed}
 use Rattle.rmm_model.specs.Granule.{of_realm, realm_of}
@@ -22,12 +23,12 @@ use Rattle.rmm_laws.specs.Walk.{IsTableOf}
 use Rattle.rmm_laws.proofs.Freed.{rtt_destroy_back, data_destroy_back}
 use Rattle.rmm_laws.proofs.LeftAlone.{left_alone}
 use Rattle.rmm_laws.proofs.Passed.{realm_of-some, rd_named-is}
-use Rattle.rmm_laws.proofs.RecsGone.{vmid_of}
+use Rattle.rmm_laws.proofs.RecsGone.{fixed_of}
 use Rattle.rmm_laws.proofs.Steps.{begin_number, begin_aligned, begin_inside, page_removal, step_or_end}
 use Rattle.rmm_laws.proofs.Teardown.{rd_tests, granule_step, undelegated, nothing_left}
 use Rattle.rmm_laws.proofs.Wiping.{is_or_not}
 use Rattle.rmm_laws.proofs.Writes.{inside-same, number-same, taken_inside}
-use Rattle.rmm_laws.proofs.Weights.{IsGivenBack, undelegate_then, realm_then, IsKept, IsKin, IsStep, IsFreed, HasUnfolded, heavy, mapped, weight, step_weight, freed_weight, data_weight, unfold_weight, unfolded_level, unfold_then, unmap_then, rec_freed, of_back, data_kin, table_kin, kept_then, rd_then, vmid_then, rec_before}
+use Rattle.rmm_laws.proofs.Weights.{IsGivenBack, undelegate_then, realm_then, IsKept, IsKin, IsStep, IsFreed, HasUnfolded, heavy, mapped, weight, step_weight, freed_weight, data_weight, unfold_weight, unfolded_level, unfold_then, unmap_then, rec_freed, of_back, data_kin, table_kin, kept_then, rd_then, fixed_then, rec_before}
 
 -- ---- the way from a machine
 
@@ -186,9 +187,9 @@ module _ (o : Machine) (rd r : ℕ) where
         named = rd_named-is n rd tests.0 (ap not (inside-same m n kin.1 kin.2 rd) ∙ tests.1) (some_rd (state_at n rd) (ap (λ (g : ℕ). is_rd (granule_at n g).state) number ∙ still));
         ready = λ g rec is. going.ready g rec (rec_before r x g (granule_at m g) (granule_at n g) rec (step.each g) is);
         ours = λ g had. kept_then m n r x g (step.each g) (going.ours g had);
-        vmid = ap (λ (g : ℕ). vmid_of (granule_at n g).state) number
-            ∙ vmid_then r x r (granule_at m r) (granule_at n r) (step.each r) was
-            ∙ sym (ap (λ (g : ℕ). vmid_of (granule_at m g).state) going.number)
+        vmid = ap (λ (g : ℕ). (fixed_of (granule_at n g).state).vmid) number
+            ∙ ap (λ (realm : RmmRealm). realm.vmid) (fixed_then r x r (granule_at m r) (granule_at n r) (step.each r) was)
+            ∙ sym (ap (λ (g : ℕ). (fixed_of (granule_at m g).state).vmid) going.number)
             ∙ going.vmid;
       }
 

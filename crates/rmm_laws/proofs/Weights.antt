@@ -51,7 +51,7 @@ use Rattle.rmm_laws.proofs.Passed.{yes_from, is_delegated-true, realm_of-some, r
 use Rattle.rmm_laws.proofs.Plain.{undelegated as undelegated_linked}
 use Rattle.rmm_laws.proofs.RealmOrders.{gone_like, gone_spare, none_if, realm_destroyed}
 use Rattle.rmm_laws.proofs.Realms.{or_none}
-use Rattle.rmm_laws.proofs.RecsGone.{vmid_of, rec_destroyed, destroyed_changed}
+use Rattle.rmm_laws.proofs.RecsGone.{fixed_of, rec_destroyed, destroyed_changed}
 use Rattle.rmm_laws.proofs.Tables.{table_made, table_gone}
 use Rattle.rmm_laws.proofs.Unfolding.{page_in_machine, child_entry_is}
 use Rattle.rmm_laws.proofs.Walks.{IsPlace, entry_index-few}
@@ -125,9 +125,9 @@ mapped m = total (λ g. total (ns_at (page_in m g)) 512) (length m.granules)
 
 -- ---- steps
 
--- A granule becomes DELEGATED, or is the RD still, with its VMID, or stays as it was.
+-- A granule becomes DELEGATED, or is the RD still, of a realm that has kept what it had, or stays as it was.
 abbrev pub IsLess : ℕ → ℕ → RmmGranule → RmmGranule → Type 0
-IsLess r g a b = (b ≡ a) ⊎ (((is_rd a.state ≡ false) × (b ≡ of_no_realm Delegated)) ⊎ ((g ≡ r) × (is_rd b.state ≡ true) × (b.owner ≡ None) × (vmid_of b.state ≡ vmid_of a.state)))
+IsLess r g a b = (b ≡ a) ⊎ (((is_rd a.state ≡ false) × (b ≡ of_no_realm Delegated)) ⊎ ((g ≡ r) × (is_rd b.state ≡ true) × (b.owner ≡ None) × (fixed_of b.state ≡ fixed_of a.state)))
 
 -- Or one granule becomes a table of the realm.
 abbrev pub IsNext : ℕ → ℕ → ℕ → RmmGranule → RmmGranule → Type 0
@@ -148,11 +148,11 @@ rd_then r x g a b (inl (inr (inl freed))) sure = absurd (both_ways (is_rd a.stat
 rd_then r x g a b (inl (inr (inr rd))) sure = rd.1
 rd_then r x g a b (inr made) sure = absurd (both_ways (is_rd a.state) (ap is_rd made.1) sure)
 
-pub vmid_then : (r x g : ℕ) (a b : RmmGranule) → IsNext r x g a b → is_rd a.state ≡ true → vmid_of b.state ≡ vmid_of a.state
-vmid_then r x g a b (inl (inl same)) sure = ap (λ (c : RmmGranule). vmid_of c.state) same
-vmid_then r x g a b (inl (inr (inl freed))) sure = absurd (both_ways (is_rd a.state) freed.0 sure)
-vmid_then r x g a b (inl (inr (inr rd))) sure = rd.3
-vmid_then r x g a b (inr made) sure = absurd (both_ways (is_rd a.state) (ap is_rd made.1) sure)
+pub fixed_then : (r x g : ℕ) (a b : RmmGranule) → IsNext r x g a b → is_rd a.state ≡ true → fixed_of b.state ≡ fixed_of a.state
+fixed_then r x g a b (inl (inl same)) sure = ap (λ (c : RmmGranule). fixed_of c.state) same
+fixed_then r x g a b (inl (inr (inl freed))) sure = absurd (both_ways (is_rd a.state) freed.0 sure)
+fixed_then r x g a b (inl (inr (inr rd))) sure = rd.3
+fixed_then r x g a b (inr made) sure = absurd (both_ways (is_rd a.state) (ap is_rd made.1) sure)
 
 pub rec_before : (r x g : ℕ) (a b : RmmGranule) (rec : RmmRec) → IsNext r x g a b → b ≡ of_realm r (IsRec rec) → a ≡ of_realm r (IsRec rec)
 rec_before r x g a b rec (inl (inl same)) is = sym same ∙ is
@@ -231,7 +231,7 @@ of_back m n r address s plain taken back kin = record {
 }
 
 as_next : (r x g : ℕ) (a b : RmmGranule) (owner : Option ℕ) → owner ≡ Some r
-    → (b ≡ a) ⊎ (((is_rd a.state ≡ false) × (b ≡ of_no_realm Delegated)) ⊎ ((owner ≡ Some g) × (is_rd b.state ≡ true) × (b.owner ≡ None) × (vmid_of b.state ≡ vmid_of a.state))) → IsNext r x g a b
+    → (b ≡ a) ⊎ (((is_rd a.state ≡ false) × (b ≡ of_no_realm Delegated)) ⊎ ((owner ≡ Some g) × (is_rd b.state ≡ true) × (b.owner ≡ None) × (fixed_of b.state ≡ fixed_of a.state))) → IsNext r x g a b
 as_next r x g a b owner of_r (inl same) = inl (inl same)
 as_next r x g a b owner of_r (inr (inl freed)) = inl (inr (inl freed))
 as_next r x g a b owner of_r (inr (inr rd)) = inl (inr (inr (some_same (sym rd.0 ∙ of_r), rd.1, rd.2, rd.3)))

@@ -1,7 +1,7 @@
 -- The states and RIMs of realms, and the calls that change them. RMM 1.0, Realm lifecycle, Realm Initial Measurement.
-use Rattle.std.specs.Prelude.{◌≡◌, ℕ, ◌⊎◌, false, List, Option, Some}
+use Rattle.std.specs.Prelude.{◌≡◌, ℕ, ◌⊎◌, false, List, [], Option, Some}
 use Rattle.rmi_abi.specs.declared.call.Call.{Call}
-use Rattle.rmi_abi.specs.declared.call.Call.TheVariants.{DataCreate, RealmCreate, RealmActivate, RecCreate, RecEnter, RttInitRipas}
+use Rattle.rmi_abi.specs.declared.call.Call.TheVariants.{DataCreate, RealmCreate, RealmActivate, RealmDestroy, RecCreate, RecEnter, RttInitRipas}
 use Rattle.rmm_model.specs.declared.granule.RmmGranuleState.TheVariants.{Rd}
 use Rattle.rmm_model.specs.declared.realm.RmmRealm.{RmmRealm}
 use Rattle.rmm_model.specs.declared.realm.RmmRealmState.{RmmRealmState}
@@ -28,6 +28,23 @@ IsBrought m (Some (RealmCreate of params)) rd New = (rd ≡ number_of m of) × (
 IsBrought m (Some (RealmActivate of)) rd Active = (rd ≡ number_of m of) × IsRealmIn m rd New
 IsBrought m (Some (RecEnter rec run)) rd SystemOff = ((granule_at m (number_of m rec)).owner ≡ Some rd) × IsRealmIn m rd Active
 IsBrought m call rd state = ⊥
+
+-- what a realm keeps from its creation on: all but its state, its RIM and its RECs
+abbrev pub fixed : RmmRealm → RmmRealm
+fixed realm = record realm { state = New; rim = []; next_rec = 0; rec_count = 0 }
+
+-- a granule is the RD of a realm that has kept what a realm had
+abbrev pub IsLasting : Machine → ℕ → RmmRealm → Type 0
+IsLasting m rd realm = (other : RmmRealm) × ((granule_at m rd).state ≡ Rd other) × (fixed other ≡ fixed realm)
+
+-- a call destroys the realm of an RD
+abbrev pub IsDestroyed : Machine → Option Call → ℕ → Type 0
+IsDestroyed m (Some (RealmDestroy of)) rd = rd ≡ number_of m of
+IsDestroyed m call rd = ⊥
+
+-- Each realm before a call is there after it, and has kept what it had, or the call destroys it.
+abbrev pub KeepsRealms : Machine → Option Call → Machine → Type 0
+KeepsRealms m call n = (rd : ℕ) (realm : RmmRealm) → (granule_at m rd).state ≡ Rd realm → IsLasting n rd realm ⊎ IsDestroyed m call rd
 
 -- a granule is the RD of a realm with a RIM
 abbrev pub HasRim : Machine → ℕ → List ℕ → Type 0

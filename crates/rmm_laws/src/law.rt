@@ -47,7 +47,7 @@ ghost use Rattle.rmm_laws.specs.Owner.{is_rec_in};
 ghost use Rattle.rmm_laws.specs.Proper.{IsProper};
 ghost use Rattle.rmm_laws.specs.Refusal.{IsRefused, is_refusal, IsOneOf, IsRecEnter, IsFault, IsNotGiven, IsNotQueued, IsNotRunning, IsAccess, IsNotDone};
 ghost use Rattle.rmm_laws.specs.Role.{Used, page_count, uses, IsSound};
-ghost use Rattle.rmm_laws.specs.State.{IsRealmIn, KeepsStates, HasRim, IsMeasured, Measures, KeepsRims};
+ghost use Rattle.rmm_laws.specs.State.{IsRealmIn, KeepsStates, KeepsRealms, HasRim, IsMeasured, Measures, KeepsRims};
 ghost use Rattle.rmm_laws.specs.Step.{HasNextStep, HasRemoval, CanBeTornDown};
 ghost use Rattle.rmm_laws.specs.Walk.{IsTableOf, Serves, EndsWell, IsPassed, IsAtLive, IsNextTop, LeadsToTable, walked_to};
 
@@ -197,10 +197,12 @@ pub fn realms_can_be_torn_down()
 /// A realm is activated once. It is NEW when it is created, RMI_REALM_ACTIVATE makes it ACTIVE if it is NEW, and an
 /// RMI_REC_ENTER of a REC of it can make it SYSTEM_OFF if it is ACTIVE. Nothing else changes its state: no other call,
 /// no step that a guest is given, and no interrupt. A REC is entered only while its realm is ACTIVE.
+/// A realm stays until its RMI_REALM_DESTROY, with what it was created with.
 pub fn activated_once()
     ensures calls { (r : Registers) (m : Machine) → IsProper m → KeepsStates m (call_in r) (rmi r m).1 }
     ensures steps { (m : Machine) (rec : ℕ) (w : StepWords) → KeepsStates m None (queued m rec w).1 }
     ensures interrupts { (m : Machine) (rec : ℕ) → KeepsStates m None (interrupted m rec).1 }
+    ensures stay { (r : Registers) (m : Machine) → IsProper m → KeepsRealms m (call_in r) (rmi r m).1 }
     ensures activated { (m : Machine) (rd : ℕ) → (performed (RealmActivate rd) m).0.word ≡ Success → IsRealmIn m (number_of m rd) New × IsRealmIn (performed (RealmActivate rd) m).1 (number_of m rd) Active }
     ensures entered { (m : Machine) (rec run : ℕ) → is_refusal (performed (RecEnter rec run) m).0.word ≡ false → (rd : ℕ) × ((granule_at m (number_of m rec)).owner ≡ Some rd) × IsRealmIn m rd Active }
 {}
