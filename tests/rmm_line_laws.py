@@ -173,7 +173,7 @@ def of_effects(line: Line, outcome: Outcome | None, before: Seen, after: Seen) -
     if outcome is None or outcome.word != SUCCESS:
         return
     number_of = lambda name: (line.values[name] - before.base) // PAGE
-    rd = line.values.get("rd")
+    rd = line.values.get("rd", -1)
     if line.kind == "rmi_realm_activate":
         states = before.realms[rd].state, after.realms[rd].state
         if states != ("NEW", "ACTIVE"):
