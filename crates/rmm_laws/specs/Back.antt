@@ -36,8 +36,8 @@ abbrev pub IsBeside : Machine → ℕ → ℕ → Type 0
 IsBeside m rec granule =
     (granule ≢ rec) × ((k : ℕ) → k < m.settings.aux → aux_granule m rec k ≢ Some granule) × ((granule_at m rec).owner ≢ Some granule)
 
--- A REC begins at an address of a machine, and does not run. It and each of its auxiliary granules is DELEGATED and zero in the other
--- machine. Each other granule but the RD of its realm has the attributes that it had.
+-- A REC begins at an address of a machine, and does not run. It and each of its auxiliary granules is DELEGATED and zero
+-- in the other machine. Each other granule but the RD of its realm has the attributes that it had.
 pub record RecComesBack (before after : Machine) (address : ℕ) : Type 0 where
   pub was : is_rec_named before address ≡ true
   pub ready : is_running (rec_in before (number_of before address)).state ≡ false
