@@ -61,6 +61,10 @@ def activate_switches_off(self: realms.RealmActivate) -> Outcome:
     return done()
 
 
+def activate_does_nothing(self: realms.RealmActivate) -> Outcome:
+    return done()
+
+
 made = realms.RealmCreate.effect
 
 
@@ -68,6 +72,18 @@ def realm_begins_active(self: realms.RealmCreate) -> Outcome:
     outcome = made(self)
     self.machine.realm(self.rd).state = "ACTIVE"
     return outcome
+
+
+def data_is_not_measured(self: tables.DataCreate) -> Outcome:
+    self.map(RAM, self.machine.granule(self.src).page)
+    return done()
+
+
+def data_is_not_copied(self: tables.DataCreate) -> Outcome:
+    page = self.machine.granule(self.src).page
+    self.map(RAM, machine.ZEROS)
+    tables.extend_by_data(self.realm, self.ipa, self.flags, page)
+    return done()
 
 
 def rec_stays_counted(self: recs.RecDestroy) -> Outcome:
@@ -89,6 +105,12 @@ def exit_shows_registers(here: Machine, rec: machine.Rec, it: Exit) -> Exit:
     return left(here, rec, Exit(IRQ, gprs=rec.gprs) if it.reason == IRQ else it)
 
 
+def exit_runs_on(here: Machine, rec: machine.Rec, it: Exit) -> Exit:
+    exits = left(here, rec, it)
+    rec.is_running = True
+    return exits
+
+
 def fold_destroys(self: tables.RttFold) -> Outcome:
     entry = self.below()[0]
     return done(rtt=self.remove(entry._replace(ripas=DESTROYED) if entry.kind == "UNASSIGNED" else entry))
@@ -108,10 +130,14 @@ MISTAKES = {
     "wipe_is_left_out": Mistake(patch.object(realms.GranuleDelegate, "effect", wipe_is_left_out), ("wiped",)),
     "data_is_not_wiped": Mistake(patch.object(Machine, "become", data_is_not_wiped), ("wiped", "secrets", "teardowns")),
     "activate_switches_off": Mistake(patch.object(realms.RealmActivate, "effect", activate_switches_off), ("states",)),
+    "activate_does_nothing": Mistake(patch.object(realms.RealmActivate, "effect", activate_does_nothing), ("effects",)),
     "realm_begins_active": Mistake(patch.object(realms.RealmCreate, "effect", realm_begins_active), ("states",)),
     "rec_stays_counted": Mistake(patch.object(recs.RecDestroy, "effect", rec_stays_counted), ("teardowns",)),
     "aux_is_kept": Mistake(patch.object(recs.RecDestroy, "effect", aux_is_kept), ("roles", "teardowns")),
+    "data_is_not_measured": Mistake(patch.object(tables.DataCreate, "effect", data_is_not_measured), ("effects",)),
+    "data_is_not_copied": Mistake(patch.object(tables.DataCreate, "effect", data_is_not_copied), ("effects",)),
     "exit_shows_registers": Mistake(patch.object(guest, "leave", exit_shows_registers), ("secrets",)),
+    "exit_runs_on": Mistake(patch.object(guest, "leave", exit_runs_on), ("effects",)),
     "fold_destroys": Mistake(patch.object(tables.RttFold, "effect", fold_destroys), ("folds", "ripas")),
     "refusal_counts": Mistake(patch.object(Command, "refused", refusal_counts), ("refusals",)),
 }

@@ -6,6 +6,7 @@
     ripas     in an ACTIVE realm RIPAS becomes DESTROYED by a destroyed page or table, and else what a REC asked for
     states    a realm is NEW, ACTIVE and SYSTEM_OFF in turn; from REALM_ACTIVATE on its RIM is the same
     wiped     a granule that is delegated or given back is zero
+    effects   a realm that is activated was NEW; a page of data has the bytes that are measured; a REC that leaves is READY
     secrets   two machines that differ in memory and registers of guests answer a host alike
     tops      steps by `top` from address 0 meet each live entry
     folds     RTT_FOLD after RTT_CREATE leaves all entries and granules as they were, and the other way round
@@ -21,7 +22,7 @@ from typing import NamedTuple
 
 from rmm_laws import entries_of, named_by
 from second_rmm.bench import Bench
-from second_rmm.command import COMMANDS, Command
+from second_rmm.command import COMMANDS, Command, Outcome
 from second_rmm.facts import DATA, DELEGATED, DESTROYED, ENTRIES, PAGE, RUNNING, SUCCESS, UNDELEGATED, size
 from second_rmm.machine import LIVE, ZEROS, Granule, Machine, Realm
 from second_rmm.reading import number
@@ -139,6 +140,7 @@ class Watch:
         after = seen(self.bench.machine, before)
         self.before, self.count = after, self.count + 1
         yield from self.of_refusals(before, after)
+        yield from of_effects(line, self.bench.outcome, before, after)
         if after is not before:
             yield from of_realms(line, before, after)
             yield from of_memory(line, before, after, written)
@@ -164,6 +166,29 @@ class Watch:
             yield "refusals: a refusal changes something"
         if SUCCESS in it.allowed or (it.word == SUCCESS and it.allowed):
             yield "refusals: another word is allowed beside RMI_SUCCESS"
+
+
+def of_effects(line: Line, outcome: Outcome | None, before: Seen, after: Seen) -> Iterator[str]:
+    """What a call that succeeds has found, and what it has done."""
+    if outcome is None or outcome.word != SUCCESS:
+        return
+    number_of = lambda name: (line.values[name] - before.base) // PAGE
+    rd = line.values.get("rd", -1)
+    if line.kind == "rmi_realm_activate":
+        states = before.realms[rd].state, after.realms[rd].state
+        if states != ("NEW", "ACTIVE"):
+            yield f"effects: a realm that was {states[0]} is {states[1]}"
+    elif line.kind == "rmi_data_create":
+        if after.granules[number_of("data")][1] != before.granules[number_of("src")][1]:
+            yield "effects: a page of data has other bytes than its source"
+        if before.realms[rd].rim == after.realms[rd].rim:
+            yield "effects: a page of data is not measured"
+    elif line.kind == "rmi_rec_enter":
+        rec = after.granules[number_of("rec")][4]
+        if rec is None or rec[6]:  # type: ignore[index]
+            yield "effects: a REC that has left runs"
+        if any(before.realms[it].state != "ACTIVE" for it in line.realms):
+            yield "effects: a REC is entered before its realm is ACTIVE"
 
 
 def of_realms(line: Line, before: Seen, after: Seen) -> Iterator[str]:

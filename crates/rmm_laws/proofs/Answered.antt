@@ -205,6 +205,15 @@ pub allowed_done : (call : Call) (m : Machine) → is_refusal (performed call m)
 unfolding performed
 allowed_done call m done = done_at (first_failing (command_of call m).checks) (command_of call m) m refl (all_refuse call m) done
 
+passed_at : (f : Option FailedCondition) (command : Command) (m : Machine) → first_failing command.checks ≡ f → refuses [] command.checks ≡ true → is_refusal (decided f command m).0.word ≡ false → Passed command.checks
+passed_at (Some refusal) command m is all done = absurd (both_ways (is_refusal refusal.answer.word) done (first_word [] command.checks refusal all is).2)
+passed_at None command m is all done = passed command.checks is
+
+-- a call that is not refused has passed its checks
+pub done_passed : (call : Call) (m : Machine) → is_refusal (performed call m).0.word ≡ false → Passed (command_of call m).checks
+unfolding performed
+done_passed call m done = passed_at (first_failing (command_of call m).checks) (command_of call m) m refl (all_refuse call m) done
+
 refused_at : (f : Option FailedCondition) (command : Command) (m : Machine) → first_failing command.checks ≡ f → refuses [] command.checks ≡ true → IsOwn command.answer.word → is_refusal (decided f command m).0.word ≡ true
     → IsOneOf (decided f command m).0.word (allowed_words command) × ((word : Word) → IsOneOf word (allowed_words command) → is_refusal word ≡ true)
 unfolding allowed_words

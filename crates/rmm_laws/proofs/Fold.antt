@@ -356,6 +356,7 @@ module _ (m : Machine) (rd rtt ipa level : ℕ) (proper : IsProper m) (ok : Pass
   alike : IsAlike m k
   alike = record {
     settings = refl;
+    vmids = refl;
     granules = λ g. ⊎_elim
         (λ (here : g ≡ x). ap (granule_at k) here ∙ granule_at-same (with_entry n found ipa parent) x (of_no_realm Delegated) x_there ∙ sym granule_was ∙ ap (granule_at m) (sym here))
         (λ (other : g ≢ x). granule_at-other (with_entry n found ipa parent) x g (of_no_realm Delegated) other ∙ granule_at-other m x g (of_realm r Rtt) other)

@@ -173,4 +173,4 @@ rec_destroy_back m rec proper success =
     (λ ok now.
     let back = destroyed_back rec m proper ok in
     subst (λ (p : SmcResult × Machine). RecComesBack m p.1 rec) (sym now)
-    (record { was = rec_named m rec ok.0 ok.1.0 ok.1.1.0; is = back.0.0; blank = back.0.1; aux = back.1; others = λ g beside. destroyed_beside rec m proper ok g beside }))
+    (record { was = rec_named m rec ok.0 ok.1.0 ok.1.1.0; ready = ok.1.1.1.0; is = back.0.0; blank = back.0.1; aux = back.1; others = λ g beside. destroyed_beside rec m proper ok g beside }))

@@ -50,6 +50,8 @@ use Rattle.rmm_laws.proofs.Orders.{is_memory_state, owner_is, rd_is, rd_of}
 use Rattle.rmm_laws.proofs.Passed.{Passed, yes_from, some_same, realm_of-is, rec_of-some, rec_of-there, rec_named-is}
 use Rattle.rmm_laws.proofs.Plain.{host_inside, host_plain}
 use Rattle.rmm_laws.proofs.Recs.{IsGoing, going_first, going_rec, going_word, going_words, going_plain, going_realm}
+use Rattle.rmm_laws.proofs.Lasting.{Lasts}
+use Rattle.rmm_laws.proofs.Releasing.{Held}
 use Rattle.rmm_laws.proofs.States.{IsAsBefore}
 use Rattle.rmm_laws.proofs.Touching.{Touches, IsMine}
 use Rattle.rmm_laws.proofs.Writes.{granule_at-other}
@@ -169,7 +171,7 @@ module _ (o : Machine) (w : ℕ) where
   going_realm_off g rd m (Some realm) named is going =
       let there = realm_of-is (granule_at m rd).state realm is in
       let s = served m rd realm going.proper there in
-      going_realm o w g rd m realm _ going named there refl refl refl refl refl refl refl (record { few = s.few; inside = s.inside; most = s.most; level = s.level; width = s.width; served = s.served })
+      going_realm o w g rd m realm _ going named there refl refl refl refl refl refl refl refl (record { few = s.few; inside = s.inside; most = s.most; level = s.level; width = s.width; served = s.served })
   going_realm_off g rd m None named is going = going
 
   going_off : (g : ℕ) (m : Machine) (owner : Option ℕ) → owner ≡ Some w → IsGoing o w g m → IsGoing o w g (with_system_off m owner)
@@ -239,6 +241,9 @@ module _ (o : Machine) (w : ℕ) where
         touches = (going_rec o w g m rec going).touches;
         owned = ap (λ (r : RmmGranule). r.owner) still ∙ owned;
         mine = mine;
+        vmids = (going_rec o w g m rec going).vmids;
+        held = (going_rec o w g m rec going).held;
+        lasts = (going_rec o w g m rec going).lasts;
         states = (going_rec o w g m rec going).states;
       })
       (cases_eq h g)
@@ -268,7 +273,7 @@ rec_there : (m n : Machine) (address w : ℕ) → not (is_aligned address) ≡ f
 rec_there m n address w aligned inside is owned touches =
     subst (λ (o : Option ℕ). Touches m n o) (sym (rec_named-is m address aligned inside is ∙ owned)) touches
 
-active_if : (s : RmmRealmState) → is_new s ≡ false → is_system_off s ≡ false → s ≡ Active
+pub active_if : (s : RmmRealmState) → is_new s ≡ false → is_system_off s ≡ false → s ≡ Active
 active_if Active not_new not_off = refl
 active_if New not_new not_off = absurd (cc)
 active_if IsSystemOff not_new not_off = absurd (cc)
@@ -291,6 +296,15 @@ module _ (rec address : ℕ) (m : Machine) (proper : IsProper m) (ok : Passed (r
 
   pub entered : IsProper (rec_enter rec address m).machine
   entered = record { linked = entry_going.proper; ordered = entry_going.ordered }
+
+  pub entered_vmids : (rec_enter rec address m).machine.vmids ≡ m.vmids
+  entered_vmids = entry_going.vmids
+
+  pub entered_held : Held m (rec_enter rec address m).machine
+  entered_held = entry_going.held
+
+  pub entered_lasts : Lasts m (rec_enter rec address m).machine
+  entered_lasts = entry_going.lasts
 
   -- each realm is in the state that it was in, or it is that of the REC, and is off
   pub entered_states : (rd : ℕ) (realm : RmmRealm) → (granule_at (rec_enter rec address m).machine rd).state ≡ Rd realm
@@ -339,6 +353,15 @@ module _ (calling target status : ℕ) (m : Machine) (proper : IsProper m) (ok :
 
   pub completed : IsProper (psci_complete calling target status m).machine
   completed = record { linked = target_going.proper; ordered = target_going.ordered }
+
+  pub completed_vmids : (psci_complete calling target status m).machine.vmids ≡ m.vmids
+  completed_vmids = target_going.vmids
+
+  pub completed_held : Held m (psci_complete calling target status m).machine
+  completed_held = target_going.held
+
+  pub completed_lasts : Lasts m (psci_complete calling target status m).machine
+  completed_lasts = target_going.lasts
 
   pub completed_touches : Touches m (psci_complete calling target status m).machine (realm_of_rec m calling)
   unfolding psci_complete

@@ -3,6 +3,7 @@ pub mod Answered
 pub mod Aside
 pub mod Blocks
 pub mod Children
+pub mod Effects
 pub mod Entries
 pub mod EntryWords
 pub mod Fold
@@ -12,6 +13,8 @@ pub mod Guests
 pub mod Halves
 pub mod Halving
 pub mod Keeping
+pub mod Lasting
+pub mod LastingCalls
 pub mod LeftAlone
 pub mod Mapped
 pub mod Mappings
@@ -32,6 +35,8 @@ pub mod RecLives
 pub mod Recs
 pub mod RecsGone
 pub mod Refolding
+pub mod Releasing
+pub mod ReleasingCalls
 pub mod Running
 pub mod Seats
 pub mod Serving

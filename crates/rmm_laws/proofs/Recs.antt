@@ -17,14 +17,16 @@ use Rattle.rmm_model.specs.Rec.{aux_of}
 use Rattle.rmm_model.specs.Table.{with_words_from}
 use Rattle.rmm_model.specs.Walk.{granule_named}
 use Rattle.rmm_model.specs.Command.PsciComplete.{with_rec}
-use Rattle.rmm_laws.specs.Owner.{IsOrdered}
+use Rattle.rmm_laws.specs.Owner.{is_rd, IsOrdered}
 use Rattle.rmm_laws.specs.Proper.{IsProper}
 use Rattle.rmm_laws.specs.Role.{used, has_user, state_uses, IsLinked}
-use Rattle.rmm_laws.specs.State.{HasRim}
+use Rattle.rmm_laws.specs.State.{HasRim, fixed}
 use Rattle.rmm_laws.proofs.Keeping.{keep_page, keep_granule}
 use Rattle.rmm_laws.proofs.Orders.{is_memory_state, ordered_realm, ordered_rec, ordered_rec_page, ordered_memory}
 use Rattle.rmm_laws.proofs.PageWords.{length-page_with_word, length-with_words_from, word_of_page-with_words_from_other}
 use Rattle.rmm_laws.proofs.Plain.{keep_plain_page}
+use Rattle.rmm_laws.proofs.Lasting.{Lasts, lasts_all, lasts_plain, lasts_realm}
+use Rattle.rmm_laws.proofs.Releasing.{Held, held_all, held_granule}
 use Rattle.rmm_laws.proofs.States.{IsAsBefore, same_realm, write_back}
 use Rattle.rmm_laws.proofs.Touching.{Touches, IsMine, untouched, mine_before, touch_granule, touch_page}
 use Rattle.rmm_laws.proofs.Writes.{is_user, granule_at-same, granule_at-other, taken_inside}
@@ -92,11 +94,14 @@ pub record IsGoing (o : Machine) (w : ℕ) (g : ℕ) (m : Machine) : Type 0 wher
   pub touches : Touches o m (Some w)
   pub owned : (granule_at m g).owner ≡ Some w
   pub mine : IsMine o (Some w) g
+  pub vmids : m.vmids ≡ o.vmids
+  pub held : Held o m
+  pub lasts : Lasts o m
   pub states : (rd : ℕ) (realm : RmmRealm) → (granule_at m rd).state ≡ Rd realm → IsAsBefore o rd realm ⊎ ((rd ≡ w) × (realm.state ≡ IsSystemOff) × HasRim o rd realm.rim)
 
 -- a REC before any write
 pub going_first : (g w : ℕ) (m : Machine) (rec : RmmRec) → IsProper m → (granule_at m g).state ≡ IsRec rec → (granule_at m g).owner ≡ Some w → IsGoing m w g m
-going_first g w m rec proper is owned = record { proper = proper.linked; ordered = proper.ordered; rec = rec; is = is; touches = untouched m (Some w); owned = owned; mine = inl (inr owned); states = λ rd realm at. inl (realm, at, refl, refl) }
+going_first g w m rec proper is owned = record { proper = proper.linked; ordered = proper.ordered; rec = rec; is = is; touches = untouched m (Some w); owned = owned; mine = inl (inr owned); vmids = refl; held = held_all m; lasts = lasts_all m; states = λ rd realm at. inl (realm, at, refl, refl) }
 
 module _ (o : Machine) (w : ℕ) where
   pub going_inside : (g : ℕ) (m : Machine) → IsGoing o w g m → g < length m.granules
@@ -114,6 +119,9 @@ module _ (o : Machine) (w : ℕ) where
         touches = touch_granule o m (Some w) g kept going.touches going.mine;
         owned = ap (λ (r : RmmGranule). r.owner) now ∙ going.owned;
         mine = going.mine;
+        vmids = going.vmids;
+        held = held_granule o m g kept refl going.held;
+        lasts = lasts_plain o m g kept (ap is_rd going.is) going.lasts;
         states = λ rd realm at. ⊎_elim
             (λ (written : (rd ≡ g) × (IsRec rec ≡ Rd realm)). (let never = written.1 in absurd (cc)))
             (λ (before : (granule_at m rd).state ≡ Rd realm). going.states rd realm before)
@@ -131,6 +139,9 @@ module _ (o : Machine) (w : ℕ) where
         touches = touch_page o m (Some w) g page going.touches going.mine;
         owned = going.owned;
         mine = going.mine;
+        vmids = going.vmids;
+        held = going.held;
+        lasts = going.lasts;
         states = going.states;
       }
 
@@ -159,14 +170,17 @@ module _ (o : Machine) (w : ℕ) where
     touches = touch_page o m (Some w) h page going.touches (mine_before o m (Some w) h going.touches mine);
     owned = going.owned;
     mine = going.mine;
+    vmids = going.vmids;
+    held = going.held;
+    lasts = going.lasts;
     states = going.states;
   }
 
   -- the realm of an RD, which is off
   pub going_realm : (g rd : ℕ) (m : Machine) (realm other : RmmRealm) → IsGoing o w g m → rd ≡ w → (granule_at m rd).state ≡ Rd realm → other.table_count ≡ realm.table_count → other.first_table ≡ realm.first_table
-      → other.start_level ≡ realm.start_level → other.rec_count ≡ realm.rec_count → other.s2sz ≡ realm.s2sz → other.state ≡ IsSystemOff → other.rim ≡ realm.rim → IsServed (length m.granules) other
+      → other.start_level ≡ realm.start_level → other.rec_count ≡ realm.rec_count → other.s2sz ≡ realm.s2sz → other.state ≡ IsSystemOff → other.rim ≡ realm.rim → fixed other ≡ fixed realm → IsServed (length m.granules) other
       → IsGoing o w g (with_granule m rd (of_no_realm (Rd other)))
-  going_realm g rd m realm other going named is count first level recs space off rim served =
+  going_realm g rd m realm other going named is count first level recs space off rim same served =
       let apart : g ≢ rd = λ same. (
       let states : (granule_at m g).state ≡ (granule_at m rd).state = ap (λ (k : ℕ). (granule_at m k).state) same in
       let rec_is = going.is in
@@ -180,6 +194,9 @@ module _ (o : Machine) (w : ℕ) where
         touches = touch_granule o m (Some w) rd (of_no_realm (Rd other)) going.touches (inl (inl named));
         owned = ap (λ (r : RmmGranule). r.owner) still ∙ going.owned;
         mine = going.mine;
+        vmids = going.vmids;
+        held = held_granule o m rd (of_no_realm (Rd other)) refl going.held;
+        lasts = lasts_realm o m rd realm other is same going.lasts;
         states = λ x new at. ⊎_elim
             (λ (written : (x ≡ rd) × (Rd other ≡ Rd new)).
             let it : other ≡ new = same_realm written.1 in

@@ -1,5 +1,5 @@
 -- RMI_REC_DESTROY keeps the roles and the owners of granules.
-use Rattle.std.proofs.Common.{◌≡◌, ◌≢◌, ℕ, ◌+◌, ◌-◌, ◌<◌, ◌⊎◌, inl, inr, ◌==◌, ◌&&◌, Bool, true, false, length, Option, Some, None, option_map, refl, sym, ap, subst, ◌∙◌, ⊎_elim, arith}
+use Rattle.std.proofs.Common.{◌≡◌, ◌≢◌, ℕ, ◌+◌, ◌-◌, ◌<◌, ◌⊎◌, inl, inr, ◌==◌, ◌&&◌, Bool, true, false, length, Option, Some, None, option_map, unwrap_or, refl, sym, ap, subst, ◌∙◌, ⊎_elim, arith}
 use Rattle.std.specs.Prelude.{nat_lt, is_some, cond, IfSome}
 use Rattle.std.specs.List.{count_by}
 use Rattle.std.proofs.lemmas.Bool.{cases_eq, cond-true, and_left, and_from, eq-eqb, ne_eqb, lt-ltb, both_ways}
@@ -13,7 +13,7 @@ use Rattle.rmm_model.specs.declared.realm.RmmRealm.{RmmRealm}
 use Rattle.rmm_model.specs.declared.rec.RmmRec.{RmmRec}
 use Rattle.rmm_model.specs.Granule.{of_no_realm, realm_of, rec_of}
 use Rattle.rmm_model.specs.Machine.{Machine, granule_at, page_in, number_of, state_at, with_granule, with_blank}
-use Rattle.rmm_model.specs.Realm.{IsServed}
+use Rattle.rmm_model.specs.Realm.{IsServed, no_realm}
 use Rattle.rmm_model.specs.Rec.{aux_of}
 use Rattle.rmm_model.specs.Walk.{granule_named}
 use Rattle.rmm_model.specs.Command.Auxiliary.{aux_granule, with_aux}
@@ -25,6 +25,7 @@ use Rattle.rmm_laws.specs.Half.{HasHalves}
 use Rattle.rmm_laws.specs.Owner.{is_rd, is_owner, IsOrderly, IsOrderlyAt, is_rec_in}
 use Rattle.rmm_laws.specs.Proper.{IsProper}
 use Rattle.rmm_laws.specs.Role.{Used, used, state_uses, uses, IsSound, IsLinked}
+use Rattle.rmm_laws.specs.State.{fixed}
 use Rattle.rmm_laws.proofs.Halves.{has_space, kept_or_plain, same_space}
 use Rattle.rmm_laws.proofs.Orders.{owner_is, rd_is, rd_of, is_counter, counted, total-set, total-alike, orderly_same, orderly_but}
 use Rattle.rmm_laws.proofs.Passed.{Passed, some_same, rec_of-some, rec_named-is}
@@ -179,6 +180,10 @@ less_one : (before after : ℕ) → before ≡ after + 1 → before - 1 ≡ afte
 less_one before after is = omega arith
 
 -- ---- with one REC less
+
+-- what the realm of an RD keeps from its creation on
+abbrev pub fixed_of : RmmGranuleState → RmmRealm
+fixed_of s = fixed (unwrap_or (realm_of s) no_realm)
 
 module _ (rec : ℕ) (m : Machine) (proper : IsProper m) (ok : Passed (rec_destroy rec m).checks) where
   abbrev here : ℕ
@@ -343,7 +348,8 @@ module _ (rec : ℕ) (m : Machine) (proper : IsProper m) (ok : Passed (rec_destr
   -- each granule is as it was, DELEGATED, or the RD of the realm
   abbrev AllChanged : Machine → Type 0
   AllChanged n = (n.settings ≡ m.settings) × (length n.granules ≡ length m.granules)
-      × ((h : ℕ) → (granule_at n h ≡ granule_at m h) ⊎ (((is_rd (granule_at m h).state ≡ false) × (granule_at n h ≡ of_no_realm Delegated)) ⊎ ((realm_of_rec m rec ≡ Some h) × (is_rd (granule_at n h).state ≡ true) × ((granule_at n h).owner ≡ None))))
+      × ((h : ℕ) → (granule_at n h ≡ granule_at m h) ⊎ (((is_rd (granule_at m h).state ≡ false) × (granule_at n h ≡ of_no_realm Delegated))
+      ⊎ ((realm_of_rec m rec ≡ Some h) × (is_rd (granule_at n h).state ≡ true) × ((granule_at n h).owner ≡ None) × (fixed_of (granule_at n h).state ≡ fixed_of (granule_at m h).state))))
 
   all_changed : AllChanged after
   all_changed =
@@ -356,7 +362,12 @@ module _ (rec : ℕ) (m : Machine) (proper : IsProper m) (ok : Passed (rec_destr
         gone_count less here aux less_linked (rec_at m rec) still_rec refl ∙ count,
         λ h. ⊎_elim
             (λ (it : h ≡ w).
-            inr (inr (destroyed_of ∙ ap (λ (x : ℕ). Some x) (sym it), ap (λ (x : ℕ). is_rd (granule_at after x).state) it ∙ ap (λ (r : RmmGranule). is_rd r.state) w_then, ap (λ (x : ℕ). (granule_at after x).owner) it ∙ ap (λ (r : RmmGranule). r.owner) w_then)))
+            inr (inr (
+              destroyed_of ∙ ap (λ (x : ℕ). Some x) (sym it),
+              ap (λ (x : ℕ). is_rd (granule_at after x).state) it ∙ ap (λ (r : RmmGranule). is_rd r.state) w_then,
+              ap (λ (x : ℕ). (granule_at after x).owner) it ∙ ap (λ (r : RmmGranule). r.owner) w_then,
+              subst (λ (x : ℕ). fixed_of (granule_at after x).state ≡ fixed_of (granule_at m x).state) (sym it) (ap (λ (r : RmmGranule). fixed_of r.state) w_then ∙ sym (ap fixed_of of_rd.1)),
+            )))
             (λ (other : h ≢ w). ⊎_elim
             (λ (gone_here : h ≡ here).
             inr (inl (ap (λ (x : ℕ). is_rd (granule_at m x).state) gone_here ∙ ap is_rd rec_is, ap (granule_at after) gone_here ∙ all_back.0.0)))

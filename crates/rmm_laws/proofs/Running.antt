@@ -2,7 +2,9 @@
 use Rattle.std.proofs.Common.{◌≡◌, ◌≢◌, ℕ, zero, suc, ◌+◌, ◌-◌, ◌*◌, ◌%◌, ◌<◌, ◌==◌, Bool, true, false, length, Option, Some, None, Result, Ok, Err, unwrap_or, refl, ap, ◌∙◌}
 use Rattle.std.specs.Prelude.{if◌then◌else◌}
 use Rattle.std.proofs.lemmas.Bool.{cond_both}
-use Rattle.rmi_abi.specs.RecRun.{flags_in, entry_gpr_in, injects_sea, emulates_mmio}
+use Rattle.rmi_abi.specs.declared.rec_run.RecExit.{RecExit}
+use Rattle.rmi_abi.specs.declared.rec_run.ExitReason.TheVariants.{Irq}
+use Rattle.rmi_abi.specs.RecRun.{flags_in, entry_gpr_in, injects_sea, emulates_mmio, only_reason}
 use Rattle.rmm_model.specs.declared.access.AccessSize.{AccessSize}
 use Rattle.rmm_model.specs.declared.access.AccessSize.TheVariants.{Byte, Halfword, Word, Doubleword}
 use Rattle.rmm_model.specs.declared.granule.RmmGranule.{RmmGranule}
@@ -14,6 +16,7 @@ use Rattle.rmm_model.specs.declared.rec.LastExit.TheVariants.{Other, HostCall, R
 use Rattle.rmm_model.specs.declared.rec.PsciRequest.{PsciRequest}
 use Rattle.rmm_model.specs.declared.rec.PsciRequest.TheVariants.{None as NoRequest, Complete}
 use Rattle.rmm_model.specs.declared.rec.RmmRec.{RmmRec}
+use Rattle.rmm_model.specs.declared.rec.RmmRecState.TheVariants.{Ready}
 use Rattle.rmm_model.specs.declared.step.GuestStep.{GuestStep}
 use Rattle.rmm_model.specs.declared.step.GuestStep.TheVariants.{Write, Read, Fetch, SetRipas, CpuOn, AffinityInfo, CpuOff, CpuSuspend, SystemOff, SystemReset}
 use Rattle.rmm_model.specs.declared.step.StepOutcome.{StepOutcome}
@@ -23,11 +26,12 @@ use Rattle.rmm_model.specs.declared.step.StepResult.TheVariants.{Done, Sea, Psci
 use Rattle.rmm_model.specs.Access.{low_bytes, with_two_bytes, with_four_bytes, with_value}
 use Rattle.rmm_model.specs.Granule.{realm_of, rec_of}
 use Rattle.rmm_model.specs.Guest.{rec_in, first_step, past_step, result_code, result_value, with_result}
+use Rattle.rmm_model.specs.Host.{is_host_page}
 use Rattle.rmm_model.specs.Machine.{Machine, granule_at, page_in, number_of, state_at, with_word}
 use Rattle.rmm_model.specs.Rec.{no_rec, no_request, is_running}
 use Rattle.rmm_model.specs.Step.{access, after_write, is_exit, rec_after_exit}
 use Rattle.rmm_model.specs.Command.PsciComplete.{with_rec}
-use Rattle.rmm_model.specs.Command.RecEnter.{rec_enter, owner_realm, with_realm_off, with_system_off, with_copied, with_gprs, with_gic, with_step_ended, with_psci_result, ripas_result, emulated, with_host_answer, running_at, after_entry, step_outcome, with_exit_of, after_step, with_step_passed, after_step_in, after_first_step, first_step_outcome, continued, after_steps}
+use Rattle.rmm_model.specs.Command.RecEnter.{rec_enter, owner_realm, with_realm_off, with_system_off, with_copied, with_gprs, with_gic, with_exit_gic, with_exit_words, after_exit, with_step_ended, with_psci_result, ripas_result, emulated, with_host_answer, running_at, after_entry, step_outcome, with_exit_of, after_step, with_step_passed, after_step_in, after_first_step, first_step_outcome, continued, after_steps}
 use Rattle.rmm_laws.proofs.Passed.{Passed, realm_of-is, rec_of-some}
 use Rattle.rmm_laws.proofs.Writes.{granule_at-same, granule_at-other, taken_inside}
 
@@ -172,6 +176,32 @@ runs_steps (suc count) g flags m run stays =
     let next = runs_first m g flags run in
     runs_continued (after_first_step m g flags) g (first_step_outcome m g flags) (after_steps (after_first_step m g flags) g flags count) next (λ more. runs_steps count g flags (after_first_step m g flags) next more) stays
 
+-- ---- exits
+
+-- a REC does not run
+abbrev IsReady : Machine → ℕ → Type 0
+IsReady m g = is_running (rec_in m g).state ≡ false
+
+ready_exit : (m : Machine) (g : ℕ) (exit : RecExit) (last : LastExit) → g < length m.granules → IsReady (after_exit m g exit last) g
+unfolding after_exit with_exit_gic with_copied with_exit_words
+ready_exit m g exit last inside =
+    let rec : RmmRec = record (rec_in m g) { state = Ready; exit = last } in
+    let n : Machine = with_rec m g rec in
+    let now : IsReady n g = ap (λ (r : RmmGranule). is_running (unwrap_or (rec_of r.state) no_rec).state) (granule_at-same m g (record (granule_at m g) { state = IsRec rec }) inside) in
+    cond_both (is_host_page n (rec_in m g).run) _ n (λ (k : Machine). IsReady k g) (λ host. cond_both n.settings.checks_gic _ _ (λ (k : Machine). IsReady k g) (λ sure. now) (λ never. now)) (λ never. now)
+
+left_continued : (m : Machine) (g : ℕ) (outcome : StepOutcome) (rest : Bool × Machine) → Runs m g → (rest.0 ≡ true → IsReady rest.1 g) → (continued outcome m g rest).0 ≡ true → IsReady (continued outcome m g rest).1 g
+left_continued m g (IsResult r) rest run more leaves = more leaves
+left_continued m g (IsExit exit last) rest run more leaves = ready_exit m g exit last (runs_inside m g run)
+left_continued m g Spins rest run more leaves = absurd (cc)
+
+left_steps : (count g flags : ℕ) (m : Machine) → Runs m g → (after_steps m g flags count).0 ≡ true → IsReady (after_steps m g flags count).1 g
+unfolding after_steps
+left_steps zero g flags m run leaves = ready_exit m g (only_reason Irq) Other (runs_inside m g run)
+left_steps (suc count) g flags m run leaves =
+    let next = runs_first m g flags run in
+    left_continued (after_first_step m g flags) g (first_step_outcome m g flags) (after_steps (after_first_step m g flags) g flags count) next (λ more. left_steps count g flags (after_first_step m g flags) next more) leaves
+
 -- ---- the command
 
 pub entered_runs : (rec address : ℕ) (m : Machine) → Passed (rec_enter rec address m).checks
@@ -184,3 +214,14 @@ entered_runs rec address m ok stays =
     let is = rec_of-some (state_at m rec) ok.1.1.1.1.1.0 in
     let inside : g < length m.granules = taken_inside m g (λ free. cc) in
     runs_in (rec_enter rec address m).machine g (runs_steps 16 g flags (after_entry m g address flags) (runs_entry m g address flags inside) stays)
+
+pub entered_left : (rec address : ℕ) (m : Machine) → Passed (rec_enter rec address m).checks
+    → (after_steps (after_entry m (number_of m rec) address (flags_in (page_in m (number_of m address)))) (number_of m rec) (flags_in (page_in m (number_of m address))) 16).0 ≡ true
+    → is_running (rec_in (rec_enter rec address m).machine (number_of m rec)).state ≡ false
+unfolding rec_enter
+entered_left rec address m ok leaves =
+    let g : ℕ = number_of m rec in
+    let flags : ℕ = flags_in (page_in m (number_of m address)) in
+    let is = rec_of-some (state_at m rec) ok.1.1.1.1.1.0 in
+    let inside : g < length m.granules = taken_inside m g (λ free. cc) in
+    left_steps 16 g flags (after_entry m g address flags) (runs_entry m g address flags inside) leaves

@@ -129,7 +129,7 @@ stay_target m k g rec _ begins stay = stay
 
 -- ---- calls
 
-new_if : (s : RmmRealmState) → is_new s ≡ true → s ≡ New
+pub new_if : (s : RmmRealmState) → is_new s ≡ true → s ≡ New
 new_if New is = refl
 new_if _ is = absurd (cc)
 
@@ -282,7 +282,7 @@ measured : (call : Call) (m : Machine) → IsProper m → Passed (command_of cal
 measured (RealmCreate rd params) m proper ok g new is =
     ⊎_elim
     (λ (old : IsAsBefore m g new). inl (old.0, old.1, old.3))
-    (λ (made : (g ≡ number_of m rd) × (is_rd (granule_at m g).state ≡ false) × (new ≡ realm_for m (params_at m params))). inr (made.0, ap (λ (r : RmmRealm). r.rim) made.2))
+    (λ (made : (g ≡ number_of m rd) × (is_rd (granule_at m g).state ≡ false) × (new ≡ realm_for m (params_at m params))). inr (made.0, made.1, ap (λ (r : RmmRealm). r.rim) made.2))
     (created rd params m ok g new is)
 measured (RealmActivate rd) m proper ok g new is =
     ⊎_elim

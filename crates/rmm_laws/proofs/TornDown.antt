@@ -1,5 +1,5 @@
 -- A realm none of whose RECs runs is torn down by calls that succeed.
-use Rattle.std.proofs.Common.{◌≡◌, ◌≢◌, ℕ, zero, suc, ◌+◌, ◌-◌, ◌*◌, ◌<◌, ◌≤◌, ◌⊎◌, inl, inr, true, false, not, List, [], ◌∷◌, length, Option, Some, refl, sym, ap, subst, ◌∙◌, ⊎_elim, arith}
+use Rattle.std.proofs.Common.{◌≡◌, ◌≢◌, ℕ, zero, suc, ◌+◌, ◌-◌, ◌*◌, ◌<◌, ◌≤◌, ◌⊎◌, inl, inr, Bool, true, false, not, List, [], ◌∷◌, length, get_or, Option, Some, refl, sym, ap, subst, ◌∙◌, ⊎_elim, arith}
 use Rattle.std.specs.Prelude.{is_none}
 use Rattle.std.proofs.lemmas.Bool.{cases_eq, cases_lt}
 use Rattle.rmi_abi.specs.declared.call.Call.{Call}
@@ -8,11 +8,13 @@ use Rattle.rmi_abi.specs.declared.word.Word.TheVariants.{Success}
 use Rattle.rmm_model.specs.declared.granule.RmmGranule.{RmmGranule}
 use Rattle.rmm_model.specs.declared.granule.RmmGranuleState.{RmmGranuleState}
 use Rattle.rmm_model.specs.declared.granule.RmmGranuleState.TheVariants.{Undelegated, Delegated, Rd, Rec as IsRec, Data, Rtt}
+use Rattle.rmm_model.specs.declared.realm.RmmRealm.{RmmRealm}
 use Rattle.rmm_model.specs.declared.rec.RmmRec.{RmmRec}
 use Rattle.rmm_model.specs.Call.{performed}
 use Rattle.rmm_model.specs.Granule.{of_realm, realm_of}
-use Rattle.rmm_model.specs.Machine.{Machine, granule_at, number_of, state_at}
+use Rattle.rmm_model.specs.Machine.{Machine, granule_at, number_of, state_at, is_vmid_used}
 use Rattle.rmm_model.specs.Rec.{is_running}
+use Rattle.rmm_model.specs.Command.Operand.{realm_at}
 use Rattle.rmm_laws.specs.Apart.{rd_named, IsOfRealm, IsSameAt, named_realm, IsSpare}
 use Rattle.rmm_laws.specs.Owner.{is_rd}
 use Rattle.rmm_laws.specs.Proper.{IsProper}
@@ -21,11 +23,12 @@ use Rattle.rmm_laws.specs.Walk.{IsTableOf}
 use Rattle.rmm_laws.proofs.Freed.{rtt_destroy_back, data_destroy_back}
 use Rattle.rmm_laws.proofs.LeftAlone.{left_alone}
 use Rattle.rmm_laws.proofs.Passed.{realm_of-some, rd_named-is}
+use Rattle.rmm_laws.proofs.RecsGone.{fixed_of}
 use Rattle.rmm_laws.proofs.Steps.{begin_number, begin_aligned, begin_inside, page_removal, step_or_end}
 use Rattle.rmm_laws.proofs.Teardown.{rd_tests, granule_step, undelegated, nothing_left}
 use Rattle.rmm_laws.proofs.Wiping.{is_or_not}
 use Rattle.rmm_laws.proofs.Writes.{inside-same, number-same, taken_inside}
-use Rattle.rmm_laws.proofs.Weights.{IsGivenBack, undelegate_then, realm_then, IsKept, IsKin, IsStep, IsFreed, HasUnfolded, heavy, mapped, weight, step_weight, freed_weight, data_weight, unfold_weight, unfolded_level, unfold_then, unmap_then, rec_freed, of_back, data_kin, table_kin, kept_then, rd_then, rec_before}
+use Rattle.rmm_laws.proofs.Weights.{IsGivenBack, undelegate_then, realm_then, IsKept, IsKin, IsStep, IsFreed, HasUnfolded, heavy, mapped, weight, step_weight, freed_weight, data_weight, unfold_weight, unfolded_level, unfold_then, unmap_then, rec_freed, of_back, data_kin, table_kin, kept_then, rd_then, fixed_then, rec_before}
 
 -- ---- the way from a machine
 
@@ -34,10 +37,14 @@ some_rd (Rd realm) sure = refl
 some_rd _ sure = absurd (cc)
 
 module _ (o : Machine) (rd r : ℕ) where
-  -- the granules of the realm at the start are UNDELEGATED and zero after calls that succeed
+  -- the VMID of the realm
+  abbrev old_vmid : ℕ
+  old_vmid = (realm_at o rd).vmid
+
+  -- the granules of the realm at the start are UNDELEGATED and zero after calls that succeed, and its VMID is free
   abbrev Down : Machine → Type 0
   Down m = (calls : List Call) × (after : Machine) × LeadsDown rd m calls after × ((g : ℕ) → IsOfRealm o (Some r) g → IsGivenBack after g)
-      × ((g : ℕ) → (IsOfRealm m (Some r) g → ⊥) → (IsSpare m g → ⊥) → IsSameAt m after g)
+      × ((g : ℕ) → (IsOfRealm m (Some r) g → ⊥) → (IsSpare m g → ⊥) → IsSameAt m after g) × (is_vmid_used after old_vmid ≡ false)
 
   -- a call names the realm, or none
   abbrev IsOn : Machine → Call → Type 0
@@ -65,6 +72,7 @@ module _ (o : Machine) (rd r : ℕ) where
     rest.3,
     λ g not_ours not_spare.
         then_same m (performed call m).1 rest.1 g not_ours not_spare (left_alone call m g proper (λ ours. not_ours (on g ours)) not_spare) (λ ours spare. rest.4 g ours spare),
+    rest.5,
   )
 
   -- ---- the granules are undelegated
@@ -75,6 +83,7 @@ module _ (o : Machine) (rd r : ℕ) where
     count : length m.granules ≡ length o.granules
     done : (g : ℕ) → IsOfRealm o (Some r) g → g < p → IsGivenBack m g
     rest : (g : ℕ) → IsOfRealm o (Some r) g → p ≤ g → (granule_at m g).state ≡ Delegated
+    vmid : is_vmid_used m old_vmid ≡ false
 
   is_ours : (g : ℕ) → IsOfRealm o (Some r) g ⊎ (IsOfRealm o (Some r) g → ⊥)
   is_ours g =
@@ -110,6 +119,7 @@ module _ (o : Machine) (rd r : ℕ) where
           rest = λ g was past.
               let other : g ≢ p = λ same. omega arith in
               ap (λ (c : RmmGranule). c.state) (others g other).0 ∙ freeing.rest g was (omega arith);
+          vmid = ap (λ (used : List Bool). get_or used old_vmid false) then_is.vmids ∙ freeing.vmid;
         },
       )
 
@@ -127,6 +137,7 @@ module _ (o : Machine) (rd r : ℕ) where
         absurd (omega arith))
         (cases_lt g p),
     λ g not_ours not_spare. (refl, refl),
+    freeing.vmid,
   )
   free_from (suc fuel) p m all freeing =
       ⊎_elim
@@ -144,6 +155,7 @@ module _ (o : Machine) (rd r : ℕ) where
             (λ (other : g ≢ p). freeing.done g had (omega arith))
             (cases_eq g p);
         rest = λ g had past. freeing.rest g had (omega arith);
+        vmid = freeing.vmid;
       }))
       (is_ours p)
 
@@ -156,6 +168,7 @@ module _ (o : Machine) (rd r : ℕ) where
     named : rd_named m rd ≡ Some (number_of m rd)
     ready : (g : ℕ) (rec : RmmRec) → granule_at m g ≡ of_realm r (IsRec rec) → is_running rec.state ≡ false
     ours : (g : ℕ) → IsOfRealm o (Some r) g → IsKept m r g
+    vmid : (realm_at m rd).vmid ≡ old_vmid
 
   named_r : (m : Machine) → IsGoingDown m → rd_named m rd ≡ Some r
   named_r m going = going.named ∙ ap (λ (h : ℕ). Some h) going.number
@@ -174,6 +187,10 @@ module _ (o : Machine) (rd r : ℕ) where
         named = rd_named-is n rd tests.0 (ap not (inside-same m n kin.1 kin.2 rd) ∙ tests.1) (some_rd (state_at n rd) (ap (λ (g : ℕ). is_rd (granule_at n g).state) number ∙ still));
         ready = λ g rec is. going.ready g rec (rec_before r x g (granule_at m g) (granule_at n g) rec (step.each g) is);
         ours = λ g had. kept_then m n r x g (step.each g) (going.ours g had);
+        vmid = ap (λ (g : ℕ). (fixed_of (granule_at n g).state).vmid) number
+            ∙ ap (λ (realm : RmmRealm). realm.vmid) (fixed_then r x r (granule_at m r) (granule_at n r) (step.each r) was)
+            ∙ sym (ap (λ (g : ℕ). (fixed_of (granule_at m g).state).vmid) going.number)
+            ∙ going.vmid;
       }
 
   -- after RMI_REALM_DESTROY
@@ -193,6 +210,7 @@ module _ (o : Machine) (rd r : ℕ) where
             ap (λ (c : RmmGranule). c.state) (nothing_left m rd g going.kin.0 success (subst (λ (h : ℕ). IsOfRealm m (Some h) g) (sym going.number) still)).0)
             (λ (free : (granule_at m g).state ≡ Delegated). then_is.1 g free)
             (going.ours g had);
+        vmid = subst (λ (v : ℕ). is_vmid_used n v ≡ false) going.vmid then_is.2;
       }))
 
   -- the rest of a teardown, from machines in which less is left
@@ -296,5 +314,5 @@ pub torn_down : (m : Machine) (rd spare : ℕ) → IsProper m → rd_named m rd 
 torn_down m rd spare proper named free ready =
     let r : ℕ = number_of m rd in
     let down =
-    lighter m rd r (suc (heavy r m)) m spare (record { kin = (proper, refl, refl); number = refl; named = named; ready = ready; ours = λ g had. inl had }) free (omega arith) in
-    record { calls = down.0; after = down.1; succeed = down.2; others = down.4; free = down.3 }
+    lighter m rd r (suc (heavy r m)) m spare (record { kin = (proper, refl, refl); number = refl; named = named; ready = ready; ours = λ g had. inl had; vmid = refl }) free (omega arith) in
+    record { calls = down.0; after = down.1; succeed = down.2; others = down.4; free = down.3; vmid = down.5 }

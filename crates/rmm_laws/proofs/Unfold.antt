@@ -1,7 +1,7 @@
 -- RMI_RTT_CREATE undoes RMI_RTT_FOLD.
-use Rattle.std.proofs.Common.{◌≡◌, ◌≢◌, ℕ, ◌+◌, ◌-◌, ◌%◌, ◌^◌, ◌<◌, ◌≤◌, ◌==◌, ◌&&◌, ◌++◌, true, not, List, [], length, Some, unwrap_or, refl, sym, ap, subst, ◌∙◌, ⊎_elim, arith}
+use Rattle.std.proofs.Common.{◌≡◌, ◌≢◌, ℕ, ◌+◌, ◌-◌, ◌%◌, ◌^◌, ◌<◌, ◌≤◌, ◌==◌, ◌&&◌, ◌++◌, Bool, true, false, not, List, [], length, Some, unwrap_or, refl, sym, ap, subst, ◌∙◌, ⊎_elim, arith}
 use Rattle.std.specs.Prelude.{nat_le, is_none}
-use Rattle.std.proofs.lemmas.Bool.{cases_eq, and_parts, eq-eqb, eqb-true, leb-true, ltb-true}
+use Rattle.std.proofs.lemmas.Bool.{cases_eq, and_parts, eq-eqb, eqb-true, leb-true, leb-false, ltb-true}
 use Rattle.std.proofs.lemmas.List.{length-set}
 use Rattle.granule_addr.specs.Page.{zero_page}
 use Rattle.page_arena.specs.Pages.{length-page_of}
@@ -19,7 +19,7 @@ use Rattle.rmm_model.specs.declared.realm.RttWalk.{RttWalk}
 use Rattle.rmm_model.specs.declared.condition.Condition.TheVariants.{RttAlign, RttBound, RttState}
 use Rattle.rmm_model.specs.Call.{performed}
 use Rattle.rmm_model.specs.Check.{Check, error_rtt}
-use Rattle.rmm_model.specs.Entry.{entry_of, descriptor_of, is_table}
+use Rattle.rmm_model.specs.Entry.{entry_of, descriptor_of, is_mapping, is_table}
 use Rattle.rmm_model.specs.Granule.{of_no_realm, of_realm, is_delegated, realm_of}
 use Rattle.rmm_model.specs.Level.{entry_index}
 use Rattle.rmm_model.specs.Machine.{Machine, granule_at, page_in, is_inside, number_of, state_at, with_granule, with_page, with_blank}
@@ -29,7 +29,7 @@ use Rattle.rmm_model.specs.Walk.{entry_at, with_entry, table_below, start_of, wa
 use Rattle.rmm_model.specs.Command.Operand.{realm_at, delegated_checks, rd_checks, ipa_checks, entry_checks}
 use Rattle.rmm_model.specs.Command.RttCreate.{rtt_create}
 use Rattle.rmm_model.specs.Command.RttFold.{rtt_fold, is_homogeneous, is_aligned_above}
-use Rattle.rmm_laws.specs.Fold.{IsAlike}
+use Rattle.rmm_laws.specs.Fold.{CanReplaceTable, IsAlike}
 use Rattle.rmm_laws.specs.Proper.{IsProper}
 use Rattle.rmm_laws.specs.Role.{IsSound, IsBegin}
 use Rattle.rmm_laws.proofs.Children.{length-children, part_word}
@@ -47,6 +47,10 @@ use Rattle.rmm_laws.proofs.Fold.{reach, children_word, own_result}
 table_entry : (m : Machine) (e : RmmRttEntry) (g : ℕ) → table_below m e ≡ Some g → e ≡ Table (descriptor_of e)
 table_entry m (Table a) g named = refl
 table_entry m _ g named = absurd (cc)
+
+below_block : (is_mapped : Bool) (level block : ℕ) → (is_mapped && nat_le level block) ≡ false → is_mapped ≡ true → block < level
+below_block true level block low sure = leb-false level block low
+below_block false level block low sure = absurd (cc)
 
 module _ (m : Machine) (rd ipa level : ℕ) (proper : IsProper m) (ok : Passed (rtt_fold rd ipa level m).checks) where
   abbrev of : RmmRealm
@@ -172,6 +176,12 @@ module _ (m : Machine) (rd ipa level : ℕ) (proper : IsProper m) (ok : Passed (
       ap (λ (q : List ℕ). entry_in_page q at) (f_page end_at.table beside)
       ∙ entry-same m end_at.table at first proper.linked.sound (let t = end_table in taken_inside m end_at.table (λ none. cc)) (entry_index-few end_at.level ipa) first_fits
 
+  can_replace : CanReplaceTable m first level
+  unfolding rtt_fold is_homogeneous
+  can_replace =
+      let both = and_parts (not (is_table first) && is_aligned_above first level) (has_parts (page_in m g) first level 512 0) (yes_from _ ok.1.1.1.1.1.1.1.1.0) in
+      ((and_parts (not (is_table first)) (is_aligned_above first level) both.0).1, λ mapped. below_block (is_mapping first) level m.settings.block_level ok.1.1.1.1.1.1.1.1.1.0 mapped)
+
   f_walk : walk f of ipa (level - 1) ≡ end_at
   unfolding walk start_of entry_at
   f_walk =
@@ -289,6 +299,7 @@ module _ (m : Machine) (rd ipa level : ℕ) (proper : IsProper m) (ok : Passed (
   same_again : IsAlike m again
   same_again = record {
     settings = refl;
+    vmids = refl;
     granules = λ h. ⊎_elim
         (λ (here : h ≡ g). ap (granule_at again) here ∙ granule_at-same f g (of_realm rd_at Rtt) g_f ∙ sym below.table ∙ ap (granule_at m) (sym here))
         (λ (other : h ≢ g). granule_at-other f g h (of_realm rd_at Rtt) other ∙ granule_at-other (with_entry m end_at ipa first) g h (of_no_realm Delegated) other)
@@ -321,3 +332,13 @@ folded_and_created m rd ipa level proper success =
       ap (λ (p : SmcResult × Machine). p.0.word) result,
       subst (λ (p : SmcResult × Machine). IsAlike m p.1) (sym result) (subst (IsAlike m) (sym (again_is m rd ipa level proper ok)) (same_again m rd ipa level proper ok)),
     ))
+
+-- an entry that takes the place of a table can replace it
+pub folded_only : (m : Machine) (rd ipa level : ℕ) → IsProper m → (performed (RttFold rd ipa level) m).0.word ≡ Success
+    → CanReplaceTable m (entry_at (performed (RttFold rd ipa level) m).1 (walk m (realm_at m rd) ipa (level - 1)) ipa) level
+unfolding rtt_fold
+folded_only m rd ipa level proper success =
+    succeeded (CanReplaceTable m (entry_at (performed (RttFold rd ipa level) m).1 (walk m (realm_at m rd) ipa (level - 1)) ipa) level) (RttFold rd ipa level) m refl success
+    (λ ok now.
+    subst (λ (p : SmcResult × Machine). CanReplaceTable m (entry_at p.1 (walk m (realm_at m rd) ipa (level - 1)) ipa) level) (sym now)
+    (subst (λ (e : RmmRttEntry). CanReplaceTable m e level) (sym (f_entry m rd ipa level proper ok)) (can_replace m rd ipa level proper ok)))

@@ -1,8 +1,8 @@
 -- What each call of a teardown leaves of a realm: it weighs less.
-use Rattle.std.proofs.Common.{◌≡◌, ◌≢◌, ℕ, zero, suc, ◌+◌, ◌-◌, ◌*◌, ◌%◌, ◌^◌, ◌<◌, ◌≤◌, ◌⊎◌, inl, inr, Bool, true, false, List, length, Option, Some, None, refl, sym, ap, subst, ◌∙◌, ⊎_elim, arith}
+use Rattle.std.proofs.Common.{◌≡◌, ◌≢◌, ℕ, zero, suc, ◌+◌, ◌-◌, ◌*◌, ◌%◌, ◌^◌, ◌<◌, ◌≤◌, ◌⊎◌, inl, inr, Bool, true, false, List, length, set, get_or, Option, Some, None, refl, sym, ap, subst, ◌∙◌, ⊎_elim, arith}
 use Rattle.std.specs.Prelude.{nat_le, nat_lt}
 use Rattle.std.proofs.lemmas.Bool.{cases_eq, cases_lt, and_parts, both_ways, cond-true, eq-eqb, eqb-true, leb-true, ltb-true}
-use Rattle.std.proofs.lemmas.List.{length-set}
+use Rattle.std.proofs.lemmas.List.{length-set, get_or-set_same, get_or_past}
 use Rattle.granule_addr.specs.Page.{zero_page}
 use Rattle.rmi_abi.specs.declared.call.Call.TheVariants.{DataDestroy, GranuleUndelegate, RealmDestroy, RecDestroy, RttCreate, RttDestroy, RttUnmapUnprotected}
 use Rattle.rmi_abi.specs.declared.registers.SmcResult.{SmcResult}
@@ -21,14 +21,14 @@ use Rattle.rmm_model.specs.Entry.{is_assigned_ns}
 use Rattle.rmm_model.specs.Granule.{of_no_realm, of_realm, is_delegated}
 use Rattle.rmm_model.specs.Guest.{is_rec_named}
 use Rattle.rmm_model.specs.Level.{entry_size, entry_index}
-use Rattle.rmm_model.specs.Machine.{Machine, granule_at, page_in, is_aligned, is_inside, number_of, state_at, with_granule}
+use Rattle.rmm_model.specs.Machine.{Machine, granule_at, page_in, is_aligned, is_inside, number_of, state_at, with_granule, is_vmid_used}
 use Rattle.rmm_model.specs.Realm.{is_in_space}
 use Rattle.rmm_model.specs.Table.{entry_in_page, children_page}
 use Rattle.rmm_model.specs.Walk.{entry_at, with_entry, walk}
 use Rattle.rmm_model.specs.Command.DataDestroy.{data_destroy}
 use Rattle.rmm_model.specs.Command.GranuleUndelegate.{granule_undelegate}
 use Rattle.rmm_model.specs.Command.Operand.{realm_at, is_level}
-use Rattle.rmm_model.specs.Command.RealmDestroy.{realm_destroy, has_live_table, is_realm_live}
+use Rattle.rmm_model.specs.Command.RealmDestroy.{realm_destroy, has_live_table, is_realm_live, without_tables}
 use Rattle.rmm_model.specs.Command.RecDestroy.{rec_destroy}
 use Rattle.rmm_model.specs.Command.RttCreate.{rtt_create}
 use Rattle.rmm_model.specs.Command.RttDestroy.{rtt_destroy}
@@ -51,7 +51,7 @@ use Rattle.rmm_laws.proofs.Passed.{yes_from, is_delegated-true, realm_of-some, r
 use Rattle.rmm_laws.proofs.Plain.{undelegated as undelegated_linked}
 use Rattle.rmm_laws.proofs.RealmOrders.{gone_like, gone_spare, none_if, realm_destroyed}
 use Rattle.rmm_laws.proofs.Realms.{or_none}
-use Rattle.rmm_laws.proofs.RecsGone.{rec_destroyed, destroyed_changed}
+use Rattle.rmm_laws.proofs.RecsGone.{fixed_of, rec_destroyed, destroyed_changed}
 use Rattle.rmm_laws.proofs.Tables.{table_made, table_gone}
 use Rattle.rmm_laws.proofs.Unfolding.{page_in_machine, child_entry_is}
 use Rattle.rmm_laws.proofs.Walks.{IsPlace, entry_index-few}
@@ -125,9 +125,9 @@ mapped m = total (λ g. total (ns_at (page_in m g)) 512) (length m.granules)
 
 -- ---- steps
 
--- A granule becomes DELEGATED, or is the RD still, or stays as it was.
+-- A granule becomes DELEGATED, or is the RD still, of a realm that has kept what it had, or stays as it was.
 abbrev pub IsLess : ℕ → ℕ → RmmGranule → RmmGranule → Type 0
-IsLess r g a b = (b ≡ a) ⊎ (((is_rd a.state ≡ false) × (b ≡ of_no_realm Delegated)) ⊎ ((g ≡ r) × (is_rd b.state ≡ true) × (b.owner ≡ None)))
+IsLess r g a b = (b ≡ a) ⊎ (((is_rd a.state ≡ false) × (b ≡ of_no_realm Delegated)) ⊎ ((g ≡ r) × (is_rd b.state ≡ true) × (b.owner ≡ None) × (fixed_of b.state ≡ fixed_of a.state)))
 
 -- Or one granule becomes a table of the realm.
 abbrev pub IsNext : ℕ → ℕ → ℕ → RmmGranule → RmmGranule → Type 0
@@ -147,6 +147,12 @@ rd_then r x g a b (inl (inl same)) sure = ap (λ (c : RmmGranule). is_rd c.state
 rd_then r x g a b (inl (inr (inl freed))) sure = absurd (both_ways (is_rd a.state) freed.0 sure)
 rd_then r x g a b (inl (inr (inr rd))) sure = rd.1
 rd_then r x g a b (inr made) sure = absurd (both_ways (is_rd a.state) (ap is_rd made.1) sure)
+
+pub fixed_then : (r x g : ℕ) (a b : RmmGranule) → IsNext r x g a b → is_rd a.state ≡ true → fixed_of b.state ≡ fixed_of a.state
+fixed_then r x g a b (inl (inl same)) sure = ap (λ (c : RmmGranule). fixed_of c.state) same
+fixed_then r x g a b (inl (inr (inl freed))) sure = absurd (both_ways (is_rd a.state) freed.0 sure)
+fixed_then r x g a b (inl (inr (inr rd))) sure = rd.3
+fixed_then r x g a b (inr made) sure = absurd (both_ways (is_rd a.state) (ap is_rd made.1) sure)
 
 pub rec_before : (r x g : ℕ) (a b : RmmGranule) (rec : RmmRec) → IsNext r x g a b → b ≡ of_realm r (IsRec rec) → a ≡ of_realm r (IsRec rec)
 rec_before r x g a b rec (inl (inl same)) is = sym same ∙ is
@@ -225,10 +231,10 @@ of_back m n r address s plain taken back kin = record {
 }
 
 as_next : (r x g : ℕ) (a b : RmmGranule) (owner : Option ℕ) → owner ≡ Some r
-    → (b ≡ a) ⊎ (((is_rd a.state ≡ false) × (b ≡ of_no_realm Delegated)) ⊎ ((owner ≡ Some g) × (is_rd b.state ≡ true) × (b.owner ≡ None))) → IsNext r x g a b
+    → (b ≡ a) ⊎ (((is_rd a.state ≡ false) × (b ≡ of_no_realm Delegated)) ⊎ ((owner ≡ Some g) × (is_rd b.state ≡ true) × (b.owner ≡ None) × (fixed_of b.state ≡ fixed_of a.state))) → IsNext r x g a b
 as_next r x g a b owner of_r (inl same) = inl (inl same)
 as_next r x g a b owner of_r (inr (inl freed)) = inl (inr (inl freed))
-as_next r x g a b owner of_r (inr (inr rd)) = inl (inr (inr (some_same (sym rd.0 ∙ of_r), rd.1, rd.2)))
+as_next r x g a b owner of_r (inr (inr rd)) = inl (inr (inr (some_same (sym rd.0 ∙ of_r), rd.1, rd.2, rd.3)))
 
 -- a REC that is destroyed
 pub rec_freed : (m : Machine) (rd rec : ℕ) → IsProper m → realm_of_rec m rec ≡ Some (number_of m rd) → (performed (RecDestroy rec) m).0.word ≡ Success
@@ -444,6 +450,7 @@ unfolded_level n proper r x first ripas table pages =
 -- one granule is UNDELEGATED and zero, and others are as they were
 pub record IsUndelegated (m n : Machine) (x : ℕ) : Type 0 where
   pub kin : IsKin m n
+  pub vmids : n.vmids ≡ m.vmids
   pub others : (g : ℕ) → g ≢ x → IsSameAt m n g
 
 pub undelegate_then : (m : Machine) (address : ℕ) → IsProper m → (performed (GranuleUndelegate address) m).0.word ≡ Success → IsUndelegated m (performed (GranuleUndelegate address) m).1 (number_of m address)
@@ -455,6 +462,7 @@ undelegate_then m address proper success =
     subst (λ (p : SmcResult × Machine). IsUndelegated m p.1 (number_of m address)) (sym now)
     (record {
       kin = (record { linked = undelegated_linked address m proper.linked ok; ordered = undelegate_ordered address m proper ok }, refl, length-set m.granules x (of_no_realm Undelegated));
+      vmids = refl;
       others = λ g other. (granule_at-other m x g (of_no_realm Undelegated) other, page_in-other (with_granule m x (of_no_realm Undelegated)) x g zero_page other);
     }))
 
@@ -463,12 +471,24 @@ IsGivenBack m g = (granule_at m g ≡ of_no_realm Undelegated) × (page_in m g �
 
 -- ---- the end of a realm
 
--- no granule is of the realm after RMI_REALM_DESTROY, and DELEGATED ones are so still
+-- a VMID that is freed
+vmid_free : (vmids : List Bool) (vmid : ℕ) → get_or (set vmids vmid false) vmid false ≡ false
+vmid_free vmids vmid =
+    ⊎_elim
+    (λ (lt : vmid < length vmids). get_or-set_same vmids vmid false false lt)
+    (λ (past : length vmids ≤ vmid). get_or_past (set vmids vmid false) vmid false (subst (λ (c : ℕ). c ≤ vmid) (sym (length-set vmids vmid false)) past))
+    (cases_lt vmid (length vmids))
+
+-- no granule is of the realm after RMI_REALM_DESTROY, and DELEGATED ones are so still; its VMID is free
 pub realm_then : (m : Machine) (rd : ℕ) → IsProper m → (performed (RealmDestroy rd) m).0.word ≡ Success
     → IsKin m (performed (RealmDestroy rd) m).1 × ((g : ℕ) → (granule_at m g).state ≡ Delegated → (granule_at (performed (RealmDestroy rd) m).1 g).state ≡ Delegated)
+    × (is_vmid_used (performed (RealmDestroy rd) m).1 (realm_at m rd).vmid ≡ false)
 unfolding realm_destroy is_realm_live
 realm_then m rd proper success =
-    succeeded (IsKin m (performed (RealmDestroy rd) m).1 × ((g : ℕ) → (granule_at m g).state ≡ Delegated → (granule_at (performed (RealmDestroy rd) m).1 g).state ≡ Delegated)) (RealmDestroy rd) m refl success
+    succeeded
+    (IsKin m (performed (RealmDestroy rd) m).1 × ((g : ℕ) → (granule_at m g).state ≡ Delegated → (granule_at (performed (RealmDestroy rd) m).1 g).state ≡ Delegated)
+    × (is_vmid_used (performed (RealmDestroy rd) m).1 (realm_at m rd).vmid ≡ false))
+    (RealmDestroy rd) m refl success
     (λ ok now.
     let r : ℕ = number_of m rd in
     let realm : RmmRealm = realm_at m rd in
@@ -476,5 +496,5 @@ realm_then m rd proper success =
     let parts = or_none (nat_lt 0 realm.rec_count) (has_live_table m realm.first_table realm.table_count) ok.1.1.1.0 in
     let none = none_if realm.rec_count parts.0 in
     let like = gone_like m proper r realm is parts.1 none in
-    subst (λ (p : SmcResult × Machine). IsKin m p.1 × ((g : ℕ) → (granule_at m g).state ≡ Delegated → (granule_at p.1 g).state ≡ Delegated)) (sym now)
-    ((realm_destroyed rd m proper ok, like.0, like.1), gone_spare m proper r realm is parts.1 none))
+    subst (λ (p : SmcResult × Machine). IsKin m p.1 × ((g : ℕ) → (granule_at m g).state ≡ Delegated → (granule_at p.1 g).state ≡ Delegated) × (is_vmid_used p.1 (realm_at m rd).vmid ≡ false)) (sym now)
+    ((realm_destroyed rd m proper ok, like.0, like.1), gone_spare m proper r realm is parts.1 none, vmid_free (without_tables m realm realm.table_count).vmids realm.vmid))

@@ -1,7 +1,7 @@
 -- Realms apart: the granules that a call leaves as they are. RMM 1.0, RMI commands.
-use Rattle.std.specs.Prelude.{◌≡◌, ℕ, ◌⊎◌, ◌&&◌, Option, Some, None, is_some, if◌then◌else◌}
+use Rattle.std.specs.Prelude.{◌≡◌, ℕ, ◌⊎◌, ◌&&◌, Bool, true, false, Option, Some, None, is_some, if◌then◌else◌}
 use Rattle.rmi_abi.specs.declared.call.Call.{Call}
-use Rattle.rmi_abi.specs.declared.call.Call.TheVariants.{RealmActivate, RealmDestroy, RecAuxCount, RecCreate, RecDestroy, RecEnter, PsciComplete, DataCreate, DataCreateUnknown, DataDestroy}
+use Rattle.rmi_abi.specs.declared.call.Call.TheVariants.{RealmActivate, RealmCreate, RealmDestroy, RecAuxCount, RecCreate, RecDestroy, RecEnter, PsciComplete, DataCreate, DataCreateUnknown, DataDestroy}
 use Rattle.rmi_abi.specs.declared.call.Call.TheVariants.{RttCreate, RttDestroy, RttFold, RttReadEntry, RttMapUnprotected, RttUnmapUnprotected, RttInitRipas, RttSetRipas}
 use Rattle.rmm_model.specs.declared.granule.RmmGranuleState.TheVariants.{Undelegated, Delegated}
 use Rattle.rmm_model.specs.Granule.{realm_of}
@@ -37,6 +37,12 @@ named_realm m (DataCreate rd page ipa source flags) = rd_named m rd
 named_realm m (DataCreateUnknown rd page ipa) = rd_named m rd
 named_realm m (DataDestroy rd ipa) = rd_named m rd
 named_realm m _ = None
+
+-- a call gives a realm its VMID, or frees that of a realm
+abbrev pub changes_vmids : Option Call → Bool
+changes_vmids (Some (RealmCreate rd params)) = true
+changes_vmids (Some (RealmDestroy rd)) = true
+changes_vmids call = false
 
 -- a granule is the RD of a realm, or one that the realm owns
 abbrev pub IsOfRealm : Machine → Option ℕ → ℕ → Type 0

@@ -1,12 +1,17 @@
 -- Granules that calls give back. RMM 1.0, RMI_RTT_DESTROY, RMI_RTT_FOLD, RMI_DATA_DESTROY and RMI_REC_DESTROY.
-use Rattle.std.specs.Prelude.{◌≡◌, ◌≢◌, ℕ, ◌<◌, true, Some}
+use Rattle.std.specs.Prelude.{◌≡◌, ◌≢◌, ℕ, ◌<◌, ◌⊎◌, true, false, Some}
 use Rattle.granule_addr.specs.Page.{zero_page}
+use Rattle.rmm_model.specs.declared.entry.RmmRipas.{RmmRipas}
+use Rattle.rmm_model.specs.declared.entry.RmmRttEntry.TheVariants.{Assigned}
 use Rattle.rmm_model.specs.declared.granule.RmmGranuleState.{RmmGranuleState}
-use Rattle.rmm_model.specs.declared.granule.RmmGranuleState.TheVariants.{Delegated}
+use Rattle.rmm_model.specs.declared.granule.RmmGranuleState.TheVariants.{Undelegated, Delegated}
 use Rattle.rmm_model.specs.Granule.{of_no_realm, of_realm}
-use Rattle.rmm_model.specs.Guest.{is_rec_named}
+use Rattle.rmm_model.specs.Guest.{rec_in, is_rec_named}
 use Rattle.rmm_model.specs.Machine.{Machine, granule_at, page_in, number_of}
+use Rattle.rmm_model.specs.Rec.{is_running}
+use Rattle.rmm_model.specs.Walk.{entry_at, walk}
 use Rattle.rmm_model.specs.Command.Auxiliary.{aux_granule}
+use Rattle.rmm_model.specs.Command.Operand.{realm_at}
 use Rattle.rmm_laws.specs.Role.{IsBegin}
 
 -- An address is that of a granule of a machine, of a state and the realm of an RD. In the other machine the granule is
@@ -18,15 +23,24 @@ pub record ComesBack (before after : Machine) (rd : ℕ) (state : RmmGranuleStat
   pub blank : page_in after (number_of before address) ≡ zero_page
   pub others : (granule : ℕ) → granule ≢ number_of before address → granule_at after granule ≡ granule_at before granule
 
+-- the walk of an address of a realm ends at an entry that is ASSIGNED to the page at another address
+abbrev pub IsAssignedTo : Machine → ℕ → ℕ → ℕ → Type 0
+IsAssignedTo m rd ipa address = (ripas : RmmRipas) × (entry_at m (walk m (realm_at m rd) ipa 3) ipa ≡ Assigned ripas address)
+
+-- A granule was UNDELEGATED in a machine. Or it was DELEGATED, and is zero in the other one.
+abbrev pub IsReleased : Machine → Machine → ℕ → Type 0
+IsReleased m n granule = ((granule_at m granule).state ≡ Undelegated) ⊎ (((granule_at m granule).state ≡ Delegated) × (page_in n granule ≡ zero_page))
+
 -- a granule is neither a REC, nor an auxiliary granule of it, nor the RD of its realm
 abbrev pub IsBeside : Machine → ℕ → ℕ → Type 0
 IsBeside m rec granule =
     (granule ≢ rec) × ((k : ℕ) → k < m.settings.aux → aux_granule m rec k ≢ Some granule) × ((granule_at m rec).owner ≢ Some granule)
 
--- A REC begins at an address of a machine. It and each of its auxiliary granules is DELEGATED and zero in the other
--- machine. Each other granule but the RD of its realm has the attributes that it had.
+-- A REC begins at an address of a machine, and does not run. It and each of its auxiliary granules is DELEGATED and zero
+-- in the other machine. Each other granule but the RD of its realm has the attributes that it had.
 pub record RecComesBack (before after : Machine) (address : ℕ) : Type 0 where
   pub was : is_rec_named before address ≡ true
+  pub ready : is_running (rec_in before (number_of before address)).state ≡ false
   pub is : granule_at after (number_of before address) ≡ of_no_realm Delegated
   pub blank : page_in after (number_of before address) ≡ zero_page
   pub aux : (k granule : ℕ) → k < before.settings.aux → aux_granule before (number_of before address) k ≡ Some granule

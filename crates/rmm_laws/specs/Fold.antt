@@ -11,10 +11,11 @@ use Rattle.rmm_model.specs.Command.RttFold.{is_aligned_above}
 abbrev pub CanReplaceTable : Machine → RmmRttEntry → ℕ → Type 0
 CanReplaceTable m entry level = (is_aligned_above entry level ≡ true) × (is_mapping entry ≡ true → m.settings.block_level < level)
 
--- Each granule has the attributes that it had, each entry of a table is as it was, and so is the page of each other
--- granule.
+-- Each granule has the attributes that it had, and each VMID is used if it was. Each entry of a table is as it was, and
+-- so is the page of each other granule.
 pub record IsAlike (m n : Machine) : Type 0 where
   pub settings : n.settings ≡ m.settings
+  pub vmids : n.vmids ≡ m.vmids
   pub granules : (granule : ℕ) → granule_at n granule ≡ granule_at m granule
   pub entries : (table i : ℕ) → (granule_at m table).state ≡ Rtt → i < 512 → entry_in_page (page_in n table) i ≡ entry_in_page (page_in m table) i
   pub pages : (granule : ℕ) → (granule_at m granule).state ≢ Rtt → page_in n granule ≡ page_in m granule

@@ -32,9 +32,11 @@ abbrev pub IsOneOf : Word → List Word → Type 0
 IsOneOf word [] = ⊥
 IsOneOf word (first ∷ rest) = (first ≡ word) ⊎ IsOneOf word rest
 
--- a call enters a REC, which is not RUNNING in the machine before it, and RUNNING in the one after it
+-- A call enters the REC that begins at an address. It is not RUNNING in the machine before the call, and RUNNING in the
+-- one after it.
 abbrev pub IsRecEnter : Machine → Machine → Option Call → Type 0
-IsRecEnter m n (Some (RecEnter rec run)) = (is_running (rec_in m (number_of m rec)).state ≡ false) × (is_running (rec_in n (number_of m rec)).state ≡ true)
+IsRecEnter m n (Some (RecEnter rec run)) =
+    (is_rec_named m rec ≡ true) × (is_running (rec_in m (number_of m rec)).state ≡ false) × (is_running (rec_in n (number_of m rec)).state ≡ true)
 IsRecEnter m n _ = ⊥
 
 -- A host's access at an address faults: the address is no multiple of a size, or it is in no granule of the machine.

@@ -1,7 +1,7 @@
 -- The states and RIMs of realms, and the calls that change them. RMM 1.0, Realm lifecycle, Realm Initial Measurement.
-use Rattle.std.specs.Prelude.{◌≡◌, ℕ, ◌⊎◌, false, List, Option, Some}
+use Rattle.std.specs.Prelude.{◌≡◌, ℕ, ◌⊎◌, false, List, [], Option, Some}
 use Rattle.rmi_abi.specs.declared.call.Call.{Call}
-use Rattle.rmi_abi.specs.declared.call.Call.TheVariants.{DataCreate, RealmCreate, RealmActivate, RecCreate, RecEnter, RttInitRipas}
+use Rattle.rmi_abi.specs.declared.call.Call.TheVariants.{DataCreate, RealmCreate, RealmActivate, RealmDestroy, RecCreate, RecEnter, RttInitRipas}
 use Rattle.rmm_model.specs.declared.granule.RmmGranuleState.TheVariants.{Rd}
 use Rattle.rmm_model.specs.declared.realm.RmmRealm.{RmmRealm}
 use Rattle.rmm_model.specs.declared.realm.RmmRealmState.{RmmRealmState}
@@ -21,13 +21,30 @@ use Rattle.rmm_laws.specs.Owner.{is_rd}
 abbrev pub IsRealmIn : Machine → ℕ → RmmRealmState → Type 0
 IsRealmIn m rd state = (realm : RmmRealm) × ((granule_at m rd).state ≡ Rd realm) × (realm.state ≡ state)
 
--- A call brings a realm to a state: it creates a NEW one, or it activates one that is NEW. Or it enters a REC of one that
--- is ACTIVE, whose guest switches it off.
+-- A call can bring a realm to a state: it creates a NEW one, or it activates one that is NEW. Or it enters a REC of one
+-- that is ACTIVE, which can become SYSTEM_OFF.
 abbrev pub IsBrought : Machine → Option Call → ℕ → RmmRealmState → Type 0
 IsBrought m (Some (RealmCreate of params)) rd New = (rd ≡ number_of m of) × (is_rd (granule_at m rd).state ≡ false)
 IsBrought m (Some (RealmActivate of)) rd Active = (rd ≡ number_of m of) × IsRealmIn m rd New
 IsBrought m (Some (RecEnter rec run)) rd SystemOff = ((granule_at m (number_of m rec)).owner ≡ Some rd) × IsRealmIn m rd Active
 IsBrought m call rd state = ⊥
+
+-- what a realm keeps from its creation on: all but its state, its RIM and its RECs
+abbrev pub fixed : RmmRealm → RmmRealm
+fixed realm = record realm { state = New; rim = []; next_rec = 0; rec_count = 0 }
+
+-- a granule is the RD of a realm that has kept what a realm had
+abbrev pub IsLasting : Machine → ℕ → RmmRealm → Type 0
+IsLasting m rd realm = (other : RmmRealm) × ((granule_at m rd).state ≡ Rd other) × (fixed other ≡ fixed realm)
+
+-- a call destroys the realm of an RD
+abbrev pub IsDestroyed : Machine → Option Call → ℕ → Type 0
+IsDestroyed m (Some (RealmDestroy of)) rd = rd ≡ number_of m of
+IsDestroyed m call rd = ⊥
+
+-- Each realm before a call is there after it, and has kept what it had, or the call destroys it.
+abbrev pub KeepsRealms : Machine → Option Call → Machine → Type 0
+KeepsRealms m call n = (rd : ℕ) (realm : RmmRealm) → (granule_at m rd).state ≡ Rd realm → IsLasting n rd realm ⊎ IsDestroyed m call rd
 
 -- a granule is the RD of a realm with a RIM
 abbrev pub HasRim : Machine → ℕ → List ℕ → Type 0
@@ -46,13 +63,21 @@ rim_with_range m realm base top =
 -- A call gives the realm of an RD a RIM: it creates the realm. Or it extends the RIM of a NEW one by a page of data, by a
 -- range of RIPAS, or by a REC.
 abbrev pub IsMeasured : Machine → Option Call → ℕ → List ℕ → Type 0
-IsMeasured m (Some (RealmCreate of params)) rd rim = (rd ≡ number_of m of) × (rim ≡ (realm_for m (params_at m params)).rim)
+IsMeasured m (Some (RealmCreate of params)) rd rim = (rd ≡ number_of m of) × (is_rd (granule_at m rd).state ≡ false) × (rim ≡ (realm_for m (params_at m params)).rim)
 IsMeasured m (Some (DataCreate of page ipa source flags)) rd rim =
     (rd ≡ number_of m of) × IsRealmIn m rd New × (rim ≡ rim_with_data (realm_at m of) ipa flags (page_in m (number_of m source)))
 IsMeasured m (Some (RttInitRipas of base top)) rd rim =
     (rd ≡ number_of m of) × IsRealmIn m rd New × (rim ≡ rim_with_range m (realm_at m of) base top)
 IsMeasured m (Some (RecCreate of rec params)) rd rim = (rd ≡ number_of m of) × IsRealmIn m rd New × (rim ≡ rim_with_rec m.settings (realm_at m of) (page_in m (number_of m params)))
 IsMeasured m call rd rim = ⊥
+
+-- a call is one that gives the realm of an RD a RIM if it succeeds
+abbrev pub Measures : Machine → Call → ℕ → Type 0
+Measures m (RealmCreate of params) rd = rd ≡ number_of m of
+Measures m (DataCreate of page ipa source flags) rd = rd ≡ number_of m of
+Measures m (RttInitRipas of base top) rd = rd ≡ number_of m of
+Measures m (RecCreate of rec params) rd = rd ≡ number_of m of
+Measures m call rd = ⊥
 
 -- Each realm after a call was there with that RIM before it, or the call gave it.
 abbrev pub KeepsRims : Machine → Option Call → Machine → Type 0

@@ -1,5 +1,5 @@
 -- Calls that take a realm down, one step at a time. RMM 1.0, Realm destruction.
-use Rattle.std.specs.Prelude.{◌≡◌, ℕ, ◌-◌, List, [], ◌∷◌, Some}
+use Rattle.std.specs.Prelude.{◌≡◌, ℕ, ◌-◌, false, List, [], ◌∷◌, Some}
 use Rattle.granule_addr.specs.Page.{zero_page}
 use Rattle.rmi_abi.specs.declared.call.Call.{Call}
 use Rattle.rmi_abi.specs.declared.call.Call.TheVariants.{DataDestroy, GranuleUndelegate, RealmDestroy, RecDestroy, RttCreate, RttDestroy, RttUnmapUnprotected}
@@ -9,7 +9,7 @@ use Rattle.rmm_model.specs.declared.entry.RmmRttEntry.TheVariants.{Assigned}
 use Rattle.rmm_model.specs.declared.granule.RmmGranuleState.TheVariants.{Undelegated}
 use Rattle.rmm_model.specs.Call.{performed}
 use Rattle.rmm_model.specs.Granule.{of_no_realm}
-use Rattle.rmm_model.specs.Machine.{Machine, granule_at, page_in, number_of}
+use Rattle.rmm_model.specs.Machine.{Machine, granule_at, page_in, number_of, is_vmid_used}
 use Rattle.rmm_model.specs.Walk.{entry_at, walk}
 use Rattle.rmm_model.specs.Command.Operand.{realm_at}
 use Rattle.rmm_laws.specs.Apart.{realm_of_rec, IsOfRealm, IsSameAt, IsSpare}
@@ -60,10 +60,11 @@ LeadsDown rd m [] n = m ≡ n
 LeadsDown rd m (call ∷ calls) n = IsOfTeardown m rd call × ((performed call m).0.word ≡ Success) × LeadsDown rd (performed call m).1 calls n
 
 -- Some such calls lead to a machine in which each granule that the realm has now, the RD too, is UNDELEGATED and zero.
--- Each granule of another realm is as it was.
+-- The VMID of the realm is free. Each granule of another realm is as it was.
 pub record CanBeTornDown (m : Machine) (rd : ℕ) : Type 0 where
   pub calls : List Call
   pub after : Machine
   pub succeed : LeadsDown rd m calls after
   pub others : (granule : ℕ) → (IsOfRealm m (Some (number_of m rd)) granule → ⊥) → (IsSpare m granule → ⊥) → IsSameAt m after granule
   pub free : (granule : ℕ) → IsOfRealm m (Some (number_of m rd)) granule → (granule_at after granule ≡ of_no_realm Undelegated) × (page_in after granule ≡ zero_page)
+  pub vmid : is_vmid_used after (realm_at m rd).vmid ≡ false

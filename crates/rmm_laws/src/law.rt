@@ -6,7 +6,7 @@ ghost use Rattle.rmi_abi.specs.declared.registers.Registers.{Registers};
 ghost use Rattle.rmi_abi.specs.declared.registers.SmcResult.{SmcResult};
 ghost use Rattle.rmi_abi.specs.declared.settings.RmmSettings.{RmmSettings};
 ghost use Rattle.rmi_abi.specs.declared.call.Call.{Call};
-ghost use Rattle.rmi_abi.specs.declared.call.Call.TheVariants.{GranuleUndelegate, RealmDestroy, RecDestroy, RttCreate, RttDestroy, RttFold, RttUnmapUnprotected, DataDestroy};
+ghost use Rattle.rmi_abi.specs.declared.call.Call.TheVariants.{GranuleUndelegate, RealmActivate, RealmDestroy, RecDestroy, RecEnter, RttCreate, RttDestroy, RttFold, RttUnmapUnprotected, DataCreate, DataDestroy};
 ghost use Rattle.rmi_abi.specs.declared.word.Word.{Word};
 ghost use Rattle.rmi_abi.specs.declared.word.Word.TheVariants.{Success};
 ghost use Rattle.rmi_abi.specs.Call.{call_in};
@@ -20,13 +20,14 @@ ghost use Rattle.rmm_model.specs.declared.step.GuestStep.TheVariants.{Write};
 ghost use Rattle.rmm_model.specs.declared.step.StepOutcome.{StepOutcome};
 ghost use Rattle.rmm_model.specs.declared.step.StepWords.{StepWords};
 ghost use Rattle.rmm_model.specs.declared.realm.RmmRealm.{RmmRealm};
+ghost use Rattle.rmm_model.specs.declared.realm.RmmRealmState.TheVariants.{New, Active};
 ghost use Rattle.rmm_model.specs.declared.entry.RmmRipas.{RmmRipas};
 ghost use Rattle.rmm_model.specs.declared.rec.RmmRec.{RmmRec};
 ghost use Rattle.rmm_model.specs.Allowed.{allowed_words};
 ghost use Rattle.rmm_model.specs.Call.{command_of, performed, rmi};
 ghost use Rattle.rmm_model.specs.Entry.{is_live};
 ghost use Rattle.rmm_model.specs.Granule.{of_no_realm, of_realm};
-ghost use Rattle.rmm_model.specs.Guest.{is_rec_named, queued};
+ghost use Rattle.rmm_model.specs.Guest.{rec_in, is_rec_named, queued};
 ghost use Rattle.rmm_model.specs.Level.{entry_size};
 ghost use Rattle.rmm_model.specs.Realm.{is_protected, is_unprotected};
 ghost use Rattle.rmm_model.specs.Rec.{is_running};
@@ -38,24 +39,26 @@ ghost use Rattle.rmm_model.specs.Machine.{Machine, granule_at, is_inside, number
 ghost use Rattle.rmm_model.specs.Table.{entry_in_page, has_live};
 ghost use Rattle.rmm_model.specs.Walk.{entry_at, table_below, walk, top};
 ghost use Rattle.rmm_model.specs.Command.RecEnter.{interrupted, step_outcome, after_step};
-ghost use Rattle.rmm_laws.specs.Apart.{rd_named, IsOfRealm, IsOfAnother, IsSameAt};
-ghost use Rattle.rmm_laws.specs.Back.{ComesBack, RecComesBack};
+ghost use Rattle.rmm_laws.specs.Apart.{rd_named, changes_vmids, IsOfRealm, IsOfAnother, IsSameAt};
+ghost use Rattle.rmm_laws.specs.Back.{ComesBack, RecComesBack, IsAssignedTo, IsReleased};
 ghost use Rattle.rmm_laws.specs.Fold.{CanReplaceTable, IsAlike};
 ghost use Rattle.rmm_laws.specs.Half.{IsOfHalf};
 ghost use Rattle.rmm_laws.specs.Owner.{is_rec_in};
 ghost use Rattle.rmm_laws.specs.Proper.{IsProper};
 ghost use Rattle.rmm_laws.specs.Refusal.{IsRefused, is_refusal, IsOneOf, IsRecEnter, IsFault, IsNotGiven, IsNotQueued, IsNotRunning, IsAccess, IsNotDone};
 ghost use Rattle.rmm_laws.specs.Role.{Used, page_count, uses, IsSound};
-ghost use Rattle.rmm_laws.specs.State.{KeepsStates, KeepsRims};
+ghost use Rattle.rmm_laws.specs.State.{IsRealmIn, KeepsStates, KeepsRealms, HasRim, IsMeasured, Measures, KeepsRims};
 ghost use Rattle.rmm_laws.specs.Step.{HasNextStep, HasRemoval, CanBeTornDown};
 ghost use Rattle.rmm_laws.specs.Walk.{IsTableOf, Serves, EndsWell, IsPassed, IsAtLive, IsNextTop, LeadsToTable, walked_to};
 
 /// What is refused changes nothing: calls by registers, and the host's stores and fills. So do steps that no REC takes,
 /// interrupts that are answered `None`, as of each REC that does not run, and accesses of guests that are not done. Only
 /// a call that enters a REC is answered with the word of a REC that runs on. That REC is RUNNING then, and was not before.
+/// A REC that is entered with RMI_SUCCESS does not run after the call.
 pub fn refusals_change_nothing()
     ensures calls { (r : Registers) (m : Machine) → IsRefused (rmi r m).0.x0 → (rmi r m).1 ≡ m }
     ensures running { (r : Registers) (m : Machine) → (rmi r m).0.x0 ≡ 2 ^ 64 - 2 → IsRecEnter m (rmi r m).1 (call_in r) }
+    ensures left { (m : Machine) (rec run : ℕ) → (performed (RecEnter rec run) m).0.word ≡ Success → is_running (rec_in (performed (RecEnter rec run) m).1 (number_of m rec)).state ≡ false }
     ensures stores { (m : Machine) (address word : ℕ) → IsFault m 8 address → after_store m address word ≡ m }
     ensures fills { (m : Machine) (address value : ℕ) → IsFault m 4096 address → after_fill m address value ≡ m }
     ensures steps { (m : Machine) (rec : ℕ) (w : StepWords) → IsNotQueued (queued m rec w).0 → (queued m rec w).1 ≡ m }
@@ -67,7 +70,8 @@ pub fn refusals_change_nothing()
 {}
 
 /// Words that an RMM may answer beside the one that is answered refuse too. A call that is refused is answered one of the
-/// words that are allowed, and each of these refuses. If a call is not refused, RMI_SUCCESS alone is allowed.
+/// words that are allowed, and each of these refuses. If a call is not refused, RMI_SUCCESS alone is allowed, also of an
+/// RMI_REC_ENTER that is answered with the word of a REC that runs on.
 pub fn allowed_is_refused()
     ensures done { (call : Call) (m : Machine) → is_refusal (performed call m).0.word ≡ false → allowed_words (command_of call m) ≡ Success ∷ [] }
     ensures own { (call : Call) (m : Machine) → is_refusal (performed call m).0.word ≡ true → IsOneOf (performed call m).0.word (allowed_words (command_of call m)) }
@@ -120,7 +124,7 @@ pub fn tables_lead_to_tables()
 
 /// Granules come back: X1 of RTT_DESTROY, RTT_FOLD and DATA_DESTROY is the address of a table or a page of the realm.
 /// That granule is DELEGATED and zero after the call. So is a REC that is destroyed, with its auxiliary granules. Other
-/// granules keep their attributes, but for the RD that counts the REC.
+/// granules keep their attributes, but for the RD that counts the REC. What a call gives to the host is zero.
 pub fn granules_come_back()
     ensures destroyed { (m : Machine) (rd ipa level : ℕ) → IsProper m → (performed (RttDestroy rd ipa level) m).0.word ≡ Success
         → ComesBack m (performed (RttDestroy rd ipa level) m).1 (number_of m rd) Rtt (performed (RttDestroy rd ipa level) m).0.x1 }
@@ -129,6 +133,8 @@ pub fn granules_come_back()
     ensures pages { (m : Machine) (rd ipa : ℕ) → IsProper m → (performed (DataDestroy rd ipa) m).0.word ≡ Success
         → ComesBack m (performed (DataDestroy rd ipa) m).1 (number_of m rd) Data (performed (DataDestroy rd ipa) m).0.x1 }
     ensures recs { (m : Machine) (rec : ℕ) → IsProper m → (performed (RecDestroy rec) m).0.word ≡ Success → RecComesBack m (performed (RecDestroy rec) m).1 rec }
+    ensures released { (r : Registers) (m : Machine) (granule : ℕ) → IsProper m → (granule_at (rmi r m).1 granule).state ≡ Undelegated → IsReleased m (rmi r m).1 granule }
+    ensures named { (m : Machine) (rd ipa : ℕ) → (performed (DataDestroy rd ipa) m).0.word ≡ Success → IsAssignedTo m rd ipa (performed (DataDestroy rd ipa) m).0.x1 }
 {}
 
 /// Tops are complete: from an address to the top of its walk's end there is no live entry. The top is at the next live
@@ -150,9 +156,9 @@ pub fn tops_are_complete()
 /// Steps of a teardown succeed: RMI_REC_DESTROY of a REC that does not run, and RMI_DATA_DESTROY of a page. So do
 /// RMI_RTT_UNMAP_UNPROTECTED of a mapping, and RMI_RTT_DESTROY of a table without live entries. RMI_REALM_DESTROY succeeds
 /// for a realm without RECs and live entries, and RMI_GRANULE_UNDELEGATE for a DELEGATED granule, which is UNDELEGATED and
-/// zero then. While an entry of a realm is live, there is a step that succeeds. If no REC of it runs, there is one until
-/// the realm is destroyed. What a realm had until its RMI_REALM_DESTROY is its RD and its starting tables, which are
-/// DELEGATED and zero.
+/// zero then. If a granule is DELEGATED, a step succeeds while an entry of a realm is live. If no REC of it runs either,
+/// one succeeds until the realm is destroyed. What a realm had until its RMI_REALM_DESTROY is its RD and its starting
+/// tables, which are DELEGATED and zero.
 pub fn teardown_steps_succeed()
     ensures recs { (m : Machine) (rec : ℕ) → is_rec_named m rec ≡ true → is_running (rec_at m rec).state ≡ false → (performed (RecDestroy rec) m).0.word ≡ Success }
     ensures pages { (m : Machine) (rd ipa address : ℕ) (ripas : RmmRipas) → IsProper m → rd_named m rd ≡ Some (number_of m rd) → ipa % 4096 ≡ 0 → is_protected (realm_at m rd) ipa ≡ true
@@ -180,33 +186,42 @@ pub fn teardown_steps_succeed()
 {}
 
 /// Realms can be torn down. If no REC of a realm runs, and some granule is DELEGATED, there are calls that all succeed.
-/// After them each granule that the realm has now is UNDELEGATED and zero, and those of other realms are as they were. They
-/// are the calls of a teardown alone. The DELEGATED granule is for the table of a block that has to be unfolded.
+/// After them each granule that the realm has now is UNDELEGATED and zero, and its VMID is free. Those of other realms are
+/// as they were. They are the calls of a teardown alone. The DELEGATED granule is for the table of a block that has to be
+/// unfolded.
 pub fn realms_can_be_torn_down()
     ensures { (m : Machine) (rd spare : ℕ) → IsProper m → rd_named m rd ≡ Some (number_of m rd) → (granule_at m spare).state ≡ Delegated
         → ((granule : ℕ) (rec : RmmRec) → granule_at m granule ≡ of_realm (number_of m rd) (Rec rec) → is_running rec.state ≡ false) → CanBeTornDown m rd }
 {}
 
 /// A realm is activated once. It is NEW when it is created, RMI_REALM_ACTIVATE makes it ACTIVE if it is NEW, and an
-/// RMI_REC_ENTER of a REC of it makes it SYSTEM_OFF if it is ACTIVE. Nothing else changes its state: no other call, no
-/// step that a guest is given, and no interrupt.
+/// RMI_REC_ENTER of a REC of it can make it SYSTEM_OFF if it is ACTIVE. Nothing else changes its state: no other call,
+/// no step that a guest is given, and no interrupt. A REC is entered only while its realm is ACTIVE.
+/// A realm stays until its RMI_REALM_DESTROY, with what it was created with.
 pub fn activated_once()
     ensures calls { (r : Registers) (m : Machine) → IsProper m → KeepsStates m (call_in r) (rmi r m).1 }
     ensures steps { (m : Machine) (rec : ℕ) (w : StepWords) → KeepsStates m None (queued m rec w).1 }
     ensures interrupts { (m : Machine) (rec : ℕ) → KeepsStates m None (interrupted m rec).1 }
+    ensures stay { (r : Registers) (m : Machine) → IsProper m → KeepsRealms m (call_in r) (rmi r m).1 }
+    ensures activated { (m : Machine) (rd : ℕ) → (performed (RealmActivate rd) m).0.word ≡ Success → IsRealmIn m (number_of m rd) New × IsRealmIn (performed (RealmActivate rd) m).1 (number_of m rd) Active }
+    ensures entered { (m : Machine) (rec run : ℕ) → is_refusal (performed (RecEnter rec run) m).0.word ≡ false → (rd : ℕ) × ((granule_at m (number_of m rec)).owner ≡ Some rd) × IsRealmIn m rd Active }
 {}
 
 /// RIMs are measured: RMI_REALM_CREATE gives a realm its first RIM. RMI_DATA_CREATE, RMI_RTT_INIT_RIPAS and RMI_REC_CREATE
-/// extend it while the realm is NEW. No other call changes it, and neither do steps that guests are given, and interrupts.
+/// of a REC that is measured extend it while the realm is NEW. No other call changes it, and neither do steps that
+/// guests are given, and interrupts. A page of data has the bytes that are measured.
 pub fn rims_are_measured()
     ensures calls { (r : Registers) (m : Machine) → IsProper m → KeepsRims m (call_in r) (rmi r m).1 }
     ensures steps { (m : Machine) (rec : ℕ) (w : StepWords) → KeepsRims m None (queued m rec w).1 }
     ensures interrupts { (m : Machine) (rec : ℕ) → KeepsRims m None (interrupted m rec).1 }
+    ensures measured { (m : Machine) (call : Call) (rd : ℕ) → Measures m call rd → (performed call m).0.word ≡ Success → (rim : List ℕ) × HasRim (performed call m).1 rd rim × IsMeasured m (Some call) rd rim }
+    ensures content { (m : Machine) (rd page ipa source flags : ℕ) → IsProper m → (performed (DataCreate rd page ipa source flags) m).0.word ≡ Success
+        → page_in (performed (DataCreate rd page ipa source flags) m).1 (number_of m page) ≡ page_in m (number_of m source) }
 {}
 
 /// RMI_RTT_FOLD undoes RMI_RTT_CREATE: it succeeds right after it, with its operands, if the entry can replace the table.
 /// And RMI_RTT_CREATE undoes RMI_RTT_FOLD, with the granule that comes back. Then each granule has the attributes that it
-/// had before both, and each entry of each table is as it was.
+/// had before both, and each entry of each table is as it was. A table is folded only if the entry can replace it.
 pub fn fold_and_unfold()
     ensures created { (m : Machine) (rd rtt ipa level : ℕ) → IsProper m → (performed (RttCreate rd rtt ipa level) m).0.word ≡ Success
         → CanReplaceTable m (entry_at m (walk m (realm_at m rd) ipa (level - 1)) ipa) level → ((performed (RttFold rd ipa level) (performed (RttCreate rd rtt ipa level) m).1).0.word ≡ Success)
@@ -214,16 +229,22 @@ pub fn fold_and_unfold()
     ensures folded { (m : Machine) (rd ipa level : ℕ) → IsProper m → (performed (RttFold rd ipa level) m).0.word ≡ Success
         → ((performed (RttCreate rd (performed (RttFold rd ipa level) m).0.x1 ipa level) (performed (RttFold rd ipa level) m).1).0.word ≡ Success)
         × IsAlike m (performed (RttCreate rd (performed (RttFold rd ipa level) m).0.x1 ipa level) (performed (RttFold rd ipa level) m).1).1 }
+    ensures only { (m : Machine) (rd ipa level : ℕ) → IsProper m → (performed (RttFold rd ipa level) m).0.word ≡ Success
+        → CanReplaceTable m (entry_at (performed (RttFold rd ipa level) m).1 (walk m (realm_at m rd) ipa (level - 1)) ipa) level }
 {}
 
 /// Other realms stay: a call leaves each granule as it was, but for those of the realm that it is on, and UNDELEGATED
 /// and DELEGATED ones. So it keeps the RDs, tables, pages and RECs of all other realms. Stores and fills of the host
 /// change UNDELEGATED granules alone, a step that a guest is given its REC, and an interrupt its REC and UNDELEGATED
-/// granules. A guest writes pages of its realm, and of the host. Settings and the number of granules stay.
+/// granules. A guest writes pages of its realm, and of the host. Settings and the number of granules stay. VMIDs are
+/// those before, but for calls that create or destroy a realm.
 pub fn other_realms_stay()
     ensures calls { (r : Registers) (m : Machine) (granule : ℕ) → IsProper m → IsOfAnother m (call_in r) granule → IsSameAt m (rmi r m).1 granule }
     ensures stores { (m : Machine) (address word granule : ℕ) → (granule_at m granule).state ≢ Undelegated → IsSameAt m (after_store m address word) granule }
     ensures fills { (m : Machine) (address value granule : ℕ) → (granule_at m granule).state ≢ Undelegated → IsSameAt m (after_fill m address value) granule }
+    ensures vmids { (r : Registers) (m : Machine) → IsProper m → changes_vmids (call_in r) ≡ false → (rmi r m).1.vmids ≡ m.vmids }
+    ensures stored { (m : Machine) (address word : ℕ) → (after_store m address word).granules ≡ m.granules }
+    ensures filled { (m : Machine) (address value : ℕ) → (after_fill m address value).granules ≡ m.granules }
     ensures steps { (m : Machine) (rec granule : ℕ) (w : StepWords) → granule ≢ number_of m rec → IsSameAt m (queued m rec w).1 granule }
     ensures interrupts { (m : Machine) (rec granule : ℕ) → granule ≢ number_of m rec → (granule_at m granule).state ≢ Undelegated → IsSameAt m (interrupted m rec).1 granule }
     ensures writes { (m : Machine) (rd rec ipa value granule : ℕ) (size : AccessSize) (outcome : StepOutcome) (realm : RmmRealm) → IsProper m → (granule_at m rd).state ≡ Rd realm

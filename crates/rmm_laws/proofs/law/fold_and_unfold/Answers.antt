@@ -1,5 +1,5 @@
 use Rattle.rmm_laws.proofs.Fold.{created_and_folded}
-use Rattle.rmm_laws.proofs.Unfold.{folded_and_created}
+use Rattle.rmm_laws.proofs.Unfold.{folded_and_created, folded_only}
 use Rattle.rmm_laws.proofs.law.fold_and_unfold.Goals as goal
 
 pub returns-clause-created : goal.returns-clause-created
@@ -7,3 +7,6 @@ returns-clause-created c = created_and_folded
 
 pub returns-clause-folded : goal.returns-clause-folded
 returns-clause-folded c = folded_and_created
+
+pub returns-clause-only : goal.returns-clause-only
+returns-clause-only c = folded_only

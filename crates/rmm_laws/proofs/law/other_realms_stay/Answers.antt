@@ -20,6 +20,7 @@ use Rattle.rmm_laws.proofs.Passed.{kept}
 use Rattle.rmm_laws.proofs.Plain.{host_plain}
 use Rattle.rmm_laws.proofs.Aside.{given_apart, interrupt_apart, written_apart, plain_of}
 use Rattle.rmm_laws.proofs.Accesses.{accessed}
+use Rattle.rmm_laws.proofs.ReleasingCalls.{call_vmids}
 use Rattle.rmm_laws.proofs.Touching.{Touches, untouched}
 use Rattle.rmm_laws.proofs.Writes.{page_in-other}
 use Rattle.rmm_laws.proofs.law.other_realms_stay.Goals as goal
@@ -73,3 +74,15 @@ returns-clause-stores c = λ m address word g taken.
     let host = (and_parts (address % 8 == 0) (is_host_page m address) can).1 in
     (refl, page_in-other m (number_of m address) g _ (λ same. taken (ap (λ (x : ℕ). (granule_at m x).state) same ∙ host_plain m address host))))
     (λ cannot. (refl, refl))
+
+pub returns-clause-stored : goal.returns-clause-stored
+returns-clause-stored c = λ m address word.
+    cond_both (can_access m address) (with_word m (number_of m address) (address % 4096 / 8) word) m (λ (n : Machine). n.granules ≡ m.granules) (λ can. refl) (λ cannot. refl)
+
+pub returns-clause-filled : goal.returns-clause-filled
+returns-clause-filled c = λ m address value.
+    cond_both (can_fill m address) (with_page m (number_of m address) (page_of value)) m (λ (n : Machine). n.granules ≡ m.granules) (λ can. refl) (λ cannot. refl)
+
+pub returns-clause-vmids : goal.returns-clause-vmids
+unfolding rmi
+returns-clause-vmids c = λ r m proper quiet. call_vmids (call_in r) r m proper quiet

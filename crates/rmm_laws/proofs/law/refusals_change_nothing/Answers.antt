@@ -54,7 +54,8 @@ use Rattle.rmm_model.specs.Machine.{Machine, is_inside, is_secure, number_of, pa
 use Rattle.rmm_model.specs.Step.{access, tried, after_write}
 use Rattle.rmm_laws.specs.Refusal.{IsRefused, IsRecEnter, IsFault, IsNotGiven, IsAccess, IsNotDone}
 use Rattle.rmm_laws.proofs.Answered.{IsOwn, own, not_refused}
-use Rattle.rmm_laws.proofs.Passed.{Passed, passed}
+use Rattle.rmm_laws.proofs.Effects.{left_then}
+use Rattle.rmm_laws.proofs.Passed.{Passed, passed, rec_named}
 use Rattle.rmm_laws.proofs.Running.{entered_runs}
 use Rattle.rmm_laws.proofs.law.refusals_change_nothing.Goals as goal
 
@@ -143,7 +144,7 @@ unfolding version features granule_delegate granule_undelegate realm_create real
 enters (RecEnter rec run) m ok is =
     let g = number_of m rec in
     let flags = flags_in (page_in m (number_of m run)) in
-    (ok.1.1.1.1.1.1.1.1.0, entered_runs rec run m ok (stays (after_steps (after_entry m g run flags) g flags 16).0 is))
+    (rec_named m rec ok.1.1.1.0 ok.1.1.1.1.0 ok.1.1.1.1.1.0, ok.1.1.1.1.1.1.1.1.0, entered_runs rec run m ok (stays (after_steps (after_entry m g run flags) g flags 16).0 is))
 enters _ m ok is = absurd (cc)
 
 by_word : (f : Option FailedCondition) (call : Call) (m : Machine) → first_failing (command_of call m).checks ≡ f → number (decided f (command_of call m) m).0.word ≡ 2 ^ 64 - 2
@@ -159,6 +160,9 @@ by_running None r m is = absurd (omega arith)
 pub returns-clause-running : goal.returns-clause-running
 unfolding rmi
 returns-clause-running c = λ r m is. by_running (call_in r) r m is
+
+pub returns-clause-left : goal.returns-clause-left
+returns-clause-left c = left_then
 
 -- ---- the host
 

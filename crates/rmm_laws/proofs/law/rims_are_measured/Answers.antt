@@ -1,6 +1,7 @@
 use Rattle.std.proofs.Common.{inl}
 use Rattle.rmi_abi.specs.Call.{call_in}
 use Rattle.rmm_model.specs.Call.{rmi}
+use Rattle.rmm_laws.proofs.Effects.{content_then, measured_then}
 use Rattle.rmm_laws.proofs.StateCalls.{call_rims, queued_states, interrupt_states}
 use Rattle.rmm_laws.proofs.law.rims_are_measured.Goals as goal
 
@@ -13,3 +14,9 @@ returns-clause-steps c = λ m rec w rd realm is. (let old = queued_states m rec 
 
 pub returns-clause-interrupts : goal.returns-clause-interrupts
 returns-clause-interrupts c = λ m rec rd realm is. (let old = interrupt_states m rec rd realm is in inl (old.0, old.1, old.3))
+
+pub returns-clause-measured : goal.returns-clause-measured
+returns-clause-measured c = measured_then
+
+pub returns-clause-content : goal.returns-clause-content
+returns-clause-content c = content_then
