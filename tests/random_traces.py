@@ -3,8 +3,6 @@ made. No answers are known for them here.
 """
 import random
 
-from hypothesis import strategies as st
-
 # IPA granules on both sides of what tables serve, and the last ones of the protected half of 39 bits.
 IPAS = (0, 1, 2, 3, 511, 512, 1023, 262143, 262144, 67108863, 67108864)
 MOST_STEPS = 220
@@ -90,5 +88,8 @@ class Life:
 
 def random_traces():
     """A trace, without answers: the first lines of a life, so that one that fails is made short."""
+    # tests/random_laws draws lives without hypothesis.
+    from hypothesis import strategies as st
+
     cut = lambda seed, count: "".join(f"{line}\n" for line in [*Life(random.Random(seed)).lines()][:count]).encode()
     return st.builds(cut, st.integers(0, 2**32 - 1), st.integers(40, 2 * MOST_STEPS + 60))

@@ -2,13 +2,15 @@
 from __future__ import annotations
 
 from contextlib import AbstractContextManager
+from dataclasses import replace
 from typing import Any, NamedTuple
 from unittest.mock import patch
 
 from second_rmm import guest, machine, realms, recs, tables
-from second_rmm.command import Command, Outcome, done
+from second_rmm.command import Checks, Command, Outcome, done
 from second_rmm.facts import DELEGATED, DESTROYED, ENTRIES, IRQ, RAM, REC, RTT, size
-from second_rmm.machine import LIVE, Entry, Exit, Granule, Machine, Realm
+from second_rmm.guest import Result
+from second_rmm.machine import LIVE, Entry, Exit, Granule, Machine, Realm, Rec
 
 
 class Mistake(NamedTuple):
@@ -122,6 +124,69 @@ def refusal_counts(self: Command, word: int) -> dict[str, int]:
     return {}
 
 
+# ---- of guests
+
+
+def page_is_replaced(self: tables.DataCreateUnknown) -> Checks:
+    yield from self.delegated_data()
+    yield from self.rd_checks()
+    yield from self.page_place()
+    yield from self.entry_checks(lambda entry: entry.kind in ("UNASSIGNED", "ASSIGNED"))
+
+
+def destroyed_page_stays_ram(self: tables.DataDestroy) -> Outcome:
+    entry = self.walk.entry
+    self.machine.become(entry.address, DELEGATED)
+    self.machine.put(self.walk, Entry("UNASSIGNED", entry.ripas))
+    return done(data=entry.address, top=self.next_live())
+
+
+def destroyed_is_changed(_self: tables.RttSetRipas, entry: Entry) -> bool:
+    return entry.kind in ("UNASSIGNED", "ASSIGNED")
+
+
+entered = guest.begin
+
+
+def request_stays(rec: Rec, run: int, page: bytes) -> None:
+    asked = rec.asked
+    entered(rec, run, page)
+    rec.asked = asked
+
+
+aborted, found = guest.aborts, guest.physical
+
+
+def memory_is_emulated(here: Machine, rec: Rec, ipa: int, exception: int) -> Result | Exit | None:
+    it = aborted(here, rec, ipa, exception)
+    return replace(it, is_emulatable=True) if isinstance(it, Exit) and exception == guest.EC_DATA else it
+
+
+def abort_shows_value(here: Machine, rec: Rec, ipa: int, access: int, esr: int, value: int) -> int | Result | Exit:
+    it = found(here, rec, ipa, access, esr, value)
+    return replace(it, gprs=(value,)) if isinstance(it, Exit) else it
+
+
+read = tables.RttReadEntry.effect
+
+
+def entry_shows_memory(self: tables.RttReadEntry) -> Outcome:
+    outputs, entry = read(self).outputs, self.machine.walk(self.realm, self.ipa, self.level).entry
+    shown = self.machine.load(entry.address, 2) if entry.kind == "ASSIGNED" else b""
+    return done(**{**outputs, "desc": outputs["desc"] + int.from_bytes(shown, "little")})
+
+
+# ---- of the profile
+
+
+destroyed = recs.RecDestroy.effect
+
+
+def number_is_given_again(self: recs.RecDestroy) -> Outcome:
+    self.named.realm.next -= 1
+    return destroyed(self)
+
+
 MISTAKES = {
     "table_leaves_its_entry": Mistake(patch.object(tables.TableCommand, "remove", table_leaves_its_entry), ("roles", "walks")),
     "page_is_mapped_twice": Mistake(patch.object(tables.DataCreateUnknown, "effect", page_is_mapped_twice), ("roles",)),
@@ -140,4 +205,12 @@ MISTAKES = {
     "exit_runs_on": Mistake(patch.object(guest, "leave", exit_runs_on), ("effects",)),
     "fold_destroys": Mistake(patch.object(tables.RttFold, "effect", fold_destroys), ("folds", "ripas")),
     "refusal_counts": Mistake(patch.object(Command, "refused", refusal_counts), ("refusals",)),
+    "page_is_replaced": Mistake(patch.object(tables.DataCreateUnknown, "checks", page_is_replaced), ("pages",)),
+    "destroyed_page_stays_ram": Mistake(patch.object(tables.DataDestroy, "effect", destroyed_page_stays_ram), ("guests",)),
+    "destroyed_is_changed": Mistake(patch.object(tables.RttSetRipas, "is_right", destroyed_is_changed), ("asked",)),
+    "request_stays": Mistake(patch.object(recs, "begin", request_stays), ("asked",)),
+    "memory_is_emulated": Mistake(patch.object(guest, "aborts", memory_is_emulated), ("pages",)),
+    "abort_shows_value": Mistake(patch.object(guest, "physical", abort_shows_value), ("secrets",)),
+    "entry_shows_memory": Mistake(patch.object(tables.RttReadEntry, "effect", entry_shows_memory), ("secrets",)),
+    "number_is_given_again": Mistake(patch.object(recs.RecDestroy, "effect", number_is_given_again), ("profile",)),
 }

@@ -7,7 +7,8 @@
     states    a realm is NEW, ACTIVE and SYSTEM_OFF in turn; from REALM_ACTIVATE on its RIM is the same
     wiped     a granule that is delegated or given back is zero
     effects   a realm that is activated was NEW; a page of data has the bytes that are measured; a REC that leaves is READY
-    secrets   two machines that differ in memory and registers of guests answer a host alike
+    secrets   two machines that differ in memory and registers of guests, and in what these write to their own memory,
+              answer a host alike, and differ in nothing else after that
     tops      steps by `top` from address 0 meet each live entry
     folds     RTT_FOLD after RTT_CREATE leaves all entries and granules as they were, and the other way round
 """
@@ -25,12 +26,15 @@ from second_rmm.bench import Bench
 from second_rmm.command import COMMANDS, Command, Outcome
 from second_rmm.facts import DATA, DELEGATED, DESTROYED, ENTRIES, PAGE, RUNNING, SUCCESS, UNDELEGATED, size
 from second_rmm.machine import LIVE, ZEROS, Granule, Machine, Realm
-from second_rmm.reading import number
+from second_rmm.reading import number, step_of
 
 NAMES_REALM, NAMES_REC = ("rd",), ("rec", "calling", "target")
 # What a host does; the others are readings of the model's own, and steps of guests.
 OF_A_HOST = (*COMMANDS, "smc", "repeat", "load", "store", "fill", "realm_params", "rec_params", "rec_run", "interrupt")
 Kept = tuple[object, ...]
+Step = tuple[str, tuple[int, ...]]
+# Where the pc and the registers of a REC are in what is kept of it.
+PC, GPRS = 3, 4
 
 
 def kept(it: Granule) -> Kept:
@@ -251,15 +255,45 @@ def of_wiped(before: Seen, after: Seen) -> Iterator[str]:
 # ---- two machines
 
 
+def shown(it: Granule) -> Kept:
+    """A granule without its secrets: a page of data, registers of a REC, what its steps write, and what they read."""
+    state, page, *others, rec = kept(it)
+    if it.rec is None or rec is None:
+        return state, page if state == UNDELEGATED else b"", *others
+    hidden = lambda kind, operands: (operands[0], operands[2]) if kind == "write" else operands
+    steps = [(kind, hidden(kind, operands)) for kind, operands in it.rec.steps]
+    *of_rec, _, _ = rec  # type: ignore[misc]
+    return state, *others, of_rec[:PC] + of_rec[GPRS + 1 :], steps, [name for name, _ in it.rec.results]
+
+
+def with_other_value(realm: Realm, step: Step, dice: Random) -> Step:
+    """A step; one that writes to memory of the realm's own writes another value."""
+    kind, operands = step
+    if kind != "write" or not realm.is_protected(operands[0]):
+        return step
+    return kind, (operands[0], dice.randrange(256 ** operands[2]), operands[2])
+
+
 def with_other_secrets(bench: Bench, dice: Random) -> Bench:
-    """The same machine, but for pages of data, and registers of RECs."""
+    """The same machine, but for pages of data, registers of RECs, and what guests are to write to their memory."""
     other = copy.deepcopy(bench)
     for it in other.machine.granules:
         if it.state == DATA:
             it.page = dice.randbytes(PAGE)
         if it.rec is not None:
             it.rec.gprs, it.rec.pc = tuple(dice.getrandbits(64) for _ in it.rec.gprs), dice.getrandbits(64)
+            it.rec.steps = [with_other_value(it.rec.realm, step, dice) for step in it.rec.steps]
     return other
+
+
+def with_another(bench: Bench, question: str, dice: Random) -> str:
+    """A line; a step that writes to a realm's own memory writes another value."""
+    kind, *words = question.split(" ")
+    it = bench.machine.granule_at(number(words[0])) if kind == "guest" and words[1:2] == ["write"] else None
+    if it is None or it.rec is None:
+        return question
+    _, (ipa, value, size_of_it) = with_other_value(it.rec.realm, step_of(words[1:]), dice)
+    return f"guest {words[0]} write {ipa:#x} {value:#x} {size_of_it}"
 
 
 def of_secrets(questions: list[str], dice: Random) -> str | None:
@@ -269,10 +303,12 @@ def of_secrets(questions: list[str], dice: Random) -> str | None:
         bench.ask(it)
     other = with_other_secrets(bench, dice)
     for it in questions[cut:]:
-        one, two = bench.ask(it), other.ask(it)
+        one, two = bench.ask(it), other.ask(with_another(other, it, dice))
         if it.split(" ")[0] in OF_A_HOST and one != two:
             return f"{it} is answered {one} and {two}"
-    return None
+    both = zip(bench.machine.granules, other.machine.granules)
+    other_ones = [k for k, (one, two) in enumerate(both) if shown(one) != shown(two)]
+    return f"granule {other_ones[0]} is another by them" if other_ones else None
 
 
 # ---- walks
