@@ -32,8 +32,7 @@ lasts_realm m k x old new is same lasts g realm was =
     ⊎_elim
     (λ (here : g ≡ x).
     let it : before.0 ≡ old = same_realm (sym before.1 ∙ ap (λ (y : ℕ). (granule_at k y).state) here ∙ is) in
-    let within : x < length k.granules = taken_inside k x (λ none. cc) in
-    (
+    let within : x < length k.granules = taken_inside k x (λ none. cc) in (
       new,
       ap (λ (y : ℕ). (granule_at (with_granule k x (of_no_realm (Rd new))) y).state) here ∙ ap (λ (r : RmmGranule). r.state) (granule_at-same k x (of_no_realm (Rd new)) within),
       same ∙ sym (ap fixed it) ∙ before.2,

@@ -194,7 +194,7 @@ pub fn realms_can_be_torn_down()
         → ((granule : ℕ) (rec : RmmRec) → granule_at m granule ≡ of_realm (number_of m rd) (Rec rec) → is_running rec.state ≡ false) → CanBeTornDown m rd }
 {}
 
-/// A realm is activated once. It is NEW when it is created, RMI_REALM_ACTIVATE makes it ACTIVE if it is NEW, and an
+/// A realm is activated once. It is NEW when it is created, and RMI_REALM_ACTIVATE makes it ACTIVE if it is NEW. An
 /// RMI_REC_ENTER of a REC of it can make it SYSTEM_OFF if it is ACTIVE. Nothing else changes its state: no other call,
 /// no step that a guest is given, and no interrupt. A REC is entered only while its realm is ACTIVE.
 /// A realm stays until its RMI_REALM_DESTROY, with what it was created with.
