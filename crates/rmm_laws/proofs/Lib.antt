@@ -1,5 +1,6 @@
 pub mod Accesses
 pub mod Answered
+pub mod Asking
 pub mod Aside
 pub mod Blocks
 pub mod Children
@@ -32,6 +33,7 @@ pub mod RecLives
 pub mod Recs
 pub mod RecsGone
 pub mod Refolding
+pub mod Requests
 pub mod Running
 pub mod Seats
 pub mod Serving
