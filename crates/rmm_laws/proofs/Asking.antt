@@ -112,6 +112,12 @@ left_for_ripas : (s : RmmGranuleState) → (unwrap_or (rec_of s) no_rec).exit �
 left_for_ripas (IsRec rec) is = refl
 left_for_ripas _ is = absurd (cc)
 
+abbrev Any : RipasRequest → Type 0
+Any asked = Unit {0}
+
+abbrev IsNone : RipasRequest → Type 0
+IsNone asked = asked ≡ no_request
+
 -- a REC whose last exit asked for a change asks for none once it is entered
 pub nothing_asked : (m : Machine) (g address flags : ℕ) (rec : RmmRec) → (rec_in m g).exit ≡ RipasChange → (granule_at (after_entry m g address flags) g).state ≡ IsRec rec → rec.ripas ≡ no_request
 unfolding after_entry
@@ -119,15 +125,13 @@ nothing_asked m g address flags rec left is =
     let page : ℕ = number_of m address in
     let there = left_for_ripas (granule_at m g).state left in
     let inside : g < length m.granules = taken_inside m g (λ free. cc) in
-    let Any : RipasRequest → Type 0 = λ asked. Unit {0} in
-    let None_of : RipasRequest → Type 0 = λ asked. asked ≡ no_request in
     let k : Machine = with_gic (with_rec m g (running_at (rec_in m g) address)) g page in
     let runs : Asks g Any k = asks_gic g Any (with_rec m g (running_at (rec_in m g) address)) page (asks_rec g Any m (running_at (rec_in m g) address) inside tt) in
     let cleared : RmmRec = record (rec_in k g) { ripas = no_request } in
-    let answered : Asks g None_of (with_host_answer k g RipasChange page flags) =
-        asks_result g None_of (with_rec k g cleared) (ripas_result (rec_in k g).ripas flags) (asks_rec g None_of k cleared (asks_inside g Any k runs) refl) in
-    holds_of g None_of (with_host_answer k g (rec_in m g).exit page flags) rec
-    (subst (λ (last : LastExit). Asks g None_of (with_host_answer k g last page flags)) (sym left) answered) is
+    let answered : Asks g IsNone (with_host_answer k g RipasChange page flags) =
+        asks_result g IsNone (with_rec k g cleared) (ripas_result (rec_in k g).ripas flags) (asks_rec g IsNone k cleared (asks_inside g Any k runs) refl) in
+    holds_of g IsNone (with_host_answer k g (rec_in m g).exit page flags) rec
+    (subst (λ (last : LastExit). Asks g IsNone (with_host_answer k g last page flags)) (sym left) answered) is
 
 -- ---- the first step
 

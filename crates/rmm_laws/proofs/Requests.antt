@@ -1,6 +1,6 @@
 -- What RECs ask for of RIPAS, after calls.
-use Rattle.std.proofs.Common.{◌≡◌, ◌≢◌, ℕ, zero, suc, ◌+◌, ◌*◌, ◌<◌, ◌≤◌, ◌==◌, ◌⊎◌, inl, inr, Bool, true, false, length, List, Option, Some, None, Result, Ok, Err, unwrap_or, refl, sym, ap, subst, ◌∙◌, ⊎_elim, arith}
-use Rattle.std.specs.Prelude.{not, ◌&&◌, nat_lt, if◌then◌else◌}
+use Rattle.std.proofs.Common.{◌≡◌, ◌≢◌, ℕ, zero, suc, ◌+◌, ◌*◌, ◌-◌, ◌%◌, ◌<◌, ◌≤◌, ◌==◌, ◌&&◌, ◌⊎◌, inl, inr, Bool, true, false, length, List, Option, Some, None, Result, Ok, Err, unwrap_or, refl, sym, ap, subst, ◌∙◌, ⊎_elim, arith}
+use Rattle.std.specs.Prelude.{not, nat_lt, if◌then◌else◌}
 use Rattle.std.proofs.lemmas.Bool.{cases_eq, eqb-true, cond_both}
 use Rattle.std.proofs.lemmas.List.{length-set}
 use Rattle.rmi_abi.specs.declared.call.Call.{Call}
@@ -22,7 +22,7 @@ use Rattle.rmm_model.specs.declared.realm.RttWalk.{RttWalk}
 use Rattle.rmm_model.specs.declared.rec.LastExit.{LastExit}
 use Rattle.rmm_model.specs.declared.rec.LastExit.TheVariants.{Other, HostCall, RipasChange, EmulatableAbort, UnprotectedAbort, SystemRegister}
 use Rattle.rmm_model.specs.declared.rec.PsciRequest.{PsciRequest}
-use Rattle.rmm_model.specs.declared.rec.PsciRequest.TheVariants.{Complete, CpuOn}
+use Rattle.rmm_model.specs.declared.rec.PsciRequest.TheVariants.{None as NoRequest, Complete, CpuOn}
 use Rattle.rmm_model.specs.declared.rec.RmmRec.{RmmRec}
 use Rattle.rmm_model.specs.declared.rec.RmmRecState.TheVariants.{Ready}
 use Rattle.rmm_model.specs.declared.step.GuestStep.{GuestStep}
@@ -31,7 +31,7 @@ use Rattle.rmm_model.specs.declared.step.Queued.{Queued}
 use Rattle.rmm_model.specs.declared.step.StepOutcome.{StepOutcome}
 use Rattle.rmm_model.specs.declared.step.StepOutcome.TheVariants.{Result as IsResult, Exit as IsExit, Spin as Spins}
 use Rattle.rmm_model.specs.declared.step.StepResult.{StepResult}
-use Rattle.rmm_model.specs.declared.step.StepResult.TheVariants.{Sea}
+use Rattle.rmm_model.specs.declared.step.StepResult.TheVariants.{Done, Sea, Psci, Returned}
 use Rattle.rmm_model.specs.declared.step.StepWords.{StepWords}
 use Rattle.rmm_model.specs.Access.{low_bytes, with_two_bytes, with_four_bytes, with_value}
 use Rattle.rmm_model.specs.Call.{command_of, performed, rmi_at}
@@ -41,8 +41,8 @@ use Rattle.rmm_model.specs.Host.{is_host_page}
 use Rattle.rmm_model.specs.Level.{entry_size}
 use Rattle.rmm_model.specs.Machine.{Machine, granule_at, page_in, number_of, state_at, with_granule}
 use Rattle.rmm_model.specs.Realm.{with_rim}
-use Rattle.rmm_model.specs.Rec.{no_rec, new_rec, is_on}
-use Rattle.rmm_model.specs.Step.{access, after_write, is_exit}
+use Rattle.rmm_model.specs.Rec.{no_rec, no_request, new_rec, is_on}
+use Rattle.rmm_model.specs.Step.{access, after_write, is_exit, rec_after_exit}
 use Rattle.rmm_model.specs.Walk.{walk}
 use Rattle.rmm_model.specs.Command.Auxiliary.{with_aux, with_wiped_if, aux_granule}
 use Rattle.rmm_model.specs.Command.Operand.{realm_at, rec_at}
@@ -60,7 +60,7 @@ use Rattle.rmm_model.specs.Command.PsciComplete.{psci_complete, psci_result, psc
 use Rattle.rmm_model.specs.Command.RecAuxCount.{rec_aux_count}
 use Rattle.rmm_model.specs.Command.RecCreate.{rec_create, with_created_rec, with_one_more}
 use Rattle.rmm_model.specs.Command.RecDestroy.{rec_destroy, with_one_less, without_rec_of, without_rec}
-use Rattle.rmm_model.specs.Command.RecEnter.{rec_enter, owner_realm, with_realm_off, with_system_off, with_copied, with_gprs, with_gic, with_exit_gic, with_exit_words, after_exit, with_step_ended, with_psci_result, emulated, with_host_answer, after_entry, step_outcome, with_exit_of, after_step, with_step_passed, after_step_in, after_first_step, first_step_outcome, continued, after_steps, runs_at, interrupted}
+use Rattle.rmm_model.specs.Command.RecEnter.{rec_enter, owner_realm, with_realm_off, with_system_off, with_copied, with_gprs, with_gic, with_exit_gic, with_exit_words, after_exit, with_step_ended, with_psci_result, ripas_result, emulated, with_host_answer, running_at, after_entry, step_outcome, with_exit_of, after_step, with_step_passed, after_step_in, after_first_step, first_step_outcome, continued, after_steps, runs_at, interrupted}
 use Rattle.rmm_model.specs.Command.RttCreate.{rtt_create}
 use Rattle.rmm_model.specs.Command.RttDestroy.{rtt_destroy}
 use Rattle.rmm_model.specs.Command.RttFold.{rtt_fold}
@@ -256,17 +256,17 @@ module _ (o : Machine) (g : ℕ) where
 
   b_result : (m : Machine) (r : StepResult) → B m → B (with_result m g r)
   unfolding with_result
-  b_result m r b = beside_but o m g _ b
+  b_result m r b = (let rec : RmmRec = rec_in m g in beside_but o m g (record rec { result_count = (rec.result_count % 32 + 1) % 32 }) b)
 
   b_past : (m : Machine) → B m → B (past_step m g)
   unfolding past_step
-  b_past m b = beside_but o m g _ b
+  b_past m b = (let rec : RmmRec = rec_in m g in beside_but o m g (record rec { first_step = (rec.first_step % 16 + 1) % 16; step_count = rec.step_count - 1 }) b)
 
   b_ended : (m : Machine) (r : StepResult) → B m → B (with_step_ended m g r)
   b_ended m r b = b_result (past_step m g) r (b_past m b)
 
   b_psci : (m : Machine) (request : PsciRequest) → B m → B (with_psci_result m g request)
-  b_psci m (Complete value) b = b_result _ _ (beside_but o m g _ b)
+  b_psci m (Complete value) b = (let rec : RmmRec = record (rec_in m g) { psci = NoRequest } in b_result (with_rec m g rec) (Psci value) (beside_but o m g rec b))
   b_psci m _ b = b
 
   b_gprs : (m : Machine) (page : ℕ) → B m → B (with_gprs m g page)
@@ -278,9 +278,11 @@ module _ (o : Machine) (g : ℕ) where
   b_gic m page b = cond_both m.settings.checks_gic _ m B (λ sure. b) (λ never. b)
 
   b_answer : (m : Machine) (page flags : ℕ) (last : LastExit) → B m → B (with_host_answer m g last page flags)
-  b_answer m page flags RipasChange b = b_result _ _ (beside_but o m g _ b)
-  b_answer m page flags HostCall b = b_result _ _ (b_gprs m page b)
-  b_answer m page flags SystemRegister b = b_result m _ b
+  b_answer m page flags RipasChange b =
+      let rec : RmmRec = record (rec_in m g) { ripas = no_request } in
+      b_result (with_rec m g rec) (ripas_result (rec_in m g).ripas flags) (beside_but o m g rec b)
+  b_answer m page flags HostCall b = b_result (with_gprs m g page) (Returned (entry_gpr_in (page_in m page) 0)) (b_gprs m page b)
+  b_answer m page flags SystemRegister b = b_result m Done b
   b_answer m page flags UnprotectedAbort b = cond_both (injects_sea flags) (with_step_ended m g Sea) m B (λ sure. b_ended m Sea b) (λ never. b)
   b_answer m page flags EmulatableAbort b =
       let answer : StepResult = emulated (first_step m g) (entry_gpr_in (page_in m page) 0) in
@@ -290,7 +292,10 @@ module _ (o : Machine) (g : ℕ) where
 
   b_entry : (m : Machine) (address flags : ℕ) → B m → B (after_entry m g address flags)
   unfolding after_entry
-  b_entry m address flags b = b_answer _ (number_of m address) flags (rec_in m g).exit (b_gic _ (number_of m address) (beside_but o m g _ b))
+  b_entry m address flags b =
+      let page : ℕ = number_of m address in
+      let k : Machine = with_rec m g (running_at (rec_in m g) address) in
+      b_answer (with_gic k g page) page flags (rec_in m g).exit (b_gic k page (beside_but o m g (running_at (rec_in m g) address) b))
 
   b_exit : (m : Machine) (exit : RecExit) (last : LastExit) → B m → B (after_exit m g exit last)
   unfolding after_exit with_exit_gic with_copied with_exit_words
@@ -320,7 +325,7 @@ module _ (o : Machine) (g : ℕ) where
   b_off m None b = b
 
   b_exit_of : (m : Machine) (step : GuestStep) (exits : Bool) → B m → B (with_exit_of m g step exits)
-  b_exit_of m step true b = beside_but o m g _ b
+  b_exit_of m step true b = beside_but o m g (rec_after_exit (rec_in m g) step) b
   b_exit_of m step false b = b
 
   b_step : (m : Machine) (realm : RmmRealm) (step : GuestStep) (outcome : StepOutcome) → B m → B (after_step m realm g step outcome)
