@@ -46,7 +46,7 @@ use Rattle.rmm_model.specs.Step.{access, after_write, is_exit, rec_after_exit}
 use Rattle.rmm_model.specs.Walk.{walk}
 use Rattle.rmm_model.specs.Command.Auxiliary.{with_aux, with_wiped_if, aux_granule}
 use Rattle.rmm_model.specs.Command.Operand.{realm_at, rec_at}
-use Rattle.rmm_model.specs.Command.RipasRange.{with_ripas_from, with_ripas, change_count}
+use Rattle.rmm_model.specs.Command.RipasRange.{with_ripas_from, change_count}
 use Rattle.rmm_model.specs.Command.DataCreate.{data_create, rim_with_data}
 use Rattle.rmm_model.specs.Command.DataCreateUnknown.{data_create_unknown}
 use Rattle.rmm_model.specs.Command.DataDestroy.{data_destroy}
