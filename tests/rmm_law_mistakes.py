@@ -8,7 +8,7 @@ from unittest.mock import patch
 
 from second_rmm import guest, machine, realms, recs, tables
 from second_rmm.command import Checks, Command, Outcome, done
-from second_rmm.facts import DELEGATED, DESTROYED, EMPTY, ENTRIES, IRQ, RAM, REC, RTT, size
+from second_rmm.facts import DELEGATED, DESTROYED, ENTRIES, IRQ, RAM, REC, RTT, size
 from second_rmm.guest import Result
 from second_rmm.machine import LIVE, Entry, Exit, Granule, Machine, Realm, Rec
 
