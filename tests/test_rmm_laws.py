@@ -3,7 +3,7 @@ import re
 
 from programs import TOP, run
 
-HISTORIES, SECONDS = "3", 600
+HISTORIES, SECONDS = "4", 600
 
 
 def test_statements():

@@ -1,5 +1,6 @@
 pub mod Accesses
 pub mod Answered
+pub mod Asking
 pub mod Aside
 pub mod Blocks
 pub mod Children
@@ -37,6 +38,7 @@ pub mod RecsGone
 pub mod Refolding
 pub mod Releasing
 pub mod ReleasingCalls
+pub mod Requests
 pub mod Running
 pub mod Seats
 pub mod Serving

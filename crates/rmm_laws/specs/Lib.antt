@@ -5,6 +5,7 @@ pub mod Half
 pub mod Owner
 pub mod Proper
 pub mod Refusal
+pub mod Request
 pub mod Role
 pub mod State
 pub mod Step

@@ -4,6 +4,7 @@ ghost use Rattle.granule_addr.specs.Page.{zero_page};
 ghost use Rattle.page_arena.specs.Page.{page_at};
 ghost use Rattle.rmi_abi.specs.declared.registers.Registers.{Registers};
 ghost use Rattle.rmi_abi.specs.declared.registers.SmcResult.{SmcResult};
+ghost use Rattle.rmi_abi.specs.declared.rec_run.RecExit.{RecExit};
 ghost use Rattle.rmi_abi.specs.declared.settings.RmmSettings.{RmmSettings};
 ghost use Rattle.rmi_abi.specs.declared.call.Call.{Call};
 ghost use Rattle.rmi_abi.specs.declared.call.Call.TheVariants.{GranuleUndelegate, RealmActivate, RealmDestroy, RecDestroy, RecEnter, RttCreate, RttDestroy, RttFold, RttUnmapUnprotected, DataCreate, DataDestroy};
@@ -22,6 +23,8 @@ ghost use Rattle.rmm_model.specs.declared.step.StepWords.{StepWords};
 ghost use Rattle.rmm_model.specs.declared.realm.RmmRealm.{RmmRealm};
 ghost use Rattle.rmm_model.specs.declared.realm.RmmRealmState.TheVariants.{New, Active};
 ghost use Rattle.rmm_model.specs.declared.entry.RmmRipas.{RmmRipas};
+ghost use Rattle.rmm_model.specs.declared.rec.LastExit.{LastExit};
+ghost use Rattle.rmm_model.specs.declared.rec.LastExit.TheVariants.{RipasChange};
 ghost use Rattle.rmm_model.specs.declared.rec.RmmRec.{RmmRec};
 ghost use Rattle.rmm_model.specs.Allowed.{allowed_words};
 ghost use Rattle.rmm_model.specs.Call.{command_of, performed, rmi};
@@ -30,7 +33,7 @@ ghost use Rattle.rmm_model.specs.Granule.{of_no_realm, of_realm};
 ghost use Rattle.rmm_model.specs.Guest.{rec_in, is_rec_named, queued};
 ghost use Rattle.rmm_model.specs.Level.{entry_size};
 ghost use Rattle.rmm_model.specs.Realm.{is_protected, is_unprotected};
-ghost use Rattle.rmm_model.specs.Rec.{is_running};
+ghost use Rattle.rmm_model.specs.Rec.{is_running, no_request};
 ghost use Rattle.rmm_model.specs.Command.Auxiliary.{with_aux};
 ghost use Rattle.rmm_model.specs.Command.Operand.{realm_at, rec_at};
 ghost use Rattle.rmm_model.specs.Command.RealmDestroy.{has_live_table, without_tables};
@@ -38,7 +41,7 @@ ghost use Rattle.rmm_model.specs.Host.{after_store, after_fill};
 ghost use Rattle.rmm_model.specs.Machine.{Machine, granule_at, is_inside, number_of, page_in, with_blank};
 ghost use Rattle.rmm_model.specs.Table.{entry_in_page, has_live};
 ghost use Rattle.rmm_model.specs.Walk.{entry_at, table_below, walk, top};
-ghost use Rattle.rmm_model.specs.Command.RecEnter.{interrupted, step_outcome, after_step};
+ghost use Rattle.rmm_model.specs.Command.RecEnter.{interrupted, step_outcome, after_step, after_entry, after_first_step, after_exit};
 ghost use Rattle.rmm_laws.specs.Apart.{rd_named, changes_vmids, IsOfRealm, IsOfAnother, IsSameAt};
 ghost use Rattle.rmm_laws.specs.Back.{ComesBack, RecComesBack, IsAssignedTo, IsReleased};
 ghost use Rattle.rmm_laws.specs.Fold.{CanReplaceTable, IsAlike};
@@ -46,6 +49,7 @@ ghost use Rattle.rmm_laws.specs.Half.{IsOfHalf};
 ghost use Rattle.rmm_laws.specs.Owner.{is_rec_in};
 ghost use Rattle.rmm_laws.specs.Proper.{IsProper};
 ghost use Rattle.rmm_laws.specs.Refusal.{IsRefused, is_refusal, IsOneOf, IsRecEnter, IsFault, IsNotGiven, IsNotQueued, IsNotRunning, IsAccess, IsNotDone};
+ghost use Rattle.rmm_laws.specs.Request.{KeepsRequests, IsAskedFor};
 ghost use Rattle.rmm_laws.specs.Role.{Used, page_count, uses, IsSound};
 ghost use Rattle.rmm_laws.specs.State.{IsRealmIn, KeepsStates, KeepsRealms, HasRim, IsMeasured, Measures, KeepsRims};
 ghost use Rattle.rmm_laws.specs.Step.{HasNextStep, HasRemoval, CanBeTornDown};
@@ -217,6 +221,19 @@ pub fn rims_are_measured()
     ensures measured { (m : Machine) (call : Call) (rd : ℕ) → Measures m call rd → (performed call m).0.word ≡ Success → (rim : List ℕ) × HasRim (performed call m).1 rd rim × IsMeasured m (Some call) rd rim }
     ensures content { (m : Machine) (rd page ipa source flags : ℕ) → IsProper m → (performed (DataCreate rd page ipa source flags) m).0.word ≡ Success
         → page_in (performed (DataCreate rd page ipa source flags) m).1 (number_of m page) ≡ page_in m (number_of m source) }
+{}
+
+/// What RECs ask for of RIPAS is their guests'. A call keeps what each REC asks for, but RMI_REC_ENTER of the REC, and
+/// RMI_RTT_SET_RIPAS, after which the REC asks for the rest. So do steps that a guest is given, and interrupts. A REC that
+/// left with a request asks for nothing once it is entered. A step of its guest asks for a range of the protected half,
+/// or leaves what is asked for as it is, and so does the exit.
+pub fn requests_are_the_guest_s()
+    ensures calls { (r : Registers) (m : Machine) → KeepsRequests m (call_in r) (rmi r m).1 }
+    ensures steps { (m : Machine) (rec : ℕ) (w : StepWords) → KeepsRequests m None (queued m rec w).1 }
+    ensures interrupts { (m : Machine) (rec : ℕ) → KeepsRequests m None (interrupted m rec).1 }
+    ensures entered { (m : Machine) (g address flags : ℕ) (rec : RmmRec) → (rec_in m g).exit ≡ RipasChange → (granule_at (after_entry m g address flags) g).state ≡ Rec rec → rec.ripas ≡ no_request }
+    ensures asked { (m : Machine) (g flags : ℕ) (rec : RmmRec) → (granule_at (after_first_step m g flags) g).state ≡ Rec rec → (rec.ripas ≡ (rec_in m g).ripas) ⊎ IsAskedFor m g rec.ripas }
+    ensures left { (m : Machine) (g : ℕ) (exit : RecExit) (last : LastExit) → KeepsRequests m None (after_exit m g exit last) }
 {}
 
 /// RMI_RTT_FOLD undoes RMI_RTT_CREATE: it succeeds right after it, with its operands, if the entry can replace the table.
