@@ -1,20 +1,30 @@
-//! The simulated RMM: commands named after the Realm Management Interface, over any store of pages.
+//! The simulated RMM: commands named after the Realm Management Interface, over any store of pages, and the operations
+//! of a history performed on it.
 //!
 //! An RMM is seen as the machine of the definitions, with a flag for each granule that says whether it is free. The
 //! answer and the effect of each command are those of its definition on the named granules; a refusal changes nothing.
 //! A caller has to have taken the granules that a command names.
+//!
+//! One function performs each operation but a take and its reverse, with one contract: the answer and the machine are
+//! those of the operation's definition. `law` leads from there to the step of a history, and says that a reverse in
+//! turn is not refused. Take and UnTake are no commands: the RMM's `take`, `take_at` and `give` do them. `law` says
+//! that these are steps too.
 #![tactic(auto)]
 
 mod data;
 mod granule;
 mod inputs;
+pub mod law;
 mod locate;
 mod monitor;
+mod operation;
 mod places;
 mod reading;
 mod realm;
+mod realm_operation;
 mod rec;
 mod run;
 mod table;
 
 pub use monitor::Monitor;
+pub use operation::perform;
