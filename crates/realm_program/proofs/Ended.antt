@@ -8,16 +8,16 @@ use Rattle.std.proofs.lemmas.List.Elements.{length_all_zip}
 use Rattle.std.proofs.lemmas.Slice.Zip.{all_zipped_more}
 use Rattle.host_ledger.specs.View.{HostView}
 use Rattle.host_commands.specs.declared.cmd.Step.{Step}
-use Rattle.builders.specs.Close.{IsClosed, IsHostGivenBack}
-use Rattle.builders.specs.Fault.{IsFault}
+use Rattle.build_seats.specs.Close.{IsClosed, IsHostGivenBack}
+use Rattle.build_seats.specs.Fault.{IsFault}
 use Rattle.builders.specs.Runs.{AreRun, IsLowestWaiting}
-use Rattle.builders.specs.Seats.{SeatView}
+use Rattle.build_seats.specs.Seats.{SeatView}
 use Rattle.builders.specs.Workers.{WorkerView, IsWorkerRun}
-use Rattle.builders.specs.declared.close.CloseFault.{CloseFault}
+use Rattle.build_seats.specs.declared.close.CloseFault.{CloseFault}
 use Rattle.plan_replay.specs.Run.{map_text}
 use Rattle.realm_plan.specs.Plan.{Plan}
 use Rattle.realm_program.specs.Fitting.{ReportFits}
-use Rattle.builders.specs.declared.report.Report.{Report}
+use Rattle.build_seats.specs.declared.report.Report.{Report}
 use Rattle.realm_program.specs.Text.{report_lines, audit_line}
 use Rattle.realm_program.specs.Workers.{new_workers, worker_seats, IsReportOf, AreLeft, IsEndedRun, IsWorkersText, IsStuck, IsMismatch, IsWithoutWorkersText}
 use Rattle.realm_program.specs.declared.run_fault.RunFault.{RunFault}

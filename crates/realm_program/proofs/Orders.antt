@@ -2,7 +2,7 @@
 use Rattle.std.proofs.Common.{◌≡◌, ℕ, List, ◌++◌, sym, ap, ◌∙◌, subst}
 use Rattle.std.specs.List.{flat_map}
 use Rattle.host_ledger.specs.View.{HostView}
-use Rattle.builders.specs.Close.{IsHostGivenBack, IsClosed}
+use Rattle.build_seats.specs.Close.{IsHostGivenBack, IsClosed}
 use Rattle.builders.proofs.Orders.{did_the_same}
 use Rattle.plan_replay.specs.Run.{map_text}
 use Rattle.plan_replay.proofs.Maps.{same_map}

@@ -14,12 +14,12 @@ use Rattle.realm_model.specs.declared.act.Act.{Act}
 use Rattle.realm_model.specs.declared.act.Event.{Event}
 use Rattle.realm_model.proofs.Booleans.{true_false}
 use Rattle.realm_model.proofs.Growth.{open_entries-own}
-use Rattle.builders.specs.Events.{is_accepted, is_done, question_at}
-use Rattle.builders.specs.declared.ask.Question.{Question}
-use Rattle.builders.specs.declared.ask.Question.TheVariants as question
-use Rattle.builders.specs.declared.report.Answer.{Answer}
-use Rattle.builders.specs.declared.report.Answer.TheVariants.{Replied, Undone, Marked, Nothing, Refused}
-use Rattle.builders.specs.declared.report.ReportLine.{ReportLine}
+use Rattle.build_seats.specs.Events.{is_accepted, is_done, question_at}
+use Rattle.build_seats.specs.declared.ask.Question.{Question}
+use Rattle.build_seats.specs.declared.ask.Question.TheVariants as question
+use Rattle.build_seats.specs.declared.report.Answer.{Answer}
+use Rattle.build_seats.specs.declared.report.Answer.TheVariants.{Replied, Undone, Marked, Nothing, Refused}
+use Rattle.build_seats.specs.declared.report.ReportLine.{ReportLine}
 use Rattle.realm_program.specs.Fitting.{AnswerFits, LineFits, DoesFit, accepted_count}
 
 -- a line fits what is open and the build's next event

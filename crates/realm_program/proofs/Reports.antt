@@ -10,8 +10,8 @@ use Rattle.realm_program.specs.Report.{report_text}
 use Rattle.realm_model.specs.declared.act.Event.{Event}
 use Rattle.realm_plan.specs.Plan.{Plan}
 use Rattle.realm_program.specs.Fitting.{DoesFit, ReportFits}
-use Rattle.builders.specs.declared.report.Report.{Report}
-use Rattle.builders.specs.declared.report.ReportLine.{ReportLine}
+use Rattle.build_seats.specs.declared.report.Report.{Report}
+use Rattle.build_seats.specs.declared.report.ReportLine.{ReportLine}
 use Rattle.realm_program.specs.Text.{steps_of_build, report_lines}
 use Rattle.realm_program.specs.Workers.{IsReportOf, WorkerFits, worker_text}
 

@@ -4,7 +4,7 @@ use Rattle.std.specs.List.{range_with_len}
 use Rattle.std.specs.Prelude.{All}
 use Rattle.std.proofs.lemmas.List.{length-append}
 use Rattle.std.proofs.lemmas.List.FromFn.{map-range_with_len_more, length-map-range_with_len, get_or-map-range_with_len}
-use Rattle.builders.specs.Seats.{SeatView, new_seat}
+use Rattle.build_seats.specs.Seats.{SeatView, new_seat}
 use Rattle.builders.specs.Workers.{WorkerView}
 use Rattle.realm_plan.specs.Plan.{Plan}
 use Rattle.realm_program.specs.Workers.{new_worker}

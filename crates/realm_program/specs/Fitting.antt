@@ -17,13 +17,13 @@ use Rattle.realm_model.specs.Act.{reverse_of}
 use Rattle.realm_model.specs.declared.act.Act.{Act}
 use Rattle.realm_model.specs.declared.act.Act.TheVariants as acts
 use Rattle.realm_model.specs.declared.act.Event.{Event}
-use Rattle.builders.specs.Events.{is_accepted, question_at}
-use Rattle.builders.specs.declared.ask.Question.{Question}
-use Rattle.builders.specs.declared.ask.Question.TheVariants as question
-use Rattle.builders.specs.declared.report.Answer.{Answer}
-use Rattle.builders.specs.declared.report.Answer.TheVariants.{Replied, Undone as WasUndone, Marked, Nothing, Refused}
-use Rattle.builders.specs.declared.report.ReportLine.{ReportLine}
-use Rattle.builders.specs.declared.report.Report.{Report}
+use Rattle.build_seats.specs.Events.{is_accepted, question_at}
+use Rattle.build_seats.specs.declared.ask.Question.{Question}
+use Rattle.build_seats.specs.declared.ask.Question.TheVariants as question
+use Rattle.build_seats.specs.declared.report.Answer.{Answer}
+use Rattle.build_seats.specs.declared.report.Answer.TheVariants.{Replied, Undone as WasUndone, Marked, Nothing, Refused}
+use Rattle.build_seats.specs.declared.report.ReportLine.{ReportLine}
+use Rattle.build_seats.specs.declared.report.Report.{Report}
 
 -- ---- commands
 

@@ -10,10 +10,10 @@ use Rattle.host_commands.specs.declared.reply.Undone.{Undone}
 use Rattle.realm_model.specs.History.{open_entries, pages_of, IsLegal}
 use Rattle.realm_model.specs.Undoing.{by}
 use Rattle.realm_model.specs.declared.act.Act.{Act}
-use Rattle.builders.specs.declared.ask.Question.{Question}
-use Rattle.builders.specs.declared.ask.Question.TheVariants as question
-use Rattle.builders.specs.declared.report.Answer.{Answer}
-use Rattle.builders.specs.declared.report.Answer.TheVariants as answer
+use Rattle.build_seats.specs.declared.ask.Question.{Question}
+use Rattle.build_seats.specs.declared.ask.Question.TheVariants as question
+use Rattle.build_seats.specs.declared.report.Answer.{Answer}
+use Rattle.build_seats.specs.declared.report.Answer.TheVariants as answer
 use Rattle.realm_program.specs.Fitting.{AnswerFits}
 
 -- One event of the build ends the history, and the answer matches there.

@@ -4,11 +4,11 @@ use Rattle.host_commands.specs.declared.cmd.Cmd.TheVariants.{Exit}
 use Rattle.host_commands.specs.declared.cmd.Step.TheVariants.{Ask, Undo}
 use Rattle.realm_plan.specs.declared.step.PlanStep.{PlanStep}
 use Rattle.realm_plan.specs.declared.step.PlanStep.TheVariants.{Whole}
-use Rattle.builders.specs.declared.report.Asked.{Asked}
-use Rattle.builders.specs.declared.report.Asked.TheVariants as asked
-use Rattle.builders.specs.declared.report.Answer.{Answer}
-use Rattle.builders.specs.declared.report.Answer.TheVariants as answer
-use Rattle.builders.specs.declared.report.ReportLine.{ReportLine}
+use Rattle.build_seats.specs.declared.report.Asked.{Asked}
+use Rattle.build_seats.specs.declared.report.Asked.TheVariants as asked
+use Rattle.build_seats.specs.declared.report.Answer.{Answer}
+use Rattle.build_seats.specs.declared.report.Answer.TheVariants as answer
+use Rattle.build_seats.specs.declared.report.ReportLine.{ReportLine}
 use Rattle.plan_replay.specs.Text.{turn_line}
 use Rattle.plan_replay.specs.Turn.{undoes_many}
 use Rattle.plan_replay.specs.declared.answer.TurnAnswer.{TurnAnswer}

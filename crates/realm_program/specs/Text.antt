@@ -5,7 +5,7 @@ use Rattle.host_commands.specs.declared.cmd.Step.{Step}
 use Rattle.realm_plan.specs.declared.step.PlanStep.{PlanStep}
 use Rattle.realm_program.specs.Report.{report_text}
 use Rattle.realm_plan.specs.Plan.{Plan}
-use Rattle.builders.specs.declared.report.Report.{Report}
+use Rattle.build_seats.specs.declared.report.Report.{Report}
 
 -- the steps of a build
 abbrev pub steps_of_build : Plan → ℕ → List PlanStep

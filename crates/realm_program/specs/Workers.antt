@@ -4,19 +4,19 @@ use Rattle.std.specs.Global.{Vec}
 use Rattle.std.specs.List.{AllZip, flat_map, range_with_len}
 use Rattle.host_ledger.specs.View.{HostView}
 use Rattle.host_commands.specs.declared.cmd.Step.{Step}
-use Rattle.builders.specs.Close.{IsClosed, IsHostGivenBack}
-use Rattle.builders.specs.Fault.{IsFault}
+use Rattle.build_seats.specs.Close.{IsClosed, IsHostGivenBack}
+use Rattle.build_seats.specs.Fault.{IsFault}
 use Rattle.builders.specs.Runs.{AreRun, IsLowestWaiting}
-use Rattle.builders.specs.Seats.{SeatView, new_seat}
+use Rattle.build_seats.specs.Seats.{SeatView, new_seat}
 use Rattle.builders.specs.Workers.{WorkerView}
-use Rattle.builders.specs.declared.close.CloseFault.{CloseFault}
+use Rattle.build_seats.specs.declared.close.CloseFault.{CloseFault}
 use Rattle.realm_program.specs.Report.{report_text}
 use Rattle.plan_replay.specs.Run.{map_text}
 use Rattle.realm_plan.specs.Asked.{asked}
 use Rattle.realm_model.specs.declared.act.Event.{Event}
 use Rattle.realm_plan.specs.Plan.{Plan}
 use Rattle.realm_program.specs.Fitting.{DoesFit}
-use Rattle.builders.specs.declared.report.Report.{Report}
+use Rattle.build_seats.specs.declared.report.Report.{Report}
 use Rattle.realm_program.specs.Text.{steps_of_build, audit_line}
 use Rattle.realm_program.specs.declared.run_fault.RunFault.{RunFault}
 use Rattle.realm_program.specs.declared.run_fault.RunFault.TheVariants.{Memory, Stuck, Mismatch}

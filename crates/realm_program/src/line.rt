@@ -3,8 +3,8 @@ ghost use Rattle.std.specs.Prelude.{◌≡◌, ◌↔◌, Option, slice_get, IsT
 ghost use Rattle.std.specs.List.{flat_map};
 ghost use Rattle.realm_model.specs.History.{pages_held};
 ghost use Rattle.realm_model.specs.declared.act.Event.{Event};
-ghost use Rattle.builders.specs.Events.{is_done, question_of_step, question_at};
-ghost use Rattle.builders.specs.declared.ask.Question.TheVariants as question;
+ghost use Rattle.build_seats.specs.Events.{is_done, question_of_step, question_at};
+ghost use Rattle.build_seats.specs.declared.ask.Question.TheVariants as question;
 ghost use Rattle.realm_program.specs.Fitting.{AnswerFits};
 
 use crate::command::is_replied;

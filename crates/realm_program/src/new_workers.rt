@@ -3,7 +3,7 @@ ghost use Rattle.std.specs.Prelude.{◌≡◌, ◌<◌, map, vec_len, IfOk};
 ghost use Rattle.std.specs.List.{range_with_len};
 ghost use Rattle.realm_plan.specs.Asked.{asked};
 ghost use Rattle.realm_plan.specs.PlanView.{plan_view};
-ghost use Rattle.builders.specs.Seats.{new_seat};
+ghost use Rattle.build_seats.specs.Seats.{new_seat};
 ghost use Rattle.realm_program.specs.Workers.{new_worker, new_workers};
 
 use builders::{Ledgers, Seat, Worker};

@@ -2,10 +2,10 @@
 ghost use Rattle.std.specs.Prelude.{◌≡◌, [], map, vec_len, string_bytes, IfOk, IfErr};
 ghost use Rattle.realm_plan.specs.PlanView.{plan_view};
 ghost use Rattle.realm_program.specs.Workers.{AreLeft, IsWithoutWorkersText, IsWorkersText, worker_seats, IsReportOf};
-ghost use Rattle.builders.specs.Seats.{new_seat};
+ghost use Rattle.build_seats.specs.Seats.{new_seat};
 ghost use Rattle.std.specs.List.{range_with_len, AllZip};
 ghost use Rattle.realm_program.specs.Order.{ScheduleIsNotRevealed};
-ghost use Rattle.builders.specs.Names.{AreNamed};
+ghost use Rattle.build_seats.specs.Names.{AreNamed};
 
 use crate::new_workers::workers_of;
 use crate::run_fault::RunFault;

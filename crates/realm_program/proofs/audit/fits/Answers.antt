@@ -2,7 +2,7 @@ use Rattle.std.proofs.Common.{◌≡◌, ◌↔◌, List, true, false, nat_eq, l
 use Rattle.std.specs.Prelude.{slice_get}
 use Rattle.realm_model.specs.declared.act.Event.{Event}
 use Rattle.realm_model.specs.Stack.{pushed}
-use Rattle.builders.specs.declared.report.ReportLine.{ReportLine}
+use Rattle.build_seats.specs.declared.report.ReportLine.{ReportLine}
 use Rattle.realm_program.specs.Fitting.{DoesFit}
 use Rattle.realm_program.proofs.Reading.{fits_here_of, next_there, read_none, read_stop, read_other, read_done, read_all}
 use Rattle.realm_program.proofs.audit.fits.Goals.{then-is_done+in_ok-follow, else-is_done}

@@ -3,7 +3,7 @@ use Rattle.std.specs.List.{range_with_len}
 use Rattle.std.proofs.lemmas.List.FromFn.{length-range_with_len}
 use Rattle.std.specs.Vec.Iter.{into_iter_items}
 use Rattle.std.proofs.lemmas.List.{length-append, length-map}
-use Rattle.builders.specs.Seats.{SeatView, new_seat}
+use Rattle.build_seats.specs.Seats.{SeatView, new_seat}
 use Rattle.realm_plan.specs.PlanView.{plan_view}
 use Rattle.realm_program.specs.Workers.{new_worker}
 use Rattle.realm_program.proofs.Taken.{taken_more, left_less, taken_all}

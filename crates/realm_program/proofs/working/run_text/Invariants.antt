@@ -1,4 +1,4 @@
-use Rattle.builders.specs.Names.{names_of}
+use Rattle.build_seats.specs.Names.{names_of}
 use Rattle.realm_program.proofs.working.run_text.Given as goal
 
 abbrev pub ghosts-run_with : goal.ghosts-run_with
