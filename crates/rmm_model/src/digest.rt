@@ -1,7 +1,7 @@
 //! Digests of messages that are fed in pieces.
 ghost use Rattle.std.specs.Prelude.{◌≡◌, ℕ, List, ◌++◌, ◌≤◌};
 ghost use Rattle.std.specs.Int.{to_le_bytes, w64};
-ghost use Rattle.rmm_measurement.specs.Bytes.{zeros};
+ghost use Rattle.rmm_model.specs.Bytes.{zeros};
 
 use sha2::Digest;
 

@@ -1,6 +1,6 @@
 use Rattle.std.proofs.Common.{ℕ, List, ◌≡◌, ◌+◌, ◌-◌, ◌≤◌, ◌++◌}
-use Rattle.rmm_measurement.specs.Bytes.{zeros}
-use Rattle.rmm_measurement.proofs.digest.feed_zeros.Given as goal
+use Rattle.rmm_model.specs.Bytes.{zeros}
+use Rattle.rmm_model.proofs.digest.feed_zeros.Given as goal
 
 abbrev pub invariant-zeros : goal.invariant-zeros
 invariant-zeros g l = record {

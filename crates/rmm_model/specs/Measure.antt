@@ -6,9 +6,9 @@ use Rattle.sha2.specs.Sha512.{sha512}
 use Rattle.rmi_abi.specs.declared.hash.HashAlgorithm.{HashAlgorithm}
 use Rattle.rmi_abi.specs.declared.hash.HashAlgorithm.TheVariants.{Sha256, Sha512}
 use Rattle.rmi_abi.specs.declared.realm_params.RealmParams.{RealmParams}
-use Rattle.rmm_measurement.specs.declared.measure.Extension.{Extension}
-use Rattle.rmm_measurement.specs.declared.measure.Extension.TheVariants.{Data, Rec, Ripas}
-use Rattle.rmm_measurement.specs.Bytes.{zeros}
+use Rattle.rmm_model.specs.declared.measure.Extension.{Extension}
+use Rattle.rmm_model.specs.declared.measure.Extension.TheVariants.{Data, Rec, Ripas}
+use Rattle.rmm_model.specs.Bytes.{zeros}
 
 abbrev pub word : ℕ → List ℕ
 word number = to_le_bytes w64 number

@@ -1,7 +1,7 @@
 use Rattle.std.proofs.Common.{◌≡◌, ℕ, List, ◌+◌, ◌-◌, ◌≤◌, ◌++◌, sym, subst, arith}
-use Rattle.rmm_measurement.specs.Bytes.{zeros}
-use Rattle.rmm_measurement.proofs.Zeros.{zeros-same, zeros-more}
-use Rattle.rmm_measurement.proofs.digest.feed_zeros.Goals as goal
+use Rattle.rmm_model.specs.Bytes.{zeros}
+use Rattle.rmm_model.proofs.Zeros.{zeros-same, zeros-more}
+use Rattle.rmm_model.proofs.digest.feed_zeros.Goals as goal
 
 pub zeros-init : goal.zeros-init
 zeros-init g c = record {

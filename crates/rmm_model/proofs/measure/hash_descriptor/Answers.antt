@@ -1,6 +1,6 @@
 use Rattle.std.proofs.Common.{ℕ, List, [], ◌++◌, subst}
-use Rattle.rmm_measurement.specs.Measure.{word, with_content}
-use Rattle.rmm_measurement.proofs.measure.hash_descriptor.Goals as goal
+use Rattle.rmm_model.specs.Measure.{word, with_content}
+use Rattle.rmm_model.proofs.measure.hash_descriptor.Goals as goal
 
 pub returns : goal.returns
 returns g c =

@@ -1,7 +1,7 @@
 //! Initial measurements, and their extensions.
 ghost use Rattle.std.specs.Prelude.{◌≡◌, ℕ, List, ◌++◌, length};
-ghost use Rattle.rmm_measurement.specs.Bytes as bytes;
-ghost use Rattle.rmm_measurement.specs.Measure as measures;
+ghost use Rattle.rmm_model.specs.Bytes as bytes;
+ghost use Rattle.rmm_model.specs.Measure as measures;
 
 use crate::digest::{feed_word, feed_zeros};
 use rmi_abi::{HashAlgorithm, RealmParams};

@@ -1,7 +1,7 @@
 -- Zeros that are fed in pieces.
 use Rattle.std.proofs.Common.{◌≡◌, ℕ, ◌+◌, ◌-◌, ◌≤◌, List, [], ◌++◌, take, replicate, ap, ◌∙◌, append_assoc, append-nil, arith}
 use Rattle.std.proofs.lemmas.List.{replicate-append-replicate, take-replicate}
-use Rattle.rmm_measurement.specs.Bytes.{zeros}
+use Rattle.rmm_model.specs.Bytes.{zeros}
 
 zeros-none : (m : List ℕ) → m ++ zeros 0 ≡ m
 unfolding zeros
