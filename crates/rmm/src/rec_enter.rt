@@ -11,9 +11,7 @@ ghost use Rattle.rmm_model.specs.Command.RecEnter as command;
 ghost use Rattle.rmm.specs.Found.{IsEntry};
 
 use crate::access::{read, write};
-use crate::guest::{
-    add_result, first_step, owner_realm, past, past_step, push_result, rec_in, rec_named,
-};
+use crate::guest::{add_result, first_step, owner_realm, past, past_step, push_result, rec_in, rec_named};
 use crate::host::host_granule;
 use crate::operand::host_page;
 use crate::realm::error_realm;
@@ -23,12 +21,8 @@ use crate::step::{call_outcome, fetched, rec_after_exit, tried};
 use granule_addr::Gran;
 use page_arena::PageStore;
 use rmi_abi::{EnterFlags, ExitReason, RecExit, SmcResult, Word, entry_gpr};
-use rmm_granules::Granules;
-use rmm_model::{
-    Condition, FailedCondition, GuestStep, LastExit, PsciRequest, RipasRequest, RmmGranule,
-    RmmGranuleState, RmmRealm, RmmRealmState, RmmRec, RmmRecState, StepOutcome, StepResult,
-};
-use rmm_reading::{OperandConditions, is_no_mmio, is_pending, realm_in, state_of};
+use rmm_granules::{Granules, OperandConditions, is_no_mmio, is_pending, realm_in, state_of};
+use rmm_model::{Condition, FailedCondition, GuestStep, LastExit, PsciRequest, RipasRequest, RmmGranule, RmmGranuleState, RmmRealm, RmmRealmState, RmmRec, RmmRecState, StepOutcome, StepResult};
 
 // A REC that can be entered, and its run page.
 #[derive(Clone, Copy)]
