@@ -3,7 +3,7 @@ use Rattle.std.specs.Prelude.{◌≡◌, ℕ, ◌+◌, ◌^◌, List, length}
 use Rattle.std.specs.List.{range_with_len}
 use Rattle.std.proofs.Common.{ap, ◌∙◌, length-append}
 use Rattle.std.proofs.lemmas.List.FromFn.{length-range_with_len}
-use Rattle.leases.specs.Stacks.{pushed}
+use Rattle.build_journal.specs.Stacks.{pushed}
 
 pub length-pushed : (pages : List ℕ) (first order : ℕ) → length (pushed pages first order) ≡ length pages + 2 ^ order
 length-pushed pages first order =

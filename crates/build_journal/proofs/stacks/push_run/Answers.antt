@@ -1,6 +1,6 @@
 use Rattle.std.proofs.Common.{◌≡◌, ◌+◌, ◌<◌, length, arith}
-use Rattle.leases.proofs.Written.{granule_is, written_on}
-use Rattle.leases.proofs.stacks.push_run.Goals as goal
+use Rattle.build_journal.proofs.Written.{granule_is, written_on}
+use Rattle.build_journal.proofs.stacks.push_run.Goals as goal
 
 pub loop-k-preserved : goal.loop-k-preserved
 loop-k-preserved c =

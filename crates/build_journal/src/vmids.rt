@@ -2,7 +2,7 @@
 ghost use Rattle.std.specs.Prelude.{◌≡◌, ℕ, true, false, IfSome, IfNone};
 ghost use Rattle.std.specs.Bool.{OnTrue, OnFalse};
 ghost use Rattle.granule_addr.specs.Vmids.{is_used};
-ghost use Rattle.leases.specs.Vmids.{is_free, IsLowestFree, IsClaimed};
+ghost use Rattle.build_journal.specs.Vmids.{is_free, IsLowestFree, IsClaimed};
 
 use granule_addr::{Vmid, VmidSet};
 use std::marker::Model;
@@ -15,7 +15,7 @@ pub struct VmidPool {
 }
 
 impl Model for VmidPool {
-    ghost use Rattle.leases.specs.Vmids.{Vmids};
+    ghost use Rattle.build_journal.specs.Vmids.{Vmids};
 
     ghost Value = { Vmids };
 

@@ -1,8 +1,8 @@
 use Rattle.std.proofs.Common.{◌≡◌, ℕ, ◌+◌, ◌^◌, ◌<◌, ◌≤◌, List, length, ap, ◌∙◌, sym, subst, arith}
-use Rattle.leases.specs.Stacks.{Stacks, stack_of, pushed, contents}
-use Rattle.leases.proofs.Written.{contents_written, old_contents, IsKept-written}
-use Rattle.leases.specs.StackLaws.{length-pushed}
-use Rattle.leases.proofs.stacks.Leases.push_block.Goals as goal
+use Rattle.build_journal.specs.Stacks.{Stacks, stack_of, pushed, contents}
+use Rattle.build_journal.proofs.Written.{contents_written, old_contents, IsKept-written}
+use Rattle.build_journal.specs.StackLaws.{length-pushed}
+use Rattle.build_journal.proofs.stacks.Leases.push_block.Goals as goal
 
 pub invariant_of-self : goal.invariant_of-self
 invariant_of-self c =

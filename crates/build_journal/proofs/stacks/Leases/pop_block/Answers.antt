@@ -1,7 +1,7 @@
 use Rattle.std.proofs.Common.{ℕ, ◌<◌, List, length, ap, sym, subst}
-use Rattle.leases.specs.Stacks.{Stacks, popped, contents}
-use Rattle.leases.proofs.Written.{contents_written}
-use Rattle.leases.proofs.stacks.Leases.pop_block.Goals as goal
+use Rattle.build_journal.specs.Stacks.{Stacks, popped, contents}
+use Rattle.build_journal.proofs.Written.{contents_written}
+use Rattle.build_journal.proofs.stacks.Leases.pop_block.Goals as goal
 
 pub returns : goal.returns
 returns c =

@@ -1,6 +1,6 @@
 use Rattle.std.proofs.Common.{◌≡◌, [], replicate, All}
-use Rattle.leases.specs.Stacks.{contents, IsRoomy}
-use Rattle.leases.proofs.stacks.Leases.build.Given as goal
+use Rattle.build_journal.specs.Stacks.{contents, IsRoomy}
+use Rattle.build_journal.proofs.stacks.Leases.build.Given as goal
 
 abbrev pub invariant-loop-i : goal.invariant-loop-i
 invariant-loop-i l = record {

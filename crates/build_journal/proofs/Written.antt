@@ -6,7 +6,7 @@ use Rattle.std.proofs.lemmas.List.Elements.{All-set}
 use Rattle.std.proofs.lemmas.Option.{same_Some}
 use Rattle.std.specs.Global.{Vec}
 use Rattle.std.specs.List.{range_with_len}
-use Rattle.leases.specs.Stacks.{contents, IsRoomy, IsKept}
+use Rattle.build_journal.specs.Stacks.{contents, IsRoomy, IsKept}
 use Rattle.granule_addr.proofs.Runs.{range_with_len_more}
 
 -- the granule of a number that a machine has

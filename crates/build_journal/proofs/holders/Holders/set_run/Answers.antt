@@ -1,6 +1,6 @@
 use Rattle.std.proofs.Common.{ℕ, ◌+◌, ◌-◌, ◌≤◌, List, length, Option, sym, ap, ◌∙◌, subst, arith, rules}
-use Rattle.leases.proofs.Leased.{written-set_each}
-use Rattle.leases.proofs.holders.Holders.set_run.Goals as goal
+use Rattle.build_journal.proofs.Leased.{written-set_each}
+use Rattle.build_journal.proofs.holders.Holders.set_run.Goals as goal
 
 pub returns : goal.returns
 returns c =

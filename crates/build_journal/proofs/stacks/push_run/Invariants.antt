@@ -1,6 +1,6 @@
 use Rattle.std.proofs.Common.{◌≡◌, ◌++◌, ◌+◌, ◌≤◌, take, vec_len, vec_capacity}
 use Rattle.std.specs.List.{range_with_len}
-use Rattle.leases.proofs.stacks.push_run.Given as goal
+use Rattle.build_journal.proofs.stacks.push_run.Given as goal
 
 abbrev pub invariant-loop-k : goal.invariant-loop-k
 invariant-loop-k l = record {

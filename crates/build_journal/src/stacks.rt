@@ -1,6 +1,6 @@
 //! The stacks of pages of all builds.
 ghost use Rattle.std.specs.Prelude.{◌≡◌, ◌+◌, ◌^◌, ◌<◌, ◌≤◌, [], length, replicate, IfOk, slice_get, vec_len, vec_capacity};
-ghost use Rattle.leases.specs.Stacks.{stack_of, with_stack, pushed, popped};
+ghost use Rattle.build_journal.specs.Stacks.{stack_of, with_stack, pushed, popped};
 
 use granule_addr::{BuildId, Gran, MOST_PAGES, Order};
 use std::alloc::{AllocError, Global};
@@ -14,7 +14,7 @@ pub struct Leases {
 }
 
 impl Model for Leases {
-    ghost use Rattle.leases.specs.Stacks.{Stacks, contents, IsKept};
+    ghost use Rattle.build_journal.specs.Stacks.{Stacks, contents, IsKept};
 
     ghost Value = { Stacks };
 
