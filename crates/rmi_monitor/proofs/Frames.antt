@@ -4,8 +4,8 @@ use Rattle.std.specs.Prelude.{is_some, nat_eq, ◌==◌}
 use Rattle.std.specs.Option.{option_eq}
 use Rattle.std.specs.FinMap.{len}
 use Rattle.std.proofs.lemmas.Bool.{eqb-true, eqb-false}
-use Rattle.granule_table.specs.Granules.{granule_at, IsIn}
-use Rattle.granule_table.specs.declared.granule.Granule.{Granule}
+use Rattle.rtt.specs.Granules.{granule_at, IsIn}
+use Rattle.rtt.specs.declared.granule.Granule.{Granule}
 use Rattle.page_arena.specs.Page.{page_at, is_free}
 use Rattle.realm_model.specs.declared.states.GranuleState.{GranuleState}
 use Rattle.realm_model.specs.declared.states.GranuleState.TheVariants.{Data as InData, Rec as InRec, RecAux as InRecAux, Rtt as InRtt}

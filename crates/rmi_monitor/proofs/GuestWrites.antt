@@ -2,7 +2,7 @@
 use Rattle.std.proofs.Common.{◌≡◌, ℕ, Bool, true, false, List, [], ◌∷◌, Ok, Err, Some, None, refl, sym, ap, ◌∙◌, subst}
 use Rattle.std.specs.Prelude.{not}
 use Rattle.granule_addr.specs.Ipa.{is_protected_at}
-use Rattle.granule_table.specs.Granules.{IsIn}
+use Rattle.rtt.specs.Granules.{IsIn}
 use Rattle.page_arena.specs.Page.{with_byte}
 use Rattle.realm_model.specs.declared.rmi.Rmi.{Rmi}
 use Rattle.realm_model.specs.declared.states.GranuleState.TheVariants.{Data as InData}

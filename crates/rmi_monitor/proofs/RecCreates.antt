@@ -8,8 +8,8 @@ use Rattle.std.specs.FinMap.{insert}
 use Rattle.std.proofs.lemmas.Bool.{OnTrue_at, and_parts, eqb-true}
 use Rattle.std.proofs.lemmas.List.{length-set, get_or-set_other}
 use Rattle.std.proofs.lemmas.Option.{same_Some, slice_get-get_or}
-use Rattle.granule_table.specs.Granules.{granule_at, undelegated}
-use Rattle.granule_table.specs.declared.granule.Granule.{Granule}
+use Rattle.rtt.specs.Granules.{granule_at, undelegated}
+use Rattle.rtt.specs.declared.granule.Granule.{Granule}
 use Rattle.realm_model.proofs.Reversal.{seen_numbers}
 use Rattle.realm_model.specs.declared.states.GranuleState.TheVariants.{Delegated, Rec as InRec, RecAux as InRecAux}
 use Rattle.realm_model.specs.declared.rmi.Rmi.{Rmi}

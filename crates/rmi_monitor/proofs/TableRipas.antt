@@ -4,7 +4,7 @@ use Rattle.std.specs.Prelude.{◌&&◌}
 use Rattle.std.proofs.lemmas.Bool.{and_from, and_parts}
 use Rattle.granule_addr.specs.Ipa.{is_protected_at}
 use Rattle.granule_addr.specs.declared.width.Root.{Root}
-use Rattle.granule_table.specs.declared.granule.Granule.{Granule}
+use Rattle.rtt.specs.declared.granule.Granule.{Granule}
 use Rattle.realm_model.specs.Rows.{Row, Rows, is_page_run, with_ram}
 use Rattle.realm_model.specs.Measurement.{measurement_after, ripas_event}
 use Rattle.realm_model.specs.Update.{Outcome}

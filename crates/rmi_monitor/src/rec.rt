@@ -13,10 +13,10 @@ use crate::Monitor;
 use crate::places::{can_be_rec, release, release_all, shift_all};
 use arrayvec::ArrayVec;
 use granule_addr::{Gran, MOST_PAGES, RecNo};
-use granule_table::GranuleTable;
 use page_arena::PageStore;
 use realm_model::{GranuleState, Rmi};
 use realm_objects::{RealmDesc, Rec, rec_event};
+use rtt::GranuleTable;
 
 // Gives the realm's next number to a REC, and extends the realm's measurement by it.
 fn number_rec(realm: &mut RealmDesc) -> RecNo

@@ -1,7 +1,7 @@
 //! The table of a machine's granules.
 ghost use Rattle.std.specs.Prelude.{◌≡◌, ◌<◌, ◌≤◌, ◌↔◌, length, replicate, IsTrue, IfOk, slice_set};
 ghost use Rattle.std.specs.Bool.{OnTrue, OnFalse};
-ghost use Rattle.granule_table.specs.Granules.{granule_at, undelegated};
+ghost use Rattle.rtt.specs.Granules.{granule_at, undelegated};
 
 use crate::Granule;
 use granule_addr::Gran;
@@ -17,7 +17,7 @@ pub struct GranuleTable {
 
 impl Model for GranuleTable {
     ghost use Rattle.std.specs.Prelude.{List, ◌≤◌, length};
-    ghost use Rattle.granule_table.specs.declared.granule.Granule.{Granule};
+    ghost use Rattle.rtt.specs.declared.granule.Granule.{Granule};
 
     ghost Value = { List Granule };
 
