@@ -14,7 +14,8 @@ mod shared;
 mod worker;
 
 pub use build_seats::{
-    Answer, Asked, Blanks, CloseFault, Gate, Kept, Ledgers, Report, ReportLine, Seat, Stuck, Teller, work,
+    Answer, Asked, Blanks, CloseFault, Gate, Kept, Ledgers, Report, ReportLine, Seat, Stuck,
+    Teller, work,
 };
 pub use run::run_builds;
 pub use seat_teller::{OpenGate, SeatTeller};

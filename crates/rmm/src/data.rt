@@ -15,7 +15,9 @@ use granule_addr::Gran;
 use page_arena::PageStore;
 use rmi_abi::{SmcResult, Word};
 use rmm_granules::{Granules, OperandConditions, entry_at, memory_below, top, walk};
-use rmm_model::{Condition, FailedCondition, RmmGranule, RmmGranuleState, RmmRipas, RmmRttEntry, RttWalk};
+use rmm_model::{
+    Condition, FailedCondition, RmmGranule, RmmGranuleState, RmmRipas, RmmRttEntry, RttWalk,
+};
 
 // A place for a new page: the RD, the page's granule, and the entry.
 #[derive(Clone, Copy)]

@@ -13,7 +13,10 @@ use granule_addr::Gran;
 use page_arena::PageStore;
 use rmi_abi::{HashAlgorithm, RmmSettings, SmcResult, Word};
 use rmm_granules::{Granules, OperandConditions, entry_at, walk};
-use rmm_model::{Condition, Extension, FailedCondition, RmmGranule, RmmGranuleState, RmmRealm, RmmRipas, RmmRttEntry, RttWalk, error_input, error_rtt, extend, page_digest};
+use rmm_model::{
+    Condition, Extension, FailedCondition, RmmGranule, RmmGranuleState, RmmRealm, RmmRipas,
+    RmmRttEntry, RttWalk, error_input, error_rtt, extend, page_digest,
+};
 
 // A page of the host, and the granule that becomes a page of data.
 #[derive(Clone, Copy)]

@@ -11,7 +11,9 @@ use granule_addr::Gran;
 use page_arena::PageStore;
 use rmi_abi::{RmmSettings, SmcResult, Word};
 use rmm_granules::{Granules, OperandConditions};
-use rmm_model::{Condition, FailedCondition, RmmRealm, RttWalk, entry_offset, error_input, error_rtt};
+use rmm_model::{
+    Condition, FailedCondition, RmmRealm, RttWalk, entry_offset, error_input, error_rtt,
+};
 
 // An RD, and its realm.
 #[derive(Clone, Copy)]

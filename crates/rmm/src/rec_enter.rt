@@ -11,7 +11,9 @@ ghost use Rattle.rmm_model.specs.Command.RecEnter as command;
 ghost use Rattle.rmm.specs.Found.{IsEntry};
 
 use crate::access::{read, write};
-use crate::guest::{add_result, first_step, owner_realm, past, past_step, push_result, rec_in, rec_named};
+use crate::guest::{
+    add_result, first_step, owner_realm, past, past_step, push_result, rec_in, rec_named,
+};
 use crate::host::host_granule;
 use crate::operand::host_page;
 use crate::realm::error_realm;
@@ -22,7 +24,10 @@ use granule_addr::Gran;
 use page_arena::PageStore;
 use rmi_abi::{EnterFlags, ExitReason, RecExit, SmcResult, Word, entry_gpr};
 use rmm_granules::{Granules, OperandConditions, is_no_mmio, is_pending, realm_in, state_of};
-use rmm_model::{Condition, FailedCondition, GuestStep, LastExit, PsciRequest, RipasRequest, RmmGranule, RmmGranuleState, RmmRealm, RmmRealmState, RmmRec, RmmRecState, StepOutcome, StepResult};
+use rmm_model::{
+    Condition, FailedCondition, GuestStep, LastExit, PsciRequest, RipasRequest, RmmGranule,
+    RmmGranuleState, RmmRealm, RmmRealmState, RmmRec, RmmRecState, StepOutcome, StepResult,
+};
 
 // A REC that can be entered, and its run page.
 #[derive(Clone, Copy)]

@@ -13,7 +13,9 @@ use granule_addr::Gran;
 use page_arena::PageStore;
 use rmi_abi::{SmcResult, Word};
 use rmm_granules::{Granules, entry_at, table_below, top, walk};
-use rmm_model::{Condition, FailedCondition, RmmGranuleState, RmmRealm, RmmRipas, RmmRttEntry, RttWalk, has_live};
+use rmm_model::{
+    Condition, FailedCondition, RmmGranuleState, RmmRealm, RmmRipas, RmmRttEntry, RttWalk, has_live,
+};
 
 // A table without live entries, and the entry that leads to it.
 #[derive(Clone, Copy)]

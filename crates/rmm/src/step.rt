@@ -11,7 +11,10 @@ use granule_addr::Gran;
 use page_arena::PageStore;
 use rmi_abi::{EnterFlags, ExitReason, RecExit, RmmSettings, is_mpidr, rec_number};
 use rmm_granules::{Granules, entry_at, granule_named, walk};
-use rmm_model::{AccessSize, GuestStep, LastExit, PsciRequest, RipasRequest, RmmRealm, RmmRec, RmmRipas, RmmRttEntry, StepOutcome, StepResult, entry_offset};
+use rmm_model::{
+    AccessSize, GuestStep, LastExit, PsciRequest, RipasRequest, RmmRealm, RmmRec, RmmRipas,
+    RmmRttEntry, StepOutcome, StepResult, entry_offset,
+};
 
 // ---- accesses to memory
 

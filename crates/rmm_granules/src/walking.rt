@@ -8,7 +8,10 @@ ghost use Rattle.rmm_model.specs.Walk as walks;
 use crate::{Granules, granule_named};
 use granule_addr::{Gran, MOST_PAGES};
 use page_arena::{PageStore, word_in};
-use rmm_model::{RmmRealm, RmmRttEntry, RttWalk, entry_from_word, entry_index, entry_number, entry_size, first_live, start_offset};
+use rmm_model::{
+    RmmRealm, RmmRttEntry, RttWalk, entry_from_word, entry_index, entry_number, entry_size,
+    first_live, start_offset,
+};
 
 /// The entry of a table that covers an address.
 #[tactic(auto, unfolding(rmm_model::specs::Walk::entry_at, rmm_model::specs::Table::entry_in_page))]

@@ -22,7 +22,7 @@ set_changeable request = record { assigned = true; destroyed = request.changes_d
 -- A range ends within what a REC asked for. What a guest asks for is protected, so each address of such a range is. The definition
 -- holds for every machine: the addresses of a range, if the REC is one of the realm, begin at a protected one.
 abbrev pub is_within : RmmRealm → RmmRec → Bool → ℕ → ℕ → Bool
-is_within realm asking is_owner base top = 
+is_within realm asking is_owner base top =
     nat_le top asking.ripas.top && (not is_owner || (nat_le top base || is_protected realm base))
 
 -- a REC of the realm that does not run, and the range that it asked for from its address on
