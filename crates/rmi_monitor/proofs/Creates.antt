@@ -23,7 +23,7 @@ use Rattle.realm_model.specs.Command.Realm.{is_start, new_realm}
 use Rattle.realm_model.proofs.Booleans.{not_true}
 use Rattle.realm_model.proofs.Lists.{all_in}
 use Rattle.realm_model.proofs.Outcomes.{check_false}
-use Rattle.realm_objects.specs.Attributes.{RealmAttributes, realm_row}
+use Rattle.rmi_monitor.specs.Attributes.{RealmAttributes, realm_row}
 use Rattle.page_arena.specs.Page.{is_free}
 use Rattle.rtt.specs.Realm.{IsBacked}
 use Rattle.rtt.specs.Tables.{rows}

@@ -18,7 +18,7 @@ use Rattle.realm_model.specs.Command.Realm.{realm_destroy}
 use Rattle.realm_model.specs.StepLaw.{set_each}
 use Rattle.realm_model.proofs.Booleans.{not_true, not_false}
 use Rattle.realm_model.proofs.SetEach.{length-set_each}
-use Rattle.realm_objects.specs.Attributes.{RealmAttributes, RecAttributes}
+use Rattle.rmi_monitor.specs.Attributes.{RealmAttributes, RecAttributes}
 use Rattle.rtt.specs.Tables.{rows}
 use Rattle.rtt.specs.Calls.{with_state, with_states}
 use Rattle.rmi_monitor.specs.View.{MonitorView, IsTaken, seen_in, after_command}

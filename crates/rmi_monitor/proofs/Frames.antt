@@ -11,7 +11,7 @@ use Rattle.realm_model.specs.declared.states.GranuleState.{GranuleState}
 use Rattle.realm_model.specs.declared.states.GranuleState.TheVariants.{Data as InData, Rec as InRec, RecAux as InRecAux, Rtt as InRtt}
 use Rattle.realm_model.specs.Sound.{is_host_state, is_rd_state}
 use Rattle.realm_model.specs.Machine.{RecRow}
-use Rattle.realm_objects.specs.Attributes.{RealmAttributes, RecAttributes, rec_row}
+use Rattle.rmi_monitor.specs.Attributes.{RealmAttributes, RecAttributes, rec_row}
 use Rattle.rtt.specs.Tables.{rows}
 use Rattle.rtt.specs.Realm.{IsBacked, HasTables, LeavesAlone, LeavesOthers}
 use Rattle.rtt.proofs.FrameLaws.{rows-alone, HasTables-alone}

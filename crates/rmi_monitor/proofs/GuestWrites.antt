@@ -13,7 +13,7 @@ use Rattle.realm_model.specs.Command.Check.{check, error_input, error_rec, error
 use Rattle.realm_model.specs.Command.Rec.{guest_write}
 use Rattle.realm_model.proofs.Outcomes.{check_true, end_there, granule_there, check_false}
 use Rattle.realm_model.proofs.Walks.{walk_end}
-use Rattle.realm_objects.specs.Attributes.{RealmAttributes, RecAttributes, rec_row}
+use Rattle.rmi_monitor.specs.Attributes.{RealmAttributes, RecAttributes, rec_row}
 use Rattle.rtt.specs.declared.tables.Tables.{Tables}
 use Rattle.rtt.specs.Word.{IsEntry}
 use Rattle.rtt.specs.Tables.{rows}

@@ -76,3 +76,4 @@ pub mod Ready
 pub mod Backward
 pub mod RecsNamed
 pub mod BlockSteps
+pub mod NewRealm

@@ -10,7 +10,7 @@ use Rattle.rtt.specs.declared.granule.Granule.{Granule}
 use Rattle.realm_model.specs.declared.states.GranuleState.{GranuleState}
 use Rattle.realm_model.specs.declared.states.GranuleState.TheVariants.{Rtt as InRtt}
 use Rattle.realm_model.specs.Machine.{Cell, Machine, RealmRow, blank, cell_at}
-use Rattle.realm_objects.specs.Attributes.{RealmAttributes, realm_row}
+use Rattle.rmi_monitor.specs.Attributes.{RealmAttributes, realm_row}
 use Rattle.rtt.specs.Tables.{rows}
 use Rattle.rmi_monitor.specs.Inside.{Fields, realm_at, recs_of, descriptor_of, cell_of, bytes_of, machine_of}
 use Rattle.rmi_monitor.specs.View.{IsPageOf}

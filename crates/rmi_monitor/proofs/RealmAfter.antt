@@ -12,7 +12,7 @@ use Rattle.realm_model.specs.declared.states.GranuleState.TheVariants.{Delegated
 use Rattle.realm_model.specs.Machine.{Cell, RealmRow, RecRow}
 use Rattle.realm_model.specs.Rows.{Rows}
 use Rattle.realm_model.specs.Sound.{is_host_state, is_rd_state}
-use Rattle.realm_objects.specs.Attributes.{RealmAttributes, realm_row}
+use Rattle.rmi_monitor.specs.Attributes.{RealmAttributes, realm_row}
 use Rattle.rtt.specs.Tables.{rows}
 use Rattle.rtt.specs.Realm.{IsBacked, HasTables, LeavesOthers}
 use Rattle.rmi_monitor.specs.Inside.{Fields, realm_at, recs_of, descriptor_of, bytes_of, cell_of, is_rec_state, IsSoundAt, IsWhole}

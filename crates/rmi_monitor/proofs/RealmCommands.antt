@@ -12,7 +12,7 @@ use Rattle.realm_model.specs.Rows.{Rows}
 use Rattle.realm_model.specs.Machine.{Cell, RealmRow}
 use Rattle.realm_model.specs.Update.{Outcome, Put, machine_after_all}
 use Rattle.realm_model.specs.Command.Check.{put_realm}
-use Rattle.realm_objects.specs.Attributes.{RealmAttributes, realm_row}
+use Rattle.rmi_monitor.specs.Attributes.{RealmAttributes, realm_row}
 use Rattle.granule_addr.specs.declared.width.Root.{Root}
 use Rattle.rtt.specs.Calls.{Keeps as KeepsTables}
 use Rattle.rtt.specs.Tables.{rows}

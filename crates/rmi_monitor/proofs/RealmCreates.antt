@@ -22,7 +22,7 @@ use Rattle.realm_model.specs.Update.{Put, machine_after_all}
 use Rattle.realm_model.specs.Command.Realm.{new_realm}
 use Rattle.realm_model.proofs.Booleans.{or_parts, false_from}
 use Rattle.realm_model.specs.Command.Check.{is_in}
-use Rattle.realm_objects.specs.Attributes.{RealmAttributes, realm_row}
+use Rattle.rmi_monitor.specs.Attributes.{RealmAttributes, realm_row}
 use Rattle.rtt.specs.Tables.{rows}
 use Rattle.rtt.specs.Realm.{IsBacked, HasTables, LeavesAlone, LeavesOthers}
 use Rattle.rmi_monitor.specs.Inside.{Fields, realm_at, recs_of, descriptor_of, bytes_of, cell_of, machine_of, is_rec_state, IsSoundAt, IsWhole}

@@ -18,7 +18,7 @@ use Rattle.realm_model.specs.Update.{Put, machine_after_all}
 use Rattle.realm_model.proofs.Booleans.{or_parts, false_from}
 use Rattle.realm_model.specs.Command.Check.{is_in}
 use Rattle.realm_model.proofs.SetEach.{length-set_each}
-use Rattle.realm_objects.specs.Attributes.{RealmAttributes, RecAttributes}
+use Rattle.rmi_monitor.specs.Attributes.{RealmAttributes, RecAttributes}
 use Rattle.rtt.specs.Realm.{LeavesAlone}
 use Rattle.rtt.specs.Calls.{with_state, with_states}
 use Rattle.rtt.proofs.Walks.{start_in}

@@ -6,7 +6,7 @@ use Rattle.realm_model.specs.declared.states.GranuleState.{GranuleState}
 use Rattle.realm_model.specs.declared.states.GranuleState.TheVariants.{Rd as InRd, Rtt as InRtt}
 use Rattle.realm_model.specs.Sound.{is_rd_state}
 use Rattle.realm_model.proofs.Booleans.{none_from}
-use Rattle.realm_objects.specs.Attributes.{RealmAttributes}
+use Rattle.rmi_monitor.specs.Attributes.{RealmAttributes}
 use Rattle.rtt.specs.Realm.{IsTableOf}
 use Rattle.rmi_monitor.specs.Inside.{Fields, realm_at, IsSoundAt, IsWhole}
 use Rattle.rmi_monitor.proofs.Listed.{some_inside}

@@ -14,7 +14,7 @@ use Rattle.realm_model.specs.Command.Check.{check, error_rec, is_ready, put_real
 use Rattle.realm_model.specs.Command.Rec.{rec_destroy}
 use Rattle.realm_model.proofs.Lists.{is_in_head, is_in_at, is_in_more}
 use Rattle.realm_model.proofs.Outcomes.{check_true, check_false}
-use Rattle.realm_objects.specs.Attributes.{RealmAttributes, RecAttributes}
+use Rattle.rmi_monitor.specs.Attributes.{RealmAttributes, RecAttributes}
 use Rattle.rmi_monitor.specs.View.{MonitorView, IsOnRec, seen_in, after_command}
 use Rattle.rmi_monitor.specs.Inside.{Fields, rec_count_at, rec_at, recs_of, seen_as, IsWhole}
 use Rattle.rmi_monitor.specs.Places.{IsInState, HasPage}

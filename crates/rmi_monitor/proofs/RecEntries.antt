@@ -8,7 +8,7 @@ use Rattle.rtt.specs.Granules.{granule_at}
 use Rattle.rtt.specs.declared.granule.Granule.{Granule}
 use Rattle.realm_model.specs.Machine.{RecRow}
 use Rattle.realm_model.proofs.Booleans.{guarded}
-use Rattle.realm_objects.specs.Attributes.{RecAttributes, rec_row}
+use Rattle.rmi_monitor.specs.Attributes.{RecAttributes, rec_row}
 use Rattle.rmi_monitor.specs.Inside.{Fields, is_of_realm, rec_of, IsNumbered, HasRecs}
 use Rattle.rmi_monitor.proofs.Comparisons.{some_map}
 

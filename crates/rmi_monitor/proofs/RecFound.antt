@@ -8,7 +8,7 @@ use Rattle.realm_model.specs.Machine.{RealmRow, RecRow, Seen}
 use Rattle.realm_model.specs.Update.{Outcome}
 use Rattle.realm_model.specs.Command.Check.{error_input, with_realm, with_rec}
 use Rattle.realm_model.proofs.Outcomes.{rec_there}
-use Rattle.realm_objects.specs.Attributes.{RealmAttributes, RecAttributes, rec_row}
+use Rattle.rmi_monitor.specs.Attributes.{RealmAttributes, RecAttributes, rec_row}
 use Rattle.rmi_monitor.specs.View.{MonitorView, IsRec, IsOnRec, Answers, seen_in, after_command}
 use Rattle.rmi_monitor.specs.Inside.{Fields, realm_at, rec_at, rec_of, recs_of, seen_as, IsWhole}
 use Rattle.rmi_monitor.proofs.Gathered.{get-gathered, gathered-get}

@@ -12,7 +12,7 @@ use Rattle.realm_model.specs.Sound.{is_rd_state}
 use Rattle.realm_model.proofs.Booleans.{true_false, false_from}
 use Rattle.realm_model.specs.Command.Check.{is_in}
 use Rattle.realm_model.proofs.Lists.{index_of}
-use Rattle.realm_objects.specs.Attributes.{RealmAttributes, RecAttributes}
+use Rattle.rmi_monitor.specs.Attributes.{RealmAttributes, RecAttributes}
 use Rattle.rmi_monitor.specs.Inside.{Fields, rec_count_at, rec_at, is_rec_state, IsSoundAt, IsWhole}
 use Rattle.rmi_monitor.proofs.Puts.{put_all, length-put_all, put_all-first, put_all-rest, put_all-out}
 use Rattle.rmi_monitor.proofs.RecMoves.{RecMove, is_moved_state, granule_first, granule_rest, rec_first, rec_out, no_realm, no_rec}

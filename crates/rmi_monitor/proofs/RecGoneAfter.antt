@@ -11,7 +11,7 @@ use Rattle.realm_model.specs.Update.{Put, machine_after_all}
 use Rattle.realm_model.proofs.Booleans.{false_from}
 use Rattle.realm_model.specs.Command.Check.{is_in}
 use Rattle.realm_model.proofs.Lists.{is_in_head, is_in_more, index_of}
-use Rattle.realm_objects.specs.Attributes.{RealmAttributes, RecAttributes, realm_row, rec_row}
+use Rattle.rmi_monitor.specs.Attributes.{RealmAttributes, RecAttributes, realm_row, rec_row}
 use Rattle.rtt.specs.Tables.{rows}
 use Rattle.rmi_monitor.specs.Gathered.{gathered}
 use Rattle.rmi_monitor.specs.Inside.{Fields, rec_count_at, rec_at, rec_of, recs_of, cell_of, machine_of, IsRecOf, HasRecs, IsWhole}

@@ -14,7 +14,7 @@ use Rattle.realm_model.specs.Sound.{is_host_state, is_rd_state}
 use Rattle.realm_model.proofs.Booleans.{true_false, none_from}
 use Rattle.realm_model.specs.Command.Check.{is_in}
 use Rattle.realm_model.proofs.Lists.{is_in_more}
-use Rattle.realm_objects.specs.Attributes.{RealmAttributes, RecAttributes}
+use Rattle.rmi_monitor.specs.Attributes.{RealmAttributes, RecAttributes}
 use Rattle.rmi_monitor.specs.Inside.{Fields, realm_at, rec_count_at, rec_at, is_rec_state, IsSoundAt, IsWhole}
 use Rattle.rmi_monitor.specs.Places.{with_rec_more}
 use Rattle.rmi_monitor.proofs.Puts.{put_all}

@@ -15,7 +15,7 @@ use Rattle.realm_model.specs.Sound.{is_rd_state}
 use Rattle.realm_model.proofs.Booleans.{or_parts, true_false, false_from, none_from}
 use Rattle.realm_model.specs.Command.Check.{is_in}
 use Rattle.realm_model.proofs.Lists.{is_in_head, is_in_more}
-use Rattle.realm_objects.specs.Attributes.{RealmAttributes, RecAttributes, rec_row}
+use Rattle.rmi_monitor.specs.Attributes.{RealmAttributes, RecAttributes, rec_row}
 use Rattle.rtt.specs.Tables.{rows}
 use Rattle.rtt.specs.Realm.{IsBacked, LeavesAlone}
 use Rattle.rmi_monitor.specs.Gathered.{gathered}

@@ -10,7 +10,7 @@ use Rattle.granule_addr.specs.Page.{zero_page}
 use Rattle.realm_model.specs.declared.states.GranuleState.{GranuleState}
 use Rattle.realm_model.specs.declared.states.GranuleState.TheVariants.{Undelegated, Delegated, Data as InData, Rd as InRd, Rec as InRec, RecAux as InRecAux, Rtt as InRtt}
 use Rattle.realm_model.specs.Sound.{is_host_state, is_rd_state}
-use Rattle.realm_objects.specs.Attributes.{RealmAttributes, RecAttributes, realm_row}
+use Rattle.rmi_monitor.specs.Attributes.{RealmAttributes, RecAttributes, realm_row}
 use Rattle.rtt.specs.Tables.{rows}
 use Rattle.rtt.specs.Realm.{IsBacked, HasTables, IsTableOf, LeavesOthers}
 use Rattle.rmi_monitor.specs.Inside.{Fields, realm_at, rec_at, recs_of, bytes_of, cell_of, machine_of, is_rec_state, IsSoundAt, IsWhole}

@@ -9,3 +9,4 @@ pub mod Walked
 pub mod Performing
 pub mod Mirror
 pub mod Blocks
+pub mod Attributes

@@ -10,7 +10,7 @@ use Rattle.realm_model.specs.Measurement.{measurement_after, rec_event}
 use Rattle.realm_model.specs.Command.Check.{are_distinct}
 use Rattle.realm_model.specs.declared.states.GranuleState.{GranuleState}
 use Rattle.realm_model.specs.declared.states.GranuleState.TheVariants.{Undelegated, Delegated}
-use Rattle.realm_objects.specs.Attributes.{RealmAttributes}
+use Rattle.rmi_monitor.specs.Attributes.{RealmAttributes}
 
 -- a realm's attributes with the measurement extended by an event
 abbrev pub measured_by : List ℕ → RealmAttributes → RealmAttributes

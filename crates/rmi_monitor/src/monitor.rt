@@ -9,10 +9,10 @@ ghost use Rattle.realm_model.specs.Machine.{RealmRow, cell_at};
 ghost use Rattle.rtt.specs.RowWords.{AreWordsOf};
 ghost use Rattle.rmi_monitor.specs.View.{IsGivable, IsPageOf, fresh, with_block, without_block};
 
+use crate::{RealmDesc, Rec};
 use granule_addr::{Gran, Order, VmidSet};
 use page_arena::PageStore;
 use realm_model::GranuleState;
-use realm_objects::{RealmDesc, Rec};
 use rtt::GranuleTable;
 use std::alloc::{AllocError, Global};
 use std::marker::Model;
