@@ -3,7 +3,7 @@ use Rattle.build_seats.proofs.kept.Kept.start.Goals as goal
 
 pub invariant_of-result : goal.invariant_of-result
 invariant_of-result g c =
-    kept_at_start _ c.args.host c.new.result.books
+    kept_at_start _ c.args.host c.new-books.result.books
     (record {
       legal = c.history.ensures.legal;
       in_range = c.history.ensures.in_range;
@@ -11,4 +11,4 @@ invariant_of-result g c =
       each = c.history.ensures.each;
       points = c.history.ensures.points;
     })
-    c.requires.empty c.requires.opened c.new.result.books_are
+    c.requires.empty c.requires.opened c.new-books.result.books_are
