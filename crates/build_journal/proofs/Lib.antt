@@ -1,2 +1,4 @@
 pub mod Ends
 pub mod Follows
+pub mod Written
+pub mod Leased

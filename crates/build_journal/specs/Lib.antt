@@ -1,1 +1,4 @@
 pub mod Stack
+pub mod Stacks
+pub mod StackLaws
+pub mod Vmids

@@ -1,11 +1,29 @@
-//! The journal of a build: a stack of its open operations, and the reverse of each operation; and the history, which
-//! grows by one event at a time.
+//! What is kept of builds beside the history: what each has open, what each leases, and the VMIDs in use; and the
+//! history, which grows by one event at a time.
+//!
+//! The journal of a build is a stack of its open operations. Each operation that is open has a reverse.
+//!
+//! `Leases` has the stack of pages of each build. A block that is taken goes to the end of its build's stack, page by
+//! page in rising order. So the build's page numbers run from 0 in the order of taking. The reverse of the take removes
+//! it again. Memory is taken by `build` alone, and no later call fails. The caller sees to it that there is capacity
+//! for a block that is pushed.
+//!
+//! `Holders` says by a granule's number which build leases it, so that no stack is searched. It is 2 bytes a page,
+//! taken at boot.
+//!
+//! The pool of VMIDs has the lowest one that is free. A VMID is claimed, and given back.
 #![tactic(auto)]
 
 mod history;
+mod holders;
 mod journal;
 mod reverse;
+mod stacks;
+mod vmids;
 
 pub use history::append_event;
+pub use holders::Holders;
 pub use journal::Journal;
 pub use reverse::{reverse_of, takes_back};
+pub use stacks::Leases;
+pub use vmids::VmidPool;

@@ -1,16 +1,5 @@
-pub mod Seating
-pub mod Comparing
-pub mod Noting
-pub mod Starting
 pub mod Telling
 pub mod Working
 pub mod Running
 pub mod Waiting
 pub mod Orders
-pub mod Stretches
-pub mod Questions
-pub mod Growth
-pub mod Loops
-pub mod Told
-pub mod Plans
-pub mod Events

@@ -13,10 +13,10 @@ use Rattle.realm_model.proofs.TakenAlone.{none_there, schedule_does_not_matter}
 use Rattle.host_ledger.specs.View.{HostView}
 use Rattle.host_ledger.proofs.Worlds.{world_is}
 use Rattle.realm_host.specs.Interleaving.{DidTheSame}
-use Rattle.builders.specs.declared.close.CloseFault.{CloseFault}
-use Rattle.builders.specs.Close.{seats_of, AreSeatsWhole, IsHostGivenBack, IsClosed}
+use Rattle.build_seats.specs.declared.close.CloseFault.{CloseFault}
+use Rattle.build_seats.specs.Close.{seats_of, AreSeatsWhole, IsHostGivenBack, IsClosed}
 use Rattle.builders.specs.Order.{IsWorldOfSeats}
-use Rattle.builders.specs.Seats.{SeatView}
+use Rattle.build_seats.specs.Seats.{SeatView}
 
 -- a build that has a seat has one of which is so what is so of all
 of_seat : (b : ℕ) (P : SeatView → Type 0) (seats : List SeatView) → 0 < seats_of b seats → All P seats → (seat : SeatView) × (seat.build ≡ b) × P seat

@@ -20,10 +20,10 @@ use Rattle.realm_host.specs.Answer.{IsActOf}
 use Rattle.realm_host.specs.Call.{Ask, Undo}
 use Rattle.realm_host.specs.declared.command.HostAnswer.TheVariants.{Replied, Undone as WasUndone}
 use Rattle.host_commands.specs.declared.reply.Undone.{Undone}
-use Rattle.builders.specs.Exchange.{Exchange, Did, Undid, KeptMark, CheckedBack, is_event}
+use Rattle.build_seats.specs.Exchange.{Exchange, Did, Undid, KeptMark, CheckedBack, is_event}
 use Rattle.builders.specs.Answered.{IsAnswered, AreAnswered}
-use Rattle.builders.specs.Seats.{SeatView, new_seat, with_noted}
-use Rattle.builders.specs.Told.{IsCallTold, IsCallRefused}
+use Rattle.build_seats.specs.Seats.{SeatView, new_seat, with_noted}
+use Rattle.build_seats.specs.Told.{IsCallTold, IsCallRefused}
 use Rattle.builders.specs.Trails.{IsActFor, IsReverseOf, IsEventOf, IsTrailOf}
 
 -- ---- the event of an accepted question

@@ -4,16 +4,16 @@ use Rattle.std.specs.Prelude.{filter}
 use Rattle.std.specs.List.{AllZip}
 use Rattle.host_ledger.specs.View.{HostView}
 use Rattle.host_commands.specs.declared.cmd.Step.{Step}
-use Rattle.builders.proofs.Events.{accepted_match_events}
-use Rattle.builders.specs.Events.{IsLineOf, is_accepted}
-use Rattle.builders.specs.Exchange.{is_event}
-use Rattle.builders.specs.Report.{IsWorkerReport, IsWork}
-use Rattle.builders.specs.Standing.{first_standing}
-use Rattle.builders.specs.declared.report.ReportLine.{ReportLine}
+use Rattle.build_seats.proofs.Events.{accepted_match_events}
+use Rattle.build_seats.specs.Events.{IsLineOf, is_accepted}
+use Rattle.build_seats.specs.Exchange.{is_event}
+use Rattle.build_seats.specs.Report.{IsWorkerReport, IsWork}
+use Rattle.build_seats.specs.Standing.{first_standing}
+use Rattle.build_seats.specs.declared.report.ReportLine.{ReportLine}
 use Rattle.realm_model.specs.declared.act.Event.{Event}
 use Rattle.builders.proofs.Telling.{trail_of_answers}
 use Rattle.builders.specs.Answered.{AreAnswered}
-use Rattle.builders.specs.Seats.{SeatView, new_seat}
+use Rattle.build_seats.specs.Seats.{SeatView, new_seat}
 use Rattle.builders.specs.Trails.{IsEventOf, IsTrailOf}
 use Rattle.builders.specs.Workers.{WorkerView, IsFaithful, IsWorkerRun}
 

@@ -3,9 +3,9 @@ use Rattle.std.specs.Prelude.{◌≡◌, List, [], ◌∷◌, Ok, Err}
 use Rattle.host_ledger.specs.View.{HostView}
 use Rattle.realm_host.specs.Call.{Ask, Undo}
 use Rattle.realm_host.specs.declared.command.HostAnswer.TheVariants.{Replied, Undone}
-use Rattle.builders.specs.Exchange.{Exchange, Did, Undid, KeptMark, CheckedBack}
-use Rattle.builders.specs.Seats.{SeatView}
-use Rattle.builders.specs.Told.{IsCallTold, IsCallRefused, IsMarkTold, IsBackTold}
+use Rattle.build_seats.specs.Exchange.{Exchange, Did, Undid, KeptMark, CheckedBack}
+use Rattle.build_seats.specs.Seats.{SeatView}
+use Rattle.build_seats.specs.Told.{IsCallTold, IsCallRefused, IsMarkTold, IsBackTold}
 
 -- There was a host that can be behind the lock of builds that were started with `opened`, and it answers like this. An
 -- accepted command or undo makes a new seat; any other question leaves the seat as it is.

@@ -4,7 +4,7 @@ use Rattle.std.specs.List.{All}
 use Rattle.host_ledger.specs.View.{HostView, world_of}
 use Rattle.realm_model.specs.declared.act.Event.{Event}
 use Rattle.realm_model.specs.History.{events_of, replay, IsLegal}
-use Rattle.builders.specs.Seats.{SeatView}
+use Rattle.build_seats.specs.Seats.{SeatView}
 
 -- The world of a host is that of each legal history of its machine that has the same events of each seat's build, in
 -- the sequence of the seat's list. The schedule of the builds' events may be any.

@@ -12,7 +12,7 @@ use Rattle.realm_model.specs.Act.{reverse_of}
 use Rattle.realm_model.specs.declared.act.Act.{Act}
 use Rattle.realm_model.specs.declared.act.Act.TheVariants as acts
 use Rattle.realm_model.specs.declared.act.Event.{Event}
-use Rattle.builders.specs.Exchange.{Exchange, Did, Undid, is_event}
+use Rattle.build_seats.specs.Exchange.{Exchange, Did, Undid, is_event}
 
 -- The operation is that of the command, with the command's own numbers, any granules of its pages, and any allocations.
 abbrev pub IsActFor : Cmd → Act → Type 0

@@ -2,12 +2,12 @@
 use Rattle.std.specs.Prelude.{◌≡◌, ℕ, ◌<◌, ◌⊎◌, Bool, false, List, [], length}
 use Rattle.host_ledger.specs.View.{HostView}
 use Rattle.host_commands.specs.declared.cmd.Step.{Step}
-use Rattle.builders.specs.Exchange.{Exchange}
-use Rattle.builders.specs.Report.{IsWorkerReport}
-use Rattle.builders.specs.Standing.{first_standing}
-use Rattle.builders.specs.declared.report.ReportLine.{ReportLine}
+use Rattle.build_seats.specs.Exchange.{Exchange}
+use Rattle.build_seats.specs.Report.{IsWorkerReport}
+use Rattle.build_seats.specs.Standing.{first_standing}
+use Rattle.build_seats.specs.declared.report.ReportLine.{ReportLine}
 use Rattle.builders.specs.Answered.{AreAnswered}
-use Rattle.builders.specs.Seats.{SeatView, new_seat}
+use Rattle.build_seats.specs.Seats.{SeatView, new_seat}
 use Rattle.builders.specs.Trails.{IsTrailOf}
 
 pub record WorkerView : Type 0 where

@@ -1,44 +1,23 @@
-//! A host of builds that threads share behind a lock, with a seat for each build.
+//! A host of builds that threads share behind a lock, with a seat for each build, and workers in threads.
 //!
-//! `Kept` is what the lock protects: the host, and for each build the number of its events in the history. A `Seat` is
-//! one thread's session handle: it has the same number, and a list of these events. A call through `Shared` takes the
-//! lock, asks the host, and notes in the seat the one event that ends the history. So a caller knows that each of its
-//! calls is in one legal history, once and in sequence. `Shared::close` gives the host back, and compares the lists
-//! with the history.
+//! A call through `Shared` takes the lock, and asks the host that is kept behind it (`build_seats::Kept`). So a caller
+//! knows that each of its calls is in one legal history, once and in sequence. `Shared::close` gives the host back, if
+//! the seats' lists are the history.
 //!
-//! `work` performs a build's part of a plan for its worker, over any `Teller` and any `Gate`. A `Teller` is the client
-//! side of a host, and a `Gate` the scheduler of turns. The worker asks the teller for the steps in sequence, and waits
-//! at the gate before each question. After the first refusal it stops the RECs that run, undoes the open operations,
-//! and ends. Its contract says which questions were asked, in which sequence, and that the report has the teller's own
-//! answers (`specs/Report.antt`). It knows no thread and no lock, and takes no memory.
+//! A `Worker` has a build's seat, its steps and its report. `run_builds` runs each worker in a thread of its own: it
+//! performs `work` over a `SeatTeller`, with its turns from a gate.
 #![tactic(auto)]
 
-mod ask;
-mod blanks;
-mod client;
-mod close;
-mod kept;
-pub mod law;
-mod ledgers;
-mod report;
 mod run;
-mod seat;
 mod seat_teller;
 mod shared;
-mod standing;
-mod step;
-mod teller;
 mod worker;
 
-pub use blanks::Blanks;
-pub use client::work;
-pub use close::CloseFault;
-pub use kept::Kept;
-pub use ledgers::Ledgers;
-pub use report::{Answer, Asked, Report, ReportLine, Stuck};
+pub use build_seats::{
+    Answer, Asked, Blanks, CloseFault, Gate, Kept, Ledgers, Report, ReportLine, Seat, Stuck,
+    Teller, work,
+};
 pub use run::run_builds;
-pub use seat::Seat;
 pub use seat_teller::{OpenGate, SeatTeller};
 pub use shared::Shared;
-pub use teller::{Gate, Teller};
 pub use worker::Worker;

@@ -3,10 +3,9 @@ ghost use Rattle.std.specs.Prelude.{◌≡◌, [], true, All, MatchOption, Match
 ghost use Rattle.builders.specs.Runs.{AreRun, IsLowestWaiting};
 ghost use Rattle.builders.specs.Workers.{IsWorkerRun};
 
-use crate::Gate;
-use crate::ledgers::Ledgers;
 use crate::shared::Shared;
 use crate::worker::Worker;
+use build_seats::{Gate, Ledgers};
 use granule_addr::BuildId;
 use page_arena::PageStore;
 use std::marker::{Send, Sync};

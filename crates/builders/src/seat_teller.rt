@@ -1,12 +1,10 @@
 //! A seat of a shared host as a teller.
 ghost use Rattle.std.specs.Prelude.{◌+◌, ◌*◌};
 ghost use Rattle.builders.specs.Answered.{AreAnswered};
-ghost use Rattle.builders.specs.Seats.{new_seat};
+ghost use Rattle.build_seats.specs.Seats.{new_seat};
 
-use crate::ledgers::Ledgers;
-use crate::seat::Seat;
 use crate::shared::Shared;
-use crate::{Gate, Stuck, Teller};
+use build_seats::{Gate, Ledgers, Seat, Stuck, Teller};
 use granule_addr::BuildId;
 use page_arena::PageStore;
 use realm_host::{Cmd, Mark, Refusal, Reply, Undone};

@@ -1,21 +1,16 @@
 //! A host of builds behind a lock.
-ghost use Rattle.std.specs.Prelude.{◌≡◌, ◌≤◌, [], map, replicate, vec_len, vec_capacity, IfOk, IfErr, MatchResult};
+ghost use Rattle.std.specs.Prelude.{◌≡◌, [], map, IfOk, IfErr, MatchResult};
 ghost use Rattle.std.specs.List.{range_with_len};
 ghost use Rattle.realm_host.specs.Call.{Ask, Undo};
 ghost use Rattle.realm_host.specs.declared.command.HostAnswer.TheVariants.{Replied, Undone as WasUndone};
-ghost use Rattle.builders.specs.Close.{IsClosed, IsHostGivenBack};
-ghost use Rattle.builders.specs.Fault.{IsFault};
-ghost use Rattle.builders.specs.Passes.{unused};
-ghost use Rattle.builders.specs.Seats.{new_seat};
-ghost use Rattle.builders.specs.Told.{IsCallTold, IsCallRefused, IsMarkTold, IsBackTold};
-ghost use Rattle.builders.specs.Names.{AreNamed};
+ghost use Rattle.build_seats.specs.Close.{IsClosed, IsHostGivenBack};
+ghost use Rattle.build_seats.specs.Fault.{IsFault};
+ghost use Rattle.build_seats.specs.Seats.{new_seat};
+ghost use Rattle.build_seats.specs.Told.{IsCallTold, IsCallRefused, IsMarkTold, IsBackTold};
+ghost use Rattle.build_seats.specs.Names.{AreNamed};
 ghost use Rattle.builders.specs.Order.{IsWorldOfSeats};
 
-use crate::blanks::Blanks;
-use crate::close::CloseFault;
-use crate::kept::Kept;
-use crate::ledgers::{Ledgers, Opened, Pass};
-use crate::seat::{Seat, Trail, new_trails};
+use build_seats::{Blanks, CloseFault, Kept, Ledgers, Seat};
 use page_arena::PageStore;
 use realm_host::{Cmd, Host, Mark, Refusal, Reply, Undone};
 use std::alloc::{AllocError, Global};
@@ -41,19 +36,13 @@ impl<S: PageStore, L: Ledgers> Shared<S, L> {
         ensures seats { IfOk result (λ r. r.1.items ≡ map new_seat (range_with_len 0 host.limits.builds)) }
         ensures back { IfErr result (λ e. (e.1 ≡ blanks) × (e.2 ≡ host)) }
     {
-        let count = host.build_count();
-        let Ok(trails) = new_trails(alloc, count, host.capacity()) else {
-            return Err((AllocError, blanks, host));
-        };
-        let Ok(seats) = Vec::with_capacity(alloc, count as usize) else {
-            return Err((AllocError, blanks, host));
-        };
-        // (called for its contract alone, which says what always holds of a host)
-        let _ = host.history();
-        let Opened { books, passes } = Opened::new(blanks);
-        let seats = seated(seats, passes, trails);
-        let kept = Mutex::new(Kept { host, books });
-        Ok((Shared { kept }, seats))
+        match Kept::start(alloc, blanks, host) {
+            Ok((kept, seats)) => {
+                let kept = Mutex::new(kept);
+                Ok((Shared { kept }, seats))
+            }
+            Err(back) => Err(back),
+        }
     }
 
     /// Asks for a command of the seat's build.
@@ -101,25 +90,4 @@ impl<S: PageStore, L: Ledgers> Shared<S, L> {
     {
         self.kept.into_inner().close(seats)
     }
-}
-
-// A seat for each trail, with the passes in sequence. The other passes are dropped.
-fn seated<L: Ledgers>(
-    mut seats: Vec<Seat<L>>,
-    passes: [Pass<L>; 8],
-    mut trails: Vec<Trail<L>>,
-) -> Vec<Seat<L>>
-    requires none { seats.items ≡ [] }
-    requires passes { passes ≡ map unused (range_with_len 0 8) }
-    requires few { vec_len trails ≤ 8 }
-    requires empty { trails.items ≡ replicate (vec_len trails) [] }
-    requires room { vec_len trails ≤ vec_capacity seats }
-    ensures { result.items ≡ map new_seat (range_with_len 0 (vec_len trails)) }
-{
-    let mut passes = passes.into_iter();
-    while let Some(trail) = trails.pop() {
-        let pass = passes.next().unwrap();
-        seats.push_reserved(Seat { pass, trail });
-    }
-    seats
 }

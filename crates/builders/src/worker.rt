@@ -2,11 +2,9 @@
 ghost use Rattle.std.specs.Prelude.{◌≡◌, ◌+◌, ◌*◌, ◌<◌, ◌≤◌, [], false, length, vec_len, vec_capacity, IfOk, IfErr};
 ghost use Rattle.builders.specs.Workers.{IsFaithful, IsWorkerRun};
 
-use crate::ledgers::Ledgers;
-use crate::seat::Seat;
 use crate::seat_teller::SeatTeller;
 use crate::shared::Shared;
-use crate::{Gate, Report, work};
+use build_seats::{Gate, Ledgers, Report, Seat, work};
 use granule_addr::BuildId;
 use host_commands::Step;
 use page_arena::PageStore;

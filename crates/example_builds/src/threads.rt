@@ -1,6 +1,6 @@
 //! Two builds in threads of their own, on one host behind a lock: each has a seat, and the seats close the host.
 ghost use Rattle.std.specs.Prelude.{◌≡◌, [], IfOk};
-ghost use Rattle.builders.specs.Names.{AreNamed};
+ghost use Rattle.build_seats.specs.Names.{AreNamed};
 
 use anyhow::{Result, bail};
 use builders::{Blanks, Ledgers, Seat, Shared};

@@ -17,7 +17,7 @@ use Rattle.realm_model.specs.Outcome.{outcome_of, on_realm}
 use Rattle.realm_model.specs.Step.{used_vmids}
 use Rattle.realm_model.specs.Update.{Outcome, Update}
 use Rattle.realm_model.specs.World.{realm_of}
-use Rattle.realm_objects.specs.Attributes.{RecAttributes}
+use Rattle.rmi_monitor.specs.Attributes.{RecAttributes}
 use Rattle.history_calls.specs.declared.action.HostAction.{HostAction}
 use Rattle.history_calls.specs.Frame.{Place}
 use Rattle.host_commands.specs.declared.cmd.Cmd.{Cmd}

@@ -30,7 +30,7 @@ use Rattle.realm_host.specs.Answer.{IsActOf}
 use Rattle.realm_host.specs.Call.{Ask, Undo}
 use Rattle.realm_host.specs.Readings.{rec_at}
 use Rattle.realm_host.specs.Refusals.{no_block, refusal_of}
-use Rattle.realm_objects.specs.Attributes.{RecAttributes}
+use Rattle.rmi_monitor.specs.Attributes.{RecAttributes}
 
 -- ---- an operation of a build
 

@@ -6,9 +6,9 @@ use Rattle.std.specs.List.{list_any, filter_map}
 use Rattle.std.proofs.lemmas.Option.{same_Some, slice_get-get_or, slice_get_within}
 use Rattle.std.proofs.lemmas.List.{get_or-replicate, length-replicate}
 use Rattle.std.proofs.lemmas.List.Elements.{All-nil}
-use Rattle.leases.specs.Stacks.{Stacks, stack_of}
+use Rattle.build_journal.specs.Stacks.{Stacks, stack_of}
 use Rattle.granule_addr.specs.Vmids.{is_used}
-use Rattle.leases.specs.Vmids.{Vmids}
+use Rattle.build_journal.specs.Vmids.{Vmids}
 use Rattle.realm_model.specs.declared.act.Event.{Event}
 use Rattle.realm_model.specs.Machine.{Limits, blank}
 use Rattle.realm_model.specs.World.{World, opening, realm_of}

@@ -8,8 +8,8 @@ use Rattle.std.proofs.lemmas.Bool.{cases_eq, eq-eqb, ne_eqb}
 use Rattle.std.proofs.lemmas.Option.{same_Some, slice_get-get_or}
 use Rattle.std.proofs.lemmas.List.{map-set, length-map, length-set, length-append, length-take, get_or-set_same, get_or-set_other}
 use Rattle.std.proofs.lemmas.List.Elements.{All-push}
-use Rattle.leases.specs.Stacks.{Stacks, stack_of, with_stack}
-use Rattle.leases.specs.Vmids.{Vmids}
+use Rattle.build_journal.specs.Stacks.{Stacks, stack_of, with_stack}
+use Rattle.build_journal.specs.Vmids.{Vmids}
 use Rattle.realm_model.specs.declared.act.Act.{Act}
 use Rattle.realm_model.specs.declared.act.Act.TheVariants.{Rec, Exit}
 use Rattle.realm_model.specs.declared.act.Event.{Event}

@@ -4,7 +4,7 @@ use Rattle.std.specs.List.{All}
 use Rattle.std.proofs.lemmas.Nat.{pow_pos}
 use Rattle.std.proofs.lemmas.List.FromFn.{length-range_with_len}
 use Rattle.std.proofs.Math.Seq.{take-append_seam}
-use Rattle.leases.specs.Stacks.{Stacks, stack_of}
+use Rattle.build_journal.specs.Stacks.{Stacks, stack_of}
 use Rattle.realm_model.specs.declared.act.Act.{Act}
 use Rattle.realm_model.specs.declared.act.Act.TheVariants.{Take, UnTake}
 use Rattle.realm_model.specs.declared.act.Event.{Event}

@@ -5,8 +5,8 @@ use Rattle.std.specs.Global.{Vec}
 use Rattle.std.proofs.lemmas.Bool.{cases_eq, eq-eqb, ne_eqb, ltb-true, le-leb}
 use Rattle.std.proofs.lemmas.Option.{same_Some, slice_get-get_or}
 use Rattle.std.proofs.lemmas.List.{map-set, length-map, length-set, set-get_or, get_or-set_same, get_or-set_other, take_all}
-use Rattle.leases.specs.Stacks.{Stacks}
-use Rattle.leases.specs.Vmids.{Vmids}
+use Rattle.build_journal.specs.Stacks.{Stacks}
+use Rattle.build_journal.specs.Vmids.{Vmids}
 use Rattle.realm_model.specs.declared.act.Act.{Act}
 use Rattle.realm_model.specs.declared.act.Event.{Event}
 use Rattle.realm_model.specs.History.{open_entries}

@@ -6,8 +6,8 @@ use Rattle.std.proofs.lemmas.Bool.{ltb-false, ltb-true}
 use Rattle.std.proofs.lemmas.Option.{slice_get_within, get_or_from_slice_get, slice_get-get_or}
 use Rattle.std.proofs.lemmas.List.{get_or_past}
 use Rattle.std.proofs.lemmas.List.Elements.{All-get_or, All-take}
-use Rattle.leases.specs.Stacks.{Stacks, stack_of}
-use Rattle.leases.specs.Vmids.{Vmids}
+use Rattle.build_journal.specs.Stacks.{Stacks, stack_of}
+use Rattle.build_journal.specs.Vmids.{Vmids}
 use Rattle.realm_model.specs.Machine.{Seen}
 use Rattle.realm_model.specs.World.{World, realm_of}
 use Rattle.realm_model.specs.History.{acts_of, open_entries, unmatched, pages_of}

@@ -5,7 +5,7 @@ use Rattle.std.specs.List.{find, range_with_len}
 use Rattle.std.proofs.lemmas.Bool.{and_parts, leb-true, cases_eq}
 use Rattle.std.proofs.lemmas.Option.{slice_get_within, get_or_from_slice_get}
 use Rattle.granule_addr.specs.Vmids.{is_used}
-use Rattle.leases.specs.Vmids.{Vmids, is_free, IsLowestFree}
+use Rattle.build_journal.specs.Vmids.{Vmids, is_free, IsLowestFree}
 use Rattle.host_ledger.specs.View.{HostView, world_of}
 use Rattle.host_ledger.specs.Vmids.{is_vmid_free, lowest_vmid}
 

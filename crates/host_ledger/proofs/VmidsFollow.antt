@@ -7,7 +7,7 @@ use Rattle.granule_addr.specs.Ipa.{is_width}
 use Rattle.granule_addr.specs.Root.{start_count, starting_tables}
 use Rattle.granule_addr.specs.declared.width.Root.{Root}
 use Rattle.granule_addr.specs.Vmids.{is_used}
-use Rattle.leases.specs.Vmids.{Vmids}
+use Rattle.build_journal.specs.Vmids.{Vmids}
 use Rattle.realm_model.specs.declared.act.Act.{Act}
 use Rattle.realm_model.specs.declared.act.Act.TheVariants.{Realm, UnRealm}
 use Rattle.realm_model.specs.declared.rmi.Rmi.{Rmi}

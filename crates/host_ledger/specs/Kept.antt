@@ -3,8 +3,8 @@ use Rattle.std.specs.Prelude.{◌≡◌, ℕ, nat_lt, ◌+◌, ◌-◌, ◌*◌,
 use Rattle.std.specs.List.{All}
 use Rattle.std.specs.Global.{Vec}
 use Rattle.granule_addr.specs.Vmids.{is_used}
-use Rattle.leases.specs.Stacks.{Stacks, stack_of}
-use Rattle.leases.specs.Vmids.{Vmids}
+use Rattle.build_journal.specs.Stacks.{Stacks, stack_of}
+use Rattle.build_journal.specs.Vmids.{Vmids}
 use Rattle.realm_model.specs.declared.act.Act.{Act}
 use Rattle.realm_model.specs.declared.act.Act.TheVariants.{Take, UnTake, Realm, UnRealm, Rec, UnRec, Enter, Exit}
 use Rattle.realm_model.specs.declared.act.Event.{Event}

@@ -1,7 +1,7 @@
 -- The VMIDs that a host's realms have.
 use Rattle.std.specs.Prelude.{◌≡◌, ℕ, Bool, true, false, Option, not, ◌&&◌, nat_le}
 use Rattle.std.specs.List.{find, range_with_len}
-use Rattle.leases.specs.Vmids.{Vmids, is_free, IsClaimed}
+use Rattle.build_journal.specs.Vmids.{Vmids, is_free, IsClaimed}
 use Rattle.realm_model.specs.declared.act.Act.{Act}
 use Rattle.realm_model.specs.declared.act.Act.TheVariants.{Realm, UnRealm}
 use Rattle.realm_model.specs.VmidsUsed.{is_vmid_used}

@@ -9,11 +9,11 @@ use Rattle.realm_model.specs.Step.{outcome_in}
 use Rattle.realm_model.specs.Undoing.{by}
 use Rattle.rmi_monitor.specs.View.{MonitorView, Answers, after_command}
 use Rattle.realm_model.specs.declared.act.RealmAndRec.{RealmAndRec}
-use Rattle.execution.specs.Performing.{IsReady, outcome_on}
-use Rattle.execution.specs.Mirror.{IsPerformed, HasFewEvents}
+use Rattle.rmi_monitor.specs.Performing.{IsReady, outcome_on}
+use Rattle.rmi_monitor.specs.Mirror.{IsPerformed, HasFewEvents}
 use Rattle.realm_model.specs.Places.{IsPlaceOf}
-use Rattle.execution.proofs.Ready.{asked_is_ready}
-use Rattle.execution.proofs.Forward.{performed_is_step}
+use Rattle.rmi_monitor.proofs.Ready.{asked_is_ready}
+use Rattle.rmi_monitor.proofs.Forward.{performed_is_step}
 use Rattle.host_ledger.specs.View.{HostView, world_of}
 use Rattle.host_ledger.specs.Kept.{CanRecord}
 use Rattle.realm_host.specs.Host.{IsWhole}

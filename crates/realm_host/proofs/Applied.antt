@@ -24,7 +24,7 @@ use Rattle.realm_model.specs.World.{World, is_leased_to, realm_of}
 use Rattle.realm_model.proofs.HistoryParts.{split}
 use Rattle.realm_model.proofs.Leases.{leased_all, all_leased}
 use Rattle.realm_model.proofs.StepSays.{step_is}
-use Rattle.execution.proofs.Forward.{holder_is}
+use Rattle.rmi_monitor.proofs.Forward.{holder_is}
 use Rattle.rmi_monitor.specs.View.{MonitorView}
 use Rattle.host_ledger.specs.View.{HostView, world_of}
 use Rattle.host_ledger.proofs.Worlds.{world_is}

@@ -15,7 +15,7 @@ use Rattle.realm_model.specs.Undoing.{by}
 use Rattle.realm_model.specs.World.{World}
 use Rattle.realm_model.proofs.Progress.{undoable}
 use Rattle.realm_model.proofs.StepSays.{step_is}
-use Rattle.execution.proofs.Forward.{holder_is}
+use Rattle.rmi_monitor.proofs.Forward.{holder_is}
 use Rattle.host_ledger.specs.View.{HostView, world_of, open_of}
 use Rattle.host_ledger.proofs.Worlds.{world_is}
 use Rattle.realm_host.specs.Acting.{HasRoomFor, CanAct, IsBack}

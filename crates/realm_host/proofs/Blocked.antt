@@ -6,9 +6,9 @@ use Rattle.realm_model.specs.declared.act.Act.TheVariants.{Take, UnTake}
 use Rattle.realm_model.specs.Act.{is_paired, is_reverse, reverse_of}
 use Rattle.realm_model.specs.Room.{room_taken}
 use Rattle.rmi_monitor.specs.View.{MonitorView, IsGivable, with_block, without_block}
-use Rattle.execution.specs.Mirror.{IsPerformed}
-use Rattle.execution.specs.Blocks.{IsGivenBack}
-use Rattle.execution.proofs.Blocks.{taken_is_step, given_back_is_step, take_is_forward}
+use Rattle.rmi_monitor.specs.Mirror.{IsPerformed}
+use Rattle.rmi_monitor.specs.Blocks.{IsGivenBack}
+use Rattle.rmi_monitor.proofs.BlockSteps.{taken_is_step, given_back_is_step, take_is_forward}
 use Rattle.host_ledger.specs.View.{HostView, world_of, open_of, with_event}
 use Rattle.host_ledger.specs.Kept.{CanRecord}
 use Rattle.realm_host.specs.Host.{IsWhole}

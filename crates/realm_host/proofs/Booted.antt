@@ -7,8 +7,8 @@ use Rattle.realm_model.specs.declared.act.Event.{Event}
 use Rattle.realm_model.specs.World.{World, opening, same_lease, is_leased_to, free_set}
 use Rattle.realm_model.specs.History.{open_entries, unmatched, pages_of, pages_held, acts_of}
 use Rattle.rmi_monitor.specs.View.{MonitorView, fresh}
-use Rattle.execution.specs.Mirror.{IsMirror}
-use Rattle.execution.proofs.Fresh.{fresh_is_mirror}
+use Rattle.rmi_monitor.specs.Mirror.{IsMirror}
+use Rattle.rmi_monitor.proofs.FreshMirror.{fresh_is_mirror}
 use Rattle.host_ledger.specs.View.{HostView}
 use Rattle.host_ledger.specs.Booted.{booted}
 use Rattle.host_ledger.proofs.Worlds.{world_of-replay}

@@ -14,8 +14,8 @@ use Rattle.realm_model.proofs.Leases.{leased, leased_from}
 use Rattle.realm_model.proofs.Lists.{all_from_in, all_in}
 use Rattle.realm_host.specs.Refusals.{is_free_block}
 use Rattle.realm_host.proofs.Ranges.{any_from, none_from}
-use Rattle.execution.proofs.Flags.{flag_free}
-use Rattle.execution.proofs.Ranges.{in_range_from, range_in}
+use Rattle.rmi_monitor.proofs.Flags.{flag_free}
+use Rattle.rmi_monitor.proofs.Ranges.{in_range_from, range_in}
 
 -- ---- one granule
 

@@ -4,7 +4,7 @@ use Rattle.std.specs.Prelude.{slice_get}
 use Rattle.std.specs.List.{All}
 use Rattle.std.proofs.lemmas.List.Elements.{All-get_or}
 use Rattle.rmi_monitor.specs.View.{MonitorView, IsTaken}
-use Rattle.execution.proofs.Ready.{all_taken}
+use Rattle.rmi_monitor.proofs.Ready.{all_taken}
 use Rattle.host_commands.specs.declared.cmd.Cmd.{Cmd}
 use Rattle.host_commands.specs.declared.cmd.Cmd.TheVariants.{Peek}
 use Rattle.host_commands.specs.Needs.{operands}

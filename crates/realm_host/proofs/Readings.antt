@@ -10,7 +10,7 @@ use Rattle.realm_model.specs.Machine.{Machine, RealmRow, cell_at}
 use Rattle.realm_model.specs.Rows.{Row, Walk, walk}
 use Rattle.realm_model.specs.World.{World, realm_of}
 use Rattle.realm_model.proofs.Reachable.{reachable_worlds}
-use Rattle.realm_objects.specs.Attributes.{RecAttributes}
+use Rattle.rmi_monitor.specs.Attributes.{RecAttributes}
 use Rattle.rmi_monitor.specs.View.{MonitorView}
 use Rattle.rmi_monitor.specs.Named.{rec_attributes_at}
 use Rattle.rmi_monitor.specs.Walked.{walk_of, walk_in}

@@ -7,7 +7,7 @@ use Rattle.realm_model.specs.World.{World, realm_of}
 use Rattle.realm_model.specs.Running.{next_number}
 use Rattle.realm_model.proofs.Reached.{sized_reached}
 use Rattle.realm_model.proofs.RealmOf.{IsAt, IsAt-realm_of}
-use Rattle.realm_objects.specs.Attributes.{RealmAttributes}
+use Rattle.rmi_monitor.specs.Attributes.{RealmAttributes}
 use Rattle.rmi_monitor.specs.View.{MonitorView, attributes_of}
 use Rattle.realm_model.specs.Places.{rd_of}
 use Rattle.host_ledger.specs.View.{HostView, world_of}

@@ -18,7 +18,7 @@ use Rattle.realm_model.proofs.Reachable.{reachable_worlds}
 use Rattle.realm_model.proofs.RealmOf.{IsAt, IsAt-realm_of}
 use Rattle.realm_model.specs.Places.{rec_granule}
 use Rattle.realm_model.specs.World.{World, realm_of}
-use Rattle.realm_objects.specs.Attributes.{RecAttributes}
+use Rattle.rmi_monitor.specs.Attributes.{RecAttributes}
 use Rattle.rmi_monitor.specs.View.{IsRec, rec_in}
 use Rattle.rmi_monitor.specs.Named.{rec_named, rec_attributes_of, rec_attributes_at}
 use Rattle.realm_host.specs.Readings.{rec_at}

@@ -5,7 +5,7 @@ use Rattle.realm_model.specs.World.{World}
 use Rattle.realm_model.specs.History.{IsLegal, IsInTurn}
 use Rattle.realm_model.specs.Undoing.{by}
 use Rattle.rmi_monitor.specs.View.{MonitorView}
-use Rattle.execution.specs.Mirror.{IsMirror, IsPerformed}
+use Rattle.rmi_monitor.specs.Mirror.{IsMirror, IsPerformed}
 use Rattle.host_ledger.specs.View.{HostView, world_of, with_event}
 use Rattle.host_ledger.specs.Kept.{CanRecord}
 use Rattle.host_ledger.proofs.Worlds.{world_of-replay}

@@ -6,11 +6,11 @@ use Rattle.realm_model.specs.declared.act.Act.TheVariants.{Rec}
 use Rattle.realm_model.specs.Machine.{Machine}
 use Rattle.realm_model.specs.Running.{is_running}
 use Rattle.realm_model.specs.World.{realm_of}
-use Rattle.realm_objects.specs.Attributes.{RecAttributes}
+use Rattle.rmi_monitor.specs.Attributes.{RecAttributes}
 use Rattle.rmi_monitor.specs.View.{MonitorView}
 use Rattle.rmi_monitor.specs.Named.{rec_attributes_at}
 use Rattle.realm_model.specs.Places.{rec_granule}
-use Rattle.execution.proofs.Ready.{rec_ready}
+use Rattle.rmi_monitor.proofs.Ready.{rec_ready}
 use Rattle.host_ledger.specs.View.{HostView, world_of}
 use Rattle.realm_host.specs.Host.{IsWhole}
 use Rattle.realm_host.proofs.RecRuns.{state_runs, is_there, runs_is}

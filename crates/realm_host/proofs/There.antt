@@ -24,10 +24,10 @@ use Rattle.realm_model.proofs.Booleans.{true_false}
 use Rattle.realm_model.proofs.Leases.{all_leased}
 use Rattle.realm_model.proofs.Reached.{sized_reached}
 use Rattle.realm_model.proofs.StepSays.{step_is}
-use Rattle.realm_objects.specs.Attributes.{RealmAttributes}
+use Rattle.rmi_monitor.specs.Attributes.{RealmAttributes}
 use Rattle.rmi_monitor.specs.View.{MonitorView, IsTaken, Answers, seen_in, attributes_of}
 use Rattle.realm_model.specs.Places.{rd_of}
-use Rattle.execution.proofs.Ready.{all_taken}
+use Rattle.rmi_monitor.proofs.Ready.{all_taken}
 use Rattle.host_ledger.specs.View.{HostView, world_of}
 use Rattle.realm_host.specs.Acting.{IsNoStep}
 use Rattle.realm_host.specs.Host.{IsWhole}

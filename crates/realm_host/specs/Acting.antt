@@ -11,7 +11,7 @@ use Rattle.realm_model.specs.Running.{is_running}
 use Rattle.realm_model.specs.Step.{step, outcome_in}
 use Rattle.realm_model.specs.World.{World, realm_of}
 use Rattle.realm_model.specs.Undoing.{by}
-use Rattle.execution.specs.Mirror.{IsAsked}
+use Rattle.rmi_monitor.specs.Mirror.{IsAsked}
 use Rattle.host_ledger.specs.View.{HostView, world_of, open_of, used, with_event}
 use Rattle.realm_host.specs.Refusals.{no_block}
 

@@ -2,7 +2,7 @@
 use Rattle.std.specs.Prelude.{ℕ, ◌≤◌}
 use Rattle.realm_model.specs.Machine.{Limits}
 use Rattle.rmi_monitor.specs.View.{MonitorView}
-use Rattle.execution.specs.Mirror.{IsMirror}
+use Rattle.rmi_monitor.specs.Mirror.{IsMirror}
 use Rattle.host_ledger.specs.View.{HostView, world_of}
 use Rattle.host_ledger.specs.Booted.{booted}
 use Rattle.realm_host.specs.Settings.{AreSettings}

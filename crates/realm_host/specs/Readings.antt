@@ -6,7 +6,7 @@ use Rattle.realm_model.specs.declared.states.RealmState.{RealmState}
 use Rattle.realm_model.specs.Rows.{Walk}
 use Rattle.realm_model.specs.Machine.{RealmRow, RecRow, Seen, cell_at}
 use Rattle.realm_model.specs.World.{World, realm_of}
-use Rattle.realm_objects.specs.Attributes.{RecAttributes}
+use Rattle.rmi_monitor.specs.Attributes.{RecAttributes}
 use Rattle.rmi_monitor.specs.Named.{rec_attributes_of}
 use Rattle.rmi_monitor.specs.Walked.{walk_of}
 use Rattle.realm_host.specs.declared.reading.GranuleView.{GranuleView}

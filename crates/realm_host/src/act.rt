@@ -2,10 +2,10 @@
 ghost use Rattle.realm_host.specs.Acting.{CanAct, IsActed};
 
 use crate::Host;
-use execution::perform;
 use granule_addr::BuildId;
 use page_arena::PageStore;
 use realm_model::{Act, Rmi};
+use rmi_monitor::perform;
 
 impl<S: PageStore> Host<S> {
     // Performs an operation that is asked for, and records it. A refusal changes nothing.

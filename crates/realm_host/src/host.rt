@@ -16,8 +16,7 @@ use granule_addr::{BuildId, Gran, Vmid};
 use host_ledger::HostLedger;
 use page_arena::PageStore;
 use realm_model::{Event, GranuleState, RealmState};
-use realm_objects::RealmDesc;
-use rmi_monitor::Monitor;
+use rmi_monitor::{Monitor, RealmDesc};
 use std::alloc::{AllocError, Global};
 use std::marker::Model;
 

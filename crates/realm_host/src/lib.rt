@@ -32,7 +32,7 @@ pub use reading::{GranuleView, RowView};
 pub use realm_model::{
     Act, EntryState, Event, GranuleState, Kind, RealmState, RecState, Ripas, Rmi, Status,
 };
-pub use realm_objects::{RealmDesc, Rec};
+pub use rmi_monitor::{RealmDesc, Rec};
 pub use rtt::Entry;
 pub use settings::Settings;
 pub use why_not::WhyNot;

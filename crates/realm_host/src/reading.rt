@@ -12,7 +12,7 @@ use granule_addr::{BuildId, Gran, IpaGran, Level, RecNo};
 use host_commands::BuildsView;
 use page_arena::PageStore;
 use realm_model::{Act, GranuleState};
-use realm_objects::Rec;
+use rmi_monitor::Rec;
 use rtt::Entry;
 
 /// A granule: its state, the build that leases it, and the RD of the realm that it belongs to.

@@ -3,3 +3,12 @@ pub mod Stop
 pub mod Whole
 pub mod Printed
 pub mod Replay
+pub mod RunFault
+pub mod Threads
+pub mod Fitting
+pub mod Allocation
+pub mod Report
+pub mod Hosts
+pub mod Text
+pub mod Workers
+pub mod Order

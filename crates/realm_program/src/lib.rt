@@ -1,21 +1,41 @@
-//! The replay of a plan as a part of the program, and the ends of the program.
+//! A plan in and a text of it out, as a part of the program: of its replay, or of its run in threads. The ends of the
+//! program.
 //!
 //! `print` goes from the bytes of a plan to a text of it, over any reader and any writer. `Fault` is each reason not to
-//! have printed the text, with its exit status. `replay` prints the text of a run. Nothing here depends on the process
-//! that it runs in: a caller hands in the devices.
+//! have printed the text, with its exit status. `replay` prints the text of a run, and `run` that of a run in threads.
+//! `fits` says whether a worker's report agrees with a history.
+//!
+//! Nothing here depends on the process that it runs in: a caller hands in the devices, and the gate that gives workers
+//! their turns.
 #![tactic(auto)]
 
+mod audit;
 mod boot_host;
+mod command;
 mod fault;
 mod input;
+pub mod law;
+mod line;
+mod new_workers;
+mod pages;
 mod printing;
+mod report;
+mod run_fault;
+mod running;
 mod source;
 mod text;
+mod threads_text;
+mod undo;
+mod working;
 
+pub use audit::{fit_all, fits};
 pub use boot_host::{BuildableStore, boot, boot_by};
 pub use command_line::realmhost::Line;
 pub use fault::Fault;
 pub use input::{ReadError, read_whole};
 pub use printing::{PlanText, print};
+pub use run_fault::RunFault;
+pub use running::run;
 pub use source::plan_in;
 pub use text::{map_without, replay, text_of};
+pub use working::run_text;

@@ -13,7 +13,7 @@ use Rattle.history_calls.specs.Frame.{Place, address}
 use Rattle.host_ledger.specs.declared.mark.Mark.{Mark}
 use Rattle.host_ledger.specs.View.{HostView, world_of, open_of, pages_of_build, granule_of_page, is_aborting, mark_of}
 use Rattle.realm_host.specs.Readings.{row_of, rec_at}
-use Rattle.realm_objects.specs.Attributes.{RecAttributes}
+use Rattle.rmi_monitor.specs.Attributes.{RecAttributes}
 use Rattle.rhm_c.specs.Command.{build_in}
 use Rattle.rhm_c.specs.declared.placed_host.PlacedHost.{PlacedHost}
 use Rattle.rhm_c.specs.declared.reading.BuildReading.{BuildReading}

@@ -5,7 +5,7 @@ use Rattle.realm_model.specs.Machine.{RealmRow}
 use Rattle.realm_model.specs.Update.{Update, Outcome, machine_after_all}
 use Rattle.realm_model.specs.Command.Check.{check, error_realm, is_new, put_realm}
 use Rattle.realm_model.specs.Command.Realm.{realm_activate}
-use Rattle.realm_objects.specs.Attributes.{RealmAttributes}
+use Rattle.rmi_monitor.specs.Attributes.{RealmAttributes}
 use Rattle.rtt.specs.Realm.{LeavesOthers}
 use Rattle.rmi_monitor.specs.View.{MonitorView, IsTaken, seen_in, after_command}
 use Rattle.rmi_monitor.specs.Inside.{Fields, realm_at, machine_of, seen_as, IsWhole}

@@ -6,8 +6,8 @@ use Rattle.page_arena.specs.Page.{page_at, is_free, IsSized}
 use Rattle.granule_addr.specs.Page.{zero_page}
 use Rattle.page_arena.specs.Block.{IsFreeBlock, with_run, with_taken, with_given}
 use Rattle.page_arena.specs.Runs.{inside_or_outside, length-with_run, get_or-with_run_inside, get_or-with_run_outside}
-use Rattle.granule_table.specs.Granules.{granule_at}
-use Rattle.granule_table.specs.declared.granule.Granule.{Granule}
+use Rattle.rtt.specs.Granules.{granule_at}
+use Rattle.rtt.specs.declared.granule.Granule.{Granule}
 use Rattle.realm_model.specs.declared.states.GranuleState.TheVariants.{Undelegated}
 use Rattle.realm_model.specs.Machine.{Cell, Machine, blank, cell_at}
 use Rattle.rtt.specs.Realm.{LeavesAlone}

@@ -10,8 +10,8 @@ use Rattle.granule_addr.specs.Ipa.{is_width}
 use Rattle.granule_addr.specs.Page.{zero_page}
 use Rattle.granule_addr.specs.Root.{start_count, starting_tables}
 use Rattle.granule_addr.specs.declared.width.Root.{Root}
-use Rattle.granule_table.specs.Granules.{granule_at, undelegated, IsIn}
-use Rattle.granule_table.specs.declared.granule.Granule.{Granule}
+use Rattle.rtt.specs.Granules.{granule_at, undelegated, IsIn}
+use Rattle.rtt.specs.declared.granule.Granule.{Granule}
 use Rattle.realm_model.specs.declared.states.GranuleState.TheVariants.{Delegated, Rd as InRd, Rtt as InRtt}
 use Rattle.realm_model.specs.Rows.{root_rows}
 use Rattle.realm_model.specs.Machine.{Cell, Seen, blank, held}
@@ -23,7 +23,7 @@ use Rattle.realm_model.specs.Command.Realm.{is_start, new_realm}
 use Rattle.realm_model.proofs.Booleans.{not_true}
 use Rattle.realm_model.proofs.Lists.{all_in}
 use Rattle.realm_model.proofs.Outcomes.{check_false}
-use Rattle.realm_objects.specs.Attributes.{RealmAttributes, realm_row}
+use Rattle.rmi_monitor.specs.Attributes.{RealmAttributes, realm_row}
 use Rattle.page_arena.specs.Page.{is_free}
 use Rattle.rtt.specs.Realm.{IsBacked}
 use Rattle.rtt.specs.Tables.{rows}

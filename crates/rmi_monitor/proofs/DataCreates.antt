@@ -3,8 +3,8 @@ use Rattle.std.proofs.Common.{◌≡◌, ◌≢◌, ℕ, ◌<◌, ◌&&◌, Bool
 use Rattle.std.proofs.lemmas.Bool.{and_from, and_left, and_right, and_parts}
 use Rattle.std.proofs.lemmas.List.{get_or-set_other}
 use Rattle.granule_addr.specs.Ipa.{is_protected_at}
-use Rattle.granule_table.specs.Granules.{granule_at}
-use Rattle.granule_table.specs.declared.granule.Granule.{Granule}
+use Rattle.rtt.specs.Granules.{granule_at}
+use Rattle.rtt.specs.declared.granule.Granule.{Granule}
 use Rattle.page_arena.specs.Page.{page_at}
 use Rattle.realm_model.specs.declared.states.GranuleState.{GranuleState}
 use Rattle.realm_model.specs.declared.states.GranuleState.TheVariants.{Undelegated, Delegated, Data as InData, Rtt as InRtt}
@@ -16,7 +16,7 @@ use Rattle.realm_model.specs.Update.{Put, Outcome}
 use Rattle.realm_model.specs.Command.Check.{check, error_input, error_realm, error_rtt, is_delegated, is_undelegated, is_new, put_realm}
 use Rattle.realm_model.specs.Command.Data.{data_create}
 use Rattle.realm_model.proofs.Outcomes.{check_true, check_false}
-use Rattle.realm_objects.specs.Attributes.{RealmAttributes, realm_row}
+use Rattle.rmi_monitor.specs.Attributes.{RealmAttributes, realm_row}
 use Rattle.rtt.specs.declared.tables.Tables.{Tables}
 use Rattle.rtt.specs.Tables.{rows}
 use Rattle.realm_model.specs.Command.Found.{with_free_page}

@@ -2,8 +2,8 @@
 use Rattle.std.proofs.Common.{◌≡◌, ◌≢◌, ℕ, Bool, List, [], set, sym, ap, ◌∙◌}
 use Rattle.std.proofs.lemmas.List.{length-set, get_or-set_other}
 use Rattle.granule_addr.specs.declared.width.Root.{Root}
-use Rattle.granule_table.specs.Granules.{granule_at}
-use Rattle.granule_table.specs.declared.granule.Granule.{Granule}
+use Rattle.rtt.specs.Granules.{granule_at}
+use Rattle.rtt.specs.declared.granule.Granule.{Granule}
 use Rattle.realm_model.specs.declared.states.GranuleState.TheVariants.{Data as InData, Rtt as InRtt}
 use Rattle.rtt.specs.Tables.{rows}
 use Rattle.rtt.specs.Realm.{IsBacked, HasTables, LeavesAlone}

@@ -3,9 +3,9 @@ use Rattle.std.proofs.Common.{◌≡◌, ℕ, ◌<◌, ◌≤◌, Bool, true, fa
 use Rattle.std.specs.Prelude.{◌==◌, ◌&&◌, not}
 use Rattle.std.specs.FinMap.{len}
 use Rattle.std.proofs.lemmas.Bool.{eq-eqb, ne_eqb}
-use Rattle.granule_table.specs.Granules.{granule_at}
+use Rattle.rtt.specs.Granules.{granule_at}
 use Rattle.page_arena.specs.Page.{is_free}
-use Rattle.granule_table.specs.declared.granule.Granule.{Granule}
+use Rattle.rtt.specs.declared.granule.Granule.{Granule}
 use Rattle.granule_addr.specs.Page.{zero_page}
 use Rattle.granule_addr.specs.Root.{starting_tables}
 use Rattle.granule_addr.specs.declared.width.Root.{Root}
@@ -18,7 +18,7 @@ use Rattle.realm_model.specs.Command.Realm.{realm_destroy}
 use Rattle.realm_model.specs.StepLaw.{set_each}
 use Rattle.realm_model.proofs.Booleans.{not_true, not_false}
 use Rattle.realm_model.proofs.SetEach.{length-set_each}
-use Rattle.realm_objects.specs.Attributes.{RealmAttributes, RecAttributes}
+use Rattle.rmi_monitor.specs.Attributes.{RealmAttributes, RecAttributes}
 use Rattle.rtt.specs.Tables.{rows}
 use Rattle.rtt.specs.Calls.{with_state, with_states}
 use Rattle.rmi_monitor.specs.View.{MonitorView, IsTaken, seen_in, after_command}

@@ -2,8 +2,8 @@
 use Rattle.std.proofs.Common.{◌≡◌, ◌≢◌, ℕ, ◌<◌, Bool, true, false, List, [], ◌∷◌, length, set, Ok, None, refl, sym, ap, ◌∙◌, subst}
 use Rattle.std.proofs.lemmas.List.{set-get_or}
 use Rattle.page_arena.specs.Page.{page_at, is_free}
-use Rattle.granule_table.specs.Granules.{granule_at, undelegated, IsIn}
-use Rattle.granule_table.specs.declared.granule.Granule.{Granule}
+use Rattle.rtt.specs.Granules.{granule_at, undelegated, IsIn}
+use Rattle.rtt.specs.declared.granule.Granule.{Granule}
 use Rattle.granule_addr.specs.Page.{page_of, zero_page}
 use Rattle.realm_model.specs.declared.states.GranuleState.{GranuleState}
 use Rattle.realm_model.specs.declared.states.GranuleState.TheVariants.{Undelegated, Delegated}

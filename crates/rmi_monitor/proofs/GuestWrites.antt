@@ -2,7 +2,7 @@
 use Rattle.std.proofs.Common.{◌≡◌, ℕ, Bool, true, false, List, [], ◌∷◌, Ok, Err, Some, None, refl, sym, ap, ◌∙◌, subst}
 use Rattle.std.specs.Prelude.{not}
 use Rattle.granule_addr.specs.Ipa.{is_protected_at}
-use Rattle.granule_table.specs.Granules.{IsIn}
+use Rattle.rtt.specs.Granules.{IsIn}
 use Rattle.page_arena.specs.Page.{with_byte}
 use Rattle.realm_model.specs.declared.rmi.Rmi.{Rmi}
 use Rattle.realm_model.specs.declared.states.GranuleState.TheVariants.{Data as InData}
@@ -13,7 +13,7 @@ use Rattle.realm_model.specs.Command.Check.{check, error_input, error_rec, error
 use Rattle.realm_model.specs.Command.Rec.{guest_write}
 use Rattle.realm_model.proofs.Outcomes.{check_true, end_there, granule_there, check_false}
 use Rattle.realm_model.proofs.Walks.{walk_end}
-use Rattle.realm_objects.specs.Attributes.{RealmAttributes, RecAttributes, rec_row}
+use Rattle.rmi_monitor.specs.Attributes.{RealmAttributes, RecAttributes, rec_row}
 use Rattle.rtt.specs.declared.tables.Tables.{Tables}
 use Rattle.rtt.specs.Word.{IsEntry}
 use Rattle.rtt.specs.Tables.{rows}

@@ -3,8 +3,8 @@ use Rattle.std.proofs.Common.{◌≡◌, ◌≢◌, ℕ, ◌<◌, Bool, true, fa
 use Rattle.std.specs.Prelude.{◌==◌}
 use Rattle.std.proofs.lemmas.Bool.{eqb-true, eqb-false, ne_eqb}
 use Rattle.std.proofs.lemmas.List.{length-set, get_or-set_same, get_or-set_other}
-use Rattle.granule_table.specs.Granules.{granule_at, undelegated}
-use Rattle.granule_table.specs.declared.granule.Granule.{Granule}
+use Rattle.rtt.specs.Granules.{granule_at, undelegated}
+use Rattle.rtt.specs.declared.granule.Granule.{Granule}
 use Rattle.page_arena.specs.Page.{page_at, is_free}
 use Rattle.granule_addr.specs.Page.{zero_page}
 use Rattle.realm_model.specs.declared.states.GranuleState.{GranuleState}

@@ -3,8 +3,8 @@ use Rattle.std.proofs.Common.{◌≡◌, ℕ, ◌<◌, true, false, cond, List, 
 use Rattle.std.specs.Prelude.{option_and_then}
 use Rattle.granule_addr.specs.Ipa.{entry_index}
 use Rattle.granule_addr.specs.declared.width.Root.{Root}
-use Rattle.granule_table.specs.Granules.{IsIn}
-use Rattle.granule_table.specs.declared.granule.Granule.{Granule}
+use Rattle.rtt.specs.Granules.{IsIn}
+use Rattle.rtt.specs.declared.granule.Granule.{Granule}
 use Rattle.realm_model.specs.declared.states.GranuleState.TheVariants.{Data as InData, Rtt as InRtt}
 use Rattle.realm_model.specs.declared.states.EntryState.{EntryState}
 use Rattle.realm_model.specs.declared.states.EntryState.TheVariants.{Unassigned, Assigned, Table}

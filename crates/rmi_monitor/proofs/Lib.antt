@@ -64,3 +64,16 @@ pub mod RecGoneAfter
 pub mod RecDestroys
 pub mod Sweeps
 pub mod Walked
+-- operations that are performed
+pub mod OnRecs
+pub mod Pages
+-- beside a history
+pub mod Flags
+pub mod Ranges
+pub mod FreshMirror
+pub mod Forward
+pub mod Ready
+pub mod Backward
+pub mod RecsNamed
+pub mod BlockSteps
+pub mod NewRealm

@@ -8,7 +8,7 @@ use Rattle.granule_addr.specs.declared.width.Root.{Root}
 use Rattle.realm_model.specs.Rows.{is_table_place}
 use Rattle.realm_model.specs.Machine.{RealmRow, cell_at}
 use Rattle.realm_model.specs.Command.Check.{is_new}
-use Rattle.realm_objects.specs.Attributes.{RealmAttributes}
+use Rattle.rmi_monitor.specs.Attributes.{RealmAttributes}
 use Rattle.rtt.specs.declared.tables.Tables.{Tables}
 use Rattle.rtt.specs.Realm.{HasTables}
 use Rattle.rmi_monitor.specs.View.{MonitorView}

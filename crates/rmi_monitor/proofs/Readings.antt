@@ -2,7 +2,7 @@
 use Rattle.std.proofs.Common.{◌≡◌, ℕ, ◌<◌, length, Option, Some, None, option_map, refl, sym, ap, ◌∙◌, subst}
 use Rattle.page_arena.specs.Page.{page_at}
 use Rattle.realm_model.specs.Machine.{Cell, RealmRow, cell_at}
-use Rattle.realm_objects.specs.Attributes.{RealmAttributes, realm_row}
+use Rattle.rmi_monitor.specs.Attributes.{RealmAttributes, realm_row}
 use Rattle.rtt.specs.Tables.{rows}
 use Rattle.rtt.specs.RowWords.{AreWordsOf}
 use Rattle.rtt.proofs.RowWords.{row_words}

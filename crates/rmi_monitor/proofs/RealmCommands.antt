@@ -1,8 +1,8 @@
 -- The RMM after a command on a realm, by the effect of its call.
 use Rattle.std.proofs.Common.{◌≡◌, ℕ, ◌<◌, Bool, true, List, [], ◌∷◌, length, set, Option, Some, None, Result, Ok, Err, refl, sym, ap, ◌∙◌, subst, get_or}
 use Rattle.std.specs.Result.{IsErrAnd}
-use Rattle.granule_table.specs.Granules.{granule_at, IsIn}
-use Rattle.granule_table.specs.declared.granule.Granule.{Granule}
+use Rattle.rtt.specs.Granules.{granule_at, IsIn}
+use Rattle.rtt.specs.declared.granule.Granule.{Granule}
 use Rattle.granule_addr.specs.Page.{zero_page}
 use Rattle.page_arena.specs.Page.{page_at}
 use Rattle.realm_model.specs.declared.states.GranuleState.{GranuleState}
@@ -12,7 +12,7 @@ use Rattle.realm_model.specs.Rows.{Rows}
 use Rattle.realm_model.specs.Machine.{Cell, RealmRow}
 use Rattle.realm_model.specs.Update.{Outcome, Put, machine_after_all}
 use Rattle.realm_model.specs.Command.Check.{put_realm}
-use Rattle.realm_objects.specs.Attributes.{RealmAttributes, realm_row}
+use Rattle.rmi_monitor.specs.Attributes.{RealmAttributes, realm_row}
 use Rattle.granule_addr.specs.declared.width.Root.{Root}
 use Rattle.rtt.specs.Calls.{Keeps as KeepsTables}
 use Rattle.rtt.specs.Tables.{rows}

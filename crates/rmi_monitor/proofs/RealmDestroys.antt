@@ -6,8 +6,8 @@ use Rattle.std.proofs.lemmas.List.{length-set, get_or-set_same, get_or-set_other
 use Rattle.std.proofs.lemmas.Option.{same_Some}
 use Rattle.granule_addr.specs.Page.{zero_page}
 use Rattle.granule_addr.specs.Root.{starting_tables}
-use Rattle.granule_table.specs.Granules.{granule_at, undelegated, IsIn}
-use Rattle.granule_table.specs.declared.granule.Granule.{Granule}
+use Rattle.rtt.specs.Granules.{granule_at, undelegated, IsIn}
+use Rattle.rtt.specs.declared.granule.Granule.{Granule}
 use Rattle.page_arena.specs.Page.{page_at, is_free}
 use Rattle.realm_model.specs.declared.states.GranuleState.{GranuleState}
 use Rattle.realm_model.specs.declared.states.GranuleState.TheVariants.{Undelegated, Delegated, Data as InData, Rd as InRd, Rec as InRec, RecAux as InRecAux, Rtt as InRtt}
@@ -18,7 +18,7 @@ use Rattle.realm_model.specs.Update.{Put, machine_after_all}
 use Rattle.realm_model.proofs.Booleans.{or_parts, false_from}
 use Rattle.realm_model.specs.Command.Check.{is_in}
 use Rattle.realm_model.proofs.SetEach.{length-set_each}
-use Rattle.realm_objects.specs.Attributes.{RealmAttributes, RecAttributes}
+use Rattle.rmi_monitor.specs.Attributes.{RealmAttributes, RecAttributes}
 use Rattle.rtt.specs.Realm.{LeavesAlone}
 use Rattle.rtt.specs.Calls.{with_state, with_states}
 use Rattle.rtt.proofs.Walks.{start_in}

@@ -2,9 +2,9 @@
 use Rattle.std.proofs.Common.{◌≡◌, ℕ, ◌<◌, true, List, length, get_or, Option, Some, None, refl, sym, ap, ◌∙◌}
 use Rattle.std.specs.FinMap.{get, empty}
 use Rattle.std.proofs.lemmas.Option.{none-some}
-use Rattle.granule_table.specs.declared.granule.Granule.{Granule}
+use Rattle.rtt.specs.declared.granule.Granule.{Granule}
 use Rattle.realm_model.specs.Machine.{RecRow}
-use Rattle.realm_objects.specs.Attributes.{RecAttributes, rec_row}
+use Rattle.rmi_monitor.specs.Attributes.{RecAttributes, rec_row}
 use Rattle.rmi_monitor.specs.Inside.{is_of_realm, rec_of, recs_of, IsNumbered, IsRecAt, Fields, realm_at, rec_at, IsWhole}
 use Rattle.rmi_monitor.proofs.Gathered.{gathered-none, get-gathered, gathered-get-none}
 use Rattle.rmi_monitor.proofs.RecEntries.{rec_of-none, rec_of-other, rec_of-some, of_other}

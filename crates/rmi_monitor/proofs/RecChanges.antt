@@ -10,7 +10,7 @@ use Rattle.realm_model.specs.Machine.{Cell, RealmRow}
 use Rattle.realm_model.specs.Update.{machine_after_all}
 use Rattle.realm_model.specs.Command.Check.{put_rec}
 use Rattle.realm_model.proofs.Booleans.{false_from}
-use Rattle.realm_objects.specs.Attributes.{RealmAttributes, RecAttributes, realm_row, rec_row}
+use Rattle.rmi_monitor.specs.Attributes.{RealmAttributes, RecAttributes, realm_row, rec_row}
 use Rattle.rtt.specs.Tables.{rows}
 use Rattle.rmi_monitor.specs.View.{MonitorView, seen_in, after_command}
 use Rattle.rmi_monitor.specs.Inside.{Fields, rec_at, is_of_realm, rec_of, recs_of, descriptor_of, cell_of, machine_of, seen_as, IsSoundAt, IsRecOf, HasRecs, IsWhole}

@@ -8,8 +8,8 @@ use Rattle.std.specs.FinMap.{insert}
 use Rattle.std.proofs.lemmas.Bool.{OnTrue_at, and_parts, eqb-true}
 use Rattle.std.proofs.lemmas.List.{length-set, get_or-set_other}
 use Rattle.std.proofs.lemmas.Option.{same_Some, slice_get-get_or}
-use Rattle.granule_table.specs.Granules.{granule_at, undelegated}
-use Rattle.granule_table.specs.declared.granule.Granule.{Granule}
+use Rattle.rtt.specs.Granules.{granule_at, undelegated}
+use Rattle.rtt.specs.declared.granule.Granule.{Granule}
 use Rattle.realm_model.proofs.Reversal.{seen_numbers}
 use Rattle.realm_model.specs.declared.states.GranuleState.TheVariants.{Delegated, Rec as InRec, RecAux as InRecAux}
 use Rattle.realm_model.specs.declared.rmi.Rmi.{Rmi}
@@ -22,7 +22,7 @@ use Rattle.realm_model.specs.Command.Rec.{rec_create}
 use Rattle.realm_model.proofs.Booleans.{not_true, true_false}
 use Rattle.realm_model.proofs.Lists.{all_in, is_in_at, is_in_head, is_in_more}
 use Rattle.realm_model.proofs.Outcomes.{check_true, check_false}
-use Rattle.realm_objects.specs.Attributes.{RealmAttributes, RecAttributes, realm_row, rec_row}
+use Rattle.rmi_monitor.specs.Attributes.{RealmAttributes, RecAttributes, realm_row, rec_row}
 use Rattle.rtt.specs.Tables.{rows}
 use Rattle.rmi_monitor.specs.View.{MonitorView, IsTaken, Answers, seen_in, after_command}
 use Rattle.rmi_monitor.specs.Inside.{Fields, realm_at, rec_count_at, recs_of, seen_as, IsWhole}

@@ -4,8 +4,8 @@ use Rattle.std.specs.FinMap.{remove}
 use Rattle.std.proofs.lemmas.List.{length-set, get_or-set_other}
 use Rattle.std.proofs.lemmas.Option.{slice_get-get_or}
 use Rattle.granule_addr.specs.Page.{zero_page}
-use Rattle.granule_table.specs.Granules.{undelegated}
-use Rattle.granule_table.specs.declared.granule.Granule.{Granule}
+use Rattle.rtt.specs.Granules.{undelegated}
+use Rattle.rtt.specs.declared.granule.Granule.{Granule}
 use Rattle.realm_model.specs.declared.states.GranuleState.TheVariants.{Rec as InRec, RecAux as InRecAux}
 use Rattle.realm_model.specs.Machine.{Cell, cell_at, left}
 use Rattle.realm_model.specs.StepLaw.{set_each}
@@ -14,7 +14,7 @@ use Rattle.realm_model.specs.Command.Check.{check, error_rec, is_ready, put_real
 use Rattle.realm_model.specs.Command.Rec.{rec_destroy}
 use Rattle.realm_model.proofs.Lists.{is_in_head, is_in_at, is_in_more}
 use Rattle.realm_model.proofs.Outcomes.{check_true, check_false}
-use Rattle.realm_objects.specs.Attributes.{RealmAttributes, RecAttributes}
+use Rattle.rmi_monitor.specs.Attributes.{RealmAttributes, RecAttributes}
 use Rattle.rmi_monitor.specs.View.{MonitorView, IsOnRec, seen_in, after_command}
 use Rattle.rmi_monitor.specs.Inside.{Fields, rec_count_at, rec_at, recs_of, seen_as, IsWhole}
 use Rattle.rmi_monitor.specs.Places.{IsInState, HasPage}

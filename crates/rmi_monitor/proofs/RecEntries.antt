@@ -4,11 +4,11 @@ use Rattle.std.specs.Prelude.{nat_eq}
 use Rattle.std.specs.Option.{option_eq}
 use Rattle.std.proofs.lemmas.Bool.{eqb-true, eq-eqb, ne_eqb}
 use Rattle.std.proofs.lemmas.Option.{same_Some}
-use Rattle.granule_table.specs.Granules.{granule_at}
-use Rattle.granule_table.specs.declared.granule.Granule.{Granule}
+use Rattle.rtt.specs.Granules.{granule_at}
+use Rattle.rtt.specs.declared.granule.Granule.{Granule}
 use Rattle.realm_model.specs.Machine.{RecRow}
 use Rattle.realm_model.proofs.Booleans.{guarded}
-use Rattle.realm_objects.specs.Attributes.{RecAttributes, rec_row}
+use Rattle.rmi_monitor.specs.Attributes.{RecAttributes, rec_row}
 use Rattle.rmi_monitor.specs.Inside.{Fields, is_of_realm, rec_of, IsNumbered, HasRecs}
 use Rattle.rmi_monitor.proofs.Comparisons.{some_map}
 

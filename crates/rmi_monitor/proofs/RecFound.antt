@@ -2,13 +2,13 @@
 use Rattle.std.proofs.Common.{◌≡◌, ℕ, ◌<◌, length, Some, None, Result, Err, refl, sym, ap, ◌∙◌, subst}
 use Rattle.std.specs.FinMap.{get}
 use Rattle.std.proofs.lemmas.Option.{same_Some, none-some}
-use Rattle.granule_table.specs.Granules.{granule_at}
+use Rattle.rtt.specs.Granules.{granule_at}
 use Rattle.realm_model.specs.declared.rmi.Rmi.{Rmi}
 use Rattle.realm_model.specs.Machine.{RealmRow, RecRow, Seen}
 use Rattle.realm_model.specs.Update.{Outcome}
 use Rattle.realm_model.specs.Command.Check.{error_input, with_realm, with_rec}
 use Rattle.realm_model.proofs.Outcomes.{rec_there}
-use Rattle.realm_objects.specs.Attributes.{RealmAttributes, RecAttributes, rec_row}
+use Rattle.rmi_monitor.specs.Attributes.{RealmAttributes, RecAttributes, rec_row}
 use Rattle.rmi_monitor.specs.View.{MonitorView, IsRec, IsOnRec, Answers, seen_in, after_command}
 use Rattle.rmi_monitor.specs.Inside.{Fields, realm_at, rec_at, rec_of, recs_of, seen_as, IsWhole}
 use Rattle.rmi_monitor.proofs.Gathered.{get-gathered, gathered-get}

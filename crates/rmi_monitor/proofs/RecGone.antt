@@ -3,8 +3,8 @@ use Rattle.std.proofs.Common.{◌≡◌, ◌≢◌, ℕ, ◌-◌, ◌<◌, true,
 use Rattle.std.specs.Prelude.{◌==◌, is_some}
 use Rattle.std.proofs.lemmas.Bool.{eqb-true}
 use Rattle.granule_addr.specs.Page.{zero_page}
-use Rattle.granule_table.specs.Granules.{granule_at, IsIn}
-use Rattle.granule_table.specs.declared.granule.Granule.{Granule}
+use Rattle.rtt.specs.Granules.{granule_at, IsIn}
+use Rattle.rtt.specs.declared.granule.Granule.{Granule}
 use Rattle.page_arena.specs.Page.{page_at, is_free}
 use Rattle.realm_model.specs.declared.states.GranuleState.{GranuleState}
 use Rattle.realm_model.specs.declared.states.GranuleState.TheVariants.{Undelegated, Delegated, Rec as InRec, RecAux as InRecAux}
@@ -12,7 +12,7 @@ use Rattle.realm_model.specs.Sound.{is_rd_state}
 use Rattle.realm_model.proofs.Booleans.{true_false, false_from}
 use Rattle.realm_model.specs.Command.Check.{is_in}
 use Rattle.realm_model.proofs.Lists.{index_of}
-use Rattle.realm_objects.specs.Attributes.{RealmAttributes, RecAttributes}
+use Rattle.rmi_monitor.specs.Attributes.{RealmAttributes, RecAttributes}
 use Rattle.rmi_monitor.specs.Inside.{Fields, rec_count_at, rec_at, is_rec_state, IsSoundAt, IsWhole}
 use Rattle.rmi_monitor.proofs.Puts.{put_all, length-put_all, put_all-first, put_all-rest, put_all-out}
 use Rattle.rmi_monitor.proofs.RecMoves.{RecMove, is_moved_state, granule_first, granule_rest, rec_first, rec_out, no_realm, no_rec}

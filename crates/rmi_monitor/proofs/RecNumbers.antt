@@ -4,7 +4,7 @@ use Rattle.std.specs.Prelude.{option_and_then, is_some}
 use Rattle.std.specs.FinMap.{get}
 use Rattle.std.proofs.lemmas.Option.{same_Some}
 use Rattle.realm_model.specs.Machine.{Cell, RealmRow}
-use Rattle.realm_objects.specs.Attributes.{RealmAttributes, RecAttributes, rec_row}
+use Rattle.rmi_monitor.specs.Attributes.{RealmAttributes, RecAttributes, rec_row}
 use Rattle.rmi_monitor.specs.View.{MonitorView, rec_in}
 use Rattle.rmi_monitor.specs.Inside.{Fields, realm_at, rec_at, recs_of, seen_as, IsRecAt, IsWhole}
 use Rattle.rmi_monitor.proofs.Granules.{cell_is}

@@ -4,7 +4,7 @@ use Rattle.std.specs.Prelude.{option_and_then}
 use Rattle.std.specs.FinMap.{get}
 use Rattle.std.proofs.lemmas.Option.{same_Some, none-some}
 use Rattle.realm_model.specs.Machine.{RealmRow}
-use Rattle.realm_objects.specs.Attributes.{RealmAttributes, RecAttributes, rec_row}
+use Rattle.rmi_monitor.specs.Attributes.{RealmAttributes, RecAttributes, rec_row}
 use Rattle.rmi_monitor.specs.View.{MonitorView, IsRec, rec_in}
 use Rattle.rmi_monitor.specs.Inside.{Fields, rec_at, seen_as, IsWhole}
 use Rattle.rmi_monitor.specs.Named.{rec_named, rec_attributes_of, rec_attributes_at}

@@ -8,7 +8,7 @@ use Rattle.realm_model.specs.Update.{Outcome}
 use Rattle.realm_model.specs.Command.Check.{check, error_input, error_realm, error_rec, is_new, is_ready, put_rec}
 use Rattle.realm_model.specs.Command.Rec.{rec_enter, rec_exit}
 use Rattle.realm_model.proofs.Outcomes.{check_true, check_false}
-use Rattle.realm_objects.specs.Attributes.{RealmAttributes, RecAttributes, rec_row}
+use Rattle.rmi_monitor.specs.Attributes.{RealmAttributes, RecAttributes, rec_row}
 use Rattle.rmi_monitor.specs.View.{MonitorView, IsOnRec, seen_in}
 use Rattle.rmi_monitor.specs.Inside.{Fields, seen_as, IsWhole}
 use Rattle.rmi_monitor.proofs.Granules.{HasFields}

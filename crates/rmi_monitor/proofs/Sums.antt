@@ -1,7 +1,7 @@
 -- Sums of the bytes of granules.
 use Rattle.std.proofs.Common.{◌≡◌, ℕ, zero, suc, List, replicate, refl, sym, ap, ◌∙◌}
 use Rattle.std.specs.Prelude.{sum}
-use Rattle.granule_table.specs.Granules.{granule_at}
+use Rattle.rtt.specs.Granules.{granule_at}
 use Rattle.page_arena.specs.Page.{page_at}
 use Rattle.realm_model.specs.declared.states.GranuleState.{GranuleState}
 use Rattle.realm_model.specs.declared.states.GranuleState.TheVariants.{Rtt}

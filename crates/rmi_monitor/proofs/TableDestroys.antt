@@ -3,8 +3,8 @@ use Rattle.std.proofs.Common.{◌≡◌, ℕ, ◌-◌, Bool, true, false, List, 
 use Rattle.std.specs.Prelude.{◌&&◌}
 use Rattle.std.proofs.lemmas.Bool.{and_from, and_left, and_right}
 use Rattle.granule_addr.specs.Page.{zero_page}
-use Rattle.granule_table.specs.Granules.{IsIn}
-use Rattle.granule_table.specs.declared.granule.Granule.{Granule}
+use Rattle.rtt.specs.Granules.{IsIn}
+use Rattle.rtt.specs.declared.granule.Granule.{Granule}
 use Rattle.page_arena.specs.Page.{page_at}
 use Rattle.realm_model.specs.declared.states.GranuleState.TheVariants.{Delegated, Rtt as InRtt}
 use Rattle.realm_model.specs.Rows.{Row, Rows, is_table, is_table_place, is_table_unused, without_table}

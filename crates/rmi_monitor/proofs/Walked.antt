@@ -8,7 +8,7 @@ use Rattle.granule_addr.specs.declared.width.Root.{Root}
 use Rattle.granule_addr.proofs.Spaces.{served_is}
 use Rattle.realm_model.specs.Machine.{Cell, RealmRow}
 use Rattle.realm_model.specs.Rows.{Walk, walk}
-use Rattle.realm_objects.specs.Attributes.{RealmAttributes}
+use Rattle.rmi_monitor.specs.Attributes.{RealmAttributes}
 use Rattle.rtt.specs.declared.tables.Tables.{Tables}
 use Rattle.rtt.specs.Realm.{HasTables}
 use Rattle.rtt.specs.Tables.{rows}

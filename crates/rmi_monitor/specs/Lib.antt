@@ -6,3 +6,7 @@ pub mod Located
 pub mod Places
 pub mod Named
 pub mod Walked
+pub mod Performing
+pub mod Mirror
+pub mod Blocks
+pub mod Attributes

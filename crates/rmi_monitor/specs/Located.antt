@@ -3,7 +3,7 @@ use Rattle.std.specs.Prelude.{◌≡◌, ℕ, true, false, Some}
 use Rattle.granule_addr.specs.Ipa.{is_protected_at}
 use Rattle.realm_model.specs.Machine.{Machine, RealmRow, cell_at}
 use Rattle.realm_model.specs.Command.Check.{is_new, is_protected}
-use Rattle.realm_objects.specs.Attributes.{RealmAttributes}
+use Rattle.rmi_monitor.specs.Attributes.{RealmAttributes}
 use Rattle.rtt.specs.declared.tables.Tables.{Tables}
 
 -- the tables of the realm of an RD, and the IPA granule of that number, which is protected there

@@ -3,7 +3,7 @@ use Rattle.std.specs.Prelude.{ℕ, ◌==◌, List, [], length, Bool, false, Opti
 use Rattle.std.specs.List.{find, range_with_len}
 use Rattle.std.specs.FinMap.{keys}
 use Rattle.realm_model.specs.Machine.{RecRow, Machine, cell_at}
-use Rattle.realm_objects.specs.Attributes.{RecAttributes}
+use Rattle.rmi_monitor.specs.Attributes.{RecAttributes}
 use Rattle.rmi_monitor.specs.View.{rec_in}
 
 -- the granule is that of the REC of that number in the realm of that RD

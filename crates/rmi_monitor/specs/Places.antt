@@ -4,13 +4,13 @@ use Rattle.std.specs.List.{list_all}
 use Rattle.granule_addr.specs.Root.{start_count, starting_tables}
 use Rattle.granule_addr.specs.declared.width.Root.{Root}
 use Rattle.page_arena.specs.Page.{is_free}
-use Rattle.granule_table.specs.Granules.{granule_at}
-use Rattle.granule_table.specs.declared.granule.Granule.{Granule}
+use Rattle.rtt.specs.Granules.{granule_at}
+use Rattle.rtt.specs.declared.granule.Granule.{Granule}
 use Rattle.realm_model.specs.Measurement.{measurement_after, rec_event}
 use Rattle.realm_model.specs.Command.Check.{are_distinct}
 use Rattle.realm_model.specs.declared.states.GranuleState.{GranuleState}
 use Rattle.realm_model.specs.declared.states.GranuleState.TheVariants.{Undelegated, Delegated}
-use Rattle.realm_objects.specs.Attributes.{RealmAttributes}
+use Rattle.rmi_monitor.specs.Attributes.{RealmAttributes}
 
 -- a realm's attributes with the measurement extended by an event
 abbrev pub measured_by : List ℕ → RealmAttributes → RealmAttributes

@@ -12,7 +12,7 @@ use Rattle.realm_model.specs.Update.{Outcome, machine_after_command}
 use Rattle.realm_model.specs.Command.Check.{error_input, is_undelegated}
 use Rattle.realm_model.specs.Command.Realm.{realm_create}
 use Rattle.realm_model.specs.Step.{used_vmids}
-use Rattle.realm_objects.specs.Attributes.{RealmAttributes}
+use Rattle.rmi_monitor.specs.Attributes.{RealmAttributes}
 
 -- The numbers of VMIDs and of auxiliary granules of a REC, the machine, and for each granule whether it is free.
 pub record MonitorView : Type 0 where

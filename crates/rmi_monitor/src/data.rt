@@ -5,13 +5,12 @@ ghost use Rattle.realm_model.specs.Command.Data as command;
 ghost use Rattle.rmi_monitor.specs.View.{IsTaken, Answers, seen_in, after_command};
 ghost use Rattle.rmi_monitor.specs.Located.{LocatesNew};
 
-use crate::Monitor;
 use crate::locate::located;
 use crate::places::{can_be_copied, is_delegated, measure};
+use crate::{Monitor, data_event};
 use granule_addr::{Gran, IpaGran};
 use page_arena::PageStore;
 use realm_model::{Ripas, Rmi};
-use realm_objects::data_event;
 use rtt::Tables;
 
 impl<S: PageStore> Monitor<S> {

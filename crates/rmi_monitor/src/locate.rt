@@ -6,13 +6,12 @@ ghost use Rattle.realm_model.specs.Command.Check.{error_input};
 ghost use Rattle.rmi_monitor.specs.View.{IsTaken};
 ghost use Rattle.rmi_monitor.specs.Located.{IsLocated, Locates, IsNowhere};
 
-use crate::Monitor;
 use crate::inputs::{protected, protected_run};
 use crate::places::tables_of;
+use crate::{Monitor, RealmDesc};
 use granule_addr::{Gran, IpaGran};
 use page_arena::PageStore;
 use realm_model::Rmi;
-use realm_objects::RealmDesc;
 use rtt::Tables;
 
 // The tables of the realm of an RD, and the IPA granule of that number, if it is protected there.

@@ -4,16 +4,16 @@ ghost use Rattle.std.specs.Bool.{OnTrue, OnFalse};
 ghost use Rattle.page_arena.specs.Page.{page_at};
 ghost use Rattle.page_arena.specs.Block.{IsFreeBlock};
 ghost use Rattle.granule_addr.specs.Page.{zero_page};
-ghost use Rattle.granule_table.specs.Granules.{undelegated};
+ghost use Rattle.rtt.specs.Granules.{undelegated};
 ghost use Rattle.realm_model.specs.Machine.{RealmRow, cell_at};
 ghost use Rattle.rtt.specs.RowWords.{AreWordsOf};
 ghost use Rattle.rmi_monitor.specs.View.{IsGivable, IsPageOf, fresh, with_block, without_block};
 
+use crate::{RealmDesc, Rec};
 use granule_addr::{Gran, Order, VmidSet};
-use granule_table::GranuleTable;
 use page_arena::PageStore;
 use realm_model::GranuleState;
-use realm_objects::{RealmDesc, Rec};
+use rtt::GranuleTable;
 use std::alloc::{AllocError, Global};
 use std::marker::Model;
 

@@ -7,12 +7,11 @@ ghost use Rattle.realm_model.specs.StepLaw.{set_each};
 ghost use Rattle.realm_model.specs.declared.states.GranuleState.TheVariants.{Delegated};
 ghost use Rattle.rmi_monitor.specs.Places.{measured_by, is_delegated_at, is_undelegated_at, are_fit_for_rec, IsInState, HasPage};
 
+use crate::RealmDesc;
 use granule_addr::Gran;
-use granule_table::GranuleTable;
 use page_arena::PageStore;
 use realm_model::GranuleState;
-use realm_objects::RealmDesc;
-use rtt::Tables;
+use rtt::{GranuleTable, Tables};
 
 // The tables of the realm of an RD granule.
 pub(crate) fn tables_of(rd: Gran, realm: &RealmDesc) -> Tables

@@ -5,11 +5,10 @@ ghost use Rattle.realm_model.specs.Machine.{cell_at};
 ghost use Rattle.rmi_monitor.specs.Named.{rec_attributes_at};
 ghost use Rattle.rmi_monitor.specs.Walked.{walk_in};
 
-use crate::Monitor;
 use crate::places::tables_of;
+use crate::{Monitor, Rec};
 use granule_addr::{Gran, IpaGran, Level};
 use page_arena::PageStore;
-use realm_objects::Rec;
 use rtt::Walk;
 
 impl<S: PageStore> Monitor<S> {

@@ -8,14 +8,12 @@ ghost use Rattle.realm_model.specs.Command.Realm as command;
 ghost use Rattle.rmi_monitor.specs.View.{IsTaken, Answers, seen_in, after_command, attributes_of, make_realm};
 ghost use Rattle.rmi_monitor.specs.Places.{are_fit_for_realm, is_fit_to_start};
 
-use crate::Monitor;
 use crate::places::{is_delegated, release, tables_of};
+use crate::{Monitor, RealmDesc};
 use granule_addr::{Gran, IpaWidth, Root, Vmid};
-use granule_table::GranuleTable;
 use page_arena::PageStore;
 use realm_model::{GranuleState, Rmi};
-use realm_objects::RealmDesc;
-use rtt::Tables;
+use rtt::{GranuleTable, Tables};
 
 // Whether a granule of that number can be a starting table beside that RD.
 fn can_start(granules: &GranuleTable, rd: Gran, number: u16) -> bool

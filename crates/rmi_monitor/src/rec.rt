@@ -3,20 +3,19 @@ ghost use Rattle.std.specs.Prelude.{◌≡◌, ◌<◌, Some, length, map, optio
 ghost use Rattle.std.specs.List.{All};
 ghost use Rattle.realm_model.specs.Machine.{RealmRow, cell_at};
 ghost use Rattle.realm_model.specs.Command.Rec as command;
-ghost use Rattle.realm_objects.specs.Attributes.{rec_row};
+ghost use Rattle.rmi_monitor.specs.Attributes.{rec_row};
 ghost use Rattle.rmi_monitor.specs.Places.{with_rec_more};
 ghost use Rattle.rmi_monitor.specs.View.{IsTaken, Answers, IsOnRec, seen_in, after_command, rec_in};
 ghost use Rattle.std.specs.FinMap.{get};
 ghost use Rattle.rmi_monitor.specs.Inside.{recs_of, IsNumbered, IsRecAt};
 
-use crate::Monitor;
 use crate::places::{can_be_rec, release, release_all, shift_all};
+use crate::{Monitor, RealmDesc, Rec, rec_event};
 use arrayvec::ArrayVec;
 use granule_addr::{Gran, MOST_PAGES, RecNo};
-use granule_table::GranuleTable;
 use page_arena::PageStore;
 use realm_model::{GranuleState, Rmi};
-use realm_objects::{RealmDesc, Rec, rec_event};
+use rtt::GranuleTable;
 
 // Gives the realm's next number to a REC, and extends the realm's measurement by it.
 fn number_rec(realm: &mut RealmDesc) -> RecNo

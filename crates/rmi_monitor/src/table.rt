@@ -5,14 +5,13 @@ ghost use Rattle.realm_model.specs.Command.Table as command;
 ghost use Rattle.rmi_monitor.specs.View.{IsTaken, Answers, seen_in, after_command};
 ghost use Rattle.rmi_monitor.specs.Located.{LocatesNew};
 
-use crate::Monitor;
 use crate::inputs::table_level;
 use crate::locate::located_run;
 use crate::places::{is_delegated, measure};
+use crate::{Monitor, ripas_event};
 use granule_addr::{Gran, IpaGran};
 use page_arena::PageStore;
 use realm_model::Rmi;
-use realm_objects::ripas_event;
 use rtt::Tables;
 
 impl<S: PageStore> Monitor<S> {

@@ -6,9 +6,8 @@ ghost use Rattle.rmm_model.specs.Command.Auxiliary as auxiliary;
 
 use granule_addr::Gran;
 use page_arena::PageStore;
-use rmm_granules::Granules;
+use rmm_granules::{Granules, granule_named};
 use rmm_model::{RmmGranule, aux_address};
-use rmm_reading::granule_named;
 
 // A granule gets other attributes, and its page is zero.
 fn wipe<S: PageStore>(granules: &mut Granules<S>, granule: Gran, kept: &RmmGranule)

@@ -14,11 +14,10 @@ use crate::walking::write;
 use granule_addr::Gran;
 use page_arena::PageStore;
 use rmi_abi::{SmcResult, Word};
-use rmm_granules::Granules;
+use rmm_granules::{Granules, OperandConditions, entry_at, memory_below, top, walk};
 use rmm_model::{
     Condition, FailedCondition, RmmGranule, RmmGranuleState, RmmRipas, RmmRttEntry, RttWalk,
 };
-use rmm_reading::{OperandConditions, entry_at, memory_below, top, walk};
 
 // A place for a new page: the RD, the page's granule, and the entry.
 #[derive(Clone, Copy)]

@@ -12,13 +12,11 @@ use crate::walking::write;
 use granule_addr::Gran;
 use page_arena::PageStore;
 use rmi_abi::{HashAlgorithm, RmmSettings, SmcResult, Word};
-use rmm_granules::Granules;
-use rmm_measurement::{Extension, extend, page_digest};
+use rmm_granules::{Granules, OperandConditions, entry_at, walk};
 use rmm_model::{
-    Condition, FailedCondition, RmmGranule, RmmGranuleState, RmmRealm, RmmRipas, RmmRttEntry,
-    RttWalk, error_input, error_rtt,
+    Condition, Extension, FailedCondition, RmmGranule, RmmGranuleState, RmmRealm, RmmRipas,
+    RmmRttEntry, RttWalk, error_input, error_rtt, extend, page_digest,
 };
-use rmm_reading::{OperandConditions, entry_at, walk};
 
 // A page of the host, and the granule that becomes a page of data.
 #[derive(Clone, Copy)]
@@ -135,7 +133,7 @@ fn find_page<S: PageStore>(
 // ---- the measurement
 
 // The digest of a page that is measured, and else zeros.
-#[tactic(auto, unfolding(rmm_model::specs::Command::DataCreate::content_digest, rmm_measurement::specs::Bytes::zeros))]
+#[tactic(auto, unfolding(rmm_model::specs::Command::DataCreate::content_digest, rmm_model::specs::Bytes::zeros))]
 fn content_digest(hash: HashAlgorithm, flags: u64, page: &[u8]) -> [u8; 64]
     ensures { result ≡ command.content_digest hash flags page.now }
 {

@@ -12,9 +12,10 @@ use crate::walking::write;
 use granule_addr::Gran;
 use page_arena::PageStore;
 use rmi_abi::{SmcResult, Word};
-use rmm_granules::Granules;
+use rmm_granules::{
+    Granules, entry_at, first_entry, is_block_too_high, is_homogeneous, table_below, walk,
+};
 use rmm_model::{Condition, FailedCondition, RmmGranuleState, RmmRttEntry, RttWalk, error_rtt};
-use rmm_reading::{entry_at, first_entry, is_block_too_high, is_homogeneous, table_below, walk};
 
 // A table that can be folded, and the entry that leads to it.
 #[derive(Clone, Copy)]

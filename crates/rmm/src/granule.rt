@@ -10,9 +10,8 @@ use crate::operand::{delegated, named};
 use granule_addr::Gran;
 use page_arena::PageStore;
 use rmi_abi::{SmcResult, Word};
-use rmm_granules::Granules;
+use rmm_granules::{Granules, OperandConditions};
 use rmm_model::{Condition, FailedCondition, RmmGranule, RmmGranuleState, error_input};
-use rmm_reading::OperandConditions;
 
 // A granule becomes one of no realm, and its page is zero.
 pub fn blank<S: PageStore>(granules: &mut Granules<S>, granule: Gran, state: RmmGranuleState)

@@ -9,9 +9,8 @@ ghost use Rattle.rmm.specs.Results.{with_result_of};
 use crate::rec::set_rec;
 use granule_addr::Gran;
 use page_arena::PageStore;
-use rmm_granules::Granules;
+use rmm_granules::{Granules, realm_in};
 use rmm_model::{GuestStep, Queued, RmmRealm, RmmRec, StepResult, StepWords};
-use rmm_reading::realm_in;
 
 // The attributes of a REC; a granule that is none has those of a new one.
 pub fn rec_in<S: PageStore>(granules: &Granules<S>, g: Gran) -> RmmRec

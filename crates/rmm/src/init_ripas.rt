@@ -9,12 +9,11 @@ use crate::realm::{error_realm, is_new, set_rim};
 use crate::ripas_range::{change_count, check_progress, check_size, write_ripas};
 use page_arena::PageStore;
 use rmi_abi::{SmcResult, Word};
-use rmm_granules::Granules;
-use rmm_measurement::{Extension, extend};
+use rmm_granules::{Granules, init_changeable, walk};
 use rmm_model::{
-    Condition, FailedCondition, RmmRealm, RmmRipas, RttWalk, entry_index, entry_size, error_input,
+    Condition, Extension, FailedCondition, RmmRealm, RmmRipas, RttWalk, entry_index, entry_size,
+    error_input, extend,
 };
-use rmm_reading::{init_changeable, walk};
 
 // The RD of a range with its realm, and the table of its first entry.
 #[derive(Clone, Copy)]

@@ -10,11 +10,10 @@ ghost use Rattle.rmm_model.specs.Command.Operand as operands;
 use granule_addr::Gran;
 use page_arena::PageStore;
 use rmi_abi::{RmmSettings, SmcResult, Word};
-use rmm_granules::Granules;
+use rmm_granules::{Granules, OperandConditions};
 use rmm_model::{
     Condition, FailedCondition, RmmRealm, RttWalk, entry_offset, error_input, error_rtt,
 };
-use rmm_reading::OperandConditions;
 
 // An RD, and its realm.
 #[derive(Clone, Copy)]

@@ -11,11 +11,10 @@ use crate::rec::{NamedRec, rec_of, set_rec};
 use granule_addr::Gran;
 use page_arena::PageStore;
 use rmi_abi::{SmcResult, Word};
-use rmm_granules::Granules;
-use rmm_model::{Condition, FailedCondition, PsciRequest, RmmRec, error_input};
-use rmm_reading::{
-    OperandConditions, PSCI_SUCCESS, is_pending, is_same_owner, is_status, target_of,
+use rmm_granules::{
+    Granules, OperandConditions, PSCI_SUCCESS, is_pending, is_same_owner, is_status, target_of,
 };
+use rmm_model::{Condition, FailedCondition, PsciRequest, RmmRec, error_input};
 
 const PSCI_ALREADY_ON: u64 = 0xFFFF_FFFF_FFFF_FFFC;
 

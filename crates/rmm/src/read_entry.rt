@@ -6,9 +6,8 @@ ghost use Rattle.rmm_model.specs.Command.RttReadEntry.{rtt_read_entry as reading
 use crate::operand::{check_ipa, realm_of};
 use page_arena::PageStore;
 use rmi_abi::{SmcResult, Word};
-use rmm_granules::Granules;
+use rmm_granules::{Granules, entry_at, walk};
 use rmm_model::FailedCondition;
-use rmm_reading::{entry_at, walk};
 
 // The answer of RMI_RTT_READ_ENTRY, if its operands pass.
 #[tactic(auto, unfolding(rmm_model::specs::Command::RttReadEntry::rtt_read_entry))]

@@ -12,15 +12,13 @@ use crate::operand::{delegated, host_page, is_protected};
 use granule_addr::Gran;
 use page_arena::PageStore;
 use rmi_abi::{HashAlgorithm, RealmParams, RmmSettings, SmcResult, Word};
-use rmm_granules::Granules;
-use rmm_measurement::initial;
+use rmm_granules::{
+    Granules, OperandConditions, can_start, is_start, is_start_table, is_supported, is_vmid_valid,
+    start_table,
+};
 use rmm_model::{
     Condition, FailedCondition, RmmGranule, RmmGranuleState, RmmRealm, RmmRealmState, RmmRipas,
-    RmmRttEntry, entry_size, error_input,
-};
-use rmm_reading::{
-    OperandConditions, can_start, is_start, is_start_table, is_supported, is_vmid_valid,
-    start_table,
+    RmmRttEntry, entry_size, error_input, initial,
 };
 
 // A realm that can be made, and the granule that becomes its RD.

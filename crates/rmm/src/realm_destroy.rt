@@ -11,9 +11,8 @@ use crate::operand::{Rd, realm_of};
 use crate::realm::error_realm;
 use page_arena::PageStore;
 use rmi_abi::{SmcResult, Word};
-use rmm_granules::Granules;
+use rmm_granules::{Granules, is_realm_live, start_table};
 use rmm_model::{Condition, FailedCondition, RmmGranuleState, RmmRealm};
-use rmm_reading::{is_realm_live, start_table};
 
 // The realm that RMI_REALM_DESTROY destroys, if it passes.
 #[tactic(auto, unfolding(rmm_model::specs::Command::RealmDestroy::realm_destroy))]

@@ -9,9 +9,8 @@ use crate::operand::named;
 use granule_addr::Gran;
 use page_arena::PageStore;
 use rmi_abi::{SmcResult, Word};
-use rmm_granules::Granules;
+use rmm_granules::{Granules, OperandConditions};
 use rmm_model::{Condition, FailedCondition, RmmGranule, RmmGranuleState, RmmRec, error_input};
-use rmm_reading::OperandConditions;
 
 // A REC and its granule.
 #[derive(Clone, Copy)]

@@ -12,13 +12,12 @@ use crate::realm::{error_realm, is_new};
 use granule_addr::Gran;
 use page_arena::PageStore;
 use rmi_abi::{RecParams, RmmSettings, SmcResult, Word, is_mpidr, rec_number};
-use rmm_granules::Granules;
-use rmm_measurement::{Extension, extend, rec_digest};
-use rmm_model::{
-    Condition, FailedCondition, RmmGranule, RmmGranuleState, RmmRealm, RmmRec, error_input,
+use rmm_granules::{
+    Granules, OperandConditions, are_aux_aligned, are_aux_apart, are_aux_delegated, are_aux_inside,
 };
-use rmm_reading::{
-    OperandConditions, are_aux_aligned, are_aux_apart, are_aux_delegated, are_aux_inside,
+use rmm_model::{
+    Condition, Extension, FailedCondition, RmmGranule, RmmGranuleState, RmmRealm, RmmRec,
+    error_input, extend, rec_digest,
 };
 
 // A REC that can be made: its granule, that of its parameters, its RD, and its realm.

@@ -11,9 +11,8 @@ use crate::rec::{error_rec, rec_of};
 use granule_addr::Gran;
 use page_arena::PageStore;
 use rmi_abi::{SmcResult, Word};
-use rmm_granules::Granules;
+use rmm_granules::{Granules, OperandConditions, realm_in};
 use rmm_model::{Condition, FailedCondition, RmmGranule, RmmGranuleState, RmmRealm};
-use rmm_reading::{OperandConditions, realm_in};
 
 // The realm of an RD has one REC less.
 fn remove_rec<S: PageStore>(granules: &mut Granules<S>, rd: Gran)

@@ -23,12 +23,11 @@ use crate::step::{call_outcome, fetched, rec_after_exit, tried};
 use granule_addr::Gran;
 use page_arena::PageStore;
 use rmi_abi::{EnterFlags, ExitReason, RecExit, SmcResult, Word, entry_gpr};
-use rmm_granules::Granules;
+use rmm_granules::{Granules, OperandConditions, is_no_mmio, is_pending, realm_in, state_of};
 use rmm_model::{
     Condition, FailedCondition, GuestStep, LastExit, PsciRequest, RipasRequest, RmmGranule,
     RmmGranuleState, RmmRealm, RmmRealmState, RmmRec, RmmRecState, StepOutcome, StepResult,
 };
-use rmm_reading::{OperandConditions, is_no_mmio, is_pending, realm_in, state_of};
 
 // A REC that can be entered, and its run page.
 #[derive(Clone, Copy)]

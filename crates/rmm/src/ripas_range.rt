@@ -6,12 +6,11 @@ ghost use Rattle.rmm_model.specs.Machine.{granule_count};
 ghost use Rattle.rmm_model.specs.Command.RipasRange as ranges;
 
 use page_arena::{PageStore, word_in};
-use rmm_granules::Granules;
+use rmm_granules::{Granules, entry_at};
 use rmm_model::{
     Changeable, Condition, FailedCondition, RmmRipas, RttWalk, entry_from_word, entry_index,
     entry_number, entry_offset, entry_size, error_input, error_rtt, first_fixed,
 };
-use rmm_reading::entry_at;
 
 // Passes a range that has addresses.
 pub fn check_size(base: u64, top: u64) -> Result<(), FailedCondition>

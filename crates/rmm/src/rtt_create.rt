@@ -12,9 +12,8 @@ use crate::walking::write;
 use granule_addr::Gran;
 use page_arena::PageStore;
 use rmi_abi::{SmcResult, Word};
-use rmm_granules::Granules;
+use rmm_granules::{Granules, OperandConditions, entry_at, walk};
 use rmm_model::{ChildWords, FailedCondition, RmmGranule, RmmGranuleState, RmmRttEntry, RttWalk};
-use rmm_reading::{OperandConditions, entry_at, walk};
 
 // A place for a new table: the RD, the table, and the entry whose place it takes.
 #[derive(Clone, Copy)]

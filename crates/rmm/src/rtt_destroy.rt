@@ -12,11 +12,10 @@ use crate::walking::write;
 use granule_addr::Gran;
 use page_arena::PageStore;
 use rmi_abi::{SmcResult, Word};
-use rmm_granules::Granules;
+use rmm_granules::{Granules, entry_at, table_below, top, walk};
 use rmm_model::{
     Condition, FailedCondition, RmmGranuleState, RmmRealm, RmmRipas, RmmRttEntry, RttWalk, has_live,
 };
-use rmm_reading::{entry_at, table_below, top, walk};
 
 // A table without live entries, and the entry that leads to it.
 #[derive(Clone, Copy)]

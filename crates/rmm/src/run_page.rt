@@ -8,8 +8,7 @@ use crate::host::host_granule;
 use granule_addr::Gran;
 use page_arena::{PageStore, word_in};
 use rmi_abi::RecExit;
-use rmm_granules::Granules;
-use rmm_reading::refuses_gic;
+use rmm_granules::{Granules, refuses_gic};
 
 // Words `first` to `first + count` of a page become words `place` to `place + count` of another one, or of the same one
 // beside them.

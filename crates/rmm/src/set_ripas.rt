@@ -11,12 +11,11 @@ use crate::ripas_range::{change_count, check_progress, check_size, write_ripas};
 use granule_addr::Gran;
 use page_arena::PageStore;
 use rmi_abi::{SmcResult, Word};
-use rmm_granules::Granules;
+use rmm_granules::{Granules, OperandConditions, is_same_owner, set_changeable, walk};
 use rmm_model::{
     Condition, FailedCondition, RipasRequest, RmmRealm, RmmRec, RttWalk, entry_index, entry_size,
     error_input,
 };
-use rmm_reading::{OperandConditions, is_same_owner, set_changeable, walk};
 
 // A range that a REC asked for, and the table of its first entry.
 #[derive(Clone, Copy)]

@@ -10,12 +10,11 @@ use crate::operand::{is_in_space, is_protected};
 use granule_addr::Gran;
 use page_arena::PageStore;
 use rmi_abi::{EnterFlags, ExitReason, RecExit, RmmSettings, is_mpidr, rec_number};
-use rmm_granules::Granules;
+use rmm_granules::{Granules, entry_at, granule_named, walk};
 use rmm_model::{
     AccessSize, GuestStep, LastExit, PsciRequest, RipasRequest, RmmRealm, RmmRec, RmmRipas,
     RmmRttEntry, StepOutcome, StepResult, entry_offset,
 };
-use rmm_reading::{entry_at, granule_named, walk};
 
 // ---- accesses to memory
 

@@ -12,9 +12,8 @@ use crate::operand::{check_entry, check_unprotected, realm_of};
 use crate::walking::write;
 use page_arena::PageStore;
 use rmi_abi::{RmmSettings, SmcResult, Word};
-use rmm_granules::Granules;
+use rmm_granules::{Granules, entry_at, has_attributes, top, walk};
 use rmm_model::{Condition, FailedCondition, RmmRttEntry, RttWalk, entry_offset, error_input};
-use rmm_reading::{entry_at, has_attributes, top, walk};
 
 // ---- descriptors
 

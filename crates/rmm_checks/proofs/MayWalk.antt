@@ -13,7 +13,7 @@ use Rattle.rmm_model.specs.Command.Operand.{realm_at, is_level}
 use Rattle.rmm_checks.specs.CanWalk.{can_walk}
 use Rattle.rmm_checks.proofs.Sure.{sure}
 use Rattle.rmm_checks.proofs.Walked.{sure_parts}
-use Rattle.rmm_reading.proofs.Widths.{half_fits}
+use Rattle.rmm_granules.proofs.Widths.{half_fits}
 
 -- the checks that the check of a walk comes after
 abbrev pub before_walk : List Condition

@@ -12,9 +12,8 @@ use crate::realm::{add_new, add_page, add_rd};
 use crate::walking::reach;
 use page_arena::PageStore;
 use rmi_abi::{RmmSettings, SmcResult, Word};
-use rmm_granules::Granules;
+use rmm_granules::{Granules, OperandConditions, memory_below};
 use rmm_model::{Condition, RmmRttEntry};
-use rmm_reading::{OperandConditions, memory_below};
 
 // RMI_DATA_CREATE_UNKNOWN
 pub fn data_create_unknown<S: PageStore>(

@@ -13,9 +13,8 @@ use crate::EvaluatedChecks;
 use crate::walking::Reached;
 use page_arena::PageStore;
 use rmi_abi::{SmcResult, Word};
-use rmm_granules::Granules;
+use rmm_granules::{Granules, table_below};
 use rmm_model::{Condition, RmmRttEntry, has_live};
-use rmm_reading::table_below;
 
 // ---- answers
 

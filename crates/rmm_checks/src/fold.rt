@@ -11,9 +11,8 @@ use crate::realm::{add_ipa, add_rd, start_level_at};
 use crate::walking::reach;
 use page_arena::PageStore;
 use rmi_abi::{SmcResult, Word};
-use rmm_granules::Granules;
+use rmm_granules::{Granules, is_block_too_high, is_homogeneous, table_below};
 use rmm_model::{Condition, RmmRttEntry};
-use rmm_reading::{is_block_too_high, is_homogeneous, table_below};
 
 // A level of a table that is below another one: it is 1 to 3.
 fn lower_level(level: u64) -> u8

@@ -7,9 +7,8 @@ ghost use Rattle.rmm_checks.specs.Evaluated.{evaluated};
 use crate::EvaluatedChecks;
 use crate::operand::{add_address, add_delegated, state_at};
 use page_arena::PageStore;
-use rmm_granules::Granules;
+use rmm_granules::{Granules, OperandConditions};
 use rmm_model::Condition;
-use rmm_reading::OperandConditions;
 
 // RMI_GRANULE_DELEGATE
 pub fn granule_delegate<S: PageStore>(granules: &Granules<S>, address: u64) -> EvaluatedChecks

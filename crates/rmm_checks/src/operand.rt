@@ -8,9 +8,8 @@ ghost use Rattle.rmm_checks.specs.Evaluated.{Adds};
 use crate::EvaluatedChecks;
 use granule_addr::{Gran, MOST_PAGES};
 use page_arena::PageStore;
-use rmm_granules::Granules;
+use rmm_granules::{Granules, OperandConditions};
 use rmm_model::{Condition, RmmGranuleState};
-use rmm_reading::OperandConditions;
 
 // ---- granules
 

@@ -9,9 +9,8 @@ use crate::EvaluatedChecks;
 use crate::operand::owner_at;
 use crate::rec::{add_rec, rec_at};
 use page_arena::PageStore;
-use rmm_granules::Granules;
+use rmm_granules::{Granules, OperandConditions, is_pending, is_same_owner, is_status, target_of};
 use rmm_model::Condition;
-use rmm_reading::{OperandConditions, is_pending, is_same_owner, is_status, target_of};
 
 // Whether a number is an address.
 fn is_same(a: u64, b: u64) -> bool

@@ -12,11 +12,10 @@ use crate::EvaluatedChecks;
 use crate::operand::{add_delegated, add_host};
 use page_arena::PageStore;
 use rmi_abi::{RealmParams, RmmSettings};
-use rmm_granules::Granules;
-use rmm_model::Condition;
-use rmm_reading::{
-    OperandConditions, can_start, is_start, is_start_table, is_supported, is_vmid_valid,
+use rmm_granules::{
+    Granules, OperandConditions, can_start, is_start, is_start_table, is_supported, is_vmid_valid,
 };
+use rmm_model::Condition;
 
 // ---- parameters
 

@@ -7,9 +7,8 @@ ghost use Rattle.rmm_checks.specs.Evaluated.{evaluated};
 use crate::EvaluatedChecks;
 use crate::realm::{add_rd, realm_named};
 use page_arena::PageStore;
-use rmm_granules::Granules;
+use rmm_granules::{Granules, is_realm_live};
 use rmm_model::Condition;
-use rmm_reading::is_realm_live;
 
 // Whether the realm of an RD has a REC or a live entry; where there is none it has neither.
 #[tactic(auto, unfolding(rmm_model::specs::Command::RealmDestroy::is_realm_live, rmm_model::specs::Command::RealmDestroy::has_live_table))]

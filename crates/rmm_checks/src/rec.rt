@@ -9,9 +9,8 @@ ghost use Rattle.rmm_checks.specs.Evaluated.{Adds, evaluated};
 use crate::EvaluatedChecks;
 use crate::operand::{add_address, state_at};
 use page_arena::PageStore;
-use rmm_granules::Granules;
+use rmm_granules::{Granules, OperandConditions};
 use rmm_model::{Condition, RmmRec};
-use rmm_reading::OperandConditions;
 
 // The REC at an address.
 pub fn rec_named<S: PageStore>(granules: &Granules<S>, address: u64) -> Option<RmmRec>

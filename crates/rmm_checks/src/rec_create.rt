@@ -14,11 +14,10 @@ use crate::operand::{add_delegated, add_host};
 use crate::realm::{add_rd, is_new_at, realm_named};
 use page_arena::PageStore;
 use rmi_abi::{RecParams, is_mpidr, rec_number};
-use rmm_granules::Granules;
-use rmm_model::Condition;
-use rmm_reading::{
-    OperandConditions, are_aux_aligned, are_aux_apart, are_aux_delegated, are_aux_inside,
+use rmm_granules::{
+    Granules, OperandConditions, are_aux_aligned, are_aux_apart, are_aux_delegated, are_aux_inside,
 };
+use rmm_model::Condition;
 
 // Facts of the parameters of a REC, as checks ask for them.
 #[derive(Clone, Copy)]

@@ -12,9 +12,10 @@ use crate::operand::{add_host, owner_at};
 use crate::rec::{add_rec, rec_at};
 use page_arena::PageStore;
 use rmi_abi::{EnterFlags, SmcResult, Word};
-use rmm_granules::Granules;
+use rmm_granules::{
+    Granules, OperandConditions, is_no_mmio, is_pending, realm_in, refuses_gic, state_of,
+};
 use rmm_model::{Condition, RmmRealm, RmmRealmState, RmmRec};
-use rmm_reading::{OperandConditions, is_no_mmio, is_pending, realm_in, refuses_gic, state_of};
 
 // ---- the realm of a REC
 

@@ -14,9 +14,8 @@ use crate::realm::{add_new, add_rd, is_multiple, is_protected};
 use crate::rec::{add_rec, rec_at};
 use crate::walking::{Reached, reach};
 use page_arena::PageStore;
-use rmm_granules::Granules;
+use rmm_granules::{Granules, OperandConditions, init_changeable, set_changeable};
 use rmm_model::{Condition, RmmRec, entry_size};
-use rmm_reading::{OperandConditions, init_changeable, set_changeable};
 
 // ---- ranges
 

@@ -11,9 +11,8 @@ use crate::realm::{add_ipa, add_rd, start_level_at};
 use crate::walking::reach;
 use page_arena::PageStore;
 use rmi_abi::{SmcResult, Word};
-use rmm_granules::Granules;
+use rmm_granules::{Granules, OperandConditions, table_below};
 use rmm_model::Condition;
-use rmm_reading::{OperandConditions, table_below};
 
 // RMI_RTT_CREATE
 pub fn rtt_create<S: PageStore>(

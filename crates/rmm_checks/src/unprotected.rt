@@ -10,9 +10,8 @@ use crate::realm::{add_rd, add_unprotected, is_multiple, size_of};
 use crate::walking::reach;
 use page_arena::PageStore;
 use rmi_abi::{RmmSettings, SmcResult, Word};
-use rmm_granules::Granules;
+use rmm_granules::{Granules, has_attributes};
 use rmm_model::Condition;
-use rmm_reading::has_attributes;
 
 // Whether a number is a descriptor of a level.
 #[tactic(auto, unfolding(rmm_model::specs::Command::RttMapUnprotected::is_descriptor))]

@@ -7,9 +7,8 @@ ghost use Rattle.rmm_checks.specs.CanWalk.{can_walk};
 
 use crate::realm::realm_named;
 use page_arena::PageStore;
-use rmm_granules::Granules;
+use rmm_granules::{Granules, entry_at, top, walk};
 use rmm_model::{RmmRttEntry, RttWalk};
-use rmm_reading::{entry_at, top, walk};
 
 // ---- walks of calls
 

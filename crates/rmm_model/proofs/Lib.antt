@@ -2,3 +2,4 @@ pub mod ChildEntries
 pub mod FixedEntries
 pub mod LiveEntries
 pub mod Parts
+pub mod Zeros

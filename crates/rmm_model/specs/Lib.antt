@@ -16,3 +16,5 @@ pub mod Rec
 pub mod Step
 pub mod Table
 pub mod Walk
+pub mod Bytes
+pub mod Measure

@@ -5,8 +5,8 @@ use Rattle.std.proofs.lemmas.Option.{same_Some}
 use Rattle.granule_addr.specs.Ipa.{entry_index}
 use Rattle.granule_addr.specs.Root.{served_space}
 use Rattle.granule_addr.specs.declared.width.Root.{Root}
-use Rattle.granule_table.specs.Granules.{IsIn}
-use Rattle.granule_table.specs.declared.granule.Granule.{Granule}
+use Rattle.rtt.specs.Granules.{IsIn}
+use Rattle.rtt.specs.declared.granule.Granule.{Granule}
 use Rattle.granule_addr.specs.Page.{zero_page}
 use Rattle.page_arena.specs.Page.{page_at, IsSized}
 use Rattle.page_arena.specs.Word.{with_word}

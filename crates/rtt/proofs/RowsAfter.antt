@@ -3,7 +3,7 @@ use Rattle.std.proofs.Common.{◌≡◌, ℕ, suc, ◌/◌, ◌≤◌, Bool, tru
 use Rattle.std.specs.Prelude.{option_and_then}
 use Rattle.granule_addr.specs.Ipa.{covered_count, first_covered, entry_index}
 use Rattle.granule_addr.specs.declared.width.Root.{Root}
-use Rattle.granule_table.specs.declared.granule.Granule.{Granule}
+use Rattle.rtt.specs.declared.granule.Granule.{Granule}
 use Rattle.realm_model.specs.Rows.{Row, put_row, table_of}
 use Rattle.realm_model.proofs.Rows.{is_place as is_at}
 use Rattle.rtt.proofs.FiniteRowsLaws.{place_tells}

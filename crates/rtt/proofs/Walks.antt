@@ -4,8 +4,8 @@ use Rattle.std.specs.Prelude.{option_and_then}
 use Rattle.granule_addr.specs.Ipa.{entry_index, served_count}
 use Rattle.granule_addr.specs.Root.{start_count, served_space, start_table}
 use Rattle.granule_addr.specs.declared.width.Root.{Root}
-use Rattle.granule_table.specs.Granules.{IsIn}
-use Rattle.granule_table.specs.declared.granule.Granule.{Granule}
+use Rattle.rtt.specs.Granules.{IsIn}
+use Rattle.rtt.specs.declared.granule.Granule.{Granule}
 use Rattle.realm_model.specs.declared.states.GranuleState.TheVariants.{Data as InData, Rtt as InRtt}
 use Rattle.realm_model.specs.Rows.{Row, Walk, walk, table_of, data_of}
 use Rattle.rtt.specs.Tables.{Entries, entries_of, table_at, rows}

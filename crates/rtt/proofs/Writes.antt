@@ -6,7 +6,7 @@ use Rattle.std.proofs.lemmas.Option.{same_Some}
 use Rattle.granule_addr.specs.Ipa.{covered_count, entry_index, served_count}
 use Rattle.granule_addr.specs.Root.{start_table}
 use Rattle.granule_addr.specs.declared.width.Root.{Root}
-use Rattle.granule_table.specs.declared.granule.Granule.{Granule}
+use Rattle.rtt.specs.declared.granule.Granule.{Granule}
 use Rattle.realm_model.specs.declared.states.EntryState.TheVariants.{Unassigned}
 use Rattle.realm_model.specs.Rows.{Row, table_of}
 use Rattle.rtt.specs.Tables.{Entries, table_at, entry_at}

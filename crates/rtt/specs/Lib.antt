@@ -5,3 +5,4 @@ pub mod Realm
 pub mod RowWords
 pub mod Answer
 pub mod Calls
+pub mod Granules

@@ -1,7 +1,7 @@
 //! Theorems on tables, over the pages of a machine and the states of its granules.
 ghost use Rattle.std.specs.Prelude.{◌≡◌, ℕ, List, Some};
 ghost use Rattle.granule_addr.specs.declared.width.Root.{Root};
-ghost use Rattle.granule_table.specs.declared.granule.Granule.{Granule};
+ghost use Rattle.rtt.specs.declared.granule.Granule.{Granule};
 ghost use Rattle.realm_model.specs.Rows.{Row, row_at};
 ghost use Rattle.rtt.specs.Word.{IsEntry};
 ghost use Rattle.rtt.specs.Tables.{rows};

@@ -1,6 +1,6 @@
 //! Pages of data, and RIPAS.
 ghost use Rattle.std.specs.Prelude.{◌≡◌, ℕ, ◌<◌, true, Some, None, OnOk, OnErr};
-ghost use Rattle.granule_table.specs.Granules.{IsIn};
+ghost use Rattle.rtt.specs.Granules.{IsIn};
 ghost use Rattle.granule_addr.specs.Page.{zero_page};
 ghost use Rattle.granule_addr.specs.Root.{served_space};
 ghost use Rattle.page_arena.specs.Page.{page_at};
@@ -13,9 +13,8 @@ ghost use Rattle.rtt.specs.Calls.{with_state, LeadsTo, ChangesTablesOnly, Change
 
 use crate::pages::{all_unassigned, fill_entries, write};
 use crate::tables::{EntryAddress, find};
-use crate::{Entry, Rtt, Tables};
+use crate::{Entry, GranuleTable, Rtt, Tables};
 use granule_addr::{Gran, IpaGran, Level, index_at};
-use granule_table::GranuleTable;
 use page_arena::PageStore;
 use realm_model::{GranuleState, Ripas};
 

@@ -4,17 +4,16 @@ ghost use Rattle.std.specs.Bool.{OnTrue, OnFalse};
 ghost use Rattle.std.specs.List.{All};
 ghost use Rattle.granule_addr.specs.Page.{zero_page};
 ghost use Rattle.granule_addr.specs.Root.{start_count, starting_tables};
-ghost use Rattle.granule_table.specs.Granules.{granule_at, IsIn};
+ghost use Rattle.rtt.specs.Granules.{granule_at, IsIn};
 ghost use Rattle.realm_model.specs.Rows as rows_of;
 ghost use Rattle.realm_model.specs.StepLaw.{set_each};
 ghost use Rattle.rtt.specs.Tables.{entries_of, rows};
 ghost use Rattle.rtt.specs.Realm.{IsBacked, HasTables};
 ghost use Rattle.rtt.specs.Calls.{with_states, Keeps, KeepsRest};
 
-use crate::Tables;
 use crate::pages::leads_to_no_table;
+use crate::{Granule, GranuleTable, Tables};
 use granule_addr::{Gran, MOST_PAGES, Root};
-use granule_table::{Granule, GranuleTable};
 use page_arena::PageStore;
 use realm_model::GranuleState;
 

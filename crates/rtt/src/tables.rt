@@ -2,17 +2,16 @@
 ghost use Rattle.std.specs.Prelude.{◌≡◌, ℕ, ◌<◌, ◌≤◌, length, Some};
 ghost use Rattle.granule_addr.specs.Ipa.{entry_index};
 ghost use Rattle.granule_addr.specs.Root.{served_space};
-ghost use Rattle.granule_table.specs.Granules.{IsIn};
+ghost use Rattle.rtt.specs.Granules.{IsIn};
 ghost use Rattle.realm_model.specs.declared.states.GranuleState.{GranuleState};
 ghost use Rattle.realm_model.specs.Rows.{walk, table_of, data_of};
 ghost use Rattle.rtt.specs.Tables.{entries_of, table_at, rows};
 ghost use Rattle.rtt.specs.Realm.{IsInside, HasTables};
 
-use crate::Entry;
 use crate::pages::read;
 use crate::root::starting_table;
+use crate::{Entry, GranuleTable};
 use granule_addr::{Gran, IpaGran, Level, Root, index_at, start_table};
-use granule_table::GranuleTable;
 use page_arena::PageStore;
 use std::marker::Model;
 

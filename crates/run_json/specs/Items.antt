@@ -3,7 +3,7 @@ use Rattle.std.specs.Prelude.{◌≡◌, ℕ, List, sum, Option, Some, None, opt
 use Rattle.realm_model.specs.Machine.{cell_at}
 use Rattle.realm_model.specs.Places.{rd_of}
 use Rattle.realm_model.specs.declared.states.RecState.{RecState}
-use Rattle.realm_objects.specs.Attributes.{RealmAttributes, RecAttributes}
+use Rattle.rmi_monitor.specs.Attributes.{RealmAttributes, RecAttributes}
 use Rattle.rmi_monitor.specs.View.{attributes_of}
 use Rattle.host_ledger.specs.View.{HostView, world_of, granule_of_page, is_aborting, mark_of}
 use Rattle.host_ledger.specs.declared.mark.Mark.{Mark}

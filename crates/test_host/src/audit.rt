@@ -6,7 +6,7 @@ use builders::Report;
 use granule_addr::{BuildId, Gran, Order, PageOff};
 use realm_host::Kind;
 use realm_model::{Act, Event};
-use run_program::fits;
+use realm_program::fits;
 use std::alloc::Global;
 use std::process::Abort;
 

@@ -1,7 +1,7 @@
 //! Hosts on which no build has done anything. If one is not made, the test is aborted, so nothing is dropped there.
 ghost use Rattle.std.specs.Prelude.{◌≡◌, [], true, length, replicate};
 ghost use Rattle.granule_addr.specs.Page.{zero_page};
-ghost use Rattle.builders.specs.Names.{AreNamed};
+ghost use Rattle.build_seats.specs.Names.{AreNamed};
 
 use buddy::BuddyArena;
 use builders::{Blanks, Ledgers, Seat, Shared};

@@ -1,7 +1,7 @@
 //! The bytes by which an event is measured.
 use crate::expected::holds;
 use granule_addr::{IpaGran, RecNo};
-use realm_objects::{data_event, rec_event, ripas_event};
+use rmi_monitor::{data_event, rec_event, ripas_event};
 
 // 01 03 ff ff ff, and SHA-256 of 4,096 bytes 5a, by Python's hashlib
 const DATA_EVENT: [u8; 37] = [

@@ -1,6 +1,6 @@
 //! Each command of a build is refused once, while two other builds go on.
 ghost use Rattle.std.specs.Prelude.{◌≡◌, []};
-ghost use Rattle.builders.specs.Names.{AreNamed};
+ghost use Rattle.build_seats.specs.Names.{AreNamed};
 
 use crate::expected::holds;
 use crate::guests::{Guest, guests_of};

@@ -1,6 +1,6 @@
 //! A host that builds share: the answers to their seats, and its closing.
 ghost use Rattle.std.specs.Prelude.{◌≡◌, []};
-ghost use Rattle.builders.specs.Names.{AreNamed};
+ghost use Rattle.build_seats.specs.Names.{AreNamed};
 
 use crate::expected::{equal, holds, holds_at, same_text};
 use crate::hosts;

@@ -1,7 +1,7 @@
 //! Workers of a shared host in threads of their own: what they are answered, and which build is named that has not
 //! ended.
 ghost use Rattle.std.specs.Prelude.{◌≡◌, [], All};
-ghost use Rattle.builders.specs.Names.{AreNamed};
+ghost use Rattle.build_seats.specs.Names.{AreNamed};
 
 use crate::expected::{equal, holds, same_text};
 use crate::gates::{ForBuild0, Together};

@@ -1,6 +1,6 @@
 //! A host that builds share: calls through its lock, and workers.
 ghost use Rattle.std.specs.Prelude.{◌≡◌, ◌≤◌, [], All, IfOk, vec_len};
-ghost use Rattle.builders.specs.Names.{AreNamed};
+ghost use Rattle.build_seats.specs.Names.{AreNamed};
 
 use crate::boot::booted;
 use crate::calls::{TURNS, Tally, command};

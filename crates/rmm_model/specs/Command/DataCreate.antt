@@ -2,9 +2,9 @@
 use Rattle.std.specs.Prelude.{ℕ, ◌%◌, ◌==◌, ◌||◌, Bool, not, nat_le, List, [], ◌∷◌, ◌++◌, if◌then◌else◌}
 use Rattle.rmi_abi.specs.declared.hash.HashAlgorithm.{HashAlgorithm}
 use Rattle.rmi_abi.specs.declared.settings.RmmSettings.{RmmSettings}
-use Rattle.rmm_measurement.specs.declared.measure.Extension.TheVariants.{Data as DataExtension}
-use Rattle.rmm_measurement.specs.Bytes.{zeros}
-use Rattle.rmm_measurement.specs.Measure.{digest, extended}
+use Rattle.rmm_model.specs.declared.measure.Extension.TheVariants.{Data as DataExtension}
+use Rattle.rmm_model.specs.Bytes.{zeros}
+use Rattle.rmm_model.specs.Measure.{digest, extended}
 use Rattle.rmm_model.specs.declared.condition.Condition.TheVariants.{FlagsValid, SrcAlign, SrcBound, SrcPas, DataAlign, DataBound, DataState, RealmState, RtteState, RtteRipas}
 use Rattle.rmm_model.specs.declared.entry.RmmRttEntry.{RmmRttEntry}
 use Rattle.rmm_model.specs.declared.entry.RmmRttEntry.TheVariants.{Assigned}

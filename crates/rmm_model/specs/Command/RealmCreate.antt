@@ -6,7 +6,7 @@ use Rattle.rmi_abi.specs.declared.hash.HashAlgorithm.TheVariants.{Sha256, Sha512
 use Rattle.rmi_abi.specs.declared.realm_params.RealmParams.{RealmParams}
 use Rattle.rmi_abi.specs.declared.settings.RmmSettings.{RmmSettings}
 use Rattle.rmi_abi.specs.RealmParams.{realm_params_in}
-use Rattle.rmm_measurement.specs.Measure.{initial}
+use Rattle.rmm_model.specs.Measure.{initial}
 use Rattle.rmm_model.specs.declared.condition.Condition.TheVariants.{ParamsAlign, ParamsBound, ParamsPas, ParamsValid, ParamsSupp, RttNumLevel, RttAlign, Alias, RdAlign, RdBound, RdState, RttState, VmidValid}
 use Rattle.rmm_model.specs.declared.entry.RmmRttEntry.{RmmRttEntry}
 use Rattle.rmm_model.specs.declared.entry.RmmRttEntry.TheVariants.{Unassigned, UnassignedNs}

@@ -2,8 +2,8 @@
 use Rattle.std.specs.Prelude.{ℕ, ◌||◌, Bool, List, if◌then◌else◌}
 use Rattle.rmi_abi.specs.declared.settings.RmmSettings.{RmmSettings}
 use Rattle.rmi_abi.specs.RecParams.{is_runnable_in}
-use Rattle.rmm_measurement.specs.declared.measure.Extension.TheVariants.{Rec as RecExtension}
-use Rattle.rmm_measurement.specs.Measure.{extended, rec_digest}
+use Rattle.rmm_model.specs.declared.measure.Extension.TheVariants.{Rec as RecExtension}
+use Rattle.rmm_model.specs.Measure.{extended, rec_digest}
 use Rattle.rmm_model.specs.declared.realm.RmmRealm.{RmmRealm}
 
 -- a REC is measured if it is runnable, or if the settings say that all are

@@ -2,8 +2,8 @@
 use Rattle.std.specs.Prelude.{ℕ, zero, suc, ◌+◌, ◌-◌, ◌*◌, not, false, List, [], ◌∷◌, ◌++◌}
 use Rattle.rmi_abi.specs.declared.hash.HashAlgorithm.{HashAlgorithm}
 use Rattle.rmi_abi.specs.declared.settings.RmmSettings.{RmmSettings}
-use Rattle.rmm_measurement.specs.declared.measure.Extension.TheVariants.{Ripas as RipasExtension}
-use Rattle.rmm_measurement.specs.Measure.{extended}
+use Rattle.rmm_model.specs.declared.measure.Extension.TheVariants.{Ripas as RipasExtension}
+use Rattle.rmm_model.specs.Measure.{extended}
 use Rattle.rmm_model.specs.declared.condition.Condition.TheVariants.{Size, BaseGranAlign, TopGranAlign, BaseBound, TopBound, RdState, RealmState}
 use Rattle.rmm_model.specs.declared.entry.Changeable.{Changeable}
 use Rattle.rmm_model.specs.declared.entry.RmmRipas.TheVariants.{Ram}

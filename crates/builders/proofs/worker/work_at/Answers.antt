@@ -1,5 +1,5 @@
 use Rattle.std.proofs.Common.{ℕ, [], false, sym, ◌∙◌, subst, rules, arith}
-use Rattle.builders.specs.Seats.{SeatView}
+use Rattle.build_seats.specs.Seats.{SeatView}
 use Rattle.builders.specs.Workers.{IsWorkerRun}
 use Rattle.builders.proofs.Working.{is_run}
 use Rattle.builders.proofs.worker.work_at.Goals as goal

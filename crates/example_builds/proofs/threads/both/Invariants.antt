@@ -1,4 +1,4 @@
-use Rattle.builders.specs.Names.{names_of}
+use Rattle.build_seats.specs.Names.{names_of}
 use Rattle.example_builds.proofs.threads.both.Given as goal
 
 abbrev pub ghosts-run : goal.ghosts-run

@@ -1,6 +1,6 @@
 use Rattle.std.proofs.Common.{◌≡◌, Some, true, set}
 use Rattle.std.proofs.lemmas.Bool.{OnTrue_at}
-use Rattle.granule_table.specs.declared.granule.Granule.{Granule}
+use Rattle.rtt.specs.declared.granule.Granule.{Granule}
 use Rattle.rmi_monitor.specs.Places.{IsInState}
 use Rattle.rmi_monitor.proofs.Sweeps.{first_has, rest_distinct, set_rest, rest_stand, none_left}
 use Rattle.rmi_monitor.proofs.places.shift_all.Goals as goal

@@ -1,6 +1,6 @@
 use Rattle.std.proofs.Common.{◌+◌, ◌*◌, ℕ, List, refl, sym, ap, ◌∙◌, add-one}
-use Rattle.rmm_measurement.specs.declared.measure.Extension.TheVariants.{Ripas as RipasExtension}
-use Rattle.rmm_measurement.specs.Measure.{extended}
+use Rattle.rmm_model.specs.declared.measure.Extension.TheVariants.{Ripas as RipasExtension}
+use Rattle.rmm_model.specs.Measure.{extended}
 use Rattle.rmm_model.specs.Command.RttInitRipas.{rim_with_ripas}
 use Rattle.rmm.proofs.init_ripas.rim_with_ripas.Goals as goal
 

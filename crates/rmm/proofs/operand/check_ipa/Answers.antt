@@ -1,6 +1,6 @@
 use Rattle.std.proofs.Common.{◌^◌, sym, ◌∙◌}
 use Rattle.std.proofs.lemmas.Bool.{ltb-true}
-use Rattle.rmm_reading.proofs.Widths.{space_fits}
+use Rattle.rmm_granules.proofs.Widths.{space_fits}
 use Rattle.rmm.proofs.operand.check_ipa.Goals as goal
 
 pub returns-clause-low : goal.returns-clause-low

@@ -1,6 +1,6 @@
 use Rattle.std.proofs.Common.{◌-◌, ◌^◌, sym, ◌∙◌}
 use Rattle.std.proofs.lemmas.Bool.{ltb-true}
-use Rattle.rmm_reading.proofs.Widths.{space_fits, half_fits}
+use Rattle.rmm_granules.proofs.Widths.{space_fits, half_fits}
 use Rattle.rmm.proofs.operand.check_page.Goals as goal
 
 pub returns-clause-in_space : goal.returns-clause-in_space

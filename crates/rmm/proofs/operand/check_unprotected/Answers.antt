@@ -1,7 +1,7 @@
 use Rattle.std.proofs.Common.{◌^◌, not, nat_lt, sym, ◌∙◌}
 use Rattle.std.proofs.lemmas.Bool.{and_parts, ltb-true}
 use Rattle.rmm_model.specs.Realm.{is_protected}
-use Rattle.rmm_reading.proofs.Widths.{space_fits}
+use Rattle.rmm_granules.proofs.Widths.{space_fits}
 use Rattle.rmm.proofs.operand.check_unprotected.Goals as goal
 
 pub returns-clause-in_space : goal.returns-clause-in_space

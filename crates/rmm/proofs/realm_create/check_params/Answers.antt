@@ -1,5 +1,5 @@
 use Rattle.std.proofs.Common.{sym, ◌∙◌, arith}
-use Rattle.rmm_reading.proofs.StartCounts.{starts}
+use Rattle.rmm_granules.proofs.StartCounts.{starts}
 use Rattle.rmm.proofs.realm_create.check_params.Goals as goal
 
 pub nonzero_rem-p : goal.nonzero_rem-p

@@ -2,7 +2,7 @@ use Rattle.std.proofs.Common.{◌+◌, ◌≤◌, ℕ, nat_le, sym, subst, arith
 use Rattle.std.proofs.lemmas.Bool.{and_parts, leb-true}
 use Rattle.rmm_model.specs.Machine.{granule_count, is_inside, number_of}
 use Rattle.rmm_model.specs.Command.RealmCreate.{are_delegated, can_start, is_range_inside}
-use Rattle.rmm_reading.proofs.StartCounts.{starts}
+use Rattle.rmm_granules.proofs.StartCounts.{starts}
 use Rattle.rmm.proofs.realm_create.realm_for.Goals as goal
 
 pub overflow_cast-result : goal.overflow_cast-result

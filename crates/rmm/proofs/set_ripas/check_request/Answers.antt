@@ -2,7 +2,7 @@ use Rattle.std.proofs.Common.{◌≡◌, ℕ, ◌-◌, ◌^◌, ◌<◌, ◌&&�
 use Rattle.std.proofs.lemmas.Bool.{and_parts, lt-leb, ltb-true}
 use Rattle.rmm_model.specs.declared.realm.RmmRealm.{RmmRealm}
 use Rattle.rmm_model.specs.Realm.{is_protected}
-use Rattle.rmm_reading.proofs.Widths.{space_fits, half_fits}
+use Rattle.rmm_granules.proofs.Widths.{space_fits, half_fits}
 use Rattle.rmm.proofs.set_ripas.check_request.Goals as goal
 
 -- the addresses of a range of a REC of the realm begin at a protected one

@@ -1,6 +1,6 @@
 use Rattle.std.proofs.Common.{◌-◌, ◌^◌, sym, ◌∙◌}
 use Rattle.std.proofs.lemmas.Bool.{ltb-true}
-use Rattle.rmm_reading.proofs.Widths.{half_fits}
+use Rattle.rmm_granules.proofs.Widths.{half_fits}
 use Rattle.rmm.proofs.step.fetched.Goals as goal
 
 pub walk-found-requires-clause-in_space : goal.walk-found-requires-clause-in_space

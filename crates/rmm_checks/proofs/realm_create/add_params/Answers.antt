@@ -7,7 +7,7 @@ use Rattle.rmm_model.specs.Realm.{is_start}
 use Rattle.rmm_model.specs.Command.RealmCreate.{params_checks, is_supported, fits_features, is_start_table}
 use Rattle.rmm_checks.specs.Evaluated.{is_made}
 use Rattle.rmm_checks.proofs.Rows.{on}
-use Rattle.rmm_reading.proofs.StartCounts.{all_four, starts}
+use Rattle.rmm_granules.proofs.StartCounts.{all_four, starts}
 use Rattle.rmm_checks.proofs.Walked.{told_where, passed_here, absent_on, made_before}
 use Rattle.rmm_checks.proofs.realm_create.add_params.Goals as goal
 

@@ -1,4 +1,4 @@
-use Rattle.rmm_reading.proofs.Widths.{space_fits}
+use Rattle.rmm_granules.proofs.Widths.{space_fits}
 use Rattle.rmm_checks.proofs.walking.find.Goals as goal
 use Rattle.std.proofs.Common.{arith}
 

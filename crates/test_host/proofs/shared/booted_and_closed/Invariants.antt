@@ -1,4 +1,4 @@
-use Rattle.builders.specs.Names.{names_of}
+use Rattle.build_seats.specs.Names.{names_of}
 use Rattle.test_host.proofs.shared.booted_and_closed.Given as goal
 
 abbrev pub ghosts-closed : goal.ghosts-closed

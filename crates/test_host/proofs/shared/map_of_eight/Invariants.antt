@@ -1,4 +1,4 @@
-use Rattle.builders.specs.Names.{names_of}
+use Rattle.build_seats.specs.Names.{names_of}
 use Rattle.test_host.proofs.shared.map_of_eight.Given as goal
 
 abbrev pub ghosts-map_of_filled : goal.ghosts-map_of_filled

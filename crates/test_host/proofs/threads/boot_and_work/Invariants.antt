@@ -1,4 +1,4 @@
-use Rattle.builders.specs.Names.{names_of}
+use Rattle.build_seats.specs.Names.{names_of}
 use Rattle.test_host.proofs.threads.boot_and_work.Given as goal
 
 abbrev pub ghosts-work_together : goal.ghosts-work_together

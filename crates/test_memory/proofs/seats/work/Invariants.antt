@@ -1,4 +1,4 @@
-use Rattle.builders.specs.Names.{names_of}
+use Rattle.build_seats.specs.Names.{names_of}
 use Rattle.test_memory.proofs.seats.work.Given as goal
 
 abbrev pub ghosts-share : goal.ghosts-share

@@ -1,5 +1,5 @@
 use Rattle.std.proofs.Common.{ap}
-use Rattle.builders.specs.Seats.{SeatView}
+use Rattle.build_seats.specs.Seats.{SeatView}
 use Rattle.builders.proofs.Telling.{answer_more}
 use Rattle.builders.proofs.seat_teller.SeatTellerTeller.mark.Goals as goal
 

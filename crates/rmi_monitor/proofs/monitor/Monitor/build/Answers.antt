@@ -1,5 +1,5 @@
 use Rattle.std.proofs.Common.{◌≡◌, List, ℕ, None, length, replicate, sym, ap, subst, ◌∙◌}
-use Rattle.granule_table.specs.Granules.{undelegated}
+use Rattle.rtt.specs.Granules.{undelegated}
 use Rattle.rmi_monitor.specs.Inside.{fields_of, seen_as, IsWhole}
 use Rattle.rmi_monitor.proofs.Fresh.{new_fields, whole_new, seen_new}
 use Rattle.rmi_monitor.proofs.monitor.Monitor.build.Given.{Over}

@@ -1,5 +1,5 @@
 use Rattle.std.proofs.Common.{sym, ap, ◌∙◌}
-use Rattle.realm_objects.proofs.NewRealm.{new_vmid, new_root}
+use Rattle.rmi_monitor.proofs.NewRealm.{new_vmid, new_root}
 use Rattle.realm_model.specs.Command.Check.{error_input}
 use Rattle.rmi_monitor.specs.View.{after_command}
 use Rattle.rmi_monitor.proofs.Granules.{has_fields, in_granules}

@@ -2,7 +2,7 @@ use Rattle.std.proofs.Common.{◌<◌, length, sym, ap, subst, ◌∙◌}
 use Rattle.std.specs.Prelude.{option_map}
 use Rattle.std.specs.FinMap.{get}
 use Rattle.std.specs.Option.{option_copied}
-use Rattle.realm_objects.specs.Attributes.{rec_row}
+use Rattle.rmi_monitor.specs.Attributes.{rec_row}
 use Rattle.rmi_monitor.specs.Inside.{recs_of, IsNumbered}
 use Rattle.rmi_monitor.proofs.Granules.{as_many_granules}
 use Rattle.rmi_monitor.proofs.RecEntries.{numbered_recs}

@@ -2,8 +2,8 @@ use Rattle.std.proofs.Common.{◌≡◌, ℕ, ◌+◌, Bool, List, length, set, 
 use Rattle.std.specs.List.{range_with_len}
 use Rattle.granule_addr.specs.Page.{zero_page}
 use Rattle.granule_addr.specs.Root.{start_count, starting_tables}
-use Rattle.granule_table.specs.Granules.{granule_at, undelegated}
-use Rattle.granule_table.specs.declared.granule.Granule.{Granule}
+use Rattle.rtt.specs.Granules.{granule_at, undelegated}
+use Rattle.rtt.specs.declared.granule.Granule.{Granule}
 use Rattle.page_arena.specs.Page.{is_free}
 use Rattle.realm_model.specs.StepLaw.{set_each}
 use Rattle.realm_model.proofs.SetEach.{length-set_each}

@@ -1,6 +1,6 @@
 use Rattle.std.proofs.Common.{true, false, sym, ap, subst, arith}
 use Rattle.std.specs.Prelude.{List, Bool}
-use Rattle.granule_table.specs.declared.granule.Granule.{Granule}
+use Rattle.rtt.specs.declared.granule.Granule.{Granule}
 use Rattle.rtt.specs.Realm.{IsBacked}
 use Rattle.rtt.proofs.OtherRealms.{rest_kept}
 use Rattle.rtt.proofs.RootTables.{no_table_below, Closed, closed}

@@ -1,6 +1,6 @@
 use Rattle.std.proofs.Common.{◌≡◌, false, Some, set, length, refl, sym, ap, ◌∙◌, arith, ◌-◌, inl, inr, not}
 use Rattle.std.proofs.lemmas.Bool.{OnTrue_at}
-use Rattle.granule_table.specs.declared.granule.Granule.{Granule}
+use Rattle.rtt.specs.declared.granule.Granule.{Granule}
 use Rattle.page_arena.specs.Words.{length-with_word}
 use Rattle.realm_model.specs.declared.states.GranuleState.TheVariants.{Rtt as InRtt}
 use Rattle.realm_model.specs.Rows.{Row, is_table}

@@ -2,7 +2,7 @@ use Rattle.std.proofs.Common.{◌≡◌, true, false, None, set, length, refl, s
 use Rattle.std.proofs.lemmas.Bool.{OnTrue_at}
 use Rattle.std.proofs.lemmas.List.{length-set}
 use Rattle.granule_addr.specs.Page.{zero_page}
-use Rattle.granule_table.specs.declared.granule.Granule.{Granule}
+use Rattle.rtt.specs.declared.granule.Granule.{Granule}
 use Rattle.page_arena.specs.Words.{length-with_word}
 use Rattle.realm_model.specs.declared.states.GranuleState.TheVariants.{Delegated}
 use Rattle.realm_model.proofs.TablePlaces.{table_place}

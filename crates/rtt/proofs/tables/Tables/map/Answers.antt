@@ -1,7 +1,7 @@
 use Rattle.std.proofs.Common.{◌≡◌, Some, set, length, refl, sym, ap, arith, inl, inr, unwrap_or, ◌∙◌}
 use Rattle.std.proofs.lemmas.Bool.{OnTrue_at}
 use Rattle.std.proofs.lemmas.Option.{same_Some}
-use Rattle.granule_table.specs.declared.granule.Granule.{Granule}
+use Rattle.rtt.specs.declared.granule.Granule.{Granule}
 use Rattle.page_arena.specs.Words.{length-with_word}
 use Rattle.realm_model.specs.declared.states.GranuleState.TheVariants.{Data as InData}
 use Rattle.realm_model.specs.declared.states.Ripas.{Ripas}

@@ -1,7 +1,7 @@
 use Rattle.std.proofs.Common.{length, None, sym, ap, subst}
 use Rattle.std.specs.Prelude.{List, Bool}
-use Rattle.granule_table.specs.Granules.{IsIn}
-use Rattle.granule_table.specs.declared.granule.Granule.{Granule}
+use Rattle.rtt.specs.Granules.{IsIn}
+use Rattle.rtt.specs.declared.granule.Granule.{Granule}
 use Rattle.realm_model.specs.declared.states.GranuleState.TheVariants.{Delegated}
 use Rattle.rtt.specs.Realm.{IsBacked}
 use Rattle.rtt.proofs.RootTables.{Opened, opened}

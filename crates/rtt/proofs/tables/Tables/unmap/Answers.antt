@@ -2,7 +2,7 @@ use Rattle.std.proofs.Common.{◌≡◌, None, set, length, refl, sym, ap, ◌�
 use Rattle.std.proofs.lemmas.Bool.{OnTrue_at}
 use Rattle.std.proofs.lemmas.List.{length-set}
 use Rattle.granule_addr.specs.Page.{zero_page}
-use Rattle.granule_table.specs.declared.granule.Granule.{Granule}
+use Rattle.rtt.specs.declared.granule.Granule.{Granule}
 use Rattle.page_arena.specs.Words.{length-with_word}
 use Rattle.realm_model.specs.declared.states.GranuleState.TheVariants.{Delegated}
 use Rattle.realm_model.specs.Rows.{Row, is_assigned, unmapped_ripas}

@@ -1,0 +1,10 @@
+-- Theorems on a stack that a block is pushed to.
+use Rattle.std.specs.Prelude.{◌≡◌, ℕ, ◌+◌, ◌^◌, List, length}
+use Rattle.std.specs.List.{range_with_len}
+use Rattle.std.proofs.Common.{ap, ◌∙◌, length-append}
+use Rattle.std.proofs.lemmas.List.FromFn.{length-range_with_len}
+use Rattle.build_journal.specs.Stacks.{pushed}
+
+pub length-pushed : (pages : List ℕ) (first order : ℕ) → length (pushed pages first order) ≡ length pages + 2 ^ order
+length-pushed pages first order =
+    length-append pages (range_with_len first (2 ^ order)) ∙ ap (λ (n : ℕ). length pages + n) (length-range_with_len first (2 ^ order))

@@ -1,0 +1,30 @@
+-- The comparison of a trail with its build's part of a history.
+use Rattle.std.proofs.Common.{◌<◌, ◌≡◌, ℕ, ◌≤◌, ◌↔◌, IsTrue, List, [], length, drop, get_or, nat_eq, refl, sym, ap, ◌∙◌, arith, length-drop}
+use Rattle.std.specs.List.{All}
+use Rattle.std.proofs.lemmas.List.{drop_all}
+use Rattle.std.proofs.lemmas.Bool.{eqb-true, eq-eqb}
+use Rattle.realm_model.specs.declared.act.Event.{Event}
+use Rattle.build_seats.specs.Close.{FitsAll}
+use Rattle.realm_model.specs.History.{events_of}
+use Rattle.build_seats.specs.Seats.{SeatView}
+
+all_used : (at : ℕ) (trail : List Event) → at ≤ length trail → drop at trail ≡ [] → at ≡ length trail
+all_used at trail inside none =
+    let left = length-drop at trail in
+    let nothing = ap length none in
+    omega (arith, left, nothing)
+
+-- at the end of the history the two are the same exactly where the trail is at its end too
+pub same_at_end : (build at i : ℕ) (history trail : List Event) → at ≤ length trail → length history ≤ i
+    → (drop at trail ≡ events_of build (drop i history)) ↔ (trail ≡ events_of build history) → IsTrue (nat_eq at (length trail)) ↔ (trail ≡ events_of build history)
+same_at_end build at i history trail inside done rest =
+    let none : events_of build (drop i history) ≡ [] = ap (events_of build) (drop_all i history done) in (
+      (λ t. rest.0 (drop_all at trail (let e : at ≡ length trail = eqb-true at (length trail) t in omega arith) ∙ sym none)),
+      (λ e. eq-eqb at (length trail) (all_used at trail inside (rest.1 e ∙ none))),
+    )
+
+-- where the seats of each build fit, each seat does
+pub each_fits : (history : List Event) (books : List ℕ) (seats : List SeatView) → FitsAll history seats → All (λ (seat : SeatView). (seat.build < 8) × (get_or books seat.build 0 ≡ seat.count)) seats
+    → All (λ (seat : SeatView). seat.trail ≡ events_of seat.build history) seats
+unfolding FitsAll
+each_fits history books seats fits counted k d inside = fits (get_or seats k d).build (counted k d inside).0 k d inside refl

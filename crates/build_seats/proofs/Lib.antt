@@ -1,0 +1,11 @@
+pub mod Seating
+pub mod Comparing
+pub mod Noting
+pub mod Starting
+pub mod Stretches
+pub mod Questions
+pub mod Growth
+pub mod Loops
+pub mod Told
+pub mod Plans
+pub mod Events

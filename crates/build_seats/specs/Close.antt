@@ -1,0 +1,54 @@
+-- The conditions of a close: each build has one seat, whose trail is the build's part of the history.
+use Rattle.std.specs.Prelude.{◌≡◌, ◌≢◌, ℕ, ◌<◌, ◌==◌, List, length, filter}
+use Rattle.std.specs.List.{All}
+use Rattle.realm_model.specs.declared.act.Event.{Event}
+use Rattle.host_ledger.specs.View.{HostView}
+use Rattle.build_seats.specs.Kept.{IsShared}
+use Rattle.realm_model.specs.History.{events_of}
+use Rattle.build_seats.specs.Seats.{SeatView}
+use Rattle.build_seats.specs.Start.{IsOfStart}
+
+-- ---- seats
+
+-- the number of seats of a build
+abbrev pub seats_of : ℕ → List SeatView → ℕ
+seats_of build seats = length (filter (λ seat. seat.build == build) seats)
+
+-- each build of a host has exactly one seat
+unfoldable pub AreSeatsWhole : ℕ → List SeatView → Type 0
+AreSeatsWhole builds seats = (build : ℕ) → build < builds → seats_of build seats ≡ 1
+
+-- the lowest build of a host that does not have exactly one seat
+pub record IsMissing (builds build : ℕ) (seats : List SeatView) : Type 0 where
+  pub there : build < builds
+  pub not_one : seats_of build seats ≢ 1
+  pub lowest : (lower : ℕ) → lower < build → seats_of lower seats ≡ 1
+
+-- ---- trails
+
+-- the trail of each of a build's seats is the build's part of the history
+abbrev pub Fits : ℕ → List Event → List SeatView → Type 0
+Fits build history seats = All (λ seat. seat.build ≡ build → seat.trail ≡ events_of build history) seats
+
+unfoldable pub FitsAll : List Event → List SeatView → Type 0
+FitsAll history seats = (build : ℕ) → build < 8 → Fits build history seats
+
+-- the lowest build with a seat whose trail is not that
+pub record Differs (build : ℕ) (history : List Event) (seats : List SeatView) : Type 0 where
+  pub number : build < 8
+  pub differs : ¬ (Fits build history seats)
+  pub lowest : (lower : ℕ) → lower < build → Fits lower history seats
+
+-- ---- the host that comes back
+
+-- The host was behind the lock, its machine is that of the start, and each seat counts as many events as it has of the
+-- seat's build.
+pub record IsHostGivenBack (opened host : HostView) (seats : List SeatView) : Type 0 where
+  pub shared : IsShared host
+  pub of_start : IsOfStart opened host
+  pub counted : All (λ seat. length (events_of seat.build host.history) ≡ seat.count) seats
+
+-- Each build's seat is there, and each trail is its build's part of the history.
+pub record IsClosed (host : HostView) (seats : List SeatView) : Type 0 where
+  pub whole : AreSeatsWhole host.limits.builds seats
+  pub trails : All (λ seat. seat.trail ≡ events_of seat.build host.history) seats

@@ -1,0 +1,53 @@
+-- The lines of a report that have an event of the build.
+use Rattle.std.specs.Prelude.{◌≡◌, Bool, true, false, List, filter, Option, Some, slice_get, option_map}
+use Rattle.std.specs.List.{AllZip}
+use Rattle.host_commands.specs.declared.cmd.Cmd.TheVariants as cmd
+use Rattle.host_commands.specs.declared.cmd.Step.{Step}
+use Rattle.host_commands.specs.declared.cmd.Step.TheVariants as step
+use Rattle.build_seats.specs.Asked.{told, question_of}
+use Rattle.build_seats.specs.Exchange.{Exchange, is_event}
+use Rattle.build_seats.specs.Report.{IsWorkerReport}
+use Rattle.build_seats.specs.Standing.{StandingView}
+use Rattle.build_seats.specs.declared.report.Asked.{Asked}
+use Rattle.build_seats.specs.declared.report.Asked.TheVariants as asked
+use Rattle.build_seats.specs.declared.report.Answer.{Answer}
+use Rattle.build_seats.specs.declared.report.Answer.TheVariants.{Replied, Undone, Marked, Nothing, Refused}
+use Rattle.build_seats.specs.declared.report.ReportLine.{ReportLine}
+use Rattle.build_seats.specs.declared.ask.Question.{Question}
+use Rattle.build_seats.specs.declared.ask.Question.TheVariants as question
+
+-- A command was accepted, or an operation was undone. A mark that is kept is no event, and neither is an undo of
+-- nothing.
+abbrev pub is_done : Answer → Bool
+is_done (Replied reply) = true
+is_done (Undone undone) = true
+is_done (Marked length) = false
+is_done Nothing = false
+is_done (Refused refusal) = false
+
+abbrev pub is_accepted : ReportLine → Bool
+is_accepted line = is_done line.answer
+
+-- The question of a line of a step. A line of an abort or of a way back asks for an undo.
+abbrev pub question_of_step : Step → Question
+question_of_step (step.Ask cmd) = question.Do cmd
+question_of_step step.Undo = question.Undo
+question_of_step step.Abort = question.Undo
+question_of_step step.Mark = question.Mark
+question_of_step step.Back = question.Undo
+
+-- The question of a line, by the steps of its plan.
+abbrev pub question_at : List Step → Asked → Option Question
+question_at steps (asked.Step place) = option_map question_of_step (slice_get steps place)
+question_at steps (asked.Exit number) = Some (question.Do (cmd.Exit number))
+question_at steps asked.Undo = Some question.Undo
+
+-- The line is that of this exchange: it has this question and this answer.
+pub record IsLineOf (steps : List Step) (line : ReportLine) (exchange : Exchange) : Type 0 where
+  pub asks : question_of exchange ≡ question_at steps line.asked
+  pub tells : line.answer ≡ told exchange
+
+-- The accepted lines of a report match the events one by one, in sequence.
+abbrev pub AcceptedMatchEvents : StandingView → List Step → List Exchange → List ReportLine → Bool → Type 0
+AcceptedMatchEvents standing steps exchanges lines ended =
+    IsWorkerReport 0 standing steps exchanges lines ended → AllZip (IsLineOf steps) (filter is_accepted lines) (filter is_event exchanges)

@@ -1,0 +1,12 @@
+-- The faults by which a close is refused.
+use Rattle.std.specs.Prelude.{List}
+use Rattle.host_ledger.specs.View.{HostView}
+use Rattle.build_seats.specs.declared.close.CloseFault.{CloseFault}
+use Rattle.build_seats.specs.declared.close.CloseFault.TheVariants.{SeatMissing, RecordMismatch}
+use Rattle.build_seats.specs.Close.{IsMissing, AreSeatsWhole, Differs}
+use Rattle.build_seats.specs.Seats.{SeatView}
+
+-- The lowest build is named: of those without exactly one seat or, if there are none, of those whose trail differs.
+abbrev pub IsFault : CloseFault → HostView → List SeatView → Type 0
+IsFault (SeatMissing build) host seats = IsMissing host.limits.builds build seats
+IsFault (RecordMismatch build) host seats = AreSeatsWhole host.limits.builds seats × Differs build host.history seats

@@ -1,0 +1,49 @@
+-- The content of the lock: a host, and for each build the number of its events.
+use Rattle.std.specs.Prelude.{◌≡◌, ℕ, ◌+◌, ◌<◌, List, length, false, slice_index, slice_set}
+use Rattle.realm_model.specs.declared.act.Act.{Act}
+use Rattle.realm_model.specs.declared.act.Event.{Event}
+use Rattle.realm_model.specs.History.{IsLegal, events_of}
+use Rattle.realm_model.specs.Undoing.{by}
+use Rattle.host_ledger.specs.Kept.{HasRoom, AreOfEach, PointsHold}
+use Rattle.host_ledger.specs.View.{HostView, is_aborting, with_event}
+use Rattle.realm_host.specs.Host.{IsInRange}
+use Rattle.build_seats.specs.Seats.{SeatView, with_noted}
+use Rattle.build_seats.specs.Start.{IsOfStart}
+
+pub record KeptView : Type 0 where
+  pub host : HostView
+  pub books : List ℕ
+
+-- The invariant of any host: its history is legal, its numbers are in their ranges, and no build has used more than its
+-- room. Each build has a flag and a place for a mark, both valid.
+pub record IsSound (host : HostView) : Type 0 where
+  pub legal : IsLegal host.limits host.history
+  pub in_range : IsInRange host.limits host.capacity
+  pub room : (build : ℕ) → HasRoom host build
+  pub each : AreOfEach host
+  pub points : (build : ℕ) → PointsHold host build
+
+-- A host behind the lock: it is sound, and no build is in abort.
+pub record IsShared (host : HostView) : Type 0 where
+  pub sound : IsSound host
+  pub no_abort : (build : ℕ) → is_aborting host build ≡ false
+
+-- each number is that of its build's events in the history
+pub record IsCounted (history : List Event) (books : List ℕ) : Type 0 where
+  pub whole : length books ≡ 8
+  pub each : (build : ℕ) → build < 8 → slice_index books build ≡ length (events_of build history)
+
+-- The invariant of the lock's content. The machine is that of the start, so no trail has less room than the history has
+-- for its build.
+pub record IsKeptBehindLock (opened : HostView) (kept : KeptView) : Type 0 where
+  pub shared : IsShared kept.host
+  pub counted : IsCounted kept.host.history kept.books
+  pub of_start : IsOfStart opened kept.host
+
+-- One event of the seat's build ends the history, and the same one ends the trail. The build's count behind the lock
+-- and the seat's count rise by one.
+pub record IsNoted (kept : KeptView) (seat : SeatView) (new : KeptView) (new_seat : SeatView) : Type 0 where
+  pub act : Act
+  pub host_is : new.host ≡ with_event kept.host seat.build act
+  pub books_are : new.books ≡ slice_set kept.books seat.build (slice_index kept.books seat.build + 1)
+  pub seat_is : new_seat ≡ with_noted seat (by seat.build act)

@@ -1,0 +1,16 @@
+pub mod Whole
+pub mod Passes
+pub mod Names
+pub mod Seats
+pub mod Start
+pub mod Kept
+pub mod Codes
+pub mod Told
+pub mod Close
+pub mod Fault
+pub mod Exchange
+pub mod Standing
+pub mod Asked
+pub mod Report
+pub mod Stretch
+pub mod Events

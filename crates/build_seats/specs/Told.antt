@@ -1,0 +1,59 @@
+-- The answer to a call through the lock, as far as it determines the host behind the lock. It does not say which host
+-- that was. But the host's machine is that of the start, and it has as many events of the seat's build as the seat
+-- counts.
+use Rattle.std.specs.Prelude.{◌≡◌, ℕ, ◌-◌, [], ◌∷◌, ◌++◌, length, Result}
+use Rattle.std.specs.Result.{IfOk, OnOk}
+use Rattle.realm_model.specs.declared.act.Event.{Event}
+use Rattle.host_commands.specs.declared.refusal.Refusal.{Refusal}
+use Rattle.host_ledger.specs.declared.mark.Mark.{Mark}
+use Rattle.host_ledger.specs.Kept.{IsMarkOf}
+use Rattle.host_ledger.specs.View.{HostView, open_of}
+use Rattle.realm_host.specs.Answer.{IsAnswer}
+use Rattle.realm_host.specs.Call.{Call}
+use Rattle.realm_host.specs.Marked.{IsMarked, way_back}
+use Rattle.realm_host.specs.declared.command.HostAnswer.{HostAnswer}
+use Rattle.realm_host.specs.declared.command.HostAnswer.TheVariants.{Refused}
+use Rattle.build_seats.specs.Kept.{IsShared}
+use Rattle.realm_model.specs.History.{events_of}
+use Rattle.build_seats.specs.Seats.{SeatView, with_noted}
+use Rattle.build_seats.specs.Start.{IsOfStart}
+
+-- A host that can be behind the lock of builds that were started with `opened`, and has as many events of the seat's
+-- build as the seat counts.
+pub record IsBehind (opened host : HostView) (seat : SeatView) : Type 0 where
+  pub shared : IsShared host
+  pub of_start : IsOfStart opened host
+  pub counted : length (events_of seat.build host.history) ≡ seat.count
+
+-- An accepted call: there was a host that answers so, and the event that ends its history then ends the trail.
+pub record IsCallTold (opened : HostView) (call : Call) (answer : HostAnswer) (seat new_seat : SeatView) : Type 0 where
+  pub host : HostView
+  pub new : HostView
+  pub event : Event
+  pub before : IsBehind opened host seat
+  pub answered : IsAnswer host seat.build call answer new
+  pub ends : new.history ≡ host.history ++ event ∷ []
+  pub after : IsBehind opened new new_seat
+  pub noted : new_seat ≡ with_noted seat event
+
+-- A refused call: there was a host that refuses so, and stays as it is.
+pub record IsCallRefused (opened : HostView) (call : Call) (refusal : Refusal) (seat : SeatView) : Type 0 where
+  pub host : HostView
+  pub behind : IsBehind opened host seat
+  pub answered : IsAnswer host seat.build call (Refused refusal) host
+
+-- A mark, or the reason why there is none: there was a host that answers so.
+pub record IsMarkTold (opened : HostView) (seat : SeatView) (result : Result Mark Refusal) : Type 0 where
+  pub host : HostView
+  pub new : HostView
+  pub behind : IsBehind opened host seat
+  pub answered : IsMarked host seat.build result new
+
+-- The distance of a mark, or the reason why there is no way back to it: there was a host that answers so. The number is
+-- that of the operations that are open now but were not at the mark.
+pub record IsBackTold (opened : HostView) (seat : SeatView) (mark : Mark) (result : Result ℕ Refusal) : Type 0 where
+  pub host : HostView
+  pub behind : IsBehind opened host seat
+  pub answered : result ≡ way_back host seat.build mark
+  pub stands : OnOk result (IsMarkOf host seat.build mark)
+  pub count_is : IfOk result (λ count. count ≡ length (open_of host seat.build) - mark.length)

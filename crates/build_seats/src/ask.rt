@@ -1,0 +1,156 @@
+//! Questions of a worker: for each a turn, a call of the teller, and a line of the report.
+ghost use Rattle.std.specs.Prelude.{◌≡◌, ◌+◌, ◌^◌, ◌<◌, [], ◌∷◌, ◌++◌, vec_len, vec_capacity};
+ghost use Rattle.build_seats.specs.Asked.{answer_of, line, ArePut};
+ghost use Rattle.build_seats.specs.Report.{ending_of};
+ghost use Rattle.build_seats.specs.Standing.{left_to_clear};
+ghost use Rattle.build_seats.specs.Stretch.{IsExchange, IsStretch};
+ghost use Rattle.build_seats.specs.declared.ask.Question.TheVariants as question;
+
+use crate::report::{Answer, Asked, Report, ReportLine};
+use crate::standing::Standing;
+use crate::teller::{Gate, Teller};
+use host_commands::{Cmd, Refusal};
+
+/// A question whose answer has a line of the report.
+#[derive(Drop)]
+pub enum Question {
+    Do(Cmd),
+    Undo,
+    Mark,
+}
+
+/// The end of a list of questions.
+#[derive(Clone, Copy)]
+pub enum Ending {
+    /// All were accepted.
+    Done,
+    /// The last one was refused.
+    Refused,
+    /// The gate gave no turn, and nothing was asked.
+    Cut,
+}
+
+// Takes a turn and asks the teller for a command. An accepted command is counted, and its reply is at `Ok`.
+fn put_command<T: Teller>(
+    cmd: &Cmd,
+    standing: &mut Standing,
+    teller: &mut T,
+) -> Result<Answer, Refusal>
+    requires turns { standing.old.turn + 1 < 2 ^ 64 }
+    requires few { left_to_clear standing.old < 1024 }
+    ensures exchange { IsExchange (T.tells teller.old) (T.tells teller.new) (question.Do cmd.now) standing.old standing.new (answer_of result) }
+    ensures loan { T.loan teller.new ≡ T.loan teller.old }
+{
+    standing.take_turn();
+    let reply = teller.ask(cmd)?;
+    standing.count_command(cmd);
+    Ok(Answer::Replied(reply))
+}
+
+// Takes a turn and asks the teller a question. An accepted question is counted, and its answer is at `Ok`.
+fn put<T: Teller>(
+    question: Question,
+    standing: &mut Standing,
+    teller: &mut T,
+) -> Result<Answer, Refusal>
+    requires turns { standing.old.turn + 1 < 2 ^ 64 }
+    requires few { left_to_clear standing.old < 1024 }
+    ensures exchange { IsExchange (T.tells teller.old) (T.tells teller.new) question standing.old standing.new (answer_of result) }
+    ensures loan { T.loan teller.new ≡ T.loan teller.old }
+{
+    match question {
+        Question::Do(cmd) => put_command(&cmd, standing, teller),
+        Question::Undo => {
+            standing.take_turn();
+            let undone = teller.undo()?;
+            standing.count_undo();
+            Ok(Answer::Undone(undone))
+        }
+        Question::Mark => {
+            standing.take_turn();
+            let mark = teller.mark()?;
+            standing.count_mark(mark);
+            Ok(Answer::Marked(mark.length()))
+        }
+    }
+}
+
+fn ending_of(answer: &Answer) -> Ending
+    ensures { result ≡ ending_of answer.now }
+{
+    match answer {
+        Answer::Refused(_) => Ending::Refused,
+        _ => Ending::Done,
+    }
+}
+
+/// Writes a line, and returns whether the worker may ask more after it.
+pub fn tell(report: &mut Report, asked: Asked, answer: Answer) -> Ending
+    requires room { vec_len report.old.lines < vec_capacity report.old.lines }
+    ensures ending { result ≡ ending_of answer }
+    ensures added { report.new.lines.items ≡ report.old.lines.items ++ line asked answer ∷ [] }
+    ensures one { vec_len report.new.lines ≡ vec_len report.old.lines + 1 }
+    ensures same { (report.new.build ≡ report.old.build) × (vec_capacity report.new.lines ≡ vec_capacity report.old.lines) }
+{
+    let end = ending_of(&answer);
+    report.lines.push_reserved(ReportLine { asked, answer });
+    end
+}
+
+/// Waits for the next turn, asks for a command, and writes the answer's line. The command is borrowed and not copied: a
+/// copy between two calls would take time in which others wait for the lock.
+pub fn ask_command<T: Teller, G: Gate>(
+    report: &mut Report,
+    standing: &mut Standing,
+    teller: &mut T,
+    gate: &G,
+    asked: Asked,
+    cmd: &Cmd,
+) -> Ending
+    requires room { vec_len report.old.lines < vec_capacity report.old.lines }
+    requires turns { standing.old.turn + 1 < 2 ^ 64 }
+    requires few { left_to_clear standing.old < 1024 }
+    ensures asked { IsStretch (T.tells teller.old) (T.tells teller.new)
+        (G.passes gate.now report.old.build) (G.stops gate.now report.old.build)
+        standing.old standing.new report.old.lines.items report.new.lines.items result
+        (λ exchanges lines. ArePut ((asked, question.Do cmd.now) ∷ []) exchanges lines result) }
+    ensures loan { T.loan teller.new ≡ T.loan teller.old }
+    ensures same { (report.new.build ≡ report.old.build) × (vec_capacity report.new.lines ≡ vec_capacity report.old.lines) }
+{
+    let turn = standing.turn();
+    match gate.pass(report.build, turn) {
+        Ok(()) => {
+            let answer = put_command(cmd, standing, teller).unwrap_or_else(Answer::Refused);
+            tell(report, asked, answer)
+        }
+        Err(_) => Ending::Cut,
+    }
+}
+
+/// Waits for the next turn, asks a question, and writes the answer's line.
+pub fn ask<T: Teller, G: Gate>(
+    report: &mut Report,
+    standing: &mut Standing,
+    teller: &mut T,
+    gate: &G,
+    asked: Asked,
+    question: Question,
+) -> Ending
+    requires room { vec_len report.old.lines < vec_capacity report.old.lines }
+    requires turns { standing.old.turn + 1 < 2 ^ 64 }
+    requires few { left_to_clear standing.old < 1024 }
+    ensures asked { IsStretch (T.tells teller.old) (T.tells teller.new)
+        (G.passes gate.now report.old.build) (G.stops gate.now report.old.build)
+        standing.old standing.new report.old.lines.items report.new.lines.items result
+        (λ exchanges lines. ArePut ((asked, question) ∷ []) exchanges lines result) }
+    ensures loan { T.loan teller.new ≡ T.loan teller.old }
+    ensures same { (report.new.build ≡ report.old.build) × (vec_capacity report.new.lines ≡ vec_capacity report.old.lines) }
+{
+    match gate.pass(report.build, standing.turn()) {
+        Ok(()) => {
+            let answer = put(question, standing, teller).unwrap_or_else(Answer::Refused);
+            tell(report, asked, answer)
+        }
+        Err(_) => Ending::Cut,
+    }
+}

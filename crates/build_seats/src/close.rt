@@ -1,0 +1,101 @@
+//! The checks at a close: one seat for each build, whose trail is the build's part of the history.
+ghost use Rattle.std.specs.Prelude.{◌≡◌, ◌+◌, ◌<◌, ◌≤◌, ◌↔◌, [], filter, slice_index, true, IsTrue, IfSome, IfNone};
+ghost use Rattle.std.specs.List.{All};
+ghost use Rattle.build_seats.specs.Close.{seats_of, Fits, IsMissing, AreSeatsWhole, Differs, FitsAll};
+ghost use Rattle.realm_model.specs.History.{events_of};
+
+use crate::ledgers::{Books, Ledgers};
+use crate::seat::Seat;
+use granule_addr::BuildId;
+use realm_model::Event;
+
+/// The reason why a shared host is not closed.
+#[derive(Clone, Copy, PartialEq, Eq)]
+pub enum CloseFault {
+    /// The build does not have exactly one seat.
+    SeatMissing(BuildId),
+    /// The trail of the build's seat is not the build's part of the history.
+    RecordMismatch(BuildId),
+}
+
+/// Shows that each seat counts the same as its build's count behind the lock. Nothing changes.
+pub fn audit<L: Ledgers>(books: &mut Books<L>, seats: &mut [Seat<L>])
+    ensures books { books.new ≡ books.old }
+    ensures seats { seats.new ≡ seats.old }
+    ensures counted { All (λ seat. (seat.build < 8) × (slice_index books.old seat.build ≡ seat.count)) seats.old }
+{
+    for seat in seats.iter_mut() {
+        books.audit(&mut seat.pass);
+    }
+}
+
+/// The lowest build that does not have exactly one seat.
+#[tactic(auto, unfolding(crate::specs::Close::AreSeatsWhole))]
+pub fn missing<L: Ledgers>(seats: &[Seat<L>], builds: u8) -> Option<BuildId>
+    requires { builds ≤ 8 }
+    ensures some { IfSome result (λ build. IsMissing builds build seats.now) }
+    ensures none { IfNone result (AreSeatsWhole builds seats.now) }
+{
+    for number in 0..builds {
+        let build = BuildId::new(number).unwrap();
+        if seat_count(seats, build) != 1 {
+            return Some(build);
+        }
+    }
+    None
+}
+
+// The number of seats of a build.
+fn seat_count<L: Ledgers>(seats: &[Seat<L>], build: BuildId) -> usize
+    ensures { result ≡ seats_of build seats.now }
+{
+    seats.iter().filter(|seat| seat.build() == build).count()
+}
+
+/// The lowest build with a seat whose trail is not the build's part of the history.
+#[tactic(auto, unfolding(crate::specs::Close::FitsAll))]
+pub fn mismatch<L: Ledgers>(seats: &[Seat<L>], history: &[Event]) -> Option<BuildId>
+    ensures some { IfSome result (λ build. Differs build history.now seats.now) }
+    ensures none { IfNone result (FitsAll history.now seats.now) }
+{
+    for number in 0..8 {
+        let build = BuildId::new(number).unwrap();
+        if !fits(seats, history, build) {
+            return Some(build);
+        }
+    }
+    None
+}
+
+// Whether the trail of each of a build's seats is the build's part of a history.
+fn fits<L: Ledgers>(seats: &[Seat<L>], history: &[Event], build: BuildId) -> bool
+    ensures { IsTrue result ↔ Fits build history.now seats.now }
+{
+    seats.iter().all(|seat| seat_fits(seat, history, build))
+}
+
+fn seat_fits<L: Ledgers>(seat: &Seat<L>, history: &[Event], build: BuildId) -> bool
+    ensures { IsTrue result ↔ (seat.now.build ≡ build → seat.now.trail ≡ events_of build history.now) }
+{
+    if seat.build() == build {
+        is_trail(history, build, seat.trail())
+    } else {
+        true
+    }
+}
+
+// Whether a trail is a build's part of a history.
+fn is_trail(history: &[Event], build: BuildId, trail: &[Event]) -> bool
+    ensures { IsTrue result ↔ (trail.now ≡ events_of build history.now) }
+{
+    let mut at = 0;
+    for event in history {
+        if event.build == build {
+            if at >= trail.len() || !trail[at].is_same(event) {
+                return false;
+            }
+            at += 1;
+        }
+    }
+    at == trail.len()
+}

@@ -1,0 +1,174 @@
+//! The content of the lock: the host, and the number of events of each build.
+ghost use Rattle.std.specs.Prelude.{◌≡◌, ◌+◌, ◌<◌, List, [], ◌∷◌, ◌++◌, length, map, slice_set, IfOk, IfErr, MatchResult};
+ghost use Rattle.std.specs.List.{range_with_len};
+ghost use Rattle.std.specs.Result.{OnOk};
+ghost use Rattle.realm_model.specs.declared.act.Event.{Event};
+ghost use Rattle.host_ledger.specs.Kept.{IsMarkOf};
+ghost use Rattle.realm_host.specs.Answer.{IsAnswer, replied, undone};
+ghost use Rattle.realm_host.specs.Call.{Ask, Undo};
+ghost use Rattle.realm_host.specs.Marked.{IsMarked, way_back};
+ghost use Rattle.build_seats.specs.Close.{IsClosed, IsHostGivenBack};
+ghost use Rattle.build_seats.specs.Fault.{IsFault};
+ghost use Rattle.build_seats.specs.Kept.{IsNoted, IsSound};
+ghost use Rattle.realm_model.specs.History.{events_of};
+ghost use Rattle.build_seats.specs.Names.{AreNamed};
+ghost use Rattle.build_seats.specs.Seats.{new_seat, with_noted};
+ghost use Rattle.build_seats.specs.Told.{IsBehind};
+
+use crate::blanks::Blanks;
+use crate::close;
+use crate::close::CloseFault;
+use crate::ledgers::{Books, Ledgers, Opened};
+use crate::seat::{Seat, new_trails, seated};
+use page_arena::PageStore;
+use realm_host::{Cmd, Host, Mark, Refusal, Reply, Undone};
+use realm_model::Event;
+use std::alloc::{AllocError, Global};
+use std::marker::Model;
+
+/// A host, and for each of its builds the number of its events in the history. No build is in abort.
+#[derive(Drop)]
+pub struct Kept<S: PageStore, L: Ledgers> {
+    host: Host<S>,
+    books: Books<L>,
+}
+
+impl<S: PageStore, L: Ledgers> Model for Kept<S, L> {
+    ghost use Rattle.build_seats.specs.Codes.{kept_code};
+    ghost use Rattle.build_seats.specs.Kept.{KeptView, IsKeptBehindLock};
+
+    ghost Value = { KeptView };
+
+    ghost coded = { kept_code };
+
+    ghost view = { λ k. record { host = k.host; books = k.books } };
+
+    ghost invariant = { λ k. IsKeptBehindLock L.opened (record { host = k.host; books = k.books }) };
+}
+
+impl<S: PageStore, L: Ledgers> Kept<S, L> {
+    /// A host that has no history, with a seat for each of its builds in sequence. All memory for their events is taken
+    /// here. If there is none, blanks and host come back.
+    pub fn start(
+        alloc: Global,
+        blanks: Blanks,
+        host: Host<S>,
+    ) -> Result<(Kept<S, L>, Vec<Seat<L>>), (AllocError, Blanks, Host<S>)>
+        requires empty { host.history ≡ [] }
+        requires opened { host ≡ L.opened }
+        requires named { AreNamed L.names blanks }
+        ensures kept { IfOk result (λ r. r.0.host ≡ host) }
+        ensures seats { IfOk result (λ r. r.1.items ≡ map new_seat (range_with_len 0 host.limits.builds)) }
+        ensures back { IfErr result (λ e. (e.1 ≡ blanks) × (e.2 ≡ host)) }
+    {
+        let count = host.build_count();
+        let Ok(trails) = new_trails(alloc, count, host.capacity()) else {
+            return Err((AllocError, blanks, host));
+        };
+        let Ok(seats) = Vec::with_capacity(alloc, count as usize) else {
+            return Err((AllocError, blanks, host));
+        };
+        // (called for its contract alone, which says what always holds of a host)
+        let _ = host.history();
+        let Opened { books, passes } = Opened::new(blanks);
+        let seats = seated(seats, passes, trails);
+        Ok((Kept { host, books }, seats))
+    }
+
+    /// Asks for a command of the seat's build. The answer is the host's. An accepted command is one event of the build,
+    /// which ends the history and the trail. A refusal leaves both as they are. No memory is taken.
+    pub fn call(&mut self, seat: &mut Seat<L>, cmd: Cmd) -> Result<Reply, Refusal>
+        ensures answer { IsAnswer self.old.host seat.old.build (Ask cmd) (replied result) self.new.host }
+        ensures noted { IfOk result (λ _. IsNoted self.old seat.old self.new seat.new) }
+        ensures refused { IfErr result (λ _. (self.new ≡ self.old) × (seat.new ≡ seat.old)) }
+        ensures before { IsBehind L.opened self.old.host seat.old }
+        ensures after { IsBehind L.opened self.new.host seat.new }
+    {
+        let build = seat.pass.build();
+        self.books.audit(&mut seat.pass);
+        let reply = self.host.command(build, cmd)?;
+        note(&self.host, &mut self.books, seat);
+        Ok(reply)
+    }
+
+    /// Undoes the newest operation that the seat's build has open. The answer is the host's. An accepted undo is one
+    /// event of the build, which ends the history and the trail. A refusal leaves both as they are. No memory is taken.
+    pub fn undo(&mut self, seat: &mut Seat<L>) -> Result<Undone, Refusal>
+        ensures answer { IsAnswer self.old.host seat.old.build Undo (undone result) self.new.host }
+        ensures noted { IfOk result (λ _. IsNoted self.old seat.old self.new seat.new) }
+        ensures refused { IfErr result (λ _. (self.new ≡ self.old) × (seat.new ≡ seat.old)) }
+        ensures before { IsBehind L.opened self.old.host seat.old }
+        ensures after { IsBehind L.opened self.new.host seat.new }
+    {
+        let build = seat.pass.build();
+        self.books.audit(&mut seat.pass);
+        let undone = self.host.undo(build)?;
+        note(&self.host, &mut self.books, seat);
+        Ok(undone)
+    }
+
+    /// Keeps the point of the seat's build as a mark, with the host's answer. This is no event.
+    pub fn mark(&mut self, seat: &mut Seat<L>) -> Result<Mark, Refusal>
+        ensures answer { IsMarked self.old.host seat.old.build result self.new.host }
+        ensures books { self.new.books ≡ self.old.books }
+        ensures seat { seat.new ≡ seat.old }
+        ensures before { IsBehind L.opened self.old.host seat.old }
+        ensures after { IsBehind L.opened self.new.host seat.new }
+    {
+        let build = seat.pass.build();
+        self.books.audit(&mut seat.pass);
+        let mark = self.host.mark(build)?;
+        // (called for its contract alone, which says what always holds of a host)
+        let _ = self.host.history();
+        Ok(mark)
+    }
+
+    /// The number of operations that the seat's build has open above a mark, with the host's answer. Nothing changes.
+    pub fn check_back(&mut self, seat: &mut Seat<L>, mark: Mark) -> Result<u16, Refusal>
+        ensures answer { result ≡ way_back self.old.host seat.old.build mark }
+        ensures stands { OnOk result (IsMarkOf self.old.host seat.old.build mark) }
+        ensures same { (self.new ≡ self.old) × (seat.new ≡ seat.old) }
+        ensures behind { IsBehind L.opened self.old.host seat.old }
+    {
+        let build = seat.pass.build();
+        self.books.audit(&mut seat.pass);
+        self.host.check_back(build, mark)
+    }
+
+    /// Gives the host back as it is, in return for its builds' seats. Each build has to have one seat, with the events
+    /// that the history has of the build. At `Err` the host comes back too.
+    pub fn close(self, mut seats: Vec<Seat<L>>) -> Result<Host<S>, (CloseFault, Host<S>)>
+        ensures closed { IfOk result (λ host. IsClosed host seats.items) }
+        ensures fault { IfErr result (λ e. IsFault e.0 e.1 seats.items) }
+        ensures host { MatchResult result (λ host. host ≡ self.host) (λ e. e.1 ≡ self.host) }
+        ensures given_back { MatchResult result (λ host. IsHostGivenBack L.opened host seats.items) (λ e. IsHostGivenBack L.opened e.1 seats.items) }
+    {
+        let Kept { host, mut books } = self;
+        close::audit(&mut books, seats.as_mut_slice());
+        if let Some(build) = close::missing(seats.as_slice(), host.build_count()) {
+            return Err((CloseFault::SeatMissing(build), host));
+        }
+        if let Some(build) = close::mismatch(seats.as_slice(), host.history()) {
+            return Err((CloseFault::RecordMismatch(build), host));
+        }
+        Ok(host)
+    }
+}
+
+// Notes the event that ends the history of a host. It ends the trail, and both counts of its build rise by one.
+fn note<S: PageStore, L: Ledgers>(host: &Host<S>, books: &mut Books<L>, seat: &mut Seat<L>)
+    requires some { 0 < length host.now.history }
+    requires counted { length (events_of seat.old.build host.now.history) ≡ seat.old.count + 1 }
+    requires fits { host.now.capacity ≡ L.opened.capacity }
+    ensures sound { IsSound host.now }
+    ensures books { books.new ≡ slice_set books.old seat.old.build (seat.old.count + 1) }
+    ensures seat { (before : List Event) (event : Event) → host.now.history ≡ before ++ event ∷ [] → seat.new ≡ with_noted seat.old event }
+{
+    let history = host.history();
+    let last = &history[history.len() - 1];
+    books.raise(&mut seat.pass);
+    seat.trail.add(Event {
+        build: last.build,
+        act: last.act.clone(),
+    });
+}

@@ -1,0 +1,209 @@
+//! Ghost ledgers, one for each build: the counts that are behind the lock, and the passes that the seats carry.
+ghost use Rattle.std.specs.Prelude.{◌≡◌, ℕ, ◌+◌, ◌<◌, [], ◌∷◌, length, map, slice_index, slice_set};
+ghost use Rattle.std.specs.List.{range_with_len};
+ghost use Rattle.host_ledger.specs.View.{HostView};
+ghost use Rattle.build_seats.specs.Passes.{unused};
+ghost use Rattle.build_seats.specs.Start.{no_host};
+ghost use Rattle.build_seats.specs.Names.{AreNamed};
+
+use crate::blanks::Blanks;
+use granule_addr::BuildId;
+use std::marker::{Brand, Model, PhantomData};
+use std::sync::ledger::{Book, Ledger, Share};
+
+/// The ledgers of the builds that share a host, and the host that the builds were started with.
+pub trait Ledgers {
+    ghost opened: { HostView };
+
+    /// The name of each build's ledger.
+    ghost names: { ℕ → ℕ };
+}
+
+impl Ledgers for Brand {
+    ghost opened = { no_host };
+
+    ghost names = { λ build. 0 };
+}
+
+/// The type of one build's ledger, which has one part.
+pub struct LedgerOf<L, const BUILD: u8>(PhantomData<L>);
+
+impl<L: Ledgers, const BUILD: u8> Ledger for LedgerOf<L, BUILD> {
+    ghost name = { L.names BUILD };
+
+    ghost parts = { 1 };
+}
+
+/// The counts of all builds that are behind the lock, seen as their totals.
+#[derive(Drop)]
+pub struct Books<L: Ledgers> {
+    book0: Book<LedgerOf<L, 0>>,
+    book1: Book<LedgerOf<L, 1>>,
+    book2: Book<LedgerOf<L, 2>>,
+    book3: Book<LedgerOf<L, 3>>,
+    book4: Book<LedgerOf<L, 4>>,
+    book5: Book<LedgerOf<L, 5>>,
+    book6: Book<LedgerOf<L, 6>>,
+    book7: Book<LedgerOf<L, 7>>,
+}
+
+impl<L: Ledgers> Model for Books<L> {
+    ghost use Rattle.std.specs.Prelude.{List, [], ◌∷◌, ℕ};
+
+    ghost Value = { List ℕ };
+
+    ghost view = { λ b. b.book0.total ∷ b.book1.total ∷ b.book2.total ∷ b.book3.total ∷ b.book4.total ∷ b.book5.total ∷ b.book6.total ∷ b.book7.total ∷ [] };
+}
+
+impl<L: Ledgers> Books<L> {
+    /// Shows that a pass counts the same as its build's count behind the lock. Nothing changes.
+    pub fn audit(&mut self, pass: &mut Pass<L>)
+        ensures same { (self.new ≡ self.old) × (pass.new ≡ pass.old) }
+        ensures build { pass.old.build < 8 }
+        ensures count { slice_index self.old pass.old.build ≡ pass.old.count }
+        ensures length { length self.old ≡ 8 }
+    {
+        match &mut pass.whole {
+            Whole::Build0(share) => self.book0.audit(share),
+            Whole::Build1(share) => self.book1.audit(share),
+            Whole::Build2(share) => self.book2.audit(share),
+            Whole::Build3(share) => self.book3.audit(share),
+            Whole::Build4(share) => self.book4.audit(share),
+            Whole::Build5(share) => self.book5.audit(share),
+            Whole::Build6(share) => self.book6.audit(share),
+            Whole::Build7(share) => self.book7.audit(share),
+        }
+    }
+
+    /// Counts one event more in a pass and in its build's count behind the lock.
+    pub(crate) fn raise(&mut self, pass: &mut Pass<L>)
+        ensures book { self.new ≡ slice_set self.old pass.old.build (pass.old.count + 1) }
+        ensures pass { pass.new ≡ record pass.old { count = pass.old.count + 1 } }
+    {
+        self.audit(pass);
+        match &mut pass.whole {
+            Whole::Build0(share) => self.book0.add(share, 1),
+            Whole::Build1(share) => self.book1.add(share, 1),
+            Whole::Build2(share) => self.book2.add(share, 1),
+            Whole::Build3(share) => self.book3.add(share, 1),
+            Whole::Build4(share) => self.book4.add(share, 1),
+            Whole::Build5(share) => self.book5.add(share, 1),
+            Whole::Build6(share) => self.book6.add(share, 1),
+            Whole::Build7(share) => self.book7.add(share, 1),
+        }
+    }
+}
+
+// The whole share of the ledger of one build.
+#[derive(Drop)]
+enum Whole<L: Ledgers> {
+    Build0(Share<LedgerOf<L, 0>>),
+    Build1(Share<LedgerOf<L, 1>>),
+    Build2(Share<LedgerOf<L, 2>>),
+    Build3(Share<LedgerOf<L, 3>>),
+    Build4(Share<LedgerOf<L, 4>>),
+    Build5(Share<LedgerOf<L, 5>>),
+    Build6(Share<LedgerOf<L, 6>>),
+    Build7(Share<LedgerOf<L, 7>>),
+}
+
+/// The whole share of one build's ledger, seen as the build and the count.
+#[derive(Drop)]
+pub struct Pass<L: Ledgers> {
+    whole: Whole<L>,
+}
+
+impl<L: Ledgers> Model for Pass<L> {
+    ghost use Rattle.std.specs.Prelude.{◌≡◌};
+    ghost use Rattle.build_seats.specs.Passes.{PassView};
+    ghost use Rattle.build_seats.specs.Whole.{build_of, parts_of_whole, amount_of};
+
+    ghost Value = { PassView };
+
+    ghost view = { λ p. record { build = build_of p.whole; count = amount_of p.whole } };
+
+    ghost invariant = { λ p. parts_of_whole p.whole ≡ 1 };
+}
+
+impl<L: Ledgers> Pass<L> {
+    /// The build whose events the pass counts.
+    pub fn build(&self) -> BuildId
+        ensures build { result ≡ self.now.build }
+        ensures range { self.now.build < 8 }
+    {
+        let number = match &self.whole {
+            Whole::Build0(_) => 0,
+            Whole::Build1(_) => 1,
+            Whole::Build2(_) => 2,
+            Whole::Build3(_) => 3,
+            Whole::Build4(_) => 4,
+            Whole::Build5(_) => 5,
+            Whole::Build6(_) => 6,
+            Whole::Build7(_) => 7,
+        };
+        BuildId::new(number).unwrap()
+    }
+}
+
+/// The counts behind the lock, and the pass of each build in sequence. Nothing is counted yet.
+#[derive(Drop)]
+pub struct Opened<L: Ledgers> {
+    pub books: Books<L>,
+    pub passes: [Pass<L>; 8],
+    ghost books_are: { books ≡ 0 ∷ 0 ∷ 0 ∷ 0 ∷ 0 ∷ 0 ∷ 0 ∷ 0 ∷ [] },
+    ghost passes_are: { passes ≡ map unused (range_with_len 0 8) },
+}
+
+impl<L: Ledgers> Opened<L> {
+    /// Opens a ledger on each blank.
+    pub fn new(blanks: Blanks) -> Opened<L>
+        requires named { AreNamed L.names blanks }
+    {
+        let (book0, share0) = blanks.blank0.open::<LedgerOf<L, 0>>();
+        let (book1, share1) = blanks.blank1.open::<LedgerOf<L, 1>>();
+        let (book2, share2) = blanks.blank2.open::<LedgerOf<L, 2>>();
+        let (book3, share3) = blanks.blank3.open::<LedgerOf<L, 3>>();
+        let (book4, share4) = blanks.blank4.open::<LedgerOf<L, 4>>();
+        let (book5, share5) = blanks.blank5.open::<LedgerOf<L, 5>>();
+        let (book6, share6) = blanks.blank6.open::<LedgerOf<L, 6>>();
+        let (book7, share7) = blanks.blank7.open::<LedgerOf<L, 7>>();
+        Opened {
+            books: Books {
+                book0,
+                book1,
+                book2,
+                book3,
+                book4,
+                book5,
+                book6,
+                book7,
+            },
+            passes: [
+                Pass {
+                    whole: Whole::Build0(share0),
+                },
+                Pass {
+                    whole: Whole::Build1(share1),
+                },
+                Pass {
+                    whole: Whole::Build2(share2),
+                },
+                Pass {
+                    whole: Whole::Build3(share3),
+                },
+                Pass {
+                    whole: Whole::Build4(share4),
+                },
+                Pass {
+                    whole: Whole::Build5(share5),
+                },
+                Pass {
+                    whole: Whole::Build6(share6),
+                },
+                Pass {
+                    whole: Whole::Build7(share7),
+                },
+            ],
+        }
+    }
+}

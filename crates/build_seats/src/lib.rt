@@ -1,0 +1,35 @@
+//! A host with a seat for each of its builds, and the work of a build. Nothing here knows a lock or a thread.
+//!
+//! `Kept` is what a lock protects: the host, and for each build the number of its events in the history. A `Seat` is a
+//! session handle of one build: it has the same number, and a list of these events. A call of `Kept` asks the host, and
+//! notes in the seat the one event that ends the history. `Kept::close` gives the host back, and compares the lists
+//! with the history.
+//!
+//! `work` performs a build's part of a plan for its worker, over any `Teller` and any `Gate`. A `Teller` is the client
+//! side of a host, and a `Gate` the scheduler of turns. The worker asks the teller for the steps in sequence, and waits
+//! at the gate before each question. After the first refusal it stops the RECs that run, undoes the open operations,
+//! and ends. Its contract says which questions were asked, in which sequence, and that the report has the teller's own
+//! answers (`specs/Report.antt`). It takes no memory.
+#![tactic(auto)]
+
+mod ask;
+mod blanks;
+mod client;
+mod close;
+mod kept;
+pub mod law;
+mod ledgers;
+mod report;
+mod seat;
+mod standing;
+mod step;
+mod teller;
+
+pub use blanks::Blanks;
+pub use client::work;
+pub use close::CloseFault;
+pub use kept::Kept;
+pub use ledgers::Ledgers;
+pub use report::{Answer, Asked, Report, ReportLine, Stuck};
+pub use seat::Seat;
+pub use teller::{Gate, Teller};

@@ -1,0 +1,142 @@
+//! The knowledge that a worker has of its build, from its own replies.
+ghost use Rattle.std.specs.Prelude.{◌≡◌, ◌+◌, ◌-◌, ◌^◌, ◌<◌, ◌≤◌, ◌++◌, length, take, drop, slice_index, Some};
+ghost use Rattle.build_seats.specs.Standing.{first_standing, with_number, without_number, standing_after_command, left_to_clear};
+
+use arrayvec::ArrayVec;
+use host_commands::Cmd;
+use host_ledger::Mark;
+use std::marker::Model;
+
+/// The most RECs of a build that can run: no more than a plan has steps.
+pub const MOST: usize = 1024;
+
+/// The state of a build as its worker knows it from its own replies.
+#[derive(Drop)]
+pub struct Standing {
+    turn: usize,
+    journal: usize,
+    running: ArrayVec<u16, MOST>,
+    mark: Option<Mark>,
+}
+
+impl Model for Standing {
+    ghost use Rattle.build_seats.specs.Standing.{StandingView};
+
+    ghost Value = { StandingView };
+
+    ghost view = { λ s. record { turn = s.turn; journal = s.journal; running = s.running.items; mark = s.mark } };
+}
+
+// The index of the first number that is not below `number`.
+fn place_of(numbers: &[u16], number: u16) -> usize
+    ensures within { result ≤ length numbers.now }
+    ensures below { with_number number numbers.now ≡ take result numbers.now ++ with_number number (drop result numbers.now) }
+    ensures above { result < length numbers.now → number ≤ slice_index numbers.now result }
+{
+    let mut place = 0;
+    'places: while place < numbers.len() {
+        if number <= numbers[place] {
+            return place;
+        }
+        place += 1;
+    }
+    place
+}
+
+fn enter(running: &mut ArrayVec<u16, MOST>, number: u16)
+    requires { length running.old.items < 1024 }
+    ensures { running.new.items ≡ with_number number running.old.items }
+{
+    let place = place_of(running.as_slice(), number);
+    if place < running.len() && running[place] == number {
+        return;
+    }
+    running.insert(place, number);
+}
+
+fn exit(running: &mut ArrayVec<u16, MOST>, number: u16)
+    ensures { running.new.items ≡ without_number number running.old.items }
+{
+    running.retain(|other| *other != number);
+}
+
+impl Standing {
+    /// The state before the first question.
+    pub fn first() -> Standing
+        ensures { result ≡ first_standing }
+    {
+        Standing {
+            turn: 0,
+            journal: 0,
+            running: ArrayVec::new(),
+            mark: None,
+        }
+    }
+
+    /// The number of the next turn.
+    pub fn turn(&self) -> usize
+        ensures { result ≡ self.now.turn }
+    {
+        self.turn
+    }
+
+    /// Counts a turn: a question is asked.
+    pub(crate) fn take_turn(&mut self)
+        requires { self.old.turn + 1 < 2 ^ 64 }
+        ensures { self.new ≡ record self.old { turn = self.old.turn + 1 } }
+    {
+        self.turn += 1;
+    }
+
+    /// The RECs that run, in rising number.
+    pub fn running(&self) -> &[u16]
+        ensures value { result.now ≡ self.now.running }
+        ensures few { length result.now ≤ 1024 }
+    {
+        self.running.as_slice()
+    }
+
+    /// Follows an accepted command.
+    #[tactic(auto, unfolding(crate::specs::Standing::standing_after_command))]
+    pub(crate) fn count_command(&mut self, cmd: &Cmd)
+        requires { left_to_clear self.old < 1024 }
+        ensures { self.new ≡ standing_after_command cmd.now self.old }
+    {
+        if cmd.needs().paired {
+            self.journal += 1;
+        }
+        match cmd {
+            Cmd::Enter { number } => enter(&mut self.running, number.number()),
+            Cmd::Exit { number } => exit(&mut self.running, number.number()),
+            _ => {}
+        }
+    }
+
+    /// The number of open operations.
+    pub fn journal(&self) -> usize
+        ensures { result ≡ self.now.journal }
+    {
+        self.journal
+    }
+
+    /// Follows an accepted undo.
+    pub(crate) fn count_undo(&mut self)
+        ensures { self.new ≡ record self.old { journal = self.old.journal - 1 } }
+    {
+        self.journal = self.journal.saturating_sub(1);
+    }
+
+    /// The last mark, if there is one.
+    pub fn mark(&self) -> Option<Mark>
+        ensures { result ≡ self.now.mark }
+    {
+        self.mark
+    }
+
+    /// Follows an accepted mark.
+    pub(crate) fn count_mark(&mut self, mark: Mark)
+        ensures { self.new ≡ record self.old { mark = Some mark } }
+    {
+        self.mark = Some(mark);
+    }
+}

@@ -1,0 +1,51 @@
+//! The two parties of a worker: the teller that answers it, and the gate that gives it its turns.
+ghost use Rattle.std.specs.Prelude.{◌≡◌, ℕ, List, [], ◌∷◌, ◌++◌, OnOk, OnErr};
+ghost use Rattle.build_seats.specs.Exchange.{Exchange, Did, Undid, KeptMark, CheckedBack};
+
+use crate::report::Stuck;
+use granule_addr::BuildId;
+use host_commands::{Cmd, Refusal, Reply, Undone};
+use host_ledger::Mark;
+
+/// The client side of a host for the worker of one build, as a seat is one.
+pub trait Teller {
+    /// Whether these are the questions that the teller was asked, in sequence, each with its answer.
+    ghost tells: { Self → List Exchange → Type 0 };
+
+    /// The loan that the teller writes through, if there is one.
+    ghost loan: { Self → ℕ };
+
+    /// Asks for a command, which stays with the worker.
+    fn ask(&mut self, cmd: &Cmd) -> Result<Reply, Refusal>
+        ensures told { (earlier : List Exchange) → tells self.old earlier → tells self.new (earlier ++ Did cmd.now result ∷ []) }
+        ensures loan { loan self.new ≡ loan self.old };
+
+    /// Asks for the reverse of the newest operation that the build has open.
+    fn undo(&mut self) -> Result<Undone, Refusal>
+        ensures told { (earlier : List Exchange) → tells self.old earlier → tells self.new (earlier ++ Undid result ∷ []) }
+        ensures loan { loan self.new ≡ loan self.old };
+
+    /// Asks that the build's point be kept as a mark.
+    fn mark(&mut self) -> Result<Mark, Refusal>
+        ensures told { (earlier : List Exchange) → tells self.old earlier → tells self.new (earlier ++ KeptMark result ∷ []) }
+        ensures loan { loan self.new ≡ loan self.old };
+
+    /// Asks for the number of operations that the build has open above a mark.
+    fn check_back(&mut self, mark: Mark) -> Result<u16, Refusal>
+        ensures told { (earlier : List Exchange) → tells self.old earlier → tells self.new (earlier ++ CheckedBack mark result ∷ []) }
+        ensures loan { loan self.new ≡ loan self.old };
+}
+
+/// The scheduler of workers' turns.
+pub trait Gate {
+    /// Whether the gate lets that turn of a build pass.
+    ghost passes: { Self → ℕ → ℕ → Type 0 };
+
+    /// Whether that turn of a build does not come.
+    ghost stops: { Self → ℕ → ℕ → Type 0 };
+
+    /// Waits for a turn of a build: the build's worker calls it before each question. Turns are counted from 0.
+    fn pass(&self, build: BuildId, turn: usize) -> Result<(), Stuck>
+        ensures ok { OnOk result (passes self.now build turn) }
+        ensures stuck { OnErr result (stops self.now build turn) };
+}

@@ -1,9 +1,0 @@
-use Rattle.std.specs.Prelude.{◌≡◌, ◌≤◌, ◌↔◌, drop, length}
-use Rattle.realm_model.specs.History.{events_of}
-use Rattle.builders.proofs.close.is_trail.Given as goal
-
--- what is left of both agrees exactly where the whole does
-abbrev pub invariant-loop-event : goal.invariant-loop-event
-invariant-loop-event l =
-    (l.at ≤ length l.trail)
-    × ((drop l.at l.trail ≡ events_of l.build (drop l.event-index l.history)) ↔ (l.trail ≡ events_of l.build l.history))

@@ -1,6 +1,0 @@
-use Rattle.std.specs.Prelude.{ℕ, ◌<◌}
-use Rattle.builders.specs.Close.{Fits}
-use Rattle.builders.proofs.close.mismatch.Given as goal
-
-abbrev pub invariant-loop-number : goal.invariant-loop-number
-invariant-loop-number g l = (lower : ℕ) → lower < l.number → Fits lower l.history l.seats

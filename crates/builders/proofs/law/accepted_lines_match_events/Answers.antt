@@ -1,5 +1,0 @@
-use Rattle.builders.proofs.Events.{accepted_match_events}
-use Rattle.builders.proofs.law.accepted_lines_match_events.Goals as goal
-
-pub returns : goal.returns
-returns c = λ standing steps exchanges lines ended. accepted_match_events standing steps exchanges lines ended

@@ -1,5 +1,0 @@
-use Rattle.execution.proofs.RecsNamed.{rec_named_is}
-use Rattle.execution.proofs.law.rec_taken_away_is_the_one_named.Goals as goal
-
-pub returns : goal.returns
-returns c = λ limits world build act. rec_named_is limits world build act

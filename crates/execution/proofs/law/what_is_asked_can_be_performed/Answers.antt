@@ -1,5 +1,0 @@
-use Rattle.execution.proofs.Ready.{asked_is_ready}
-use Rattle.execution.proofs.law.what_is_asked_can_be_performed.Goals as goal
-
-pub returns : goal.returns
-returns c = λ limits history world monitor build act place. asked_is_ready limits history world monitor build act place

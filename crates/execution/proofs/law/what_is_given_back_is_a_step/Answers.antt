@@ -1,5 +1,0 @@
-use Rattle.execution.proofs.Blocks.{given_back_is_step}
-use Rattle.execution.proofs.law.what_is_given_back_is_a_step.Goals as goal
-
-pub returns : goal.returns
-returns c = λ limits history world monitor build order first. given_back_is_step limits history world monitor build order first

@@ -1,9 +1,0 @@
-use Rattle.std.proofs.Common.{◌≡◌, [], replicate, All}
-use Rattle.leases.specs.Stacks.{contents, IsRoomy}
-use Rattle.leases.proofs.stacks.Leases.build.Given as goal
-
-abbrev pub invariant-loop-i : goal.invariant-loop-i
-invariant-loop-i l = record {
-  empty : contents l.stacks.items ≡ replicate l._i [];
-  roomy : All (IsRoomy l.pages) l.stacks.items;
-}

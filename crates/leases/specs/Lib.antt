@@ -1,3 +1,0 @@
-pub mod Stacks
-pub mod StackLaws
-pub mod Vmids

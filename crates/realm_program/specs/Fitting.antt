@@ -1,0 +1,104 @@
+-- The match of a report with the events of its build in a history, line by line.
+use Rattle.std.specs.Prelude.{◌≡◌, ℕ, ◌-◌, ◌++◌, nat_lt, List, filter, map, length, take, Option, Some, None, slice_get, option_and_then, IsSomeAnd, if◌then◌else◌}
+use Rattle.std.specs.Global.{Vec}
+use Rattle.std.specs.List.{last_or}
+use Rattle.host_commands.specs.Acts.{act_of}
+use Rattle.host_commands.specs.Needs.{operands}
+use Rattle.host_commands.specs.Replies.{reply_of}
+use Rattle.host_commands.specs.declared.cmd.Cmd.{Cmd}
+use Rattle.host_commands.specs.declared.cmd.Cmd.TheVariants.{Take}
+use Rattle.host_commands.specs.declared.cmd.Step.{Step}
+use Rattle.host_commands.specs.declared.reply.Allocated.{Allocated}
+use Rattle.host_commands.specs.declared.reply.Reply.{Reply}
+use Rattle.realm_model.specs.Kind.{act_kind}
+use Rattle.realm_model.specs.History.{events_of, open_entries, pages_of}
+use Rattle.host_commands.specs.declared.reply.Undone.{Undone}
+use Rattle.realm_model.specs.Act.{reverse_of}
+use Rattle.realm_model.specs.declared.act.Act.{Act}
+use Rattle.realm_model.specs.declared.act.Act.TheVariants as acts
+use Rattle.realm_model.specs.declared.act.Event.{Event}
+use Rattle.build_seats.specs.Events.{is_accepted, question_at}
+use Rattle.build_seats.specs.declared.ask.Question.{Question}
+use Rattle.build_seats.specs.declared.ask.Question.TheVariants as question
+use Rattle.build_seats.specs.declared.report.Answer.{Answer}
+use Rattle.build_seats.specs.declared.report.Answer.TheVariants.{Replied, Undone as WasUndone, Marked, Nothing, Refused}
+use Rattle.build_seats.specs.declared.report.ReportLine.{ReportLine}
+use Rattle.build_seats.specs.declared.report.Report.{Report}
+
+-- ---- commands
+
+-- The granule of a build's page. A number above those of the largest machine is no granule.
+abbrev pub granule_of_number : List ℕ → ℕ → Option ℕ
+granule_of_number pages page = option_and_then (λ number. if nat_lt number 4096 then Some number else None) (slice_get pages page)
+
+-- the granules are those of the pages with these numbers, each of them there
+abbrev pub AreGranules : List ℕ → List ℕ → List ℕ → Type 0
+AreGranules pages numbers granules = map (granule_of_number pages) numbers ≡ map (λ granule. Some granule) granules
+
+-- one of the pages with these numbers is not there, or is no granule
+abbrev pub HaveNoGranules : List ℕ → List ℕ → Type 0
+HaveNoGranules pages numbers = (granules : List ℕ) → ¬ AreGranules pages numbers granules
+
+-- a list of granules, and after it the granules of the pages with these numbers
+abbrev pub ArePushed : List ℕ → List ℕ → List ℕ → List ℕ → Type 0
+ArePushed pages numbers before after = (granules : List ℕ) × (AreGranules pages numbers granules × (after ≡ before ++ granules))
+
+-- The operation is that of the command with the granules of its pages, whatever was allocated for it.
+pub record IsMadeOf (pages : List ℕ) (cmd : Cmd) (act : Act) : Type 0 where
+  pub granules : List ℕ
+  pub allocated : Allocated
+  pub are_granules : AreGranules pages (operands cmd) granules
+  pub act_is : act_of cmd granules allocated ≡ Some act
+
+-- The operation is that of the command of a build with these pages. The block of a Take may be any.
+abbrev pub IsFittingAct : List ℕ → Cmd → Act → Type 0
+IsFittingAct pages (Take order) act = (first : ℕ) × (act ≡ acts.Take order first)
+IsFittingAct pages cmd act = IsMadeOf pages cmd act
+
+-- the operation is that of the command, and the reply is the reply to it
+pub record IsFittingReply (pages : List ℕ) (cmd : Cmd) (reply : Reply) (act : Act) : Type 0 where
+  pub act_is : IsFittingAct pages cmd act
+  pub reply_is : reply ≡ reply_of (length pages) act
+
+-- ---- undos
+
+-- The operation is the reverse of the last of those that are open. The reply has its kind, and the number of those
+-- left.
+pub record IsFittingUndo (opened : List Act) (undone : Undone) (act : Act) : Type 0 where
+  pub act_is : option_and_then reverse_of (last_or None opened) ≡ Some act
+  pub kind_is : option_and_then act_kind (last_or None opened) ≡ Some undone.kind
+  pub left_is : undone.left ≡ length opened - 1
+
+-- ---- lines
+
+-- An answer matches its question if the build has these pages and these operations open, and this is its next event. A
+-- reply and an undo have this event. The answer to a mark is the number of open operations. An answer that did nothing,
+-- or was a refusal, matches anywhere.
+abbrev pub AnswerFits : List ℕ → List Act → Option Event → Question → Answer → Type 0
+AnswerFits pages opened next (question.Do cmd) (Replied reply) = IsSomeAnd next (λ event. IsFittingReply pages cmd reply event.act)
+AnswerFits pages opened next question.Undo (WasUndone undone) = IsSomeAnd next (λ event. IsFittingUndo opened undone event.act)
+AnswerFits pages opened next question.Mark (Marked count) = count ≡ length opened
+AnswerFits pages opened next asked Nothing = Unit {0}
+AnswerFits pages opened next asked (Refused refusal) = Unit {0}
+AnswerFits pages opened next asked answer = ⊥
+
+-- A line matches after `count` events of its build: it has a question, and its answer matches there.
+abbrev pub LineFits : ℕ → List Step → List Event → ℕ → ReportLine → Type 0
+LineFits build steps history count line =
+    let before = take count (events_of build history) in
+    let next = slice_get (events_of build history) count in
+    IsSomeAnd (question_at steps line.asked) (λ asked. AnswerFits (pages_of build before) (open_entries build before) next asked line.answer)
+
+-- the number of the lines that are accepted
+abbrev pub accepted_count : List ReportLine → ℕ
+accepted_count lines = length (filter is_accepted lines)
+
+-- The lines of a report match the history: each matches after as many events of the build as there are accepted lines
+-- before it. There are as many of these events as of accepted lines.
+pub record DoesFit (build : ℕ) (steps : List Step) (lines : List ReportLine) (history : List Event) : Type 0 where
+  pub each : (place : ℕ) (line : ReportLine) → slice_get lines place ≡ Some line → LineFits build steps history (accepted_count (take place lines)) line
+  pub as_many : accepted_count lines ≡ length (events_of build history)
+
+-- a report matches, with the steps of its build's plan
+abbrev pub ReportFits : List Event → Report × Vec Step → Type 0
+ReportFits history (report, steps) = DoesFit report.build steps.items report.lines.items history

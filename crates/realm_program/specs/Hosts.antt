@@ -1,0 +1,38 @@
+-- The match of a host's answer with the history that the host has then.
+use Rattle.std.specs.Prelude.{◌≡◌, ℕ, ◌≤◌, [], ◌∷◌, ◌++◌, Some, None}
+use Rattle.host_ledger.specs.View.{HostView}
+use Rattle.host_ledger.specs.declared.mark.Mark.{Mark}
+use Rattle.host_commands.specs.declared.cmd.Cmd.{Cmd}
+use Rattle.host_commands.specs.declared.reply.Reply.{Reply}
+use Rattle.realm_host.specs.Answer.{IsReplied, IsUndone}
+use Rattle.realm_host.specs.Marked.{IsMarkedAs}
+use Rattle.host_commands.specs.declared.reply.Undone.{Undone}
+use Rattle.realm_model.specs.History.{open_entries, pages_of, IsLegal}
+use Rattle.realm_model.specs.Undoing.{by}
+use Rattle.realm_model.specs.declared.act.Act.{Act}
+use Rattle.build_seats.specs.declared.ask.Question.{Question}
+use Rattle.build_seats.specs.declared.ask.Question.TheVariants as question
+use Rattle.build_seats.specs.declared.report.Answer.{Answer}
+use Rattle.build_seats.specs.declared.report.Answer.TheVariants as answer
+use Rattle.realm_program.specs.Fitting.{AnswerFits}
+
+-- One event of the build ends the history, and the answer matches there.
+pub record FitsNext (host : HostView) (build : ℕ) (asked : Question) (told : Answer) (new : HostView) : Type 0 where
+  pub act : Act
+  pub grows : new.history ≡ host.history ++ by build act ∷ []
+  pub fits : AnswerFits (pages_of build host.history) (open_entries build host.history) (Some (by build act)) asked told
+
+-- the reply of a host to a command matches
+abbrev pub HostReplyFits : HostView → ℕ → Cmd → Reply → HostView → Type 0
+HostReplyFits host build cmd reply new =
+    IsLegal host.limits host.history → host.limits.pages ≤ 4096 → IsReplied host build cmd reply new
+    → FitsNext host build (question.Do cmd) (answer.Replied reply) new
+
+-- the reply of a host to an undo matches
+abbrev pub HostUndoFits : HostView → ℕ → Undone → HostView → Type 0
+HostUndoFits host build undone new = IsUndone host build undone new → FitsNext host build question.Undo (answer.Undone undone) new
+
+-- The answer to a mark matches whatever the build's next event is.
+abbrev pub HostMarkFits : HostView → ℕ → Mark → HostView → Type 0
+HostMarkFits host build mark new =
+    IsMarkedAs host build mark new → AnswerFits (pages_of build host.history) (open_entries build host.history) None question.Mark (answer.Marked mark.length)

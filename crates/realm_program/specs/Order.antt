@@ -1,0 +1,14 @@
+-- The independence of a run's text from the sequence in which builds took the lock.
+use Rattle.std.specs.Prelude.{◌≡◌, ℕ, List}
+use Rattle.host_ledger.specs.View.{HostView}
+use Rattle.plan_replay.specs.Run.{map_text}
+use Rattle.realm_plan.specs.Plan.{Plan}
+use Rattle.realm_program.specs.Workers.{worker_seats, IsWorkersText}
+
+-- Two runs after which each build's seat has the same events have the same map. They have the same text if the workers
+-- have the same lines too.
+abbrev pub ScheduleIsNotRevealed : Plan → (ℕ → ℕ → Type 0) → (ℕ → ℕ → Type 0) → HostView → Type 0
+ScheduleIsNotRevealed plan passes stops opened =
+    (text other : List ℕ) (run : IsWorkersText plan passes stops opened text) (again : IsWorkersText plan passes stops opened other)
+    → (worker_seats again.workers ≡ worker_seats run.workers → map_text again.host ≡ map_text run.host)
+    × (again.workers ≡ run.workers → other ≡ text)

@@ -1,0 +1,26 @@
+-- The text of a run in threads.
+use Rattle.std.specs.Prelude.{ℕ, List}
+use Rattle.realm_plan.specs.Plan.{Plan}
+use Rattle.realm_program.specs.Order.{ScheduleIsNotRevealed}
+use Rattle.realm_program.specs.Workers as threads
+use Rattle.realm_program.specs.declared.run_fault.RunFault.TheVariants as why
+use Rattle.realm_program.specs.Replay.{opening_host}
+use Rattle.realm_program.specs.declared.fault.Fault.{Fault}
+use Rattle.realm_program.specs.declared.fault.Fault.TheVariants.{Memory, Stuck, Mismatch}
+
+-- The text of some run of the plan by workers, on a machine of its size. For each build, the gate lets the turns of
+-- `passes` pass, and stops those of `stops`.
+abbrev pub IsThreadsText : (ℕ → ℕ → Type 0) → (ℕ → ℕ → Type 0) → Plan → List ℕ → Type 0
+IsThreadsText passes stops plan text = threads.IsWorkersText plan passes stops (opening_host plan) text
+
+-- The reason why there is no such text: allocation failed, a worker waited in vain, or a report does not match the
+-- history.
+abbrev pub IsWithoutThreadsText : (ℕ → ℕ → Type 0) → (ℕ → ℕ → Type 0) → Plan → Fault → Type 0
+IsWithoutThreadsText passes stops plan Memory = Unit {0}
+IsWithoutThreadsText passes stops plan (Stuck build) = threads.IsWithoutWorkersText plan passes stops (opening_host plan) (why.Stuck build)
+IsWithoutThreadsText passes stops plan Mismatch = threads.IsWithoutWorkersText plan passes stops (opening_host plan) why.Mismatch
+IsWithoutThreadsText passes stops plan fault = ⊥
+
+-- The sequence in which the builds of a run took the lock is not printed, whatever the plan.
+abbrev pub ScheduleIsNotPrinted : (ℕ → ℕ → Type 0) → (ℕ → ℕ → Type 0) → Type 0
+ScheduleIsNotPrinted passes stops = (plan : Plan) → ScheduleIsNotRevealed plan passes stops (opening_host plan)

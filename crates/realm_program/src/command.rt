@@ -1,0 +1,72 @@
+//! The comparison of a command and its reply with an event.
+ghost use Rattle.std.specs.Prelude.{◌≡◌, ◌↔◌, length, IsTrue};
+ghost use Rattle.std.specs.List.{flat_map};
+ghost use Rattle.host_commands.specs.Replies.{reply_of};
+ghost use Rattle.realm_model.specs.History.{pages_held};
+ghost use Rattle.realm_program.specs.Fitting.{IsMadeOf, IsFittingAct, IsFittingReply};
+ghost use Rattle.realm_program.specs.Allocation.{allocated_in};
+
+use crate::pages::{granules_of, has_pages};
+use granule_addr::{RecNo, Vmid};
+use host_commands::{Allocated, Cmd, Reply, act_of, reply_of};
+use realm_model::Act;
+
+// The values that were allocated for an operation, as far as the operation holds them.
+fn allocated_for(act: &Act) -> Allocated
+    ensures { result ≡ allocated_in act.now }
+{
+    let mut allocated = Allocated {
+        vmid: Vmid::new(1).unwrap(),
+        number: RecNo::new(0),
+        byte: 0,
+    };
+    match act {
+        Act::Realm { vmid, .. } => allocated.vmid = *vmid,
+        Act::Rec { number, .. } => allocated.number = *number,
+        Act::Peek { byte, .. } => allocated.byte = *byte,
+        _ => {}
+    }
+    allocated
+}
+
+// Whether an operation is a command's, of the granules of its pages.
+fn is_made_of(opened: &[Act], cmd: &Cmd, act: &Act) -> bool
+    ensures { IsTrue result ↔ IsMadeOf (flat_map pages_held opened.now) cmd.now act.now }
+{
+    let Some(granules) = granules_of(opened, cmd) else {
+        return false;
+    };
+    match act_of(cmd, &granules, allocated_for(act)) {
+        Some(made) => made.is_same(act),
+        None => false,
+    }
+}
+
+// Whether an operation is a command's. The block of a Take may be any.
+fn is_act_of(opened: &[Act], cmd: &Cmd, act: &Act) -> bool
+    ensures { IsTrue result ↔ IsFittingAct (flat_map pages_held opened.now) cmd.now act.now }
+{
+    match (cmd, act) {
+        (Cmd::Take { order }, Act::Take { order: taken, .. }) => *order == taken.number(),
+        (Cmd::Take { .. }, _) => false,
+        _ => is_made_of(opened, cmd, act),
+    }
+}
+
+// Whether a reply is that to an operation. The reply to a Take is the number of pages before it.
+fn is_reply_to(opened: &[Act], reply: &Reply, act: &Act) -> bool
+    ensures { IsTrue result ↔ (reply.now ≡ reply_of (length (flat_map pages_held opened.now)) act.now) }
+{
+    match (act, reply) {
+        (Act::Take { .. }, Reply::FirstPage(first)) => has_pages(opened, *first),
+        (Act::Take { .. }, _) => false,
+        _ => *reply == reply_of(0, act),
+    }
+}
+
+/// Whether a command of a build that has these operations open performed this operation, and got this reply to it.
+pub(crate) fn is_replied(opened: &[Act], cmd: &Cmd, reply: &Reply, act: &Act) -> bool
+    ensures { IsTrue result ↔ IsFittingReply (flat_map pages_held opened.now) cmd.now reply.now act.now }
+{
+    is_act_of(opened, cmd, act) && is_reply_to(opened, reply, act)
+}

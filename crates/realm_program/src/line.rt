@@ -1,0 +1,96 @@
+//! The comparison of a report's line with an event.
+ghost use Rattle.std.specs.Prelude.{◌≡◌, ◌↔◌, Option, slice_get, IsTrue, IsSomeAnd};
+ghost use Rattle.std.specs.List.{flat_map};
+ghost use Rattle.realm_model.specs.History.{pages_held};
+ghost use Rattle.realm_model.specs.declared.act.Event.{Event};
+ghost use Rattle.build_seats.specs.Events.{is_done, question_of_step, question_at};
+ghost use Rattle.build_seats.specs.declared.ask.Question.TheVariants as question;
+ghost use Rattle.realm_program.specs.Fitting.{AnswerFits};
+
+use crate::command::is_replied;
+use crate::undo::is_undone;
+use builders::{Answer, Asked, ReportLine};
+use host_commands::{Cmd, Step};
+use realm_model::{Act, Event};
+
+/// Whether a line with this answer has an event.
+pub(crate) fn is_done(answer: &Answer) -> bool
+    ensures { result ≡ is_done answer.now }
+{
+    matches!(answer, Answer::Replied(_) | Answer::Undone(_))
+}
+
+// Whether the answer to a command matches a build that has these operations open, and its next event at an index of the
+// history.
+fn command_fits(opened: &[Act], history: &[Event], next: usize, cmd: &Cmd, answer: &Answer) -> bool
+    ensures { IsTrue result ↔ AnswerFits (flat_map pages_held opened.now) opened.now (slice_get history.now next) (question.Do cmd.now) answer.now }
+{
+    match answer {
+        Answer::Replied(reply) => match history.get(next) {
+            Some(event) => is_replied(opened, cmd, reply, &event.act),
+            None => false,
+        },
+        Answer::Nothing | Answer::Refused(_) => true,
+        _ => false,
+    }
+}
+
+// Whether the answer to an undo matches.
+fn undo_fits(opened: &[Act], history: &[Event], next: usize, answer: &Answer) -> bool
+    ensures { IsTrue result ↔ AnswerFits (flat_map pages_held opened.now) opened.now (slice_get history.now next) question.Undo answer.now }
+{
+    match answer {
+        Answer::Undone(undone) => match history.get(next) {
+            Some(event) => is_undone(opened, undone, &event.act),
+            None => false,
+        },
+        Answer::Nothing | Answer::Refused(_) => true,
+        _ => false,
+    }
+}
+
+// Whether the answer to a mark matches, whatever event is the next.
+fn mark_fits(opened: &[Act], answer: &Answer) -> bool
+    ensures { (next : Option Event) → IsTrue result ↔ AnswerFits (flat_map pages_held opened.now) opened.now next question.Mark answer.now }
+{
+    match answer {
+        Answer::Marked(count) => *count as usize == opened.len(),
+        Answer::Nothing | Answer::Refused(_) => true,
+        _ => false,
+    }
+}
+
+// Whether the answer to a step's question matches.
+fn step_fits(opened: &[Act], history: &[Event], next: usize, step: &Step, answer: &Answer) -> bool
+    ensures { IsTrue result ↔ AnswerFits (flat_map pages_held opened.now) opened.now (slice_get history.now next) (question_of_step step.now) answer.now }
+{
+    match step {
+        Step::Ask(cmd) => command_fits(opened, history, next, cmd, answer),
+        Step::Mark => mark_fits(opened, answer),
+        Step::Undo | Step::Abort | Step::Back => undo_fits(opened, history, next, answer),
+    }
+}
+
+/// Whether a line of a build that has these operations open has a question, and its answer matches. The build's next
+/// event is at that index of the history.
+pub(crate) fn line_fits(
+    opened: &[Act],
+    history: &[Event],
+    next: usize,
+    steps: &[Step],
+    line: &ReportLine,
+) -> bool
+    ensures { IsTrue result ↔ IsSomeAnd (question_at steps.now line.now.asked)
+        (λ asked. AnswerFits (flat_map pages_held opened.now) opened.now (slice_get history.now next) asked line.now.answer) }
+{
+    match line.asked {
+        Asked::Step(place) => match steps.get(place) {
+            Some(step) => step_fits(opened, history, next, step, &line.answer),
+            None => false,
+        },
+        Asked::Exit(number) => {
+            command_fits(opened, history, next, &Cmd::Exit { number }, &line.answer)
+        }
+        Asked::Undo => undo_fits(opened, history, next, &line.answer),
+    }
+}

@@ -1,0 +1,109 @@
+-- An RMM beside the world of a history: the requirements of an operation, and its effect on both.
+use Rattle.std.specs.Prelude.{◌≡◌, ◌<◌, ℕ, List, [], ◌∷◌, ◌++◌, map, true, false, Some, None, is_none, slice_get, length, Result, Ok, Err}
+use Rattle.std.specs.List.{All, last_or}
+use Rattle.realm_model.specs.declared.act.Act.{Act}
+use Rattle.realm_model.specs.declared.act.Act.TheVariants.{Rec, UnRec}
+use Rattle.realm_model.specs.declared.act.Event.{Event}
+use Rattle.realm_model.specs.declared.rmi.Rmi.{Rmi}
+use Rattle.realm_model.specs.Machine.{Limits}
+use Rattle.realm_model.specs.Update.{Update}
+use Rattle.realm_model.specs.Act.{is_command, named, reverse_of}
+use Rattle.realm_model.specs.Outcome.{is_in_range, fits}
+use Rattle.realm_model.specs.World.{World, opening, realm_of}
+use Rattle.realm_model.specs.Step.{step, named_cells, outcome_in}
+use Rattle.realm_model.specs.StepLaw.{leases_after}
+use Rattle.realm_model.specs.History.{acts_of, open_entries, replay, IsLegal, IsInTurn}
+use Rattle.realm_model.specs.Running.{is_running}
+use Rattle.realm_model.specs.Undoing.{by}
+use Rattle.rmi_monitor.specs.View.{MonitorView, Answers, after_command, fresh}
+use Rattle.realm_model.specs.declared.act.RealmAndRec.{RealmAndRec}
+use Rattle.rmi_monitor.specs.Performing.{outcome_on, IsReady}
+use Rattle.realm_model.specs.Places.{IsPlaceOf, rec_granule}
+
+-- The history is legal and leads to the world, and the RMM has its machine. A granule is free exactly when nobody
+-- leases it.
+pub record IsMirror (limits : Limits) (history : List Event) (world : World) (monitor : MonitorView) : Type 0 where
+  pub legal : IsLegal limits history
+  pub world_is : replay limits history ≡ Some world
+  pub vmids : monitor.vmids ≡ limits.vmids
+  pub aux : monitor.aux ≡ limits.aux
+  pub machine : monitor.machine ≡ world.machine
+  pub free : monitor.free ≡ map is_none world.leases
+
+-- An RMM that has just been built is that of the empty history.
+abbrev pub FreshIsMirror : Limits → Type 0
+FreshIsMirror limits = IsMirror limits [] (opening limits) (fresh limits.vmids limits.aux limits.pages)
+
+-- ---- the requirements
+
+-- The requirements on a command of a build before it goes to the RMM. The build is there and leases the granules named.
+-- The operation's own numbers are in range, and its answers agree with the machine.
+pub record IsAsked (limits : Limits) (world : World) (build : ℕ) (act : Act) : Type 0 where
+  pub command : is_command act ≡ true
+  pub there : build < limits.builds
+  pub granules : All (λ granule. slice_get world.leases granule ≡ Some (Some build)) (named act)
+  pub in_range : is_in_range act ≡ true
+  pub fitting : fits act (realm_of build world) (named_cells world act) ≡ true
+
+-- if an operation creates a REC, its build has fewer events than RECs have numbers
+abbrev pub HasFewEvents : List Event → ℕ → Act → Type 0
+HasFewEvents history build (Rec granule auxiliaries number) = length (acts_of build history) < 65535
+HasFewEvents history build _ = Unit {0}
+
+-- So an operation that is asked for can be performed.
+abbrev pub AskedIsReady : Limits → List Event → World → MonitorView → ℕ → Act → RealmAndRec → Type 0
+AskedIsReady limits history world monitor build act place =
+    IsMirror limits history world monitor → IsPlaceOf world build act place → IsAsked limits world build act → HasFewEvents history build act
+    → IsReady monitor place act
+
+-- A REC that is destroyed has the granule that its operation names.
+abbrev pub UnRecNamesItsRec : Limits → World → ℕ → Act → Type 0
+UnRecNamesItsRec limits world build (UnRec granule auxiliaries number) =
+    IsAsked limits world build (UnRec granule auxiliaries number) → rec_granule (realm_of build world) number ≡ Some granule
+UnRecNamesItsRec limits world build _ = Unit {0}
+
+-- ---- the effect
+
+-- An operation that is done is a step: the history with its event is legal, and leads to the world that the RMM has
+-- then. The leases are changed as the operation says.
+pub record IsPerformed (limits : Limits) (history : List Event) (world : World) (build : ℕ) (act : Act) (new : MonitorView) : Type 0 where
+  pub next : World
+  pub stepped : step limits world (by build act) ≡ Some next
+  pub leases : next.leases ≡ leases_after build act world.leases
+  pub mirror : IsMirror limits (history ++ by build act ∷ []) next new
+
+-- The RMM's answer to an operation that is asked for is its outcome in the world. An operation that is done is a step.
+abbrev pub IsStepOrRefusal : Limits → List Event → World → MonitorView → ℕ → Act → Result (Unit {0}) Rmi → MonitorView → Type 0
+IsStepOrRefusal limits history world old build act (Ok done) new = IsPerformed limits history world build act new
+IsStepOrRefusal limits history world old build act (Err rmi) new = (outcome_in limits world (by build act) ≡ Err rmi) × (new ≡ old)
+
+-- this holds, for an operation in turn, of every answer that `perform` can give and every RMM that it can leave
+abbrev pub PerformedIsStep : Limits → List Event → World → MonitorView → ℕ → Act → RealmAndRec → Type 0
+PerformedIsStep limits history world monitor build act place =
+    IsMirror limits history world monitor → IsPlaceOf world build act place → IsAsked limits world build act → IsInTurn history (by build act)
+    → (result : Result (Unit {0}) Rmi) (new : MonitorView) → Answers result (outcome_on monitor place.realm act)
+    → new ≡ after_command (outcome_on monitor place.realm act) monitor
+    → IsStepOrRefusal limits history world monitor build act result new
+
+-- ---- back
+
+-- The reverse of the newest open operation is asked for and in turn, and the RMM does not refuse it.
+pub record IsAccepted (limits : Limits) (history : List Event) (world : World) (monitor : MonitorView) (build : ℕ) (back : Act) (place : RealmAndRec) : Type 0 where
+  pub asked : IsAsked limits world build back
+  pub turn : IsInTurn history (by build back)
+  pub updates : List Update
+  pub accepted : outcome_on monitor place.realm back ≡ Ok updates
+
+-- The newest operation that a build has open can be undone by a command: it has a reverse that is one, and created no
+-- REC that runs.
+pub record CanBeUndone (history : List Event) (world : World) (build : ℕ) (act back : Act) : Type 0 where
+  pub newest : last_or None (open_entries build history) ≡ Some act
+  pub reverse : reverse_of act ≡ Some back
+  pub command : is_command back ≡ true
+  pub at_rest : is_running (realm_of build world) act ≡ false
+
+-- then the RMM accepts the reverse
+abbrev pub NewestIsAccepted : Limits → List Event → World → MonitorView → ℕ → Act → Act → RealmAndRec → Type 0
+NewestIsAccepted limits history world monitor build act back place =
+    IsMirror limits history world monitor → IsPlaceOf world build back place → CanBeUndone history world build act back
+    → IsAccepted limits history world monitor build back place

@@ -1,4 +1,0 @@
-use Rattle.rmm_reading.proofs.rec_params.are_aux_aligned.Goals as goal
-
-pub returns : goal.returns
-returns g c = c.all_aux.ensures

@@ -1,0 +1,18 @@
+-- The granules of a machine. RMM 1.0, Granule attributes.
+use Rattle.std.specs.Prelude.{◌≡◌, ℕ, ◌<◌, List, length, slice_index_or, Option, None}
+use Rattle.realm_model.specs.declared.states.GranuleState.{GranuleState}
+use Rattle.realm_model.specs.declared.states.GranuleState.TheVariants.{Undelegated}
+use Rattle.rtt.specs.declared.granule.Granule.{Granule}
+
+-- an UNDELEGATED granule of no realm
+abbrev pub undelegated : Granule
+undelegated = record { state = Undelegated; realm = None }
+
+-- a granule of a machine; one outside counts as UNDELEGATED
+abbrev pub granule_at : List Granule → ℕ → Granule
+granule_at granules granule = slice_index_or granules granule undelegated
+
+-- a granule of the machine is in a state, and belongs to that realm or to none
+pub record IsIn (granules : List Granule) (granule : ℕ) (state : GranuleState) (realm : Option ℕ) : Type 0 where
+  pub inside : granule < length granules
+  pub is : granule_at granules granule ≡ record { state = state; realm = realm }

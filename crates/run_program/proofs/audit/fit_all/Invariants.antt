@@ -1,8 +1,0 @@
-use Rattle.std.proofs.Common.{take}
-use Rattle.std.specs.List.{All}
-use Rattle.run_program.specs.Fitting.{ReportFits}
-use Rattle.run_program.proofs.audit.fit_all.Given as goal
-
--- those so far fit
-abbrev pub invariant-loop-report : goal.invariant-loop-report
-invariant-loop-report l = All (ReportFits l.history) (take l.report-index l.reports)

@@ -1,5 +1,0 @@
-use Rattle.run_program.proofs.Answered.{reply_fits}
-use Rattle.run_program.proofs.law.answers_of_a_host_fit.Goals as goal
-
-pub returns-clause-reply : goal.returns-clause-reply
-returns-clause-reply c = reply_fits

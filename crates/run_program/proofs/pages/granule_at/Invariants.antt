@@ -1,9 +1,0 @@
-use Rattle.std.proofs.Common.{◌≡◌, drop}
-use Rattle.std.specs.List.{flat_map}
-use Rattle.realm_model.specs.History.{pages_held}
-use Rattle.run_program.specs.Fitting.{granule_of_number}
-use Rattle.run_program.proofs.pages.granule_at.Given as goal
-
--- among the pages of the acts that are left, the page has that number
-abbrev pub invariant-loop-act : goal.invariant-loop-act
-invariant-loop-act l = granule_of_number (flat_map pages_held l.opened) l.page ≡ granule_of_number (flat_map pages_held (drop l.act-index l.opened)) l.left

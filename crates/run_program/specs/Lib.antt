@@ -1,9 +1,0 @@
-pub mod Fault
-pub mod Threads
-pub mod Fitting
-pub mod Allocation
-pub mod Report
-pub mod Hosts
-pub mod Text
-pub mod Workers
-pub mod Order
