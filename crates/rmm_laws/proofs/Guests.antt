@@ -53,6 +53,7 @@ use Rattle.rmm_laws.proofs.Recs.{IsGoing, going_first, going_rec, going_word, go
 use Rattle.rmm_laws.proofs.Lasting.{Lasts}
 use Rattle.rmm_laws.proofs.Releasing.{Held}
 use Rattle.rmm_laws.proofs.States.{IsAsBefore}
+use Rattle.rmm_laws.proofs.SameTables.{KeepsTables}
 use Rattle.rmm_laws.proofs.Touching.{Touches, IsMine}
 use Rattle.rmm_laws.proofs.Writes.{granule_at-other}
 
@@ -244,6 +245,7 @@ module _ (o : Machine) (w : ℕ) where
         vmids = (going_rec o w g m rec going).vmids;
         held = (going_rec o w g m rec going).held;
         lasts = (going_rec o w g m rec going).lasts;
+        tables = (going_rec o w g m rec going).tables;
         states = (going_rec o w g m rec going).states;
       })
       (cases_eq h g)
@@ -321,6 +323,9 @@ module _ (rec address : ℕ) (m : Machine) (proper : IsProper m) (ok : Passed (r
       inr (off.1, owned, (there.0, there.1, sym state ∙ active), off.2))
       (entry_going.states rd realm at)
 
+  pub entered_tables : KeepsTables m (rec_enter rec address m).machine
+  entered_tables = entry_going.tables
+
   pub entered_touches : Touches m (rec_enter rec address m).machine (realm_of_rec m rec)
   unfolding rec_enter
   entered_touches =
@@ -360,6 +365,9 @@ module _ (calling target status : ℕ) (m : Machine) (proper : IsProper m) (ok :
   pub completed_held : Held m (psci_complete calling target status m).machine
   completed_held = target_going.held
 
+  pub completed_tables : KeepsTables m (psci_complete calling target status m).machine
+  completed_tables = target_going.tables
+
   pub completed_lasts : Lasts m (psci_complete calling target status m).machine
   completed_lasts = target_going.lasts
 
@@ -380,22 +388,26 @@ module _ (m : Machine) (address : ℕ) (proper : IsProper m) (is : is_rec_named 
   named : IsGoing m of_named.0 (number_of m address) m
   named = going_first (number_of m address) of_named.0 m (rec_at m address) proper named_is of_named.1
 
-pub interrupt_kept : (m : Machine) (address : ℕ) → IsProper m → IsProper (interrupted m address).1
+-- what holds of a machine, and after steps, entries and exits of a REC, holds after an interrupt, and after a step is given
+pub interrupted_then : (P : Machine → Type 0) (m : Machine) (address : ℕ) → IsProper m → P m → ((w g : ℕ) (n : Machine) → IsGoing m w g n → P n) → P (interrupted m address).1
 unfolding interrupted
-interrupt_kept m address proper =
-    cond_both (runs_at m address) _ _ (λ (p : Option Answer × Machine). IsProper p.1)
+interrupted_then P m address proper same goes =
+    cond_both (runs_at m address) _ _ (λ (p : Option Answer × Machine). P p.1)
     (λ runs.
     let is = (and_parts (is_rec_named m address) _ runs).0 in
-    let going = going_exit m (of_named m address proper is).0 (number_of m address) m (only_reason Irq) Other (named m address proper is) in
-    record { linked = going.proper; ordered = going.ordered })
-    (λ never. proper)
+    goes (of_named m address proper is).0 (number_of m address) _ (going_exit m (of_named m address proper is).0 (number_of m address) m (only_reason Irq) Other (named m address proper is)))
+    (λ never. same)
+
+pub interrupt_kept : (m : Machine) (address : ℕ) → IsProper m → IsProper (interrupted m address).1
+interrupt_kept m address proper = interrupted_then IsProper m address proper proper (λ w g n going. record { linked = going.proper; ordered = going.ordered })
+
+pub given_then : (P : Machine → Type 0) (m : Machine) (address : ℕ) (words : StepWords) → IsProper m → P m → ((w g : ℕ) (n : Machine) → IsGoing m w g n → P n) → P (queued m address words).1
+given_then P m address words proper same goes =
+    cond_both (is_rec_named m address) _ _ (λ (p : Queued × Machine). P p.1)
+    (λ is. cond_both (nat_lt (rec_in m (number_of m address)).step_count 16) _ _ (λ (p : Queued × Machine). P p.1)
+    (λ few. goes (of_named m address proper is).0 (number_of m address) _ (going_given m (of_named m address proper is).0 (number_of m address) m words (named m address proper is)))
+    (λ full. same))
+    (λ never. same)
 
 pub given_kept : (m : Machine) (address : ℕ) (words : StepWords) → IsProper m → IsProper (queued m address words).1
-given_kept m address words proper =
-    cond_both (is_rec_named m address) _ _ (λ (p : Queued × Machine). IsProper p.1)
-    (λ is. cond_both (nat_lt (rec_in m (number_of m address)).step_count 16) _ _ (λ (p : Queued × Machine). IsProper p.1)
-    (λ few.
-    let going = going_given m (of_named m address proper is).0 (number_of m address) m words (named m address proper is) in
-    record { linked = going.proper; ordered = going.ordered })
-    (λ full. proper))
-    (λ never. proper)
+given_kept m address words proper = given_then IsProper m address words proper proper (λ w g n going. record { linked = going.proper; ordered = going.ordered })

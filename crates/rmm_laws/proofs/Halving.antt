@@ -39,7 +39,7 @@ use Rattle.rmm_laws.proofs.Writes.{taken_inside, granule_at-same, granule_at-oth
 
 -- ---- kinds of children
 
-child_kind : (e : RmmRttEntry) (level k : ℕ) → kind_of (child_entry e level k) ≡ kind_of e
+pub child_kind : (e : RmmRttEntry) (level k : ℕ) → kind_of (child_entry e level k) ≡ kind_of e
 child_kind (Unassigned ripas) level k = refl
 child_kind (Assigned ripas address) level k = refl
 child_kind UnassignedNs level k = refl

@@ -28,6 +28,7 @@ use Rattle.rmm_laws.proofs.Plain.{keep_plain_page}
 use Rattle.rmm_laws.proofs.Lasting.{Lasts, lasts_all, lasts_plain, lasts_realm}
 use Rattle.rmm_laws.proofs.Releasing.{Held, held_all, held_granule}
 use Rattle.rmm_laws.proofs.States.{IsAsBefore, same_realm, write_back}
+use Rattle.rmm_laws.proofs.SameTables.{KeepsTables, tables_all, tables_granule, tables_page}
 use Rattle.rmm_laws.proofs.Touching.{Touches, IsMine, untouched, mine_before, touch_granule, touch_page}
 use Rattle.rmm_laws.proofs.Writes.{is_user, granule_at-same, granule_at-other, taken_inside}
 
@@ -83,6 +84,10 @@ keep_rec_page m g rec page proper is whole same =
     ∙ sym (ap (λ (s : RmmGranuleState). state_uses m s owner level (page_in m g) g i part) is))
     (λ table. absurd (cc))
 
+-- memory is no table
+no_memory : (s : RmmGranuleState) → is_memory_state s ≡ true → s ≡ Rtt → ⊥
+no_memory s memory table = let never : is_memory_state s ≡ false = ap is_memory_state table in cc
+
 -- ---- machines in which a granule is a REC
 
 -- A granule is a REC of the realm of an RD, after writes that touched granules of that realm or of none.
@@ -97,11 +102,12 @@ pub record IsGoing (o : Machine) (w : ℕ) (g : ℕ) (m : Machine) : Type 0 wher
   pub vmids : m.vmids ≡ o.vmids
   pub held : Held o m
   pub lasts : Lasts o m
+  pub tables : KeepsTables o m
   pub states : (rd : ℕ) (realm : RmmRealm) → (granule_at m rd).state ≡ Rd realm → IsAsBefore o rd realm ⊎ ((rd ≡ w) × (realm.state ≡ IsSystemOff) × HasRim o rd realm.rim)
 
 -- a REC before any write
 pub going_first : (g w : ℕ) (m : Machine) (rec : RmmRec) → IsProper m → (granule_at m g).state ≡ IsRec rec → (granule_at m g).owner ≡ Some w → IsGoing m w g m
-going_first g w m rec proper is owned = record { proper = proper.linked; ordered = proper.ordered; rec = rec; is = is; touches = untouched m (Some w); owned = owned; mine = inl (inr owned); vmids = refl; held = held_all m; lasts = lasts_all m; states = λ rd realm at. inl (realm, at, refl, refl) }
+going_first g w m rec proper is owned = record { proper = proper.linked; ordered = proper.ordered; rec = rec; is = is; touches = untouched m (Some w); owned = owned; mine = inl (inr owned); vmids = refl; held = held_all m; lasts = lasts_all m; tables = tables_all m; states = λ rd realm at. inl (realm, at, refl, refl) }
 
 module _ (o : Machine) (w : ℕ) where
   pub going_inside : (g : ℕ) (m : Machine) → IsGoing o w g m → g < length m.granules
@@ -122,6 +128,7 @@ module _ (o : Machine) (w : ℕ) where
         vmids = going.vmids;
         held = held_granule o m g kept refl going.held;
         lasts = lasts_plain o m g kept (ap is_rd going.is) going.lasts;
+        tables = tables_granule o m g kept (λ table. (let rec_is = going.is in cc)) going.tables;
         states = λ rd realm at. ⊎_elim
             (λ (written : (rd ≡ g) × (IsRec rec ≡ Rd realm)). (let never = written.1 in absurd (cc)))
             (λ (before : (granule_at m rd).state ≡ Rd realm). going.states rd realm before)
@@ -142,6 +149,7 @@ module _ (o : Machine) (w : ℕ) where
         vmids = going.vmids;
         held = going.held;
         lasts = going.lasts;
+        tables = tables_page o m g page (λ table. (let rec_is = going.is in cc)) going.tables;
         states = going.states;
       }
 
@@ -173,6 +181,7 @@ module _ (o : Machine) (w : ℕ) where
     vmids = going.vmids;
     held = going.held;
     lasts = going.lasts;
+    tables = tables_page o m h page (λ table. no_memory (granule_at m h).state memory table) going.tables;
     states = going.states;
   }
 
@@ -197,6 +206,7 @@ module _ (o : Machine) (w : ℕ) where
         vmids = going.vmids;
         held = held_granule o m rd (of_no_realm (Rd other)) refl going.held;
         lasts = lasts_realm o m rd realm other is same going.lasts;
+        tables = tables_granule o m rd (of_no_realm (Rd other)) (λ table. cc) going.tables;
         states = λ x new at. ⊎_elim
             (λ (written : (x ≡ rd) × (Rd other ≡ Rd new)).
             let it : other ≡ new = same_realm written.1 in

@@ -53,7 +53,7 @@ module _ (m : Machine) (linked : IsLinked m) (halves : HasHalves m) (rd ipa : �
     pub depth : halves.level at.table ≡ at.level
     pub seat : halves.place at.table ≡ ipa / entry_size at.level / 512
 
-  seat_next : (at : RttWalk) (child : ℕ) → IsSeat at → table_below m (entry_at m at ipa) ≡ Some child → IsSeat (record { table = child; level = at.level + 1 })
+  pub seat_next : (at : RttWalk) (child : ℕ) → IsSeat at → table_below m (entry_at m at ipa) ≡ Some child → IsSeat (record { table = child; level = at.level + 1 })
   unfolding entry_at
   seat_next at child seat leads =
       let below : IsPlace m linked rd ipa (record { table = child; level = at.level + 1 }) = next m linked rd ipa at child seat.is leads in
@@ -77,7 +77,7 @@ module _ (m : Machine) (linked : IsLinked m) (halves : HasHalves m) (rd ipa : �
   from (suc levels) at seat = on levels at (table_below m (entry_at m at ipa)) refl seat (λ child there. from levels (record { table = child; level = at.level + 1 }) there)
 
   module _ (is : (granule_at m rd).state ≡ Rd realm) (within : ipa < 2 ^ realm.s2sz) where
-    start_seat : IsSeat (start_of realm ipa)
+    pub start_seat : IsSeat (start_of realm ipa)
     unfolding start_of start_offset
     start_seat =
         let fit = served m rd realm linked is in

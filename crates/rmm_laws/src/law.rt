@@ -50,6 +50,7 @@ ghost use Rattle.rmm_laws.specs.Owner.{is_rec_in};
 ghost use Rattle.rmm_laws.specs.Proper.{IsProper};
 ghost use Rattle.rmm_laws.specs.Refusal.{IsRefused, is_refusal, IsOneOf, IsRecEnter, IsFault, IsNotGiven, IsNotQueued, IsNotRunning, IsAccess, IsNotDone};
 ghost use Rattle.rmm_laws.specs.Request.{KeepsRequests, IsAskedFor};
+ghost use Rattle.rmm_laws.specs.Ripas.{KeepsRipas};
 ghost use Rattle.rmm_laws.specs.Role.{Used, page_count, uses, IsSound};
 ghost use Rattle.rmm_laws.specs.State.{IsRealmIn, KeepsStates, KeepsRealms, HasRim, IsMeasured, Measures, KeepsRims};
 ghost use Rattle.rmm_laws.specs.Step.{HasNextStep, HasRemoval, CanBeTornDown};
@@ -234,6 +235,18 @@ pub fn requests_are_the_guest_s()
     ensures entered { (m : Machine) (g address flags : ℕ) (rec : RmmRec) → (rec_in m g).exit ≡ RipasChange → (granule_at (after_entry m g address flags) g).state ≡ Rec rec → rec.ripas ≡ no_request }
     ensures asked { (m : Machine) (g flags : ℕ) (rec : RmmRec) → (granule_at (after_first_step m g flags) g).state ≡ Rec rec → (rec.ripas ≡ (rec_in m g).ripas) ⊎ IsAskedFor m g rec.ripas }
     ensures left { (m : Machine) (g : ℕ) (exit : RecExit) (last : LastExit) → KeepsRequests m None (after_exit m g exit last) }
+{}
+
+/// RIPAS is the guest's. In a NEW realm RMI_RTT_INIT_RIPAS and RMI_DATA_CREATE make it RAM, and nothing else does. In
+/// every realm RMI_DATA_DESTROY and RMI_RTT_DESTROY leave DESTROYED. RMI_RTT_SET_RIPAS makes it what a REC of the realm asked for,
+/// within the range that it asked for. No other call changes the RIPAS of a protected address, and neither do stores and
+/// fills of the host, steps that guests are given, and interrupts.
+pub fn ripas_is_the_guest_s()
+    ensures calls { (r : Registers) (m : Machine) → IsProper m → KeepsRipas m (call_in r) (rmi r m).1 }
+    ensures stores { (m : Machine) (address word : ℕ) → IsProper m → KeepsRipas m None (after_store m address word) }
+    ensures fills { (m : Machine) (address value : ℕ) → IsProper m → KeepsRipas m None (after_fill m address value) }
+    ensures steps { (m : Machine) (rec : ℕ) (w : StepWords) → IsProper m → KeepsRipas m None (queued m rec w).1 }
+    ensures interrupts { (m : Machine) (rec : ℕ) → IsProper m → KeepsRipas m None (interrupted m rec).1 }
 {}
 
 /// RMI_RTT_FOLD undoes RMI_RTT_CREATE: it succeeds right after it, with its operands, if the entry can replace the table.
