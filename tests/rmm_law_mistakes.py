@@ -145,6 +145,17 @@ def destroyed_is_changed(_self: tables.RttSetRipas, entry: Entry) -> bool:
     return entry.kind in ("UNASSIGNED", "ASSIGNED")
 
 
+of_init, of_range = tables.RttInitRipas.checks, tables.RttSetRipas.checks
+
+
+def request_is_exceeded(self: tables.RttSetRipas) -> Checks:
+    yield from (it for it in of_range(self) if it.name != "top_bound")
+
+
+def active_realm_gets_ram(self: tables.RttInitRipas) -> Checks:
+    yield from (it for it in of_init(self) if it.name != "realm_state")
+
+
 entered = guest.begin
 
 
@@ -207,7 +218,9 @@ MISTAKES = {
     "refusal_counts": Mistake(patch.object(Command, "refused", refusal_counts), ("refusals",)),
     "page_is_replaced": Mistake(patch.object(tables.DataCreateUnknown, "checks", page_is_replaced), ("pages",)),
     "destroyed_page_stays_ram": Mistake(patch.object(tables.DataDestroy, "effect", destroyed_page_stays_ram), ("guests",)),
-    "destroyed_is_changed": Mistake(patch.object(tables.RttSetRipas, "is_right", destroyed_is_changed), ("asked",)),
+    "destroyed_is_changed": Mistake(patch.object(tables.RttSetRipas, "is_right", destroyed_is_changed), ("asked", "ripas")),
+    "request_is_exceeded": Mistake(patch.object(tables.RttSetRipas, "checks", request_is_exceeded), ("ripas",)),
+    "active_realm_gets_ram": Mistake(patch.object(tables.RttInitRipas, "checks", active_realm_gets_ram), ("ripas",)),
     "request_stays": Mistake(patch.object(recs, "begin", request_stays), ("asked",)),
     "memory_is_emulated": Mistake(patch.object(guest, "aborts", memory_is_emulated), ("pages",)),
     "abort_shows_value": Mistake(patch.object(guest, "physical", abort_shows_value), ("secrets",)),
