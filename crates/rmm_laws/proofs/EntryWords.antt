@@ -4,7 +4,7 @@ use Rattle.std.proofs.lemmas.Bool.{cond_both}
 use Rattle.rmm_model.specs.declared.entry.RmmRttEntry.{RmmRttEntry}
 use Rattle.rmm_model.specs.declared.entry.RmmRttEntry.TheVariants.{Unassigned, Assigned, Table, UnassignedNs, AssignedNs}
 use Rattle.rmm_model.specs.declared.entry.RmmRipas.TheVariants.{Empty, Ram, Destroyed}
-use Rattle.rmm_model.specs.Entry.{entry_of, entry_at_kind, entry_word, descriptor_of, is_table, ripas_in}
+use Rattle.rmm_model.specs.Entry.{entry_of, entry_at_kind, entry_word, descriptor_of, is_mapping, is_table, ripas_in}
 
 module _ (kind low : ℕ) (fits : low < 2 ^ 48) where
   kind_field : (kind * 2 ^ 56 + low % 2 ^ 48) / 2 ^ 56 ≡ kind
@@ -74,6 +74,23 @@ word_ripas (AssignedNs desc) = by_field ripas_in 5 desc
 word_ripas (Assigned Empty address) = by_field ripas_in 6 address
 word_ripas (Assigned Ram address) = by_field ripas_in 7 address
 word_ripas (Assigned Destroyed address) = by_field ripas_in 8 address
+
+-- the descriptor of a live entry
+pub word_descriptor : (e : RmmRttEntry) → descriptor_of (entry_of (entry_word e)) ≡ descriptor_of e % 2 ^ 48
+unfolding entry_of entry_word
+word_descriptor (Unassigned Empty) = refl
+word_descriptor (Unassigned Ram) = refl
+word_descriptor (Unassigned Destroyed) = refl
+word_descriptor UnassignedNs = refl
+word_descriptor (Table address) = by_field descriptor_of 4 address
+word_descriptor (AssignedNs desc) = by_field descriptor_of 5 desc
+word_descriptor (Assigned Empty address) = by_field descriptor_of 6 address
+word_descriptor (Assigned Ram address) = by_field descriptor_of 7 address
+word_descriptor (Assigned Destroyed address) = by_field descriptor_of 8 address
+
+pub table_mapping : (address : ℕ) → is_mapping (entry_of (entry_word (Table address))) ≡ false
+unfolding entry_of entry_word
+table_mapping address = by_field is_mapping 4 address
 
 pub word_table : (e : RmmRttEntry) → is_table e ≡ false → is_table (entry_of (entry_word e)) ≡ false
 unfolding entry_of entry_word

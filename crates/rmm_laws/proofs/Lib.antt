@@ -31,6 +31,7 @@ pub mod Orders
 pub mod Owning
 pub mod PageWords
 pub mod Passed
+pub mod Placing
 pub mod Plain
 pub mod Reaching
 pub mod RealmOrders

@@ -43,11 +43,10 @@ use Rattle.rmm_laws.specs.Proper.{IsProper}
 use Rattle.rmm_laws.specs.Ripas.{ripas_at, IsRipasGiven, KeepsRipas}
 use Rattle.rmm_laws.specs.State.{fixed, IsLasting, IsDestroyed}
 use Rattle.rmm_laws.specs.Walk.{IsTableOf}
-use Rattle.rmm_laws.proofs.Children.{is_free, length-children, part_word, unused_free}
+use Rattle.rmm_laws.proofs.Children.{is_free, children_word, length-children, part_word, unused_free}
 use Rattle.rmm_laws.proofs.Entries.{address_few, named_inside, number_inside}
 use Rattle.rmm_laws.proofs.EntryRipas.{entry_between}
 use Rattle.rmm_laws.proofs.EntryWords.{descriptor-few, word_ripas}
-use Rattle.rmm_laws.proofs.Fold.{children_word}
 use Rattle.rmm_laws.proofs.Guests.{entered_tables, completed_tables, given_then, interrupted_then}
 use Rattle.rmm_laws.proofs.Halves.{none_below, word_kind}
 use Rattle.rmm_laws.proofs.Halving.{child_kind}

@@ -249,12 +249,12 @@ pub fn ripas_is_the_guest_s()
     ensures interrupts { (m : Machine) (rec : ℕ) → IsProper m → KeepsRipas m None (interrupted m rec).1 }
 {}
 
-/// RMI_RTT_FOLD undoes RMI_RTT_CREATE: it succeeds right after it, with its operands, if the entry can replace the table.
-/// And RMI_RTT_CREATE undoes RMI_RTT_FOLD, with the granule that comes back. Then each granule has the attributes that it
-/// had before both, and each entry of each table is as it was. A table is folded only if the entry can replace it.
+/// RMI_RTT_FOLD undoes RMI_RTT_CREATE: it succeeds right after it, with its operands. And RMI_RTT_CREATE undoes
+/// RMI_RTT_FOLD, with the granule that comes back. Then each granule has the attributes that it had before both, and each
+/// entry of each table is as it was. A table is folded only if the entry can replace it.
 pub fn fold_and_unfold()
     ensures created { (m : Machine) (rd rtt ipa level : ℕ) → IsProper m → (performed (RttCreate rd rtt ipa level) m).0.word ≡ Success
-        → CanReplaceTable m (entry_at m (walk m (realm_at m rd) ipa (level - 1)) ipa) level → ((performed (RttFold rd ipa level) (performed (RttCreate rd rtt ipa level) m).1).0.word ≡ Success)
+        → ((performed (RttFold rd ipa level) (performed (RttCreate rd rtt ipa level) m).1).0.word ≡ Success)
         × IsAlike m (performed (RttFold rd ipa level) (performed (RttCreate rd rtt ipa level) m).1).1 }
     ensures folded { (m : Machine) (rd ipa level : ℕ) → IsProper m → (performed (RttFold rd ipa level) m).0.word ≡ Success
         → ((performed (RttCreate rd (performed (RttFold rd ipa level) m).0.x1 ipa level) (performed (RttFold rd ipa level) m).1).0.word ≡ Success)
