@@ -14,7 +14,7 @@ use Rattle.rmm_model.specs.Level.{entry_size, entry_index, start_offset}
 use Rattle.rmm_model.specs.Machine.{Machine, granule_at, page_in}
 use Rattle.rmm_model.specs.Table.{entry_in_page}
 use Rattle.rmm_model.specs.Walk.{entry_at, table_below, walk_from, start_of, walk}
-use Rattle.rmm_laws.specs.Half.{IsOfHalf, HasHalves}
+use Rattle.rmm_laws.specs.Half.{IsOfHalf, IsPlaced, HasHalves}
 use Rattle.rmm_laws.specs.Role.{used, state_uses, uses, IsLinked}
 use Rattle.rmm_laws.proofs.Halves.{realm_same}
 use Rattle.rmm_laws.proofs.Mappings.{served}
@@ -102,6 +102,13 @@ module _ (m : Machine) (linked : IsLinked m) (halves : HasHalves m) (rd ipa : �
           let seat = walk_seat level in
           halves.is.half rd found.table i ipa realm is seat.is.table (entry_index-few found.level ipa)
           (ap (λ (l : ℕ). ipa / entry_size l) seat.depth ∙ sym (ap (λ (p : ℕ). p * 512 + i) seat.seat ∙ whole_index found.level ipa))
+
+      pub walk_placed : IsPlaced m.settings (walk m realm ipa level).level (entry_at m (walk m realm ipa level) ipa)
+      unfolding entry_at
+      walk_placed =
+          let seat = walk_seat level in
+          subst (λ (l : ℕ). IsPlaced m.settings l (entry_in_page (page_in m found.table) i)) seat.depth
+          (halves.is.block found.table i (ap (λ (r : RmmGranule). r.state) seat.is.table) (entry_index-few found.level ipa))
 
       pub found_few : (walk m realm ipa level).level ≤ 3
       found_few = few_at m linked rd ipa realm found (walk_seat level).is

@@ -45,7 +45,7 @@ ghost use Rattle.rmm_model.specs.Command.RecEnter.{interrupted, step_outcome, af
 ghost use Rattle.rmm_laws.specs.Apart.{rd_named, changes_vmids, IsOfRealm, IsOfAnother, IsSameAt};
 ghost use Rattle.rmm_laws.specs.Back.{ComesBack, RecComesBack, IsAssignedTo, IsReleased};
 ghost use Rattle.rmm_laws.specs.Fold.{CanReplaceTable, IsAlike};
-ghost use Rattle.rmm_laws.specs.Half.{IsOfHalf};
+ghost use Rattle.rmm_laws.specs.Half.{IsOfHalf, IsPlaced};
 ghost use Rattle.rmm_laws.specs.Owner.{is_rec_in};
 ghost use Rattle.rmm_laws.specs.Proper.{IsProper};
 ghost use Rattle.rmm_laws.specs.Refusal.{IsRefused, is_refusal, IsOneOf, IsRecEnter, IsFault, IsNotGiven, IsNotQueued, IsNotRunning, IsAccess, IsNotDone};
@@ -108,9 +108,12 @@ pub fn walks_end()
 {}
 
 /// Halves are apart: a walk of an address of a realm ends at an entry of the half that the address is in. So an ASSIGNED
-/// entry is at protected addresses alone, and an ASSIGNED_NS entry at unprotected ones.
+/// entry is at protected addresses alone, and an ASSIGNED_NS entry at unprotected ones. A mapping is at a level at which
+/// there are pages or blocks, and its memory begins at a multiple of their size.
 pub fn halves_are_apart()
-    ensures { (m : Machine) (rd ipa level : ℕ) (realm : RmmRealm) → IsProper m → (granule_at m rd).state ≡ Rd realm → ipa < 2 ^ realm.s2sz → IsOfHalf realm ipa (entry_at m (walk m realm ipa level) ipa) }
+    ensures half { (m : Machine) (rd ipa level : ℕ) (realm : RmmRealm) → IsProper m → (granule_at m rd).state ≡ Rd realm → ipa < 2 ^ realm.s2sz → IsOfHalf realm ipa (entry_at m (walk m realm ipa level) ipa) }
+    ensures placed { (m : Machine) (rd ipa level : ℕ) (realm : RmmRealm) → IsProper m → (granule_at m rd).state ≡ Rd realm → ipa < 2 ^ realm.s2sz
+        → IsPlaced m.settings (walk m realm ipa level).level (entry_at m (walk m realm ipa level) ipa) }
 {}
 
 /// Each table of a realm serves 512 entries from some address on, and a walk of each of their addresses reaches it.
