@@ -77,7 +77,7 @@ written_apart m ipa value g size (Err outcome) other = (refl, refl)
 -- the granule that an access reaches
 pub plain_of : (m : Machine) (linked : IsLinked m) (rd : ℕ) (realm : RmmRealm) (is : (granule_at m rd).state ≡ Rd realm) (ipa h : ℕ) (came : Result ℕ StepOutcome) → came ≡ Ok h
     → IsPlainIfOk m linked rd realm is ipa came → (granule_at m h ≡ of_realm rd Data) ⊎ ((granule_at m h).state ≡ Undelegated)
-plain_of m linked rd realm is ipa h came reaches plain = (subst (IsPlainIfOk m linked rd realm is ipa) reaches plain).2
+plain_of m linked rd realm is ipa h came reaches plain = (subst (IsPlainIfOk m linked rd realm is ipa) reaches plain).0.2
 
 -- ---- steps and interrupts
 

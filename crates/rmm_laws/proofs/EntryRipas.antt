@@ -68,13 +68,13 @@ module _ (m n : Machine) (proper : IsProper m) (settings : n.settings ≡ m.sett
 
   module _ (G : ℕ → RmmRipas → RmmRipas → Type 0) (x : ℕ) (each : (j : ℕ) → j < 512 → IsChanged G j) (others : (g : ℕ) → IsTableOf m rd g → g ≢ (walk m realm ipa level).table → page_in n g ≡ page_in m g) where
     abbrev Q : RttWalk → RttWalk → Type 0
-    Q p q = (ripas_in (entry_at n q x) ≡ ripas_in (entry_at m p x)) ⊎ G x (ripas_in (entry_at m p x)) (ripas_in (entry_at n q x))
+    Q p q = (q ≡ p) × ((ripas_in (entry_at n p x) ≡ ripas_in (entry_at m p x)) ⊎ G x (ripas_in (entry_at m p x)) (ripas_in (entry_at n p x)))
 
     abbrev Met : RttWalk → Type 0
     Met p = IsMet m n proper.linked proper.ordered.halves rd x realm (λ table. Unit {0}) Q p
 
     met_same : (p : RttWalk) → entry_at n p x ≡ entry_at m p x → Met p
-    met_same p entry = inl (on_same m n proper settings count rd x realm (λ table. Unit {0}) Q p entry (λ table leads. tt) (inl (ap ripas_in entry)))
+    met_same p entry = inl (on_same m n proper settings count rd x realm (λ table. Unit {0}) Q p entry (λ table leads. tt) (refl, inl (ap ripas_in entry)))
 
     met_here : (p : RttWalk) → IsSeat m proper.linked proper.ordered.halves rd x realm p → p.table ≡ (walk m realm ipa level).table → Met p
     unfolding entry_at
@@ -90,8 +90,8 @@ module _ (m n : Machine) (proper : IsProper m) (settings : n.settings ≡ m.sett
         inl (record {
           leads = none_after ∙ sym none_before;
           good = λ table leads. tt;
-          end = subst (λ (t : ℕ). (ripas_in (entry_in_page (page_in n t) j) ≡ ripas_in (entry_in_page (page_in m t) j)) ⊎ G x (ripas_in (entry_in_page (page_in m t) j)) (ripas_in (entry_in_page (page_in n t) j))) (sym here)
-              (other.2 x (covered x p seat here).1);
+          end = (refl, subst (λ (t : ℕ). (ripas_in (entry_in_page (page_in n t) j) ≡ ripas_in (entry_in_page (page_in m t) j)) ⊎ G x (ripas_in (entry_in_page (page_in m t) j)) (ripas_in (entry_in_page (page_in n t) j))) (sym here)
+              (other.2 x (covered x p seat here).1));
         }))
         (each j (entry_index-few p.level x))
 
@@ -103,9 +103,15 @@ module _ (m n : Machine) (proper : IsProper m) (settings : n.settings ≡ m.sett
         (λ (other : p.table ≢ found.table). met_same p (ap (λ (q : List ℕ). entry_in_page q (entry_index p.level x)) (others p.table seat.is.table other)))
         (cases_eq p.table found.table)
 
+    -- the walk ends where it did, and what has become of the RIPAS there
+    pub changed : (after : RmmRealm) → after.start_level ≡ realm.start_level → after.first_table ≡ realm.first_table → is_protected realm x ≡ true → Q (walk m realm x 3) (walk n after x 3)
+    changed after start first protected = along m n proper.linked proper.ordered.halves rd x realm (λ table. Unit {0}) Q after start first is (protected_within realm x protected) tt met
+
     pub changed_ripas : (after : RmmRealm) → after.start_level ≡ realm.start_level → after.first_table ≡ realm.first_table → is_protected realm x ≡ true
         → (ripas_at n after x ≡ ripas_at m realm x) ⊎ G x (ripas_at m realm x) (ripas_at n after x)
-    changed_ripas after start first protected = along m n proper.linked proper.ordered.halves rd x realm (λ table. Unit {0}) Q after start first is (protected_within realm x protected) tt met
+    changed_ripas after start first protected =
+        let both = changed after start first protected in
+        subst (λ (q : RttWalk). (ripas_in (entry_at n q x) ≡ ripas_at m realm x) ⊎ G x (ripas_at m realm x) (ripas_in (entry_at n q x))) (sym both.0) both.1
 
   -- one entry is written
   pub one_changed : (G : ℕ → RmmRipas → RmmRipas → Type 0) (e : RmmRttEntry) → entry_in_page (page_in n (walk m realm ipa level).table) (entry_index (walk m realm ipa level).level ipa) ≡ e

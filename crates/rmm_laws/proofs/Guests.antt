@@ -160,7 +160,7 @@ module _ (o : Machine) (w : ℕ) where
 
     going_write : (g : ℕ) (m : Machine) (realm : RmmRealm) (is : (granule_at m rd).state ≡ Rd realm) (ipa value : ℕ) (size : AccessSize) (going : IsGoing o w g m) (came : Result ℕ StepOutcome)
         → IsPlainIfOk m going.proper rd realm is ipa came → IsGoing o w g (after_write m ipa size value came)
-    going_write g m realm is ipa value size going (Ok h) plain = going_value g h ipa value size m going plain
+    going_write g m realm is ipa value size going (Ok h) plain = going_value g h ipa value size m going plain.0
     going_write g m realm is ipa value size going (Err outcome) plain = going
 
   -- ---- steps

@@ -22,7 +22,7 @@ use Rattle.rmm_model.specs.declared.realm.RmmRealm.{RmmRealm}
 use Rattle.rmm_model.specs.declared.realm.RmmRealmState.TheVariants.{New}
 use Rattle.rmm_model.specs.declared.realm.RttWalk.{RttWalk}
 use Rattle.rmm_model.specs.declared.rec.RipasRequest.{RipasRequest}
-use Rattle.rmm_model.specs.Entry.{entry_of, entry_word, entry_at_kind, can_change, entry_with_ripas, is_table, is_unassigned, is_unassigned_ns, is_assigned_ns, ripas_in}
+use Rattle.rmm_model.specs.Entry.{entry_of, entry_word, entry_at_kind, can_change, entry_with_ripas, is_ram, is_table, is_unassigned, is_unassigned_ns, is_assigned_ns, ripas_in}
 use Rattle.rmm_model.specs.Granule.{of_no_realm, of_realm, is_delegated, realm_of}
 use Rattle.rmm_model.specs.Level.{entry_size, entry_index}
 use Rattle.rmm_model.specs.Machine.{Machine, granule_at, page_in, is_aligned, is_inside, number_of, state_at, with_granule, with_page}
@@ -44,7 +44,7 @@ use Rattle.rmm_laws.specs.Proper.{IsProper}
 use Rattle.rmm_laws.specs.Ripas.{ripas_at, IsBetween, IsRipasGiven}
 use Rattle.rmm_laws.specs.Walk.{IsTableOf}
 use Rattle.rmm_laws.proofs.Entries.{address_few, number_inside}
-use Rattle.rmm_laws.proofs.EntryRipas.{IsChanged, entry_between, changed_ripas, one_changed, can_in_range, in_range, changed_to, destroyed_too}
+use Rattle.rmm_laws.proofs.EntryRipas.{IsChanged, entry_between, changed, changed_ripas, one_changed, can_in_range, in_range, changed_to, destroyed_too}
 use Rattle.rmm_laws.proofs.EntryWords.{entry_word-fits, word_ripas, word_table}
 use Rattle.rmm_laws.proofs.Guests.{same_owner}
 use Rattle.rmm_laws.proofs.KeptTables.{KeepsTablesOf, tables_apart, same_ripas}
@@ -107,6 +107,16 @@ module _ (call : Call) (m n : Machine) (proper : IsProper m) (settings : n.setti
         (one_changed m n proper settings count rd ipa level realm is within G (entry_of (entry_word e)) now beside before (word_table e leaf)
         (λ y covers. subst (λ (r : RmmRipas). (r ≡ ripas_in (entry_at m found ipa)) ⊎ G y (ripas_in (entry_at m found ipa)) r) (sym (word_ripas e)) (given y covers)))
         others after start first protected
+
+    -- the RIPAS at the address of the entry, if its walk ends there
+    leaf_ripas : level ≡ 3 → is_protected realm ipa ≡ true → ripas_at n realm ipa ≡ ripas_in e
+    unfolding entry_at
+    leaf_ripas three protected =
+        let there : walk m realm ipa 3 ≡ walk m realm ipa level = ap (walk m realm ipa) (sym three) in
+        let both = changed m n proper settings count rd ipa level realm is within (λ x old new. Unit {0}) ipa
+        (one_changed m n proper settings count rd ipa level realm is within (λ x old new. Unit {0}) (entry_of (entry_word e)) now beside before (word_table e leaf) (λ y covers. inr tt))
+        others realm refl refl protected in
+        ap (λ (q : RttWalk). ripas_in (entry_at n q ipa)) (both.0 ∙ there) ∙ ap ripas_in now ∙ word_ripas e
 
   -- entries of a range get another RIPAS
   module _ (changeable : Changeable) (ripas : RmmRipas) (top : ℕ) (begins : ipa % entry_size (walk m realm ipa level).level ≡ 0)
@@ -293,37 +303,95 @@ memory_leaf : (m : Machine) (e : RmmRttEntry) (g : ℕ) → memory_below m e ≡
 memory_leaf m (Assigned ripas address) g named = refl
 memory_leaf m _ g named = absurd (cc)
 
+none_ram : (ripas : RmmRipas) → is_ram (left_ripas ripas) ≡ false
+none_ram Empty = refl
+none_ram Ram = refl
+none_ram Destroyed = refl
+
 left_given : (m : Machine) (of ipa rd x : ℕ) (ripas : RmmRipas) → rd ≡ number_of m of → IsBetween ipa (ipa + 4096) x → (left_ripas ripas ≡ ripas) ⊎ IsRipasGiven m (Some (DataDestroy of ipa)) rd x ripas (left_ripas ripas)
 left_given m of ipa rd x Empty named between = inl refl
 left_given m of ipa rd x Ram named between = inr (named, between)
 left_given m of ipa rd x Destroyed named between = inr (named, between)
 
-pub own_destroy : (rd ipa : ℕ) (m : Machine) → IsProper m → Passed (data_destroy rd ipa m).checks → length (data_destroy rd ipa m).machine.granules ≡ length m.granules
-    → (x : ℕ) (after : RmmRealm) → Keeps (DataDestroy rd ipa) m (data_destroy rd ipa m).machine (number_of m rd) x (realm_at m rd) after
-unfolding data_destroy
-own_destroy rd ipa m proper ok count x after =
-    let realm : RmmRealm = realm_at m rd in
-    let r : ℕ = number_of m rd in
-    let is = realm_of-some (state_at m rd) ok.1.1.0 in
-    let s = served m r realm proper.linked is in
-    let begins : ipa % 4096 ≡ 0 = eqb-true _ _ (yes_from _ ok.1.1.1.0) in
-    let within = protected_within realm ipa (yes_from _ ok.1.1.1.1.0) in
-    let found : RttWalk = walk m realm ipa 3 in
-    let reaches : found.level ≡ 3 = eqb-true _ _ (yes_from _ ok.1.1.1.1.1.0) in
-    let old : RmmRttEntry = entry_at m found ipa in
-    let g : ℕ = unwrap_or (memory_below m old) 0 in
-    let named : memory_below m old ≡ Some g = some_of (memory_below m old) (yes_from _ ok.1.1.1.1.1.1.0) in
-    let memory : (granule_at m g).state ≡ Data = ap (λ (c : RmmGranule). c.state) (memory_is m proper.linked rd ipa is within reaches g named) in
-    let not_g : (h : ℕ) → (granule_at m h).state ≡ Rtt → h ≢ g = λ h rtt same. (let states : (granule_at m h).state ≡ (granule_at m g).state = ap (λ (y : ℕ). (granule_at m y).state) same in cc) in
-    let table = place_table m proper.linked r ipa 3 realm is within s.level in
-    let pages = proper.linked.sound.pages in
-    let inside : found.table < length m.pages = (let lt = taken_inside m found.table (λ free. cc) in omega arith) in
-    let e : RmmRttEntry = Unassigned (left_ripas (ripas_in old)) in
-    let k : Machine = with_granule (with_entry m found ipa e) g (of_no_realm Delegated) in
-    leaf_written (DataDestroy rd ipa) m (data_destroy rd ipa m).machine proper refl count r ipa 3 realm is within s.level
-    (λ h here other. page_in-other k g h zero_page (not_g h (ap (λ (c : RmmGranule). c.state) here)) ∙ page_in-other m found.table h _ other)
-    e (page_in-other k g found.table zero_page (not_g found.table table) ∙ page_in-same m found.table _ inside) (memory_leaf m old g named) refl
-    (λ y covers. left_given m rd ipa r y (ripas_in old) refl (page_between found.level ipa y reaches begins covers)) x after
+-- the page at an address is destroyed
+module _ (rd ipa : ℕ) (m : Machine) (proper : IsProper m) (ok : Passed (data_destroy rd ipa m).checks) (count : length (data_destroy rd ipa m).machine.granules ≡ length m.granules) where
+  abbrev realm : RmmRealm
+  realm = realm_at m rd
+
+  abbrev r : ℕ
+  r = number_of m rd
+
+  abbrev end : RttWalk
+  end = walk m (realm_at m rd) ipa 3
+
+  abbrev old : RmmRttEntry
+  old = entry_at m (walk m (realm_at m rd) ipa 3) ipa
+
+  abbrev g : ℕ
+  g = unwrap_or (memory_below m (entry_at m (walk m (realm_at m rd) ipa 3) ipa)) 0
+
+  abbrev e : RmmRttEntry
+  e = Unassigned (left_ripas (ripas_in (entry_at m (walk m (realm_at m rd) ipa 3) ipa)))
+
+  is : (granule_at m (number_of m rd)).state ≡ Rd (realm_at m rd)
+  unfolding data_destroy
+  is = realm_of-some (state_at m rd) ok.1.1.0
+
+  protected : is_protected (realm_at m rd) ipa ≡ true
+  unfolding data_destroy
+  protected = yes_from _ ok.1.1.1.1.0
+
+  within : ipa < 2 ^ (realm_at m rd).s2sz
+  within = protected_within realm ipa protected
+
+  least : (realm_at m rd).start_level ≤ 3
+  least = (served m r realm proper.linked is).level
+
+  reaches : (walk m (realm_at m rd) ipa 3).level ≡ 3
+  unfolding data_destroy
+  reaches = eqb-true _ _ (yes_from _ ok.1.1.1.1.1.0)
+
+  named : memory_below m (entry_at m (walk m (realm_at m rd) ipa 3) ipa) ≡ Some (unwrap_or (memory_below m (entry_at m (walk m (realm_at m rd) ipa 3) ipa)) 0)
+  unfolding data_destroy
+  named = some_of (memory_below m old) (yes_from _ ok.1.1.1.1.1.1.0)
+
+  end_table : (granule_at m (walk m (realm_at m rd) ipa 3).table).state ≡ Rtt
+  end_table = place_table m proper.linked r ipa 3 realm is within least
+
+  not_g : (h : ℕ) → (granule_at m h).state ≡ Rtt → h ≢ g
+  not_g h rtt same =
+      let memory : (granule_at m g).state ≡ Data = ap (λ (c : RmmGranule). c.state) (memory_is m proper.linked rd ipa is within reaches g named) in
+      let states : (granule_at m h).state ≡ (granule_at m g).state = ap (λ (y : ℕ). (granule_at m y).state) same in
+      cc
+
+  abbrev freed : Machine
+  freed = with_granule (with_entry m (walk m (realm_at m rd) ipa 3) ipa e) g (of_no_realm Delegated)
+
+  others : (h : ℕ) → IsTableOf m (number_of m rd) h → h ≢ (walk m (realm_at m rd) ipa 3).table → page_in (data_destroy rd ipa m).machine h ≡ page_in m h
+  unfolding data_destroy
+  others h here other = page_in-other freed g h zero_page (not_g h (ap (λ (c : RmmGranule). c.state) here)) ∙ page_in-other m end.table h _ other
+
+  page : page_in (data_destroy rd ipa m).machine (walk m (realm_at m rd) ipa 3).table
+      ≡ page_with_word (page_in m (walk m (realm_at m rd) ipa 3).table) (entry_index (walk m (realm_at m rd) ipa 3).level ipa) (entry_word e)
+  unfolding data_destroy
+  page =
+      let t = end_table in
+      let pages = proper.linked.sound.pages in
+      let inside : end.table < length m.pages = (let lt = taken_inside m end.table (λ free. cc) in omega arith) in
+      page_in-other freed g end.table zero_page (not_g end.table end_table) ∙ page_in-same m end.table _ inside
+
+  pub own_destroy : (x : ℕ) (after : RmmRealm) → Keeps (DataDestroy rd ipa) m (data_destroy rd ipa m).machine (number_of m rd) x (realm_at m rd) after
+  unfolding data_destroy
+  own_destroy x after =
+      let begins : ipa % 4096 ≡ 0 = eqb-true _ _ (yes_from _ ok.1.1.1.0) in
+      leaf_written (DataDestroy rd ipa) m (data_destroy rd ipa m).machine proper refl count r ipa 3 realm is within least others e page (memory_leaf m old g named) refl
+      (λ y covers. left_given m rd ipa r y (ripas_in old) refl (page_between end.level ipa y reaches begins covers)) x after
+
+  -- what is left there is not RAM
+  pub left_not_ram : is_ram (ripas_at (data_destroy rd ipa m).machine (realm_at m rd) ipa) ≡ false
+  unfolding data_destroy
+  left_not_ram =
+      ap is_ram (leaf_ripas (DataDestroy rd ipa) m (data_destroy rd ipa m).machine proper refl count r ipa 3 realm is within least others e page (memory_leaf m old g named) refl refl protected) ∙ none_ram (ripas_in old)
 
 -- ---- ranges
 

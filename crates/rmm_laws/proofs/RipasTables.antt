@@ -10,6 +10,8 @@ use Rattle.rmi_abi.specs.declared.call.Call.{Call}
 use Rattle.rmi_abi.specs.declared.call.Call.TheVariants.{Version, Features, GranuleDelegate, GranuleUndelegate, RealmCreate, RealmActivate, RealmDestroy, RecAuxCount, RecCreate, RecDestroy, RecEnter, PsciComplete}
 use Rattle.rmi_abi.specs.declared.call.Call.TheVariants.{RttReadEntry, RttCreate, RttDestroy, RttFold, RttMapUnprotected, RttUnmapUnprotected, RttInitRipas, RttSetRipas, DataCreate, DataCreateUnknown, DataDestroy}
 use Rattle.rmi_abi.specs.declared.registers.Registers.{Registers}
+use Rattle.rmi_abi.specs.declared.registers.SmcResult.{SmcResult}
+use Rattle.rmi_abi.specs.declared.word.Word.TheVariants.{Success}
 use Rattle.rmm_model.specs.declared.entry.RmmRipas.{RmmRipas}
 use Rattle.rmm_model.specs.declared.entry.RmmRipas.TheVariants.{Destroyed}
 use Rattle.rmm_model.specs.declared.entry.RmmRttEntry.{RmmRttEntry}
@@ -20,7 +22,7 @@ use Rattle.rmm_model.specs.declared.realm.RmmRealm.{RmmRealm}
 use Rattle.rmm_model.specs.declared.realm.RttWalk.{RttWalk}
 use Rattle.rmm_model.specs.Call.{command_of, performed, rmi_at}
 use Rattle.rmm_model.specs.declared.step.StepWords.{StepWords}
-use Rattle.rmm_model.specs.Entry.{entry_of, entry_word, child_entry, descriptor_of, is_table, ripas_in}
+use Rattle.rmm_model.specs.Entry.{entry_of, entry_word, child_entry, descriptor_of, is_ram, is_table, ripas_in}
 use Rattle.rmm_model.specs.Granule.{of_no_realm, is_delegated}
 use Rattle.rmm_model.specs.Guest.{queued}
 use Rattle.rmm_model.specs.Host.{is_host_page, can_access, can_fill, after_store, after_fill}
@@ -29,6 +31,7 @@ use Rattle.rmm_model.specs.Machine.{Machine, granule_at, page_in, is_aligned, is
 use Rattle.rmm_model.specs.Realm.{is_in_space, is_protected}
 use Rattle.rmm_model.specs.Table.{entry_in_page, children_page, has_live, has_parts}
 use Rattle.rmm_model.specs.Walk.{entry_at, table_below, walk, with_entry}
+use Rattle.rmm_model.specs.Command.DataDestroy.{data_destroy}
 use Rattle.rmm_model.specs.Command.Operand.{realm_at}
 use Rattle.rmm_model.specs.Command.RealmActivate.{realm_activate}
 use Rattle.rmm_model.specs.Command.RealmDestroy.{realm_destroy, without_tables}
@@ -47,6 +50,7 @@ use Rattle.rmm_laws.proofs.Children.{is_free, children_word, length-children, pa
 use Rattle.rmm_laws.proofs.Entries.{address_few, named_inside, number_inside}
 use Rattle.rmm_laws.proofs.EntryRipas.{entry_between}
 use Rattle.rmm_laws.proofs.EntryWords.{descriptor-few, word_ripas}
+use Rattle.rmm_laws.proofs.Freed.{succeeded}
 use Rattle.rmm_laws.proofs.Guests.{entered_tables, completed_tables, given_then, interrupted_then}
 use Rattle.rmm_laws.proofs.Halves.{none_below, word_kind}
 use Rattle.rmm_laws.proofs.Halving.{child_kind}
@@ -58,7 +62,7 @@ use Rattle.rmm_laws.proofs.Mapped.{content_now, entry_now, entry_beside, page_be
 use Rattle.rmm_laws.proofs.Mappings.{place_is, some_of}
 use Rattle.rmm_laws.proofs.Passed.{Passed, kept, yes_from, is_delegated-true, realm_of-some}
 use Rattle.rmm_laws.proofs.Plain.{host_plain}
-use Rattle.rmm_laws.proofs.RipasCalls.{Keeps, by_none, by_rd, by_tables, own_map, own_unmap, own_data, own_unknown, own_destroy, own_init, own_set}
+use Rattle.rmm_laws.proofs.RipasCalls.{Keeps, by_none, by_rd, by_tables, own_map, own_unmap, own_data, own_unknown, own_destroy, left_not_ram, own_init, own_set}
 use Rattle.rmm_laws.proofs.RecLives.{rec_created_tables}
 use Rattle.rmm_laws.proofs.Recs.{IsGoing}
 use Rattle.rmm_laws.proofs.RecsGone.{destroyed_tables}
@@ -304,6 +308,15 @@ unfolding performed
 call_ripas None r m proper = λ rd x before after is then protected. inl (ap (λ (realm : RmmRealm). ripas_at m realm x) (same_realm (sym then ∙ is)))
 call_ripas (Some call) r m proper =
     kept (KeepsRipas m (Some call)) (command_of call m) m (λ rd x before after is then protected. inl (ap (λ (realm : RmmRealm). ripas_at m realm x) (same_realm (sym then ∙ is)))) (ok_ripas call m proper)
+
+-- a page that is destroyed leaves RIPAS that is not RAM
+pub taken_ripas : (m : Machine) (rd ipa : ℕ) → IsProper m → (performed (DataDestroy rd ipa) m).0.word ≡ Success → is_ram (ripas_at (performed (DataDestroy rd ipa) m).1 (realm_at m rd) ipa) ≡ false
+unfolding data_destroy
+taken_ripas m rd ipa proper success =
+    succeeded (is_ram (ripas_at (performed (DataDestroy rd ipa) m).1 (realm_at m rd) ipa) ≡ false) (DataDestroy rd ipa) m refl success
+    (λ ok now.
+    subst (λ (p : SmcResult × Machine). is_ram (ripas_at p.1 (realm_at m rd) ipa) ≡ false) (sym now)
+    (left_not_ram rd ipa m proper ok (touches_of (DataDestroy rd ipa) m proper ok).count))
 
 -- ---- stores, fills, steps and interrupts
 

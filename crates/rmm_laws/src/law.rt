@@ -28,7 +28,7 @@ ghost use Rattle.rmm_model.specs.declared.rec.LastExit.TheVariants.{RipasChange}
 ghost use Rattle.rmm_model.specs.declared.rec.RmmRec.{RmmRec};
 ghost use Rattle.rmm_model.specs.Allowed.{allowed_words};
 ghost use Rattle.rmm_model.specs.Call.{command_of, performed, rmi};
-ghost use Rattle.rmm_model.specs.Entry.{is_live};
+ghost use Rattle.rmm_model.specs.Entry.{is_live, is_ram};
 ghost use Rattle.rmm_model.specs.Granule.{of_no_realm, of_realm};
 ghost use Rattle.rmm_model.specs.Guest.{rec_in, is_rec_named, queued};
 ghost use Rattle.rmm_model.specs.Level.{entry_size};
@@ -38,7 +38,7 @@ ghost use Rattle.rmm_model.specs.Command.Auxiliary.{with_aux};
 ghost use Rattle.rmm_model.specs.Command.Operand.{realm_at, rec_at};
 ghost use Rattle.rmm_model.specs.Command.RealmDestroy.{has_live_table, without_tables};
 ghost use Rattle.rmm_model.specs.Host.{after_store, after_fill};
-ghost use Rattle.rmm_model.specs.Machine.{Machine, granule_at, is_inside, number_of, page_in, with_blank};
+ghost use Rattle.rmm_model.specs.Machine.{Machine, granule_at, is_inside, is_secure, number_of, page_in, with_blank};
 ghost use Rattle.rmm_model.specs.Table.{entry_in_page, has_live};
 ghost use Rattle.rmm_model.specs.Walk.{entry_at, table_below, walk, top};
 ghost use Rattle.rmm_model.specs.Command.RecEnter.{interrupted, step_outcome, after_step, after_entry, after_first_step, after_exit};
@@ -50,7 +50,7 @@ ghost use Rattle.rmm_laws.specs.Owner.{is_rec_in};
 ghost use Rattle.rmm_laws.specs.Proper.{IsProper};
 ghost use Rattle.rmm_laws.specs.Refusal.{IsRefused, is_refusal, IsOneOf, IsRecEnter, IsFault, IsNotGiven, IsNotQueued, IsNotRunning, IsAccess, IsNotDone};
 ghost use Rattle.rmm_laws.specs.Request.{KeepsRequests, IsAskedFor};
-ghost use Rattle.rmm_laws.specs.Ripas.{KeepsRipas};
+ghost use Rattle.rmm_laws.specs.Ripas.{KeepsRipas, ripas_at};
 ghost use Rattle.rmm_laws.specs.Role.{Used, page_count, uses, IsSound};
 ghost use Rattle.rmm_laws.specs.State.{IsRealmIn, KeepsStates, KeepsRealms, HasRim, IsMeasured, Measures, KeepsRims};
 ghost use Rattle.rmm_laws.specs.Step.{HasNextStep, HasRemoval, CanBeTornDown};
@@ -242,10 +242,11 @@ pub fn requests_are_the_guest_s()
 
 /// RIPAS is the guest's. In a NEW realm RMI_RTT_INIT_RIPAS and RMI_DATA_CREATE make it RAM, and nothing else does. In
 /// every realm RMI_DATA_DESTROY and RMI_RTT_DESTROY leave DESTROYED. RMI_RTT_SET_RIPAS makes it what a REC of the realm asked for,
-/// within the range that it asked for. No other call changes the RIPAS of a protected address, and neither do stores and
+/// within the range that it asked for. A page that is destroyed leaves RIPAS that is not RAM. No other call changes the RIPAS of a protected address, and neither do stores and
 /// fills of the host, steps that guests are given, and interrupts.
 pub fn ripas_is_the_guest_s()
     ensures calls { (r : Registers) (m : Machine) → IsProper m → KeepsRipas m (call_in r) (rmi r m).1 }
+    ensures taken { (m : Machine) (rd ipa : ℕ) → IsProper m → (performed (DataDestroy rd ipa) m).0.word ≡ Success → is_ram (ripas_at (performed (DataDestroy rd ipa) m).1 (realm_at m rd) ipa) ≡ false }
     ensures stores { (m : Machine) (address word : ℕ) → IsProper m → KeepsRipas m None (after_store m address word) }
     ensures fills { (m : Machine) (address value : ℕ) → IsProper m → KeepsRipas m None (after_fill m address value) }
     ensures steps { (m : Machine) (rec : ℕ) (w : StepWords) → IsProper m → KeepsRipas m None (queued m rec w).1 }
@@ -269,7 +270,8 @@ pub fn fold_and_unfold()
 /// Other realms stay: a call leaves each granule as it was, but for those of the realm that it is on, and UNDELEGATED
 /// and DELEGATED ones. So it keeps the RDs, tables, pages and RECs of all other realms. Stores and fills of the host
 /// change UNDELEGATED granules alone, a step that a guest is given its REC, and an interrupt its REC and UNDELEGATED
-/// granules. A guest writes pages of its realm, and of the host. Settings and the number of granules stay. VMIDs are
+/// granules. A guest writes pages of its realm, and of the host
+/// outside the secure world. Settings and the number of granules stay. VMIDs are
 /// those before, but for calls that create or destroy a realm.
 pub fn other_realms_stay()
     ensures calls { (r : Registers) (m : Machine) (granule : ℕ) → IsProper m → IsOfAnother m (call_in r) granule → IsSameAt m (rmi r m).1 granule }
@@ -282,6 +284,8 @@ pub fn other_realms_stay()
     ensures interrupts { (m : Machine) (rec granule : ℕ) → granule ≢ number_of m rec → (granule_at m granule).state ≢ Undelegated → IsSameAt m (interrupted m rec).1 granule }
     ensures writes { (m : Machine) (rd rec ipa value granule : ℕ) (size : AccessSize) (outcome : StepOutcome) (realm : RmmRealm) → IsProper m → (granule_at m rd).state ≡ Rd realm
         → granule_at m granule ≢ of_realm rd Data → (granule_at m granule).state ≢ Undelegated → IsSameAt m (after_step m realm rec (Write ipa value size) outcome) granule }
+    ensures secure { (m : Machine) (rd rec ipa value granule : ℕ) (size : AccessSize) (outcome : StepOutcome) (realm : RmmRealm) → IsProper m → (granule_at m rd).state ≡ Rd realm
+        → (granule_at m granule).state ≡ Undelegated → is_secure m (m.settings.base + granule * 4096) ≡ true → IsSameAt m (after_step m realm rec (Write ipa value size) outcome) granule }
     ensures settings { (r : Registers) (m : Machine) → IsProper m → ((rmi r m).1.settings ≡ m.settings) × (length (rmi r m).1.granules ≡ length m.granules) }
 {}
 
