@@ -1,5 +1,5 @@
 -- The RIPAS of addresses after writes of entries that lead to no table.
-use Rattle.std.proofs.Common.{◌≡◌, ◌≢◌, ℕ, zero, suc, ◌+◌, ◌-◌, ◌*◌, ◌/◌, ◌%◌, ◌^◌, ◌<◌, ◌≤◌, ◌⊎◌, inl, inr, ◌||◌, Bool, true, false, not, List, length, Option, Some, None, refl, sym, ap, subst, ◌∙◌, ⊎_elim, arith}
+use Rattle.std.proofs.Common.{◌≡◌, ◌≢◌, ℕ, zero, suc, ◌+◌, ◌-◌, ◌*◌, ◌/◌, ◌%◌, ◌^◌, ◌<◌, ◌≤◌, ◌⊎◌, inl, inr, ◌||◌, true, false, List, length, refl, sym, ap, subst, ◌∙◌, ⊎_elim, arith}
 use Rattle.std.specs.Prelude.{nat_le}
 use Rattle.std.proofs.Math.Bool.{or-false}
 use Rattle.std.proofs.lemmas.Bool.{cases_Bool, cases_eq, cond_both, and_parts, cond-false, cond-true, leb-false}
@@ -7,8 +7,7 @@ use Rattle.rmm_model.specs.declared.entry.Changeable.{Changeable}
 use Rattle.rmm_model.specs.declared.entry.RmmRipas.{RmmRipas}
 use Rattle.rmm_model.specs.declared.entry.RmmRipas.TheVariants.{Destroyed}
 use Rattle.rmm_model.specs.declared.entry.RmmRttEntry.{RmmRttEntry}
-use Rattle.rmm_model.specs.declared.entry.RmmRttEntry.TheVariants.{Unassigned, Assigned, Table, UnassignedNs, AssignedNs}
-use Rattle.rmm_model.specs.declared.granule.RmmGranule.{RmmGranule}
+use Rattle.rmm_model.specs.declared.entry.RmmRttEntry.TheVariants.{Unassigned, Assigned}
 use Rattle.rmm_model.specs.declared.granule.RmmGranuleState.TheVariants.{Rd}
 use Rattle.rmm_model.specs.declared.realm.RmmRealm.{RmmRealm}
 use Rattle.rmm_model.specs.declared.realm.RttWalk.{RttWalk}
@@ -90,8 +89,11 @@ module _ (m n : Machine) (proper : IsProper m) (settings : n.settings ≡ m.sett
         inl (record {
           leads = none_after ∙ sym none_before;
           good = λ table leads. tt;
-          end = (refl, subst (λ (t : ℕ). (ripas_in (entry_in_page (page_in n t) j) ≡ ripas_in (entry_in_page (page_in m t) j)) ⊎ G x (ripas_in (entry_in_page (page_in m t) j)) (ripas_in (entry_in_page (page_in n t) j))) (sym here)
-              (other.2 x (covered x p seat here).1));
+          end = (
+            refl,
+            subst (λ (t : ℕ). (ripas_in (entry_in_page (page_in n t) j) ≡ ripas_in (entry_in_page (page_in m t) j)) ⊎ G x (ripas_in (entry_in_page (page_in m t) j)) (ripas_in (entry_in_page (page_in n t) j))) (sym here)
+                (other.2 x (covered x p seat here).1),
+          );
         }))
         (each j (entry_index-few p.level x))
 

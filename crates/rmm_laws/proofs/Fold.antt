@@ -1,17 +1,15 @@
 -- RMI_RTT_FOLD undoes RMI_RTT_CREATE.
-use Rattle.std.proofs.Common.{◌≡◌, ◌≢◌, ℕ, zero, suc, ◌+◌, ◌-◌, ◌*◌, ◌^◌, ◌<◌, ◌≤◌, ◌/◌, ◌%◌, ◌==◌, ◌&&◌, ◌||◌, ◌++◌, Bool, true, false, not, List, length, Option, Some, None, unwrap_or, refl, sym, ap, subst, ◌∙◌, ⊎_elim, arith, lit≤}
+use Rattle.std.proofs.Common.{◌≡◌, ◌≢◌, ℕ, zero, suc, ◌+◌, ◌-◌, ◌*◌, ◌^◌, ◌<◌, ◌≤◌, ◌/◌, ◌%◌, ◌==◌, ◌&&◌, ◌||◌, ◌++◌, Bool, true, false, not, List, length, Option, Some, None, unwrap_or, refl, sym, ap, subst, ◌∙◌, ⊎_elim, arith}
 use Rattle.std.specs.Prelude.{nat_le, is_none, is_some}
 use Rattle.std.specs.Option.{option_map_or}
 use Rattle.std.proofs.lemmas.Bool.{cases_Bool, cases_eq, or_right, and_parts, and_from, and_left, and_right, eq-eqb, eqb-true, leb-true, lt-leb, ltb-true, not-true}
 use Rattle.std.proofs.lemmas.List.{length-set}
 use Rattle.granule_addr.specs.Page.{zero_page}
-use Rattle.page_arena.specs.Pages.{length-page_of}
 use Rattle.page_arena.specs.Word.{word_of_page, page_with_word}
 use Rattle.rmi_abi.specs.declared.call.Call.{Call}
 use Rattle.rmi_abi.specs.declared.call.Call.TheVariants.{RttCreate, RttFold}
 use Rattle.rmi_abi.specs.declared.registers.SmcResult.{SmcResult}
 use Rattle.rmi_abi.specs.declared.word.Word.TheVariants.{Success}
-use Rattle.rmm_model.specs.declared.entry.RmmRipas.TheVariants.{Empty, Ram, Destroyed}
 use Rattle.rmm_model.specs.declared.entry.RmmRttEntry.{RmmRttEntry}
 use Rattle.rmm_model.specs.declared.entry.RmmRttEntry.TheVariants.{Unassigned, Assigned, Table, UnassignedNs, AssignedNs}
 use Rattle.rmm_model.specs.declared.granule.RmmGranule.{RmmGranule}
@@ -37,12 +35,11 @@ use Rattle.rmm_laws.specs.Role.{IsSound, IsLinked}
 use Rattle.rmm_laws.specs.Owner.{IsOrderly}
 use Rattle.rmm_laws.proofs.Children.{children_word, length-children}
 use Rattle.rmm_laws.proofs.Entries.{number_inside, address_few, named_inside, entry-same, entry-other}
-use Rattle.rmm_laws.proofs.EntryWords.{descriptor-few, entry_of-entry_word, entry_word-fits}
+use Rattle.rmm_laws.proofs.EntryWords.{descriptor-few, entry_of-entry_word}
 use Rattle.rmm_laws.proofs.Freed.{succeeded}
 use Rattle.rmm_laws.proofs.Mapped.{content_now, entry_now, entry_beside, page_beside, new_sound}
 use Rattle.rmm_laws.proofs.Mappings.{place_is}
 use Rattle.rmm_laws.proofs.Mistakes.{below_same}
-use Rattle.rmm_laws.proofs.PageWords.{word_of_page-with_words}
 use Rattle.rmm_laws.proofs.Passed.{Passed, yes_from, is_delegated-true, realm_of-some}
 use Rattle.rmm_laws.proofs.Seats.{walk_seat}
 use Rattle.rmm_laws.proofs.Teardown.{none_failing, no_more}
@@ -377,13 +374,12 @@ module _ (m : Machine) (rd rtt ipa level : ℕ) (proper : IsProper m) (ok : Pass
       let l = least in
       let t = there in
       let placed = proper.ordered.halves.is.block found.table i table_is (entry_index-few found.level ipa) in
-      let depth : proper.ordered.halves.level found.table ≡ level - 1 = (walk_seat m proper.linked proper.ordered.halves r ipa realm is within (level - 1)).depth ∙ there in
-      (
+      let depth : proper.ordered.halves.level found.table ≡ level - 1 = (walk_seat m proper.linked proper.ordered.halves r ipa realm is within (level - 1)).depth ∙ there in (
         ⊎_elim
-        (λ (sure : is_mapping parent ≡ true). or_right (not (is_mapping parent)) (is_multiple (descriptor_of parent / 4096 * 4096) (entry_size (level - 1)))
-        (eq-eqb _ _ (subst (λ (k : ℕ). descriptor_of parent / 4096 * 4096 % entry_size k ≡ 0) depth (placed sure).1)))
-        (λ (never : is_mapping parent ≡ false). ap (λ (b : Bool). not b || is_multiple (descriptor_of parent / 4096 * 4096) (entry_size (level - 1))) never)
-        (cases_Bool (is_mapping parent)),
+            (λ (sure : is_mapping parent ≡ true). or_right (not (is_mapping parent)) (is_multiple (descriptor_of parent / 4096 * 4096) (entry_size (level - 1)))
+            (eq-eqb _ _ (subst (λ (k : ℕ). descriptor_of parent / 4096 * 4096 % entry_size k ≡ 0) depth (placed sure).1)))
+            (λ (never : is_mapping parent ≡ false). ap (λ (b : Bool). not b || is_multiple (descriptor_of parent / 4096 * 4096) (entry_size (level - 1))) never)
+            (cases_Bool (is_mapping parent)),
         λ sure. (let low = (placed sure).0 in omega arith),
       )
 

@@ -1,15 +1,10 @@
 -- Writes of commands keep entries of the half that they cover.
-use Rattle.std.proofs.Common.{◌≡◌, ◌≢◌, ℕ, ◌+◌, ◌*◌, ◌/◌, ◌^◌, ◌<◌, ◌≤◌, ◌⊎◌, inl, inr, ◌==◌, true, false, List, length, Some, refl, sym, ap, subst, ◌∙◌, ⊎_elim, lit≤, arith}
-use Rattle.std.specs.Int.{from_le_bytes, w64}
+use Rattle.std.proofs.Common.{◌≡◌, ◌≢◌, ℕ, ◌+◌, ◌*◌, ◌/◌, ◌^◌, ◌<◌, ◌≤◌, ◌⊎◌, inl, inr, ◌==◌, true, false, List, length, Some, refl, sym, ap, subst, ◌∙◌, ⊎_elim, arith}
 use Rattle.std.specs.Prelude.{if◌then◌else◌}
-use Rattle.std.proofs.Common.{replicate}
-use Rattle.std.proofs.lemmas.Bool.{cases_eq, cases_lt, cond-true, cond-false, eq-eqb, ne_eqb, both_ways}
+use Rattle.std.proofs.lemmas.Bool.{cases_eq, cases_lt, cond-true, cond-false, eq-eqb, ne_eqb}
 use Rattle.std.proofs.lemmas.List.{length-set}
-use Rattle.granule_addr.specs.Page.{page_of, zero_page}
-use Rattle.page_arena.specs.Pages.{length-page_of}
 use Rattle.page_arena.specs.Word.{word_of_page}
 use Rattle.rmm_model.specs.declared.entry.RmmRipas.{RmmRipas}
-use Rattle.rmm_model.specs.declared.entry.RmmRipas.TheVariants.{Empty, Ram, Destroyed}
 use Rattle.rmm_model.specs.declared.entry.RmmRttEntry.{RmmRttEntry}
 use Rattle.rmm_model.specs.declared.entry.RmmRttEntry.TheVariants.{Unassigned, Assigned, Table, UnassignedNs, AssignedNs}
 use Rattle.rmm_model.specs.declared.granule.RmmGranule.{RmmGranule}
@@ -20,7 +15,7 @@ use Rattle.rmm_model.specs.Entry.{entry_of, entry_word, child_entry, descriptor_
 use Rattle.rmm_model.specs.Granule.{of_realm}
 use Rattle.rmm_model.specs.Level.{entry_size, entry_index}
 use Rattle.rmm_model.specs.Machine.{Machine, granule_at, page_in, is_inside, number_of, with_granule, with_page}
-use Rattle.rmm_model.specs.Table.{entry_in_page, has_parts, children_page, with_words, with_words_from}
+use Rattle.rmm_model.specs.Table.{entry_in_page, has_parts, children_page, with_words_from}
 use Rattle.rmm_model.specs.Walk.{entry_at, with_entry, table_below, walk}
 use Rattle.rmm_model.specs.Command.RipasRange.{with_ripas_from}
 use Rattle.rmm_laws.specs.Half.{IsOfHalf, IsPlaced, IsHalved, HasHalves}
@@ -30,7 +25,6 @@ use Rattle.rmm_laws.proofs.Entries.{named_inside}
 use Rattle.rmm_laws.proofs.EntryWords.{descriptor-few, entry_of-entry_word}
 use Rattle.rmm_laws.proofs.Halves.{kind_of, half_alike, word_kind, none_below, plain_halved, below_same, no_rtt, Fits, fits_before, page_halved, has_space, plain_both, entry_halved, leaf_halved, alike_halved}
 use Rattle.rmm_laws.proofs.Mappings.{place_table, entry_changed, entry_kept}
-use Rattle.rmm_laws.proofs.PageWords.{word_of_page-with_words}
 use Rattle.rmm_laws.proofs.Placing.{placed_child, placed_none, placed_ripas, placed_word}
 use Rattle.rmm_laws.proofs.Passed.{some_same}
 use Rattle.rmm_laws.proofs.Seats.{start_table, child_table, walk_seat, in_space, at_seat}

@@ -1,19 +1,17 @@
 -- Tables that stay as they are, and the RIPAS of addresses then.
-use Rattle.std.proofs.Common.{◌≡◌, ◌≢◌, ℕ, ◌<◌, ◌≤◌, ◌⊎◌, inl, inr, Bool, true, false, List, length, Option, Some, None, refl, sym, ap, subst, ◌∙◌, ⊎_elim}
-use Rattle.std.proofs.lemmas.Bool.{cases_eq, ltb-true, both_ways}
+use Rattle.std.proofs.Common.{◌≡◌, ℕ, inl, inr, true, List, length, Option, Some, None, refl, sym, ap, ◌∙◌, ⊎_elim}
+use Rattle.std.proofs.lemmas.Bool.{both_ways}
 use Rattle.rmm_model.specs.declared.entry.RmmRttEntry.{RmmRttEntry}
 use Rattle.rmm_model.specs.declared.granule.RmmGranule.{RmmGranule}
-use Rattle.rmm_model.specs.declared.granule.RmmGranuleState.{RmmGranuleState}
-use Rattle.rmm_model.specs.declared.granule.RmmGranuleState.TheVariants.{Rd, Rtt, Undelegated}
+use Rattle.rmm_model.specs.declared.granule.RmmGranuleState.TheVariants.{Rd}
 use Rattle.rmm_model.specs.declared.realm.RmmRealm.{RmmRealm}
 use Rattle.rmm_model.specs.declared.realm.RttWalk.{RttWalk}
 use Rattle.rmm_model.specs.Entry.{ripas_in}
-use Rattle.rmm_model.specs.Granule.{of_realm}
 use Rattle.rmm_model.specs.Level.{entry_index}
-use Rattle.rmm_model.specs.Machine.{Machine, granule_at, page_in, with_granule, with_page, with_blank}
+use Rattle.rmm_model.specs.Machine.{Machine, granule_at, page_in}
 use Rattle.rmm_model.specs.Realm.{is_protected}
 use Rattle.rmm_model.specs.Table.{entry_in_page}
-use Rattle.rmm_model.specs.Walk.{entry_at, table_below, walk}
+use Rattle.rmm_model.specs.Walk.{entry_at, table_below}
 use Rattle.rmm_laws.specs.Apart.{IsSameAt, IsOfRealm, IsSpare}
 use Rattle.rmm_laws.specs.Owner.{is_rd}
 use Rattle.rmm_laws.specs.Proper.{IsProper}
@@ -24,7 +22,6 @@ use Rattle.rmm_laws.proofs.Halves.{below_same}
 use Rattle.rmm_laws.proofs.Mappings.{protected_within}
 use Rattle.rmm_laws.proofs.SameTables.{KeepsTables}
 use Rattle.rmm_laws.proofs.Touching.{Touches, IsMine}
-use Rattle.rmm_laws.proofs.Writes.{granule_at-other, page_in-other}
 
 -- ---- tables of a realm
 

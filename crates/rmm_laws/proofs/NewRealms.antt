@@ -1,7 +1,7 @@
 -- The starting tables of a new realm are of the halves that they cover.
 use Rattle.std.proofs.Common.{◌≡◌, ◌≢◌, ℕ, ◌+◌, ◌-◌, ◌*◌, ◌/◌, ◌^◌, ◌<◌, ◌≤◌, ◌&&◌, Bool, true, false, List, Some, refl, sym, ap, subst, ◌∙◌, ⊎_elim, lit≤, arith}
 use Rattle.std.specs.Prelude.{nat_le, nat_lt, if◌then◌else◌}
-use Rattle.std.proofs.lemmas.Bool.{cases_eq, cases_lt, cases_Bool, cond_both, cond-true, cond-false, and_from, and_left, and_right, le-leb, lt-ltb, lt-leb, le-ltb, ltb-true, ltb-false, both_ways}
+use Rattle.std.proofs.lemmas.Bool.{cases_eq, cases_lt, cases_Bool, cond_both, cond-true, cond-false, and_from, and_left, and_right, le-leb, lt-ltb, lt-leb, le-ltb, ltb-true, ltb-false}
 use Rattle.granule_addr.specs.Page.{zero_page}
 use Rattle.page_arena.specs.Pages.{length-page_of}
 use Rattle.rmi_abi.specs.declared.settings.RmmSettings.{RmmSettings}

@@ -169,11 +169,11 @@ folded_placed : (m : Machine) (first : RmmRttEntry) (level above least : ℕ) �
 folded_placed m first level above least is more aligned passed = λ mapped.
     let begins = second_holds (not (is_mapping first)) (is_multiple (descriptor_of first / 4096 * 4096) (entry_size (level - 1))) (ap not mapped) aligned in (
       ⊎_elim
-      (λ (low : m.settings.block_level < level). omega arith)
-      (λ (high : level ≤ m.settings.block_level).
-      absurd (both_ways (is_mapping first && nat_le level m.settings.block_level) passed
-      (and_from (is_mapping first) (nat_le level m.settings.block_level) mapped (le-leb level m.settings.block_level high))))
-      (cases_lt m.settings.block_level level),
+          (λ (low : m.settings.block_level < level). omega arith)
+          (λ (high : level ≤ m.settings.block_level).
+          absurd (both_ways (is_mapping first && nat_le level m.settings.block_level) passed
+          (and_from (is_mapping first) (nat_le level m.settings.block_level) mapped (le-leb level m.settings.block_level high))))
+          (cases_lt m.settings.block_level level),
       subst (λ (l : ℕ). descriptor_of first / 4096 * 4096 % entry_size l ≡ 0) (sym is) (eqb-true _ _ begins),
     )
 

@@ -1,10 +1,9 @@
 -- The RIPAS of protected addresses after each call.
-use Rattle.std.proofs.Common.{◌≡◌, ◌≢◌, ℕ, zero, suc, ◌+◌, ◌-◌, ◌*◌, ◌/◌, ◌%◌, ◌^◌, ◌<◌, ◌≤◌, ◌⊎◌, ◌==◌, ◌&&◌, inl, inr, Bool, true, false, not, List, length, Option, Some, None, unwrap_or, refl, sym, ap, subst, ◌∙◌, ⊎_elim, arith}
-use Rattle.std.specs.Prelude.{nat_le, is_none, is_some}
-use Rattle.std.proofs.lemmas.Bool.{cases_Bool, cases_eq, cond-true, cond-false, and_parts, eqb-true, leb-true, ltb-true, not-true, both_ways}
+use Rattle.std.proofs.Common.{◌≡◌, ◌≢◌, ℕ, ◌+◌, ◌/◌, ◌%◌, ◌^◌, ◌<◌, ◌≤◌, ◌⊎◌, ◌&&◌, inl, inr, Bool, true, false, List, length, Option, Some, None, unwrap_or, refl, sym, ap, subst, ◌∙◌, ⊎_elim, arith}
+use Rattle.std.specs.Prelude.{nat_le, is_some}
+use Rattle.std.proofs.lemmas.Bool.{cases_Bool, cases_eq, cond-true, cond-false, and_parts, eqb-true, leb-true}
 use Rattle.std.proofs.lemmas.List.{length-set}
 use Rattle.granule_addr.specs.Page.{zero_page}
-use Rattle.page_arena.specs.Pages.{length-page_of}
 use Rattle.page_arena.specs.Page.{page_at}
 use Rattle.page_arena.specs.Word.{word_of_page, page_with_word}
 use Rattle.page_arena.specs.Words.{word_of_page-page_with_word_same, word_of_page-page_with_word_other}
@@ -14,15 +13,14 @@ use Rattle.rmm_model.specs.declared.entry.Changeable.{Changeable}
 use Rattle.rmm_model.specs.declared.entry.RmmRipas.{RmmRipas}
 use Rattle.rmm_model.specs.declared.entry.RmmRipas.TheVariants.{Empty, Ram, Destroyed}
 use Rattle.rmm_model.specs.declared.entry.RmmRttEntry.{RmmRttEntry}
-use Rattle.rmm_model.specs.declared.entry.RmmRttEntry.TheVariants.{Unassigned, Assigned, Table, UnassignedNs, AssignedNs}
+use Rattle.rmm_model.specs.declared.entry.RmmRttEntry.TheVariants.{Unassigned, Assigned, UnassignedNs, AssignedNs}
 use Rattle.rmm_model.specs.declared.granule.RmmGranule.{RmmGranule}
 use Rattle.rmm_model.specs.declared.granule.RmmGranuleState.{RmmGranuleState}
 use Rattle.rmm_model.specs.declared.granule.RmmGranuleState.TheVariants.{Delegated, Data, Rd, Rtt}
 use Rattle.rmm_model.specs.declared.realm.RmmRealm.{RmmRealm}
-use Rattle.rmm_model.specs.declared.realm.RmmRealmState.TheVariants.{New}
 use Rattle.rmm_model.specs.declared.realm.RttWalk.{RttWalk}
 use Rattle.rmm_model.specs.declared.rec.RipasRequest.{RipasRequest}
-use Rattle.rmm_model.specs.Entry.{entry_of, entry_word, entry_at_kind, can_change, entry_with_ripas, is_ram, is_table, is_unassigned, is_unassigned_ns, is_assigned_ns, ripas_in}
+use Rattle.rmm_model.specs.Entry.{entry_of, entry_word, can_change, entry_with_ripas, is_ram, is_table, is_unassigned, is_unassigned_ns, is_assigned_ns, ripas_in}
 use Rattle.rmm_model.specs.Granule.{of_no_realm, of_realm, is_delegated, realm_of}
 use Rattle.rmm_model.specs.Level.{entry_size, entry_index}
 use Rattle.rmm_model.specs.Machine.{Machine, granule_at, page_in, is_aligned, is_inside, number_of, state_at, with_granule, with_page}
@@ -43,14 +41,13 @@ use Rattle.rmm_laws.specs.Owner.{is_rd}
 use Rattle.rmm_laws.specs.Proper.{IsProper}
 use Rattle.rmm_laws.specs.Ripas.{ripas_at, IsBetween, IsRipasGiven}
 use Rattle.rmm_laws.specs.Walk.{IsTableOf}
-use Rattle.rmm_laws.proofs.Entries.{address_few, number_inside}
-use Rattle.rmm_laws.proofs.EntryRipas.{IsChanged, entry_between, changed, changed_ripas, one_changed, can_in_range, in_range, changed_to, destroyed_too}
+use Rattle.rmm_laws.proofs.EntryRipas.{IsChanged, changed, changed_ripas, one_changed, can_in_range, in_range, changed_to, destroyed_too}
 use Rattle.rmm_laws.proofs.EntryWords.{entry_word-fits, word_ripas, word_table}
 use Rattle.rmm_laws.proofs.Guests.{same_owner}
 use Rattle.rmm_laws.proofs.KeptTables.{KeepsTablesOf, tables_apart, same_ripas}
-use Rattle.rmm_laws.proofs.Mappings.{served, place_is, place_table, protected_within, unprotected_within, change_count-few, entry_changed, entry_kept, changed_or_kept, some_of, owned_protected}
+use Rattle.rmm_laws.proofs.Mappings.{served, place_table, protected_within, unprotected_within, change_count-few, entry_changed, entry_kept, changed_or_kept, some_of, owned_protected}
 use Rattle.rmm_laws.proofs.Ordering.{memory_is}
-use Rattle.rmm_laws.proofs.Passed.{Passed, yes_from, is_delegated-true, realm_of-some, rd_named-is, some_same}
+use Rattle.rmm_laws.proofs.Passed.{Passed, yes_from, is_delegated-true, realm_of-some, some_same}
 use Rattle.rmm_laws.proofs.Seats.{found_few}
 use Rattle.rmm_laws.proofs.StateCalls.{new_if}
 use Rattle.rmm_laws.proofs.States.{same_realm}

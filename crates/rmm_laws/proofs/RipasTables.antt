@@ -1,6 +1,6 @@
 -- The RIPAS of protected addresses after calls that make or remove a table, and after each call.
-use Rattle.std.proofs.Common.{◌≡◌, ◌≢◌, ℕ, ◌+◌, ◌-◌, ◌*◌, ◌/◌, ◌%◌, ◌^◌, ◌<◌, ◌≤◌, ◌⊎◌, ◌==◌, ◌&&◌, inl, inr, Bool, true, false, not, List, length, Option, Some, None, unwrap_or, refl, sym, ap, subst, ◌∙◌, ⊎_elim, arith}
-use Rattle.std.specs.Prelude.{nat_le, is_some}
+use Rattle.std.proofs.Common.{◌≡◌, ◌≢◌, ℕ, ◌+◌, ◌-◌, ◌/◌, ◌%◌, ◌^◌, ◌<◌, ◌≤◌, ◌⊎◌, ◌==◌, ◌&&◌, inl, inr, true, false, not, List, length, Option, Some, None, unwrap_or, refl, sym, ap, subst, ◌∙◌, ⊎_elim, arith}
+use Rattle.std.specs.Prelude.{nat_le}
 use Rattle.std.proofs.lemmas.Bool.{cond_both, and_parts, eqb-true, leb-true, ltb-true, ltb-false, not-true}
 use Rattle.std.proofs.lemmas.List.{length-set}
 use Rattle.granule_addr.specs.Page.{page_of}
@@ -12,7 +12,6 @@ use Rattle.rmi_abi.specs.declared.call.Call.TheVariants.{RttReadEntry, RttCreate
 use Rattle.rmi_abi.specs.declared.registers.Registers.{Registers}
 use Rattle.rmi_abi.specs.declared.registers.SmcResult.{SmcResult}
 use Rattle.rmi_abi.specs.declared.word.Word.TheVariants.{Success}
-use Rattle.rmm_model.specs.declared.entry.RmmRipas.{RmmRipas}
 use Rattle.rmm_model.specs.declared.entry.RmmRipas.TheVariants.{Destroyed}
 use Rattle.rmm_model.specs.declared.entry.RmmRttEntry.{RmmRttEntry}
 use Rattle.rmm_model.specs.declared.entry.RmmRttEntry.TheVariants.{Unassigned, Assigned, Table, UnassignedNs, AssignedNs}
@@ -45,7 +44,6 @@ use Rattle.rmm_laws.specs.Apart.{named_realm}
 use Rattle.rmm_laws.specs.Proper.{IsProper}
 use Rattle.rmm_laws.specs.Ripas.{ripas_at, IsRipasGiven, KeepsRipas}
 use Rattle.rmm_laws.specs.State.{fixed, IsLasting, IsDestroyed}
-use Rattle.rmm_laws.specs.Walk.{IsTableOf}
 use Rattle.rmm_laws.proofs.Children.{is_free, children_word, length-children, part_word, unused_free}
 use Rattle.rmm_laws.proofs.Entries.{address_few, named_inside, number_inside}
 use Rattle.rmm_laws.proofs.EntryRipas.{entry_between}
@@ -71,7 +69,7 @@ use Rattle.rmm_laws.proofs.Seats.{in_upper}
 use Rattle.rmm_laws.proofs.States.{same_realm}
 use Rattle.rmm_laws.proofs.TableRipas.{made_ripas, gone_ripas}
 use Rattle.rmm_laws.proofs.Touching.{Touches}
-use Rattle.rmm_laws.proofs.Walks.{IsPlace, next, entry_index-few}
+use Rattle.rmm_laws.proofs.Walks.{IsPlace, next}
 use Rattle.rmm_laws.proofs.Writes.{granule_at-same, inside-same, number-same, taken_inside}
 
 -- ---- children

@@ -1,5 +1,5 @@
 -- The RIPAS of addresses after a table was made in the place of an entry, or an entry took the place of a table.
-use Rattle.std.proofs.Common.{◌≡◌, ◌≢◌, ℕ, zero, suc, ◌+◌, ◌*◌, ◌/◌, ◌^◌, ◌<◌, ◌≤◌, ◌⊎◌, inl, inr, true, false, List, length, Option, Some, None, refl, sym, ap, subst, ◌∙◌, ⊎_elim, arith}
+use Rattle.std.proofs.Common.{◌≡◌, ◌≢◌, ℕ, zero, suc, ◌+◌, ◌*◌, ◌/◌, ◌^◌, ◌<◌, ◌≤◌, ◌⊎◌, inl, inr, true, false, List, length, Some, None, refl, sym, ap, subst, ◌∙◌, ⊎_elim, arith}
 use Rattle.std.specs.Prelude.{nat_lt, ◌==◌}
 use Rattle.std.proofs.lemmas.Bool.{cases_eq, cond-true, and_from, lt-ltb}
 use Rattle.rmm_model.specs.declared.entry.RmmRipas.{RmmRipas}
@@ -27,7 +27,7 @@ use Rattle.rmm_laws.proofs.Mappings.{served, protected_within}
 use Rattle.rmm_laws.proofs.Seats.{IsSeat, seat_next, walk_seat}
 use Rattle.rmm_laws.proofs.Serving.{few_at}
 use Rattle.rmm_laws.proofs.Sides.{whole_index}
-use Rattle.rmm_laws.proofs.Walks.{IsPlace, by_entry, one_place, start_inside, uses-entry, entry_index-few}
+use Rattle.rmm_laws.proofs.Walks.{by_entry, one_place, start_inside, uses-entry, entry_index-few}
 
 -- The machines differ in one entry of a table of a realm, and in the table that it leads to.
 module _ (m n : Machine) (proper : IsProper m) (settings : n.settings ≡ m.settings) (count : length n.granules ≡ length m.granules) (rd ipa level : ℕ) (realm : RmmRealm)
