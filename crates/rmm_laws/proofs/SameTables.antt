@@ -1,14 +1,13 @@
 -- Tables that single writes leave as they are.
 use Rattle.std.proofs.Common.{◌≡◌, ◌≢◌, ℕ, ◌<◌, List, refl, ap, sym, ◌∙◌, ⊎_elim}
+use Rattle.std.specs.Prelude.{IfSome, Some}
 use Rattle.rmm_model.specs.declared.granule.RmmGranule.{RmmGranule}
 use Rattle.rmm_model.specs.declared.granule.RmmGranuleState.TheVariants.{Rtt}
-use Rattle.rmm_model.specs.Machine.{Machine, granule_at, with_granule, with_page}
-use Rattle.rmm_model.specs.Rec.{aux_of}
-use Rattle.rmm_model.specs.Machine.{page_in}
-use Rattle.rmm_model.specs.Walk.{granule_named}
-use Rattle.std.specs.Prelude.{IfSome, Some}
 use Rattle.rmm_model.specs.Granule.{realm_of}
+use Rattle.rmm_model.specs.Machine.{Machine, granule_at, page_in, with_granule, with_page}
 use Rattle.rmm_model.specs.Realm.{IsServed}
+use Rattle.rmm_model.specs.Rec.{aux_of}
+use Rattle.rmm_model.specs.Walk.{granule_named}
 use Rattle.rmm_laws.specs.Apart.{IsSameAt}
 use Rattle.rmm_laws.proofs.Wiping.{IsWiped, first_named}
 use Rattle.rmm_laws.proofs.Writes.{granule_at-other, page_in-other}

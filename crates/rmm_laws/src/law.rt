@@ -240,10 +240,10 @@ pub fn requests_are_the_guest_s()
     ensures left { (m : Machine) (g : ℕ) (exit : RecExit) (last : LastExit) → KeepsRequests m None (after_exit m g exit last) }
 {}
 
-/// RIPAS is the guest's. In a NEW realm RMI_RTT_INIT_RIPAS and RMI_DATA_CREATE make it RAM, and nothing else does. In
-/// every realm RMI_DATA_DESTROY and RMI_RTT_DESTROY leave DESTROYED. RMI_RTT_SET_RIPAS makes it what a REC of the realm asked for,
-/// within the range that it asked for. A page that is destroyed leaves RIPAS that is not RAM. No other call changes the RIPAS of a protected address, and neither do stores and
-/// fills of the host, steps that guests are given, and interrupts.
+/// RIPAS is the guest's. RMI_RTT_INIT_RIPAS and RMI_DATA_CREATE make it RAM while a realm is NEW. RMI_DATA_DESTROY and
+/// RMI_RTT_DESTROY make it DESTROYED, and a page that is destroyed leaves RIPAS that is not RAM. RMI_RTT_SET_RIPAS makes
+/// it what a REC of the realm asked for, within the range that it asked for. No other call changes the RIPAS of a
+/// protected address, and neither do stores and fills of the host, steps that guests are given, and interrupts.
 pub fn ripas_is_the_guest_s()
     ensures calls { (r : Registers) (m : Machine) → IsProper m → KeepsRipas m (call_in r) (rmi r m).1 }
     ensures taken { (m : Machine) (rd ipa : ℕ) → IsProper m → (performed (DataDestroy rd ipa) m).0.word ≡ Success → is_ram (ripas_at (performed (DataDestroy rd ipa) m).1 (realm_at m rd) ipa) ≡ false }
