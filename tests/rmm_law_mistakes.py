@@ -88,6 +88,14 @@ def data_is_not_copied(self: tables.DataCreate) -> Outcome:
     return done()
 
 
+def data_is_moved(self: tables.DataCreate) -> Outcome:
+    page = self.machine.granule(self.src).page
+    self.machine.granule(self.src).page = machine.ZEROS
+    self.map(RAM, page)
+    tables.extend_by_data(self.realm, self.ipa, self.flags, page)
+    return done()
+
+
 def rec_stays_counted(self: recs.RecDestroy) -> Outcome:
     for it in (*self.named.aux, self.rec):
         self.machine.become(it, DELEGATED)
@@ -212,6 +220,7 @@ MISTAKES = {
     "aux_is_kept": Mistake(patch.object(recs.RecDestroy, "effect", aux_is_kept), ("roles", "teardowns")),
     "data_is_not_measured": Mistake(patch.object(tables.DataCreate, "effect", data_is_not_measured), ("effects",)),
     "data_is_not_copied": Mistake(patch.object(tables.DataCreate, "effect", data_is_not_copied), ("effects",)),
+    "data_is_moved": Mistake(patch.object(tables.DataCreate, "effect", data_is_moved), ("hosts",)),
     "exit_shows_registers": Mistake(patch.object(guest, "leave", exit_shows_registers), ("secrets",)),
     "exit_runs_on": Mistake(patch.object(guest, "leave", exit_runs_on), ("effects",)),
     "fold_destroys": Mistake(patch.object(tables.RttFold, "effect", fold_destroys), ("folds", "ripas")),

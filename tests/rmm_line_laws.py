@@ -2,6 +2,7 @@
 
     refusals  a refused call leaves the machine as it was; no other word is allowed beside RMI_SUCCESS
     realms    a line changes nothing of a realm that it does not name
+    hosts     a call changes a page of the host if it delegates it, and the bytes of one if a REC is entered
     memory    a page of data changes by steps of its realm's own guests alone, and by no more bytes than they write
     ripas     RIPAS becomes RAM by INIT_RIPAS and DATA_CREATE in a NEW realm, DESTROYED by a destroyed page or table, and what a
               REC asked for by SET_RIPAS; each time in the call's range alone
@@ -148,6 +149,7 @@ class Watch:
         yield from of_effects(line, self.bench.outcome, before, after)
         if after is not before:
             yield from of_realms(line, before, after)
+            yield from of_hosts(line, before, after)
             yield from of_memory(line, before, after, written)
             yield from of_ripas(line, before, after, asked)
             yield from of_states(line, before, after)
@@ -200,6 +202,16 @@ def of_realms(line: Line, before: Seen, after: Seen) -> Iterator[str]:
     for k, (one, other) in enumerate(zip(before.granules, after.granules)):
         if one != other and k in before.owners and before.owners[k] not in line.realms:
             yield f"realms: granule {k} of another realm is changed"
+
+
+def of_hosts(line: Line, before: Seen, after: Seen) -> Iterator[str]:
+    if line.kind not in COMMANDS:
+        return
+    for k, (one, other) in enumerate(zip(before.granules, after.granules)):
+        is_delegated = line.kind == "rmi_granule_delegate" and (line.values["addr"] - before.base) // PAGE == k
+        is_written = line.kind == "rmi_rec_enter" and other[0] == UNDELEGATED
+        if one[0] == UNDELEGATED and one != other and not is_delegated and not is_written:
+            yield f"hosts: the page {k} of the host is changed"
 
 
 def of_memory(line: Line, before: Seen, after: Seen, written: int) -> Iterator[str]:

@@ -33,10 +33,10 @@ use Rattle.rmm_laws.proofs.Plain.{host_plain}
 use Rattle.rmm_laws.proofs.Writes.{granule_at-other, page_in-other}
 
 module _ (o : Machine) (g : ℕ) where
-  same_page : (m : Machine) (h : ℕ) (page : List ℕ) → g ≢ h → IsSameAt o m g → IsSameAt o (with_page m h page) g
+  pub same_page : (m : Machine) (h : ℕ) (page : List ℕ) → g ≢ h → IsSameAt o m g → IsSameAt o (with_page m h page) g
   same_page m h page other same = (same.0, page_in-other m h g page other ∙ same.1)
 
-  same_granule : (m : Machine) (h : ℕ) (kept : RmmGranule) → g ≢ h → IsSameAt o m g → IsSameAt o (with_granule m h kept) g
+  pub same_granule : (m : Machine) (h : ℕ) (kept : RmmGranule) → g ≢ h → IsSameAt o m g → IsSameAt o (with_granule m h kept) g
   same_granule m h kept other same = (granule_at-other m h g kept other ∙ same.0, same.1)
 
   -- ---- accesses

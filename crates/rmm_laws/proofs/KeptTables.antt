@@ -1,5 +1,5 @@
 -- Tables that stay as they are, and the RIPAS of addresses then.
-use Rattle.std.proofs.Common.{◌≡◌, ℕ, inl, inr, true, List, length, Option, Some, None, refl, sym, ap, ◌∙◌, ⊎_elim}
+use Rattle.std.proofs.Common.{◌≡◌, ℕ, inl, inr, true, List, length, Option, Some, None, refl, sym, ap, ◌∙◌, ⊎_elim, Bool}
 use Rattle.std.proofs.lemmas.Bool.{both_ways}
 use Rattle.rmm_model.specs.declared.entry.RmmRttEntry.{RmmRttEntry}
 use Rattle.rmm_model.specs.declared.granule.RmmGranule.{RmmGranule}
@@ -12,7 +12,7 @@ use Rattle.rmm_model.specs.Machine.{Machine, granule_at, page_in}
 use Rattle.rmm_model.specs.Realm.{is_protected}
 use Rattle.rmm_model.specs.Table.{entry_in_page}
 use Rattle.rmm_model.specs.Walk.{entry_at, table_below}
-use Rattle.rmm_laws.specs.Apart.{IsSameAt, IsOfRealm, IsSpare}
+use Rattle.rmm_laws.specs.Apart.{IsSameAt, IsOfRealm}
 use Rattle.rmm_laws.specs.Owner.{is_rd}
 use Rattle.rmm_laws.specs.Proper.{IsProper}
 use Rattle.rmm_laws.specs.Ripas.{ripas_at}
@@ -21,7 +21,7 @@ use Rattle.rmm_laws.proofs.Along.{IsOn, along}
 use Rattle.rmm_laws.proofs.Halves.{below_same}
 use Rattle.rmm_laws.proofs.Mappings.{protected_within}
 use Rattle.rmm_laws.proofs.SameTables.{KeepsTables}
-use Rattle.rmm_laws.proofs.Touching.{Touches, IsMine}
+use Rattle.rmm_laws.proofs.Touching.{Touches, IsFree, IsMine, free_spare}
 
 -- ---- tables of a realm
 
@@ -39,13 +39,13 @@ not_ours m (Some r) rd g apart rds is (inr owned) = apart (sym owned ∙ ap (λ 
 not_ours m None rd g apart rds is ours = ours
 
 -- tables of a realm that a call does not touch
-pub tables_apart : (m n : Machine) (named : Option ℕ) (rd : ℕ) → Touches m n named → (named ≡ Some rd → ⊥) → ((r : ℕ) → named ≡ Some r → is_rd (granule_at m r).state ≡ true) → KeepsTablesOf m n rd
-tables_apart m n named rd touches apart rds g is =
+pub tables_apart : (host : Bool) (m n : Machine) (named : Option ℕ) (rd : ℕ) → Touches host m n named → (named ≡ Some rd → ⊥) → ((r : ℕ) → named ≡ Some r → is_rd (granule_at m r).state ≡ true) → KeepsTablesOf m n rd
+tables_apart host m n named rd touches apart rds g is =
     ⊎_elim
     (λ (same : IsSameAt m n g). same.1)
-    (λ (mine : IsMine m named g). absurd (⊎_elim
+    (λ (mine : IsMine host m named g). absurd (⊎_elim
     (λ (ours : IsOfRealm m named g). not_ours m named rd g apart rds is ours)
-    (λ (spare : IsSpare m g). ⊎_elim (λ host. (let s = ap (λ (r : RmmGranule). r.state) is in cc)) (λ free. (let s = ap (λ (r : RmmGranule). r.state) is in cc)) spare)
+    (λ (free : IsFree host m g). ⊎_elim (λ kept. (let s = ap (λ (r : RmmGranule). r.state) is in cc)) (λ blank. (let s = ap (λ (r : RmmGranule). r.state) is in cc)) (free_spare host m g free))
     mine))
     (touches.each g)
 

@@ -50,14 +50,14 @@ use Rattle.rmm_laws.proofs.Effects.{aux_length}
 use Rattle.rmm_laws.proofs.Fold.{own_result}
 use Rattle.rmm_laws.proofs.Freed.{rtt_destroy_back, rtt_fold_back, data_destroy_back}
 use Rattle.rmm_laws.proofs.Guests.{entered_lasts, completed_lasts}
-use Rattle.rmm_laws.proofs.LeftAlone.{touches_of}
+use Rattle.rmm_laws.proofs.LeftAlone.{touches_host, touches_of}
 use Rattle.rmm_laws.proofs.Orders.{rd_is}
 use Rattle.rmm_laws.proofs.Passed.{Passed, kept, yes_from, is_delegated-true, is_undelegated-true, realm_of-some, rec_of-some, rd_named-is, some_same}
 use Rattle.rmm_laws.proofs.RecsGone.{fixed_of, destroyed_changed}
 use Rattle.rmm_laws.proofs.Lasting.{Lasts, lasts_all, lasts_plain, lasts_realm}
 use Rattle.rmm_laws.proofs.States.{same_realm}
 use Rattle.rmm_laws.proofs.Teardown.{own_word}
-use Rattle.rmm_laws.proofs.Touching.{Touches, IsMine}
+use Rattle.rmm_laws.proofs.Touching.{Touches, IsFree, IsMine, free_spare}
 use Rattle.rmm_laws.proofs.Writes.{granule_at-same, taken_inside}
 
 -- ---- RDs that a call does not name
@@ -77,12 +77,12 @@ not_spare m g realm is (inr free) = cc
 rd_or : (call : Call) (m : Machine) (g : ℕ) (realm : RmmRealm) → IsProper m → Passed (command_of call m).checks → (granule_at m g).state ≡ Rd realm
     → IsLasting (command_of call m).machine g realm ⊎ (named_realm m call ≡ Some g)
 rd_or call m g realm proper ok is =
-    let touches : Touches m (command_of call m).machine (named_realm m call) = touches_of call m proper ok in
+    let touches : Touches (touches_host call) m (command_of call m).machine (named_realm m call) = touches_of call m proper ok in
     ⊎_elim
     (λ (same : IsSameAt m (command_of call m).machine g). inl (realm, ap (λ (r : RmmGranule). r.state) same.0 ∙ is, refl))
-    (λ (mine : IsMine m (named_realm m call) g). ⊎_elim
+    (λ (mine : IsMine (touches_host call) m (named_realm m call) g). ⊎_elim
     (λ (ours : IsOfRealm m (named_realm m call) g). inr (named_by m (named_realm m call) g realm proper is ours))
-    (λ (spare : IsSpare m g). absurd (not_spare m g realm is spare))
+    (λ (free : IsFree (touches_host call) m g). absurd (not_spare m g realm is (free_spare (touches_host call) m g free)))
     mine)
     (touches.each g)
 

@@ -291,13 +291,13 @@ module _ (rec : ℕ) (m : Machine) (proper : IsProper m) (ok : Passed (rec_destr
   rec_destroyed = subst (λ (k : Machine). IsProper (with_blank (with_aux k here (of_no_realm Delegated) m.settings.aux) here Delegated)) (sym less_is) after_proper
 
   -- what it touches: the REC, its auxiliary granules, and the RD
-  after_touches : Touches m after (Some w)
+  after_touches : Touches false m after (Some w)
   after_touches =
       let aux : ℕ = m.settings.aux in
-      let first : Touches m less (Some w) = touch_granule m m (Some w) w (of_no_realm (Rd (with_one_less realm))) (untouched m (Some w)) (inl (inl refl)) in
-      touch_blank m (with_aux less here (of_no_realm Delegated) aux) (Some w) here Delegated
-      (touch_wiped m less (Some w) here (of_no_realm Delegated) (λ n. tt) aux (with_aux less here (of_no_realm Delegated) aux) first (clean less here aux less_linked (rec_at m rec) still_rec refl)
-      (λ i h lt is. mine_before m less (Some w) h first (inl (inr (ap (λ (r : RmmGranule). r.owner) (aux_there less here aux less_linked (rec_at m rec) still_rec refl i h lt is) ∙ still_owned)))))
+      let first : Touches false m less (Some w) = touch_granule false m m (Some w) w (of_no_realm (Rd (with_one_less realm))) (untouched false m (Some w)) (inl (inl refl)) in
+      touch_blank false m (with_aux less here (of_no_realm Delegated) aux) (Some w) here Delegated
+      (touch_wiped false m less (Some w) here (of_no_realm Delegated) (λ n. tt) aux (with_aux less here (of_no_realm Delegated) aux) first (clean less here aux less_linked (rec_at m rec) still_rec refl)
+      (λ i h lt is. mine_before false m less (Some w) h first (inl (inr (ap (λ (r : RmmGranule). r.owner) (aux_there less here aux less_linked (rec_at m rec) still_rec refl i h lt is) ∙ still_owned)))))
       (inl (inr of_rec.1))
 
   after_tables : KeepsTables m after
@@ -315,11 +315,11 @@ module _ (rec : ℕ) (m : Machine) (proper : IsProper m) (ok : Passed (rec_destr
   unfolding rec_destroy
   destroyed_tables = subst (λ (k : Machine). KeepsTables m (with_blank (with_aux k here (of_no_realm Delegated) m.settings.aux) here Delegated)) (sym less_is) after_tables
 
-  pub destroyed_touches : Touches m (rec_destroy rec m).machine (realm_of_rec m rec)
+  pub destroyed_touches : Touches false m (rec_destroy rec m).machine (realm_of_rec m rec)
   unfolding rec_destroy
   destroyed_touches =
-      subst (λ (o : Option ℕ). Touches m (rec_destroy rec m).machine o) (sym (rec_named-is m rec ok.0 ok.1.0 ok.1.1.0 ∙ of_rec.1))
-      (subst (λ (k : Machine). Touches m (with_blank (with_aux k here (of_no_realm Delegated) m.settings.aux) here Delegated) (Some w)) (sym less_is) after_touches)
+      subst (λ (o : Option ℕ). Touches false m (rec_destroy rec m).machine o) (sym (rec_named-is m rec ok.0 ok.1.0 ok.1.1.0 ∙ of_rec.1))
+      (subst (λ (k : Machine). Touches false m (with_blank (with_aux k here (of_no_realm Delegated) m.settings.aux) here Delegated) (Some w)) (sym less_is) after_touches)
 
   -- what comes back: the REC, and its auxiliary granules
   abbrev IsBack : Machine → ℕ → Type 0

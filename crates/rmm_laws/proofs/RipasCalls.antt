@@ -157,16 +157,16 @@ pub by_tables : (call : Call) (m n : Machine) (rd x : ℕ) (before after : RmmRe
 by_tables call m n rd x before after proper settings count is kept then start first protected = inl (same_ripas m n proper settings count rd x before after start first is protected kept)
 
 -- a call on no realm
-pub by_none : (call : Call) (m n : Machine) (rd x : ℕ) (before after : RmmRealm) → IsProper m → Touches m n None → (granule_at m rd).state ≡ Rd before → Keeps call m n rd x before after
-by_none call m n rd x before after proper touches is =
-    by_tables call m n rd x before after proper touches.settings touches.count is (tables_apart m n None rd touches (λ same. cc) (λ r same. absurd (cc)))
+pub by_none : (host : Bool) (call : Call) (m n : Machine) (rd x : ℕ) (before after : RmmRealm) → IsProper m → Touches host m n None → (granule_at m rd).state ≡ Rd before → Keeps call m n rd x before after
+by_none host call m n rd x before after proper touches is =
+    by_tables call m n rd x before after proper touches.settings touches.count is (tables_apart host m n None rd touches (λ same. cc) (λ r same. absurd (cc)))
 
 rd_there : (s : RmmGranuleState) → is_some (realm_of s) ≡ true → s ≡ Rd (unwrap_or (realm_of s) no_realm)
 rd_there (Rd realm) is = refl
 rd_there _ is = absurd (cc)
 
 -- a call on the RD at an address
-pub by_rd : (call : Call) (m n : Machine) (of : ℕ) → IsProper m → Touches m n (rd_named m of) → ((x : ℕ) (after : RmmRealm) → Keeps call m n (number_of m of) x (realm_at m of) after)
+pub by_rd : (call : Call) (m n : Machine) (of : ℕ) → IsProper m → Touches false m n (rd_named m of) → ((x : ℕ) (after : RmmRealm) → Keeps call m n (number_of m of) x (realm_at m of) after)
     → (rd x : ℕ) (before after : RmmRealm) → (granule_at m rd).state ≡ Rd before → Keeps call m n rd x before after
 by_rd call m n of proper touches own rd x before after is =
     let named : Bool = is_aligned of && is_inside m of && is_some (realm_of (state_at m of)) in
@@ -179,10 +179,10 @@ by_rd call m n of proper touches own rd x before after is =
     subst (λ (g : ℕ). Keeps call m n g x before after) (sym same) (subst (λ (r : RmmRealm). Keeps call m n (number_of m of) x r after) (sym it) (own x after)))
     (λ (other : rd ≢ number_of m of).
     by_tables call m n rd x before after proper touches.settings touches.count is
-    (tables_apart m n (Some (number_of m of)) rd (subst (λ (o : Option ℕ). Touches m n o) (cond-true named (Some (number_of m of)) None sure) touches) (λ same. other (sym (some_same same)))
+    (tables_apart false m n (Some (number_of m of)) rd (subst (λ (o : Option ℕ). Touches false m n o) (cond-true named (Some (number_of m of)) None sure) touches) (λ same. other (sym (some_same same)))
     (λ r same. subst (λ (g : ℕ). is_rd (granule_at m g).state ≡ true) (some_same same) (ap is_rd there))))
     (cases_eq rd (number_of m of)))
-    (λ (never : named ≡ false). by_none call m n rd x before after proper (subst (λ (o : Option ℕ). Touches m n o) (cond-false named (Some (number_of m of)) None never) touches) is)
+    (λ (never : named ≡ false). by_none false call m n rd x before after proper (subst (λ (o : Option ℕ). Touches false m n o) (cond-false named (Some (number_of m of)) None never) touches) is)
     (cases_Bool named)
 
 -- ---- memory of the host

@@ -55,7 +55,7 @@ use Rattle.rmm_laws.proofs.Halving.{child_kind}
 use Rattle.rmm_laws.proofs.KeptTables.{same_ripas, tables_of}
 use Rattle.rmm_laws.proofs.Lasting.{Lasts, lasts_all}
 use Rattle.rmm_laws.proofs.LastingCalls.{realms_after}
-use Rattle.rmm_laws.proofs.LeftAlone.{touches_of}
+use Rattle.rmm_laws.proofs.LeftAlone.{touches_host, touches_of}
 use Rattle.rmm_laws.proofs.Mapped.{content_now, entry_now, entry_beside, page_beside, entry_then, entry_other, page_other}
 use Rattle.rmm_laws.proofs.Mappings.{place_is, some_of}
 use Rattle.rmm_laws.proofs.Passed.{Passed, kept, yes_from, is_delegated-true, realm_of-some}
@@ -239,20 +239,20 @@ no_rd_left of m after count ok is =
     let now = ap (λ (c : RmmGranule). c.state) (granule_at-same k (number_of m of) (of_no_realm Delegated) inside) in
     cc
 
-by_kept : (call : Call) (m : Machine) (rd x : ℕ) (before after : RmmRealm) → IsProper m → Touches m (command_of call m).machine (named_realm m call) → (granule_at m rd).state ≡ Rd before
+by_kept : (call : Call) (m : Machine) (rd x : ℕ) (before after : RmmRealm) → IsProper m → Touches (touches_host call) m (command_of call m).machine (named_realm m call) → (granule_at m rd).state ≡ Rd before
     → KeepsTables m (command_of call m).machine → Keeps call m (command_of call m).machine rd x before after
 by_kept call m rd x before after proper touches is kept =
     let n : Machine = (command_of call m).machine in
     by_tables call m n rd x before after proper touches.settings touches.count is (tables_of m n rd kept)
 
-passed_ripas : (call : Call) (m : Machine) → IsProper m → (ok : Passed (command_of call m).checks) → Touches m (command_of call m).machine (named_realm m call) → (rd x : ℕ) (before after : RmmRealm) → (granule_at m rd).state ≡ Rd before
+passed_ripas : (call : Call) (m : Machine) → IsProper m → (ok : Passed (command_of call m).checks) → Touches (touches_host call) m (command_of call m).machine (named_realm m call) → (rd x : ℕ) (before after : RmmRealm) → (granule_at m rd).state ≡ Rd before
     → Keeps call m (command_of call m).machine rd x before after
 unfolding realm_activate rec_aux_count rtt_read_entry
-passed_ripas (Version requested) m proper ok touches rd x before after is = by_none (Version requested) m _ rd x before after proper touches is
-passed_ripas (Features index) m proper ok touches rd x before after is = by_none (Features index) m _ rd x before after proper touches is
-passed_ripas (GranuleDelegate address) m proper ok touches rd x before after is = by_none (GranuleDelegate address) m _ rd x before after proper touches is
-passed_ripas (GranuleUndelegate address) m proper ok touches rd x before after is = by_none (GranuleUndelegate address) m _ rd x before after proper touches is
-passed_ripas (RealmCreate of params) m proper ok touches rd x before after is = by_none (RealmCreate of params) m _ rd x before after proper touches is
+passed_ripas (Version requested) m proper ok touches rd x before after is = by_none false (Version requested) m _ rd x before after proper touches is
+passed_ripas (Features index) m proper ok touches rd x before after is = by_none false (Features index) m _ rd x before after proper touches is
+passed_ripas (GranuleDelegate address) m proper ok touches rd x before after is = by_none true (GranuleDelegate address) m _ rd x before after proper touches is
+passed_ripas (GranuleUndelegate address) m proper ok touches rd x before after is = by_none false (GranuleUndelegate address) m _ rd x before after proper touches is
+passed_ripas (RealmCreate of params) m proper ok touches rd x before after is = by_none false (RealmCreate of params) m _ rd x before after proper touches is
 passed_ripas (RealmActivate of) m proper ok touches rd x before after is = by_tables (RealmActivate of) m _ rd x before after proper touches.settings touches.count is (λ g table. refl)
 passed_ripas (RecAuxCount of) m proper ok touches rd x before after is = by_tables (RecAuxCount of) m _ rd x before after proper touches.settings touches.count is (λ g table. refl)
 passed_ripas (RttReadEntry of ipa level) m proper ok touches rd x before after is = by_tables (RttReadEntry of ipa level) m _ rd x before after proper touches.settings touches.count is (λ g table. refl)

@@ -1,4 +1,4 @@
-use Rattle.std.proofs.Common.{◌≡◌, ℕ, ◌/◌, ◌%◌, true, length, Option, Some, None, ⊎_elim, refl, sym, ap, subst, ◌+◌, ◌*◌, ◌∙◌}
+use Rattle.std.proofs.Common.{◌≡◌, ℕ, ◌/◌, ◌%◌, ◌⊎◌, inl, true, length, Option, Some, None, ⊎_elim, refl, sym, ap, subst, ◌+◌, ◌*◌, ◌∙◌}
 use Rattle.std.proofs.lemmas.Bool.{and_parts, both_ways, cond_both}
 use Rattle.std.specs.Prelude.{◌==◌}
 use Rattle.rmi_abi.specs.declared.call.Call.{Call}
@@ -14,9 +14,9 @@ use Rattle.rmm_model.specs.Access.{low_bytes}
 use Rattle.rmm_model.specs.Step.{access}
 use Rattle.rmm_model.specs.Command.RecEnter.{after_step}
 use Rattle.rmm_model.specs.Machine.{Machine, granule_at, is_aligned, is_secure, number_of, with_page, with_word}
-use Rattle.rmm_laws.specs.Apart.{named_realm, IsSameAt, IsOfAnother}
+use Rattle.rmm_laws.specs.Apart.{named_realm, IsHostChanged, IsSameAt, IsOfAnother}
 use Rattle.rmm_laws.specs.Proper.{IsProper}
-use Rattle.rmm_laws.proofs.LeftAlone.{touches_of, left_alone}
+use Rattle.rmm_laws.proofs.LeftAlone.{touches_host, touches_of, host_left, left_alone}
 use Rattle.rmm_laws.proofs.Passed.{kept}
 use Rattle.rmm_laws.proofs.Plain.{host_plain}
 use Rattle.rmm_laws.proofs.Aside.{given_apart, interrupt_apart, written_apart, plain_of}
@@ -33,6 +33,14 @@ by_call (Some call) r m g proper other = left_alone call m g proper other.0 othe
 pub returns-clause-calls : goal.returns-clause-calls
 unfolding rmi
 returns-clause-calls c = λ r m g proper other. by_call (call_in r) r m g proper other
+
+by_host : (o : Option Call) (r : Registers) (m : Machine) (g : ℕ) → IsProper m → (granule_at m g).state ≡ Undelegated → IsSameAt m (rmi_at o r m).1 g ⊎ IsHostChanged m (rmi_at o r m).1 o g
+by_host None r m g proper free = inl (refl, refl)
+by_host (Some call) r m g proper free = host_left call m g proper free
+
+pub returns-clause-hosts : goal.returns-clause-hosts
+unfolding rmi
+returns-clause-hosts c = λ r m g proper free. by_host (call_in r) r m g proper free
 
 pub returns-clause-fills : goal.returns-clause-fills
 returns-clause-fills c = λ m address value g taken.
@@ -52,7 +60,7 @@ by_settings : (o : Option Call) (r : Registers) (m : Machine) → IsProper m →
 unfolding performed
 by_settings None r m proper = (refl, refl)
 by_settings (Some call) r m proper =
-    let touches = kept (λ (n : Machine). Touches m n (named_realm m call)) (command_of call m) m (untouched m (named_realm m call)) (touches_of call m proper) in
+    let touches = kept (λ (n : Machine). Touches (touches_host call) m n (named_realm m call)) (command_of call m) m (untouched (touches_host call) m (named_realm m call)) (touches_of call m proper) in
     (touches.settings, touches.count)
 
 pub returns-clause-settings : goal.returns-clause-settings
