@@ -88,6 +88,14 @@ def data_is_not_copied(self: tables.DataCreate) -> Outcome:
     return done()
 
 
+def data_is_moved(self: tables.DataCreate) -> Outcome:
+    page = self.machine.granule(self.src).page
+    self.machine.granule(self.src).page = machine.ZEROS
+    self.map(RAM, page)
+    tables.extend_by_data(self.realm, self.ipa, self.flags, page)
+    return done()
+
+
 def rec_stays_counted(self: recs.RecDestroy) -> Outcome:
     for it in (*self.named.aux, self.rec):
         self.machine.become(it, DELEGATED)
@@ -143,6 +151,17 @@ def destroyed_page_stays_ram(self: tables.DataDestroy) -> Outcome:
 
 def destroyed_is_changed(_self: tables.RttSetRipas, entry: Entry) -> bool:
     return entry.kind in ("UNASSIGNED", "ASSIGNED")
+
+
+of_init, of_range = tables.RttInitRipas.checks, tables.RttSetRipas.checks
+
+
+def request_is_exceeded(self: tables.RttSetRipas) -> Checks:
+    yield from (it for it in of_range(self) if it.name != "top_bound")
+
+
+def active_realm_gets_ram(self: tables.RttInitRipas) -> Checks:
+    yield from (it for it in of_init(self) if it.name != "realm_state")
 
 
 entered = guest.begin
@@ -201,13 +220,16 @@ MISTAKES = {
     "aux_is_kept": Mistake(patch.object(recs.RecDestroy, "effect", aux_is_kept), ("roles", "teardowns")),
     "data_is_not_measured": Mistake(patch.object(tables.DataCreate, "effect", data_is_not_measured), ("effects",)),
     "data_is_not_copied": Mistake(patch.object(tables.DataCreate, "effect", data_is_not_copied), ("effects",)),
+    "data_is_moved": Mistake(patch.object(tables.DataCreate, "effect", data_is_moved), ("hosts",)),
     "exit_shows_registers": Mistake(patch.object(guest, "leave", exit_shows_registers), ("secrets",)),
     "exit_runs_on": Mistake(patch.object(guest, "leave", exit_runs_on), ("effects",)),
     "fold_destroys": Mistake(patch.object(tables.RttFold, "effect", fold_destroys), ("folds", "ripas")),
     "refusal_counts": Mistake(patch.object(Command, "refused", refusal_counts), ("refusals",)),
     "page_is_replaced": Mistake(patch.object(tables.DataCreateUnknown, "checks", page_is_replaced), ("pages",)),
     "destroyed_page_stays_ram": Mistake(patch.object(tables.DataDestroy, "effect", destroyed_page_stays_ram), ("guests",)),
-    "destroyed_is_changed": Mistake(patch.object(tables.RttSetRipas, "is_right", destroyed_is_changed), ("asked",)),
+    "destroyed_is_changed": Mistake(patch.object(tables.RttSetRipas, "is_right", destroyed_is_changed), ("asked", "ripas")),
+    "request_is_exceeded": Mistake(patch.object(tables.RttSetRipas, "checks", request_is_exceeded), ("ripas",)),
+    "active_realm_gets_ram": Mistake(patch.object(tables.RttInitRipas, "checks", active_realm_gets_ram), ("ripas",)),
     "request_stays": Mistake(patch.object(recs, "begin", request_stays), ("asked",)),
     "memory_is_emulated": Mistake(patch.object(guest, "aborts", memory_is_emulated), ("pages",)),
     "abort_shows_value": Mistake(patch.object(guest, "physical", abort_shows_value), ("secrets",)),

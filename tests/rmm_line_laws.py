@@ -2,8 +2,10 @@
 
     refusals  a refused call leaves the machine as it was; no other word is allowed beside RMI_SUCCESS
     realms    a line changes nothing of a realm that it does not name
+    hosts     a call changes a page of the host if it delegates it, and the bytes of one if a REC is entered
     memory    a page of data changes by steps of its realm's own guests alone, and by no more bytes than they write
-    ripas     in an ACTIVE realm RIPAS becomes DESTROYED by a destroyed page or table, and else what a REC asked for
+    ripas     RIPAS becomes RAM by INIT_RIPAS and DATA_CREATE in a NEW realm, DESTROYED by a destroyed page or table, and what a
+              REC asked for by SET_RIPAS; each time in the call's range alone
     states    a realm is NEW, ACTIVE and SYSTEM_OFF in turn; from REALM_ACTIVATE on its RIM is the same
     wiped     a granule that is delegated or given back is zero
     effects   a realm that is activated was NEW; a page of data has the bytes that are measured; a REC that leaves is READY
@@ -24,8 +26,8 @@ from typing import NamedTuple
 from rmm_laws import entries_of, named_by
 from second_rmm.bench import Bench
 from second_rmm.command import COMMANDS, Command, Outcome
-from second_rmm.facts import DATA, DELEGATED, DESTROYED, ENTRIES, PAGE, RUNNING, SUCCESS, UNDELEGATED, size
-from second_rmm.machine import LIVE, ZEROS, Granule, Machine, Realm
+from second_rmm.facts import DATA, DELEGATED, DESTROYED, ENTRIES, PAGE, RAM, RUNNING, SUCCESS, UNDELEGATED, size
+from second_rmm.machine import LIVE, ZEROS, Asked, Granule, Machine, Realm
 from second_rmm.reading import number, step_of
 
 NAMES_REALM, NAMES_REC = ("rd",), ("rec", "calling", "target")
@@ -147,6 +149,7 @@ class Watch:
         yield from of_effects(line, self.bench.outcome, before, after)
         if after is not before:
             yield from of_realms(line, before, after)
+            yield from of_hosts(line, before, after)
             yield from of_memory(line, before, after, written)
             yield from of_ripas(line, before, after, asked)
             yield from of_states(line, before, after)
@@ -157,10 +160,10 @@ class Watch:
         it = self.bench.machine.granule_at(line.values.get("rec", -1)) if line.kind == "rmi_rec_enter" else None
         return sum(operands[2] for kind, operands in it.rec.steps if kind == "write") if it and it.rec else 0
 
-    def asked(self, line: Line) -> tuple[int, int, int] | None:
-        """The range and the RIPAS that a REC asked for."""
+    def asked(self, line: Line) -> Asked | None:
+        """What a REC asked for."""
         it = self.bench.machine.granule_at(line.values.get("rec", -1)) if line.kind == "rmi_rtt_set_ripas" else None
-        return (it.rec.asked.base, it.rec.asked.top, it.rec.asked.ripas) if it and it.rec else None
+        return replace(it.rec.asked) if it and it.rec else None
 
     def of_refusals(self, before: Seen, after: Seen) -> Iterator[str]:
         it = self.bench.outcome
@@ -201,6 +204,16 @@ def of_realms(line: Line, before: Seen, after: Seen) -> Iterator[str]:
             yield f"realms: granule {k} of another realm is changed"
 
 
+def of_hosts(line: Line, before: Seen, after: Seen) -> Iterator[str]:
+    if line.kind not in COMMANDS:
+        return
+    for k, (one, other) in enumerate(zip(before.granules, after.granules)):
+        is_delegated = line.kind == "rmi_granule_delegate" and (line.values["addr"] - before.base) // PAGE == k
+        is_written = line.kind == "rmi_rec_enter" and other[0] == UNDELEGATED
+        if one[0] == UNDELEGATED and one != other and not is_delegated and not is_written:
+            yield f"hosts: the page {k} of the host is changed"
+
+
 def of_memory(line: Line, before: Seen, after: Seen, written: int) -> Iterator[str]:
     for k, (one, other) in enumerate(zip(before.granules, after.granules)):
         if one[0] == other[0] == DATA and one[1] != other[1]:
@@ -218,16 +231,29 @@ def ripas_at(ranges: list[tuple[int, int, int]], at: int) -> int | None:
     return next((ripas for begin, end, ripas in ranges if begin <= at < end), None)
 
 
-def of_ripas(line: Line, before: Seen, after: Seen, asked: tuple[int, int, int] | None) -> Iterator[str]:
+def gives_ripas(line: Line, state: str, at: int, was: int | None, now: int | None, asked: Asked | None) -> bool:
+    """Whether a call on a realm of a state gives an address another RIPAS."""
+    values, is_new = line.values, state == "NEW"
+    begin = values.get("ipa", values.get("base", 0))
+    if line.kind == "rmi_rtt_init_ripas":
+        return is_new and now == RAM and begin <= at < values["top"]
+    if line.kind == "rmi_data_create":
+        return is_new and now == RAM and begin <= at < begin + PAGE
+    if line.kind == "rmi_data_destroy":
+        return now == DESTROYED and begin <= at < begin + PAGE
+    if line.kind == "rmi_rtt_destroy":
+        return now == DESTROYED and begin <= at < begin + size(values["level"] - 1)
+    return asked is not None and asked.base <= at < asked.top and now == asked.ripas and (was != DESTROYED or asked.destroyed)
+
+
+def of_ripas(line: Line, before: Seen, after: Seen, asked: Asked | None) -> Iterator[str]:
     for rd, realm in before.realms.items():
-        if realm.state != "ACTIVE" or rd not in after.realms or not are_tables_other(rd, before, after):
+        if rd not in after.realms or not are_tables_other(rd, before, after):
             continue
         one, other = leaves_of(before, realm), leaves_of(after, after.realms[rd])
         for at in sorted({it for ranges in (one, other) for begin, end, _ in ranges for it in (begin, end - PAGE)}):
             was, now = ripas_at(one, at), ripas_at(other, at)
-            is_destroyed = line.kind in ("rmi_data_destroy", "rmi_rtt_destroy") and now == DESTROYED
-            is_asked = asked is not None and asked[0] <= at < asked[1] and now == asked[2]
-            if was != now and not is_destroyed and not is_asked:
+            if was != now and not (rd == line.values.get("rd") and gives_ripas(line, realm.state, at, was, now, asked)):
                 yield f"ripas: at {at:#x} it is {now}"
 
 

@@ -30,6 +30,7 @@ is_platform s = has_addresses s && has_sizes s && has_fields s
 pub record IsPlatform (s : RmmSettings) : Type 0 where
   pub base : s.base < 2 ^ 47
   pub base_aligned : s.base % 4096 ≡ 0
+  pub secure_aligned : s.secure_base % 4096 ≡ 0
   pub aux : s.aux ≤ 16
   pub vmids : s.vmid_bits ≤ 16
   pub narrowest : 32 ≤ s.s2sz

@@ -33,10 +33,10 @@ use Rattle.rmm_laws.proofs.Plain.{host_plain}
 use Rattle.rmm_laws.proofs.Writes.{granule_at-other, page_in-other}
 
 module _ (o : Machine) (g : ℕ) where
-  same_page : (m : Machine) (h : ℕ) (page : List ℕ) → g ≢ h → IsSameAt o m g → IsSameAt o (with_page m h page) g
+  pub same_page : (m : Machine) (h : ℕ) (page : List ℕ) → g ≢ h → IsSameAt o m g → IsSameAt o (with_page m h page) g
   same_page m h page other same = (same.0, page_in-other m h g page other ∙ same.1)
 
-  same_granule : (m : Machine) (h : ℕ) (kept : RmmGranule) → g ≢ h → IsSameAt o m g → IsSameAt o (with_granule m h kept) g
+  pub same_granule : (m : Machine) (h : ℕ) (kept : RmmGranule) → g ≢ h → IsSameAt o m g → IsSameAt o (with_granule m h kept) g
   same_granule m h kept other same = (granule_at-other m h g kept other ∙ same.0, same.1)
 
   -- ---- accesses
@@ -77,7 +77,7 @@ written_apart m ipa value g size (Err outcome) other = (refl, refl)
 -- the granule that an access reaches
 pub plain_of : (m : Machine) (linked : IsLinked m) (rd : ℕ) (realm : RmmRealm) (is : (granule_at m rd).state ≡ Rd realm) (ipa h : ℕ) (came : Result ℕ StepOutcome) → came ≡ Ok h
     → IsPlainIfOk m linked rd realm is ipa came → (granule_at m h ≡ of_realm rd Data) ⊎ ((granule_at m h).state ≡ Undelegated)
-plain_of m linked rd realm is ipa h came reaches plain = (subst (IsPlainIfOk m linked rd realm is ipa) reaches plain).2
+plain_of m linked rd realm is ipa h came reaches plain = (subst (IsPlainIfOk m linked rd realm is ipa) reaches plain).0.2
 
 -- ---- steps and interrupts
 

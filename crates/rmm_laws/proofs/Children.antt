@@ -104,6 +104,20 @@ length-children (AssignedNs desc) level = length-with_words (λ (k : ℕ). entry
 length-children (Table address) level = length-with_words (λ (k : ℕ). entry_word (child_entry (Table address) level k)) zero_page (length-page_of 0) 512 (lit≤ tt)
 length-children (Assigned ripas address) level = length-with_words (λ (k : ℕ). entry_word (child_entry (Assigned ripas address) level k)) zero_page (length-page_of 0) 512 (lit≤ tt)
 
+-- the words of children
+pub children_word : (whole : RmmRttEntry) (level j : ℕ) → j < 512 → word_of_page (children_page whole level) j ≡ entry_word (child_entry whole level j)
+unfolding children_page entry_word
+children_word (Unassigned Empty) level j lt = word_of_page-page_of 0 j lt
+children_word (Unassigned Ram) level j lt = word_of_page-page_of 1 j lt
+children_word (Unassigned Destroyed) level j lt = word_of_page-page_of 2 j lt
+children_word UnassignedNs level j lt = word_of_page-page_of 3 j lt
+children_word (Assigned ripas a) level j lt =
+    word_of_page-with_words (λ (k : ℕ). entry_word (child_entry (Assigned ripas a) level k)) zero_page (length-page_of 0) 512 j (lit≤ tt) lt (entry_word-fits (child_entry (Assigned ripas a) level j))
+children_word (AssignedNs d) level j lt =
+    word_of_page-with_words (λ (k : ℕ). entry_word (child_entry (AssignedNs d) level k)) zero_page (length-page_of 0) 512 j (lit≤ tt) lt (entry_word-fits (child_entry (AssignedNs d) level j))
+children_word (Table a) level j lt =
+    word_of_page-with_words (λ (k : ℕ). entry_word (child_entry (Table a) level k)) zero_page (length-page_of 0) 512 j (lit≤ tt) lt (entry_word-fits (child_entry (Table a) level j))
+
 -- ---- tables without live entries
 
 dead_from : (page : List ℕ) (count i j : ℕ) → first_live page count i ≡ i + count → i ≤ j → j < i + count → is_live (entry_in_page page j) ≡ false

@@ -1,17 +1,15 @@
 -- RMI_RTT_FOLD undoes RMI_RTT_CREATE.
-use Rattle.std.proofs.Common.{◌≡◌, ◌≢◌, ℕ, zero, suc, ◌+◌, ◌-◌, ◌*◌, ◌^◌, ◌<◌, ◌≤◌, ◌==◌, ◌&&◌, ◌++◌, true, false, not, List, length, Option, Some, None, unwrap_or, refl, sym, ap, subst, ◌∙◌, ⊎_elim, arith, lit≤}
+use Rattle.std.proofs.Common.{◌≡◌, ◌≢◌, ℕ, zero, suc, ◌+◌, ◌-◌, ◌*◌, ◌^◌, ◌<◌, ◌≤◌, ◌/◌, ◌%◌, ◌==◌, ◌&&◌, ◌||◌, ◌++◌, Bool, true, false, not, List, length, Option, Some, None, unwrap_or, refl, sym, ap, subst, ◌∙◌, ⊎_elim, arith}
 use Rattle.std.specs.Prelude.{nat_le, is_none, is_some}
 use Rattle.std.specs.Option.{option_map_or}
-use Rattle.std.proofs.lemmas.Bool.{cases_Bool, cases_eq, and_parts, and_from, and_left, and_right, eq-eqb, eqb-true, leb-true, lt-leb, ltb-true, not-true}
+use Rattle.std.proofs.lemmas.Bool.{cases_Bool, cases_eq, or_right, and_parts, and_from, and_left, and_right, eq-eqb, eqb-true, leb-true, lt-leb, ltb-true, not-true}
 use Rattle.std.proofs.lemmas.List.{length-set}
 use Rattle.granule_addr.specs.Page.{zero_page}
-use Rattle.page_arena.specs.Pages.{length-page_of}
 use Rattle.page_arena.specs.Word.{word_of_page, page_with_word}
 use Rattle.rmi_abi.specs.declared.call.Call.{Call}
 use Rattle.rmi_abi.specs.declared.call.Call.TheVariants.{RttCreate, RttFold}
 use Rattle.rmi_abi.specs.declared.registers.SmcResult.{SmcResult}
 use Rattle.rmi_abi.specs.declared.word.Word.TheVariants.{Success}
-use Rattle.rmm_model.specs.declared.entry.RmmRipas.TheVariants.{Empty, Ram, Destroyed}
 use Rattle.rmm_model.specs.declared.entry.RmmRttEntry.{RmmRttEntry}
 use Rattle.rmm_model.specs.declared.entry.RmmRttEntry.TheVariants.{Unassigned, Assigned, Table, UnassignedNs, AssignedNs}
 use Rattle.rmm_model.specs.declared.granule.RmmGranule.{RmmGranule}
@@ -28,22 +26,22 @@ use Rattle.rmm_model.specs.Machine.{Machine, granule_at, page_in, is_inside, num
 use Rattle.rmm_model.specs.Realm.{is_in_space, no_realm}
 use Rattle.rmm_model.specs.Table.{entry_in_page, children_page, has_parts}
 use Rattle.rmm_model.specs.Walk.{entry_at, with_entry, table_below, walk_from, start_of, walk}
-use Rattle.rmm_model.specs.Command.Operand.{realm_at, rd_checks, ipa_checks}
+use Rattle.rmm_model.specs.Command.Operand.{realm_at, rd_checks, ipa_checks, is_multiple}
 use Rattle.rmm_model.specs.Command.RttCreate.{rtt_create}
 use Rattle.rmm_model.specs.Command.RttFold.{rtt_fold, fold_checks, is_homogeneous, is_aligned_above, is_block_too_high}
 use Rattle.rmm_laws.specs.Fold.{CanReplaceTable, IsAlike}
 use Rattle.rmm_laws.specs.Proper.{IsProper}
 use Rattle.rmm_laws.specs.Role.{IsSound, IsLinked}
 use Rattle.rmm_laws.specs.Owner.{IsOrderly}
-use Rattle.rmm_laws.proofs.Children.{length-children, word_of_page-page_of}
+use Rattle.rmm_laws.proofs.Children.{children_word, length-children}
 use Rattle.rmm_laws.proofs.Entries.{number_inside, address_few, named_inside, entry-same, entry-other}
-use Rattle.rmm_laws.proofs.EntryWords.{descriptor-few, entry_of-entry_word, entry_word-fits}
+use Rattle.rmm_laws.proofs.EntryWords.{descriptor-few, entry_of-entry_word}
 use Rattle.rmm_laws.proofs.Freed.{succeeded}
 use Rattle.rmm_laws.proofs.Mapped.{content_now, entry_now, entry_beside, page_beside, new_sound}
 use Rattle.rmm_laws.proofs.Mappings.{place_is}
 use Rattle.rmm_laws.proofs.Mistakes.{below_same}
-use Rattle.rmm_laws.proofs.PageWords.{word_of_page-with_words}
 use Rattle.rmm_laws.proofs.Passed.{Passed, yes_from, is_delegated-true, realm_of-some}
+use Rattle.rmm_laws.proofs.Seats.{walk_seat}
 use Rattle.rmm_laws.proofs.Teardown.{none_failing, no_more}
 use Rattle.rmm_laws.proofs.Walks.{IsPlace, next, start_is, entry_index-few}
 use Rattle.rmm_laws.proofs.Writes.{granule_at-same, granule_at-other, page_in-same, page_in-other, inside-same, number-same, taken_inside}
@@ -78,19 +76,6 @@ module _ (m n : Machine) (linked : IsLinked m) (rd ipa : ℕ) where
   reach (suc levels) place is far same = reach_on levels place (table_below m (entry_at m place ipa)) refl is far same (λ table there far_there same_there. reach levels (child place table) there far_there same_there)
 
 -- ---- a table of children means the same as the entry above it
-
-pub children_word : (whole : RmmRttEntry) (level j : ℕ) → j < 512 → word_of_page (children_page whole level) j ≡ entry_word (child_entry whole level j)
-unfolding children_page entry_word
-children_word (Unassigned Empty) level j lt = word_of_page-page_of 0 j lt
-children_word (Unassigned Ram) level j lt = word_of_page-page_of 1 j lt
-children_word (Unassigned Destroyed) level j lt = word_of_page-page_of 2 j lt
-children_word UnassignedNs level j lt = word_of_page-page_of 3 j lt
-children_word (Assigned ripas a) level j lt =
-    word_of_page-with_words (λ (k : ℕ). entry_word (child_entry (Assigned ripas a) level k)) zero_page (length-page_of 0) 512 j (lit≤ tt) lt (entry_word-fits (child_entry (Assigned ripas a) level j))
-children_word (AssignedNs d) level j lt =
-    word_of_page-with_words (λ (k : ℕ). entry_word (child_entry (AssignedNs d) level k)) zero_page (length-page_of 0) 512 j (lit≤ tt) lt (entry_word-fits (child_entry (AssignedNs d) level j))
-children_word (Table a) level j lt =
-    word_of_page-with_words (λ (k : ℕ). entry_word (child_entry (Table a) level k)) zero_page (length-page_of 0) 512 j (lit≤ tt) lt (entry_word-fits (child_entry (Table a) level j))
 
 first_child : (whole : RmmRttEntry) (level : ℕ) → child_entry whole level 0 ≡ whole
 first_child (Assigned ripas a) level = let none : a + 0 * entry_size level ≡ a = omega arith in ap (Assigned ripas) none
@@ -382,14 +367,31 @@ module _ (m : Machine) (rd rtt ipa level : ℕ) (proper : IsProper m) (ok : Pass
         (cases_eq g x);
   }
 
-pub created_and_folded : (m : Machine) (rd rtt ipa level : ℕ) → IsProper m → (performed (RttCreate rd rtt ipa level) m).0.word ≡ Success → CanReplaceTable m (entry_at m (walk m (realm_at m rd) ipa (level - 1)) ipa) level
+  -- the entry can replace the table
+  stand_is : CanReplaceTable m parent level
+  unfolding entry_at
+  stand_is =
+      let l = least in
+      let t = there in
+      let placed = proper.ordered.halves.is.block found.table i table_is (entry_index-few found.level ipa) in
+      let depth : proper.ordered.halves.level found.table ≡ level - 1 = (walk_seat m proper.linked proper.ordered.halves r ipa realm is within (level - 1)).depth ∙ there in (
+        ⊎_elim
+            (λ (sure : is_mapping parent ≡ true). or_right (not (is_mapping parent)) (is_multiple (descriptor_of parent / 4096 * 4096) (entry_size (level - 1)))
+            (eq-eqb _ _ (subst (λ (k : ℕ). descriptor_of parent / 4096 * 4096 % entry_size k ≡ 0) depth (placed sure).1)))
+            (λ (never : is_mapping parent ≡ false). ap (λ (b : Bool). not b || is_multiple (descriptor_of parent / 4096 * 4096) (entry_size (level - 1))) never)
+            (cases_Bool (is_mapping parent)),
+        λ sure. (let low = (placed sure).0 in omega arith),
+      )
+
+pub created_and_folded : (m : Machine) (rd rtt ipa level : ℕ) → IsProper m → (performed (RttCreate rd rtt ipa level) m).0.word ≡ Success
     → ((performed (RttFold rd ipa level) (performed (RttCreate rd rtt ipa level) m).1).0.word ≡ Success) × IsAlike m (performed (RttFold rd ipa level) (performed (RttCreate rd rtt ipa level) m).1).1
 unfolding rtt_create rtt_fold
-created_and_folded m rd rtt ipa level proper success stand =
+created_and_folded m rd rtt ipa level proper success =
     succeeded (((performed (RttFold rd ipa level) (performed (RttCreate rd rtt ipa level) m).1).0.word ≡ Success) × IsAlike m (performed (RttFold rd ipa level) (performed (RttCreate rd rtt ipa level) m).1).1)
     (RttCreate rd rtt ipa level) m refl success
     (λ ok now.
     let made : Machine = (rtt_create rd rtt ipa level m).machine in
+    let stand = stand_is m rd rtt ipa level proper ok in
     let result = own_result (RttFold rd ipa level) made (folded_ok m rd rtt ipa level proper ok stand) in
     subst (λ (p : SmcResult × Machine). ((performed (RttFold rd ipa level) p.1).0.word ≡ Success) × IsAlike m (performed (RttFold rd ipa level) p.1).1) (sym now) (
       ap (λ (p : SmcResult × Machine). p.0.word) result,

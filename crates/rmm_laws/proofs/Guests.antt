@@ -53,6 +53,7 @@ use Rattle.rmm_laws.proofs.Recs.{IsGoing, going_first, going_rec, going_word, go
 use Rattle.rmm_laws.proofs.Lasting.{Lasts}
 use Rattle.rmm_laws.proofs.Releasing.{Held}
 use Rattle.rmm_laws.proofs.States.{IsAsBefore}
+use Rattle.rmm_laws.proofs.SameTables.{KeepsTables}
 use Rattle.rmm_laws.proofs.Touching.{Touches, IsMine}
 use Rattle.rmm_laws.proofs.Writes.{granule_at-other}
 
@@ -104,14 +105,14 @@ module _ (o : Machine) (w : ℕ) where
 
   -- ---- exits
 
-  going_exit_gic : (g h : ℕ) (m : Machine) → IsGoing o w g m → h < length m.granules → is_memory_state (granule_at m h).state ≡ true → IsMine m (Some w) h → IsGoing o w g (with_exit_gic m g h)
+  going_exit_gic : (g h : ℕ) (m : Machine) → IsGoing o w g m → h < length m.granules → is_memory_state (granule_at m h).state ≡ true → IsMine true m (Some w) h → IsGoing o w g (with_exit_gic m g h)
   unfolding with_exit_gic with_copied
   going_exit_gic g h m going inside plain mine =
       cond_both m.settings.checks_gic _ m (IsGoing o w g)
       (λ sure. going_plain o w g h m _ going inside (length-with_words_from 352 _ (page_in m h) (going.proper.sound.whole h inside) 17 (omega arith)) plain mine)
       (λ never. going)
 
-  going_exit_words : (g h : ℕ) (m : Machine) (exit : RecExit) → IsGoing o w g m → h < length m.granules → is_memory_state (granule_at m h).state ≡ true → IsMine m (Some w) h → IsGoing o w g (with_exit_gic (with_exit_words m h exit) g h)
+  going_exit_words : (g h : ℕ) (m : Machine) (exit : RecExit) → IsGoing o w g m → h < length m.granules → is_memory_state (granule_at m h).state ≡ true → IsMine true m (Some w) h → IsGoing o w g (with_exit_gic (with_exit_words m h exit) g h)
   unfolding with_exit_words
   going_exit_words g h m exit going inside plain mine =
       going_exit_gic g h _ (going_plain o w g h m _ going inside (length-with_words_from 256 (exit_word exit) (page_in m h) (going.proper.sound.whole h inside) 256 (omega arith)) plain mine) inside plain mine
@@ -129,7 +130,7 @@ module _ (o : Machine) (w : ℕ) where
   -- ---- accesses
 
   -- a granule that a guest of a realm writes
-  plain_mine : (m : Machine) (rd h : ℕ) → rd ≡ w → (granule_at m h ≡ of_realm rd Data) ⊎ ((granule_at m h).state ≡ Undelegated) → IsMine m (Some w) h
+  plain_mine : (m : Machine) (rd h : ℕ) → rd ≡ w → (granule_at m h ≡ of_realm rd Data) ⊎ ((granule_at m h).state ≡ Undelegated) → IsMine true m (Some w) h
   plain_mine m rd h named (inl is) = inl (inr (ap (λ (r : RmmGranule). r.owner) is ∙ ap (λ (x : ℕ). Some x) named))
   plain_mine m rd h named (inr free) = inr (inl free)
 
@@ -159,7 +160,7 @@ module _ (o : Machine) (w : ℕ) where
 
     going_write : (g : ℕ) (m : Machine) (realm : RmmRealm) (is : (granule_at m rd).state ≡ Rd realm) (ipa value : ℕ) (size : AccessSize) (going : IsGoing o w g m) (came : Result ℕ StepOutcome)
         → IsPlainIfOk m going.proper rd realm is ipa came → IsGoing o w g (after_write m ipa size value came)
-    going_write g m realm is ipa value size going (Ok h) plain = going_value g h ipa value size m going plain
+    going_write g m realm is ipa value size going (Ok h) plain = going_value g h ipa value size m going plain.0
     going_write g m realm is ipa value size going (Err outcome) plain = going
 
   -- ---- steps
@@ -227,7 +228,7 @@ module _ (o : Machine) (w : ℕ) where
   going_target g m rec _ begins going = going
 
   -- a REC beside one that has other attributes
-  still_rec : (g h : ℕ) (m : Machine) (rec old : RmmRec) → IsGoing o w g m → (granule_at m h).state ≡ IsRec old → (granule_at m h).owner ≡ Some w → IsMine o (Some w) h → IsGoing o w h (with_rec m g rec)
+  still_rec : (g h : ℕ) (m : Machine) (rec old : RmmRec) → IsGoing o w g m → (granule_at m h).state ≡ IsRec old → (granule_at m h).owner ≡ Some w → IsMine true o (Some w) h → IsGoing o w h (with_rec m g rec)
   still_rec g h m rec old going is owned mine =
       ⊎_elim
       (λ (same : h ≡ g). subst (λ (x : ℕ). IsGoing o w x (with_rec m g rec)) (sym same) (going_rec o w g m rec going))
@@ -244,6 +245,8 @@ module _ (o : Machine) (w : ℕ) where
         vmids = (going_rec o w g m rec going).vmids;
         held = (going_rec o w g m rec going).held;
         lasts = (going_rec o w g m rec going).lasts;
+        tables = (going_rec o w g m rec going).tables;
+        hosts = (going_rec o w g m rec going).hosts;
         states = (going_rec o w g m rec going).states;
       })
       (cases_eq h g)
@@ -269,9 +272,9 @@ rd_of_rec_is m g rec proper is = owner_is m (granule_at m g).owner (rd_of m g pr
 
 -- a REC that a call names, and what the call touches
 rec_there : (m n : Machine) (address w : ℕ) → not (is_aligned address) ≡ false → not (is_inside m address) ≡ false → is_none (rec_of (state_at m address)) ≡ false
-    → (granule_at m (number_of m address)).owner ≡ Some w → Touches m n (Some w) → Touches m n (realm_of_rec m address)
+    → (granule_at m (number_of m address)).owner ≡ Some w → Touches true m n (Some w) → Touches true m n (realm_of_rec m address)
 rec_there m n address w aligned inside is owned touches =
-    subst (λ (o : Option ℕ). Touches m n o) (sym (rec_named-is m address aligned inside is ∙ owned)) touches
+    subst (λ (o : Option ℕ). Touches true m n o) (sym (rec_named-is m address aligned inside is ∙ owned)) touches
 
 pub active_if : (s : RmmRealmState) → is_new s ≡ false → is_system_off s ≡ false → s ≡ Active
 active_if Active not_new not_off = refl
@@ -321,7 +324,13 @@ module _ (rec address : ℕ) (m : Machine) (proper : IsProper m) (ok : Passed (r
       inr (off.1, owned, (there.0, there.1, sym state ∙ active), off.2))
       (entry_going.states rd realm at)
 
-  pub entered_touches : Touches m (rec_enter rec address m).machine (realm_of_rec m rec)
+  pub entered_hosts : (h : ℕ) → (granule_at m h).state ≡ Undelegated → granule_at (rec_enter rec address m).machine h ≡ granule_at m h
+  entered_hosts h free = entry_going.hosts h free
+
+  pub entered_tables : KeepsTables m (rec_enter rec address m).machine
+  entered_tables = entry_going.tables
+
+  pub entered_touches : Touches true m (rec_enter rec address m).machine (realm_of_rec m rec)
   unfolding rec_enter
   entered_touches =
       rec_there m (rec_enter rec address m).machine rec of_entered.0 ok.1.1.1.0 ok.1.1.1.1.0 ok.1.1.1.1.1.0 of_entered.1 entry_going.touches
@@ -360,10 +369,13 @@ module _ (calling target status : ℕ) (m : Machine) (proper : IsProper m) (ok :
   pub completed_held : Held m (psci_complete calling target status m).machine
   completed_held = target_going.held
 
+  pub completed_tables : KeepsTables m (psci_complete calling target status m).machine
+  completed_tables = target_going.tables
+
   pub completed_lasts : Lasts m (psci_complete calling target status m).machine
   completed_lasts = target_going.lasts
 
-  pub completed_touches : Touches m (psci_complete calling target status m).machine (realm_of_rec m calling)
+  pub completed_touches : Touches true m (psci_complete calling target status m).machine (realm_of_rec m calling)
   unfolding psci_complete
   completed_touches =
       rec_there m (psci_complete calling target status m).machine calling of_caller.0 ok.1.0 ok.1.1.0 ok.1.1.1.0 of_caller.1 target_going.touches
@@ -380,22 +392,26 @@ module _ (m : Machine) (address : ℕ) (proper : IsProper m) (is : is_rec_named 
   named : IsGoing m of_named.0 (number_of m address) m
   named = going_first (number_of m address) of_named.0 m (rec_at m address) proper named_is of_named.1
 
-pub interrupt_kept : (m : Machine) (address : ℕ) → IsProper m → IsProper (interrupted m address).1
+-- what holds of a machine, and after steps, entries and exits of a REC, holds after an interrupt, and after a step is given
+pub interrupted_then : (P : Machine → Type 0) (m : Machine) (address : ℕ) → IsProper m → P m → ((w g : ℕ) (n : Machine) → IsGoing m w g n → P n) → P (interrupted m address).1
 unfolding interrupted
-interrupt_kept m address proper =
-    cond_both (runs_at m address) _ _ (λ (p : Option Answer × Machine). IsProper p.1)
+interrupted_then P m address proper same goes =
+    cond_both (runs_at m address) _ _ (λ (p : Option Answer × Machine). P p.1)
     (λ runs.
     let is = (and_parts (is_rec_named m address) _ runs).0 in
-    let going = going_exit m (of_named m address proper is).0 (number_of m address) m (only_reason Irq) Other (named m address proper is) in
-    record { linked = going.proper; ordered = going.ordered })
-    (λ never. proper)
+    goes (of_named m address proper is).0 (number_of m address) _ (going_exit m (of_named m address proper is).0 (number_of m address) m (only_reason Irq) Other (named m address proper is)))
+    (λ never. same)
+
+pub interrupt_kept : (m : Machine) (address : ℕ) → IsProper m → IsProper (interrupted m address).1
+interrupt_kept m address proper = interrupted_then IsProper m address proper proper (λ w g n going. record { linked = going.proper; ordered = going.ordered })
+
+pub given_then : (P : Machine → Type 0) (m : Machine) (address : ℕ) (words : StepWords) → IsProper m → P m → ((w g : ℕ) (n : Machine) → IsGoing m w g n → P n) → P (queued m address words).1
+given_then P m address words proper same goes =
+    cond_both (is_rec_named m address) _ _ (λ (p : Queued × Machine). P p.1)
+    (λ is. cond_both (nat_lt (rec_in m (number_of m address)).step_count 16) _ _ (λ (p : Queued × Machine). P p.1)
+    (λ few. goes (of_named m address proper is).0 (number_of m address) _ (going_given m (of_named m address proper is).0 (number_of m address) m words (named m address proper is)))
+    (λ full. same))
+    (λ never. same)
 
 pub given_kept : (m : Machine) (address : ℕ) (words : StepWords) → IsProper m → IsProper (queued m address words).1
-given_kept m address words proper =
-    cond_both (is_rec_named m address) _ _ (λ (p : Queued × Machine). IsProper p.1)
-    (λ is. cond_both (nat_lt (rec_in m (number_of m address)).step_count 16) _ _ (λ (p : Queued × Machine). IsProper p.1)
-    (λ few.
-    let going = going_given m (of_named m address proper is).0 (number_of m address) m words (named m address proper is) in
-    record { linked = going.proper; ordered = going.ordered })
-    (λ full. proper))
-    (λ never. proper)
+given_kept m address words proper = given_then IsProper m address words proper proper (λ w g n going. record { linked = going.proper; ordered = going.ordered })

@@ -12,15 +12,16 @@ use Rattle.rmm_model.specs.declared.granule.RmmGranule.{RmmGranule}
 use Rattle.rmm_model.specs.declared.granule.RmmGranuleState.{RmmGranuleState}
 use Rattle.rmm_model.specs.declared.granule.RmmGranuleState.TheVariants.{Rd, Rtt}
 use Rattle.rmm_model.specs.declared.realm.RmmRealm.{RmmRealm}
-use Rattle.rmm_model.specs.Entry.{entry_of, entry_at_kind, entry_word, is_table, is_assigned_ns}
+use Rattle.rmm_model.specs.Entry.{entry_of, entry_at_kind, entry_word, descriptor_of, is_table}
 use Rattle.rmm_model.specs.Granule.{of_no_realm, of_realm, realm_of}
 use Rattle.rmm_model.specs.Level.{entry_size}
 use Rattle.rmm_model.specs.Machine.{Machine, granule_at, page_in, with_granule, with_page, with_word, with_vmid}
 use Rattle.rmm_model.specs.Table.{entry_in_page}
 use Rattle.rmm_model.specs.Walk.{table_below}
-use Rattle.rmm_laws.specs.Half.{IsOfHalf, IsHalved, HasHalves}
+use Rattle.rmm_laws.specs.Half.{IsOfHalf, IsPlaced, IsHalved, HasHalves}
 use Rattle.rmm_laws.specs.Owner.{is_rd}
 use Rattle.rmm_laws.proofs.EntryWords.{entry_word-fits}
+use Rattle.rmm_laws.proofs.Placing.{placed_word}
 use Rattle.rmm_laws.proofs.Writes.{granule_at-same, granule_at-other, page_in-same, page_in-other, named-same}
 
 -- ---- kinds of entries
@@ -115,11 +116,11 @@ module _ (m n : Machine) (step : HasNoMore m n) (level place : ℕ → ℕ) (hal
       subst (λ (p : List ℕ). IsOfHalf realm ipa (entry_in_page p i)) (sym same.1)
       (half_space realm was.0 ipa (entry_in_page (page_in m table) i) was.2.0 (halved.half rd table i ipa was.0 was.1 (sym same.0 ∙ owned) lt covers))
 
-  block_then : (table i : ℕ) → (granule_at n table).state ≡ Rtt → i < 512 → is_assigned_ns (entry_in_page (page_in n table) i) ≡ true → n.settings.block_level ≤ level table
-  block_then table i is lt mapped =
+  block_then : (table i : ℕ) → (granule_at n table).state ≡ Rtt → i < 512 → IsPlaced n.settings (level table) (entry_in_page (page_in n table) i)
+  block_then table i is lt =
       let was = step.tables table is in
-      subst (λ (s : RmmSettings). s.block_level ≤ level table) (sym step.settings)
-      (halved.block table i (sym (ap (λ (r : RmmGranule). r.state) was.0) ∙ is) lt (sym (ap (λ (p : List ℕ). is_assigned_ns (entry_in_page p i)) was.1) ∙ mapped))
+      subst (λ (s : RmmSettings). IsPlaced s (level table) (entry_in_page (page_in n table) i)) (sym step.settings)
+      (subst (λ (p : List ℕ). IsPlaced m.settings (level table) (entry_in_page p i)) (sym was.1) (halved.block table i (sym (ap (λ (r : RmmGranule). r.state) was.0) ∙ is) lt))
 
   pub no_more_halved : IsHalved n level place
   no_more_halved = record {
@@ -140,10 +141,10 @@ abbrev pub Fits : Machine → (ℕ → ℕ) → (ℕ → ℕ) → ℕ → ℕ �
 Fits m level place table i e =
     ((rd ipa : ℕ) (realm : RmmRealm) → (granule_at m rd).state ≡ Rd realm → granule_at m table ≡ of_realm rd Rtt → ipa / entry_size (level table) ≡ place table * 512 + i → IsOfHalf realm ipa e)
     × ((child : ℕ) → table_below m e ≡ Some child → (level child ≡ level table + 1) × (place child ≡ place table * 512 + i))
-    × (is_assigned_ns e ≡ true → m.settings.block_level ≤ level table)
+    × IsPlaced m.settings (level table) e
 
 pub fits_before : (m : Machine) (level place : ℕ → ℕ) → IsHalved m level place → (table i : ℕ) → (granule_at m table).state ≡ Rtt → i < 512 → Fits m level place table i (entry_in_page (page_in m table) i)
-fits_before m level place halved table i is lt = (λ rd ipa realm there owned covers. halved.half rd table i ipa realm there owned lt covers, λ child leads. halved.below table i child is lt leads, λ mapped. halved.block table i is lt mapped)
+fits_before m level place halved table i is lt = (λ rd ipa realm there owned covers. halved.half rd table i ipa realm there owned lt covers, λ child leads. halved.below table i child is lt leads, halved.block table i is lt)
 
 module _ (m : Machine) (table : ℕ) (page : List ℕ) (level place : ℕ → ℕ) (halved : IsHalved m level place)
     (fits : (i : ℕ) → i < 512 → Fits m level place table i (entry_in_page (page_in (with_page m table page) table) i)) where
@@ -176,9 +177,9 @@ module _ (m : Machine) (table : ℕ) (page : List ℕ) (level place : ℕ → �
     start = halved.start;
     below = λ t i child is lt leads. below_at t i child is lt (sym (below_same m n refl refl (entry_in_page (page_in n t) i)) ∙ leads);
     half = half_at;
-    block = λ t i is lt mapped. ⊎_elim
-        (λ (here : t ≡ table). subst (λ (x : ℕ). m.settings.block_level ≤ level x) (sym here) ((fits i lt).2 (subst (λ (x : ℕ). is_assigned_ns (entry_in_page (page_in n x) i) ≡ true) here mapped)))
-        (λ (other : t ≢ table). halved.block t i is lt (sym (ap (λ (p : List ℕ). is_assigned_ns (entry_in_page p i)) (page_in-other m table t page other)) ∙ mapped))
+    block = λ t i is lt. ⊎_elim
+        (λ (here : t ≡ table). subst (λ (x : ℕ). IsPlaced m.settings (level x) (entry_in_page (page_in n x) i)) (sym here) (fits i lt).2)
+        (λ (other : t ≢ table). subst (λ (p : List ℕ). IsPlaced m.settings (level t) (entry_in_page p i)) (sym (page_in-other m table t page other)) (halved.block t i is lt))
         (cases_eq t table);
   }
 
@@ -248,6 +249,15 @@ pub plain_both : (m : Machine) (g : ℕ) (kept : RmmGranule) (page : List ℕ) �
 plain_both m g kept page inside plain halves =
     plain_page (with_granule m g kept) g page (ap (λ (r : RmmGranule). has_space r.state) (granule_at-same m g kept inside) ∙ plain) (plain_granule m g kept inside plain halves)
 
+-- the places of tables stay then
+pub plain_halved : (m : Machine) (g : ℕ) (kept : RmmGranule) (page : List ℕ) (level place : ℕ → ℕ) → g < length m.granules → has_space kept.state ≡ false → IsHalved m level place
+    → IsHalved (with_page (with_granule m g kept) g page) level place
+plain_halved m g kept page level place inside plain halved =
+    let n : Machine = with_page (with_granule m g kept) g page in
+    let now : (granule_at n g).state ≡ kept.state = ap (λ (r : RmmGranule). r.state) (granule_at-same m g kept inside) in
+    no_more_halved m n (differs m n g refl (length-set m.granules g kept) (λ h other. (granule_at-other m g h kept other, page_in-other (with_granule m g kept) g h page other))
+    (λ is. absurd (no_space kept.state Rtt plain refl (sym now ∙ is))) (λ realm is. absurd (no_space kept.state (Rd realm) plain refl (sym now ∙ is)))) level place halved
+
 -- the realm of an RD
 pub same_space : (m : Machine) (rd : ℕ) (realm other : RmmRealm) → rd < length m.granules → (granule_at m rd).state ≡ Rd realm → SameSpace other realm → HasHalves m
     → HasHalves (with_granule m rd (of_no_realm (Rd other)))
@@ -290,16 +300,6 @@ no_below m UnassignedNs never = refl
 no_below m (AssignedNs desc) never = refl
 no_below m (Table address) never = absurd (cc)
 
-ns_kind : (e : RmmRttEntry) → is_assigned_ns (kind_of e) ≡ is_assigned_ns e
-ns_kind (Unassigned ripas) = refl
-ns_kind (Assigned ripas address) = refl
-ns_kind UnassignedNs = refl
-ns_kind (AssignedNs desc) = refl
-ns_kind (Table address) = refl
-
-pub ns_alike : (a b : RmmRttEntry) → kind_of a ≡ kind_of b → is_assigned_ns a ≡ is_assigned_ns b
-ns_alike a b same = sym (ns_kind a) ∙ ap is_assigned_ns same ∙ ns_kind b
-
 -- an entry of the kind of one that is no TABLE leads to no table
 pub none_below : (m : Machine) (a b : RmmRttEntry) → kind_of a ≡ kind_of b → is_table b ≡ false → table_below m a ≡ None
 none_below m a b same never = no_below m a (sym (table_kind a) ∙ ap is_table same ∙ table_kind b ∙ never)
@@ -340,18 +340,18 @@ entry_halved m t i e inside whole index table halves fits =
 
 -- an entry that is no TABLE
 pub leaf_halved : (m : Machine) (t i : ℕ) (e : RmmRttEntry) → t < length m.pages → length (page_in m t) ≡ 4096 → i < 512 → (granule_at m t).state ≡ Rtt → is_table e ≡ false → (halves : HasHalves m)
-    → (is_assigned_ns e ≡ true → m.settings.block_level ≤ halves.level t)
+    → descriptor_of e < 2 ^ 48 → IsPlaced m.settings (halves.level t) e
     → ((rd ipa : ℕ) (realm : RmmRealm) → (granule_at m rd).state ≡ Rd realm → granule_at m t ≡ of_realm rd Rtt → ipa / entry_size (halves.level t) ≡ halves.place t * 512 + i → IsOfHalf realm ipa e)
     → HasHalves (with_word m t i (entry_word e))
-leaf_halved m t i e inside whole index table leaf halves block half =
+leaf_halved m t i e inside whole index table leaf halves few block half =
     entry_halved m t i e inside whole index table halves (
       λ rd ipa realm is owned covers. half_alike realm ipa e (entry_of (entry_word e)) (sym (word_kind e)) (half rd ipa realm is owned covers),
       λ child leads. (let none = none_below m (entry_of (entry_word e)) e (word_kind e) leaf in absurd (cc)),
-      λ mapped. block (sym (ns_alike (entry_of (entry_word e)) e (word_kind e)) ∙ mapped),
+      placed_word m.settings (halves.level t) e few block,
     )
 
 -- an entry of the half of the one that was there
-pub alike_halved : (m : Machine) (t i : ℕ) (e : RmmRttEntry) → t < length m.pages → length (page_in m t) ≡ 4096 → i < 512 → (granule_at m t).state ≡ Rtt → is_table e ≡ false → HasHalves m
-    → is_assigned_ns e ≡ false → ((ipa : ℕ) (realm : RmmRealm) → IsOfHalf realm ipa (entry_in_page (page_in m t) i) → IsOfHalf realm ipa e) → HasHalves (with_word m t i (entry_word e))
-alike_halved m t i e inside whole index table leaf halves none same =
-    leaf_halved m t i e inside whole index table leaf halves (λ mapped. absurd (both_ways (is_assigned_ns e) none mapped)) (λ rd ipa realm is owned covers. same ipa realm (halves.is.half rd t i ipa realm is owned index covers))
+pub alike_halved : (m : Machine) (t i : ℕ) (e : RmmRttEntry) → t < length m.pages → length (page_in m t) ≡ 4096 → i < 512 → (granule_at m t).state ≡ Rtt → is_table e ≡ false → (halves : HasHalves m)
+    → descriptor_of e < 2 ^ 48 → IsPlaced m.settings (halves.level t) e → ((ipa : ℕ) (realm : RmmRealm) → IsOfHalf realm ipa (entry_in_page (page_in m t) i) → IsOfHalf realm ipa e) → HasHalves (with_word m t i (entry_word e))
+alike_halved m t i e inside whole index table leaf halves few block same =
+    leaf_halved m t i e inside whole index table leaf halves few block (λ rd ipa realm is owned covers. same ipa realm (halves.is.half rd t i ipa realm is owned index covers))

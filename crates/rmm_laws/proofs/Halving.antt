@@ -1,36 +1,31 @@
 -- Writes of commands keep entries of the half that they cover.
-use Rattle.std.proofs.Common.{◌≡◌, ◌≢◌, ℕ, ◌+◌, ◌*◌, ◌/◌, ◌^◌, ◌<◌, ◌≤◌, ◌⊎◌, inl, inr, ◌==◌, true, false, List, length, Some, refl, sym, ap, subst, ◌∙◌, ⊎_elim, lit≤, arith}
-use Rattle.std.specs.Int.{from_le_bytes, w64}
+use Rattle.std.proofs.Common.{◌≡◌, ◌≢◌, ℕ, ◌+◌, ◌*◌, ◌/◌, ◌^◌, ◌<◌, ◌≤◌, ◌⊎◌, inl, inr, ◌==◌, true, false, List, length, Some, refl, sym, ap, subst, ◌∙◌, ⊎_elim, arith}
 use Rattle.std.specs.Prelude.{if◌then◌else◌}
-use Rattle.std.proofs.Common.{replicate}
-use Rattle.std.proofs.lemmas.Bool.{cases_eq, cases_lt, cond-true, cond-false, eq-eqb, ne_eqb, both_ways}
+use Rattle.std.proofs.lemmas.Bool.{cases_eq, cases_lt, cond-true, cond-false, eq-eqb, ne_eqb}
 use Rattle.std.proofs.lemmas.List.{length-set}
-use Rattle.granule_addr.specs.Page.{page_of, zero_page}
-use Rattle.page_arena.specs.Pages.{length-page_of}
 use Rattle.page_arena.specs.Word.{word_of_page}
 use Rattle.rmm_model.specs.declared.entry.RmmRipas.{RmmRipas}
-use Rattle.rmm_model.specs.declared.entry.RmmRipas.TheVariants.{Empty, Ram, Destroyed}
 use Rattle.rmm_model.specs.declared.entry.RmmRttEntry.{RmmRttEntry}
 use Rattle.rmm_model.specs.declared.entry.RmmRttEntry.TheVariants.{Unassigned, Assigned, Table, UnassignedNs, AssignedNs}
 use Rattle.rmm_model.specs.declared.granule.RmmGranule.{RmmGranule}
 use Rattle.rmm_model.specs.declared.granule.RmmGranuleState.TheVariants.{Delegated, Rd, Rtt}
 use Rattle.rmm_model.specs.declared.realm.RmmRealm.{RmmRealm}
 use Rattle.rmm_model.specs.declared.realm.RttWalk.{RttWalk}
-use Rattle.rmm_model.specs.Entry.{entry_of, entry_word, child_entry, entry_with_ripas, is_table, is_assigned_ns}
+use Rattle.rmm_model.specs.Entry.{entry_of, entry_word, child_entry, descriptor_of, entry_with_ripas, is_mapping, is_table}
 use Rattle.rmm_model.specs.Granule.{of_realm}
 use Rattle.rmm_model.specs.Level.{entry_size, entry_index}
 use Rattle.rmm_model.specs.Machine.{Machine, granule_at, page_in, is_inside, number_of, with_granule, with_page}
-use Rattle.rmm_model.specs.Table.{entry_in_page, has_parts, children_page, with_words, with_words_from}
+use Rattle.rmm_model.specs.Table.{entry_in_page, has_parts, children_page, with_words_from}
 use Rattle.rmm_model.specs.Walk.{entry_at, with_entry, table_below, walk}
 use Rattle.rmm_model.specs.Command.RipasRange.{with_ripas_from}
-use Rattle.rmm_laws.specs.Half.{IsOfHalf, IsHalved, HasHalves}
+use Rattle.rmm_laws.specs.Half.{IsOfHalf, IsPlaced, IsHalved, HasHalves}
 use Rattle.rmm_laws.specs.Role.{IsLinked}
-use Rattle.rmm_laws.proofs.Children.{word_of_page-page_of, part_word}
+use Rattle.rmm_laws.proofs.Children.{children_word, part_word}
 use Rattle.rmm_laws.proofs.Entries.{named_inside}
-use Rattle.rmm_laws.proofs.EntryWords.{entry_of-entry_word, entry_word-fits}
-use Rattle.rmm_laws.proofs.Halves.{kind_of, half_alike, word_kind, none_below, ns_alike, below_same, no_rtt, Fits, fits_before, page_halved, has_space, plain_both, entry_halved, leaf_halved, alike_halved}
+use Rattle.rmm_laws.proofs.EntryWords.{descriptor-few, entry_of-entry_word}
+use Rattle.rmm_laws.proofs.Halves.{kind_of, half_alike, word_kind, none_below, plain_halved, below_same, no_rtt, Fits, fits_before, page_halved, has_space, plain_both, entry_halved, leaf_halved, alike_halved}
 use Rattle.rmm_laws.proofs.Mappings.{place_table, entry_changed, entry_kept}
-use Rattle.rmm_laws.proofs.PageWords.{word_of_page-with_words}
+use Rattle.rmm_laws.proofs.Placing.{placed_child, placed_none, placed_ripas, placed_word}
 use Rattle.rmm_laws.proofs.Passed.{some_same}
 use Rattle.rmm_laws.proofs.Seats.{start_table, child_table, walk_seat, in_space, at_seat}
 use Rattle.rmm_laws.proofs.Sides.{above, whole_index}
@@ -39,33 +34,17 @@ use Rattle.rmm_laws.proofs.Writes.{taken_inside, granule_at-same, granule_at-oth
 
 -- ---- kinds of children
 
-child_kind : (e : RmmRttEntry) (level k : ℕ) → kind_of (child_entry e level k) ≡ kind_of e
+pub child_kind : (e : RmmRttEntry) (level k : ℕ) → kind_of (child_entry e level k) ≡ kind_of e
 child_kind (Unassigned ripas) level k = refl
 child_kind (Assigned ripas address) level k = refl
 child_kind UnassignedNs level k = refl
 child_kind (AssignedNs desc) level k = refl
 child_kind (Table address) level k = refl
 
-kind_byte : (byte j : ℕ) (e : RmmRttEntry) → j < 512 → kind_of (entry_of (from_le_bytes w64 (replicate 8 byte))) ≡ kind_of e → kind_of (entry_in_page (page_of byte) j) ≡ kind_of e
-unfolding entry_in_page
-kind_byte byte j e lt is = ap (λ (w : ℕ). kind_of (entry_of w)) (word_of_page-page_of byte j lt) ∙ is
-
-written_kind : (e : RmmRttEntry) (level j : ℕ) → j < 512 → kind_of (entry_of (word_of_page (with_words 512 (λ (k : ℕ). entry_word (child_entry e level k)) zero_page) j)) ≡ kind_of e
-written_kind e level j lt =
-    ap (λ (w : ℕ). kind_of (entry_of w)) (word_of_page-with_words (λ (k : ℕ). entry_word (child_entry e level k)) zero_page (length-page_of 0) 512 j (lit≤ tt) lt (entry_word-fits (child_entry e level j)))
-    ∙ word_kind (child_entry e level j)
-    ∙ child_kind e level j
-
 -- the children of an entry are of its kind
 children_kind : (e : RmmRttEntry) (level j : ℕ) → j < 512 → kind_of (entry_in_page (children_page e level) j) ≡ kind_of e
-unfolding children_page entry_in_page entry_of
-children_kind (Unassigned Empty) level j lt = kind_byte 0 j (Unassigned Empty) lt refl
-children_kind (Unassigned Ram) level j lt = kind_byte 1 j (Unassigned Ram) lt refl
-children_kind (Unassigned Destroyed) level j lt = kind_byte 2 j (Unassigned Destroyed) lt refl
-children_kind UnassignedNs level j lt = kind_byte 3 j UnassignedNs lt refl
-children_kind (AssignedNs desc) level j lt = written_kind (AssignedNs desc) level j lt
-children_kind (Assigned ripas address) level j lt = written_kind (Assigned ripas address) level j lt
-children_kind (Table address) level j lt = written_kind (Table address) level j lt
+unfolding entry_in_page
+children_kind e level j lt = ap (λ (w : ℕ). kind_of (entry_of w)) (children_word e level j lt) ∙ word_kind (child_entry e level j) ∙ child_kind e level j
 
 ripas_kind : (ripas : RmmRipas) (e : RmmRttEntry) → kind_of (entry_with_ripas ripas e) ≡ kind_of e
 ripas_kind ripas (Unassigned old) = refl
@@ -103,7 +82,7 @@ module _ (m : Machine) (linked : IsLinked m) (halves : HasHalves m) (t first cou
         λ rd ipa realm there owned covers. half_alike realm ipa (entry_in_page (page_in m t) j) (entry_with_ripas ripas (entry_in_page (page_in m t) j)) (sym (ripas_kind ripas (entry_in_page (page_in m t) j)))
             (before.0 rd ipa realm there owned covers),
         λ child leads. before.1 child (sym (ripas_below m ripas (entry_in_page (page_in m t) j)) ∙ leads),
-        λ mapped. before.2 (sym (ns_alike (entry_with_ripas ripas (entry_in_page (page_in m t) j)) (entry_in_page (page_in m t) j) (ripas_kind ripas (entry_in_page (page_in m t) j))) ∙ mapped),
+        placed_ripas m.settings (halves.level t) ripas (entry_in_page (page_in m t) j) before.2,
       ))
       (λ (past : first + count ≤ j). kept (inr past))
       (cases_lt j (first + count)))
@@ -144,16 +123,16 @@ module _ (m : Machine) (linked : IsLinked m) (halves : HasHalves m) (rd ipa leve
   index : i < 512
   index = entry_index-few found.level ipa
 
-  pub entry_at_end : (e : RmmRttEntry) → is_table e ≡ false → (is_assigned_ns e ≡ true → m.settings.block_level ≤ (walk m realm ipa level).level)
+  pub entry_at_end : (e : RmmRttEntry) → is_table e ≡ false → descriptor_of e < 2 ^ 48 → IsPlaced m.settings (walk m realm ipa level).level e
       → ((x : ℕ) → x / entry_size (walk m realm ipa level).level ≡ ipa / entry_size (walk m realm ipa level).level → IsOfHalf realm x e)
       → HasHalves (with_entry m (walk m realm ipa level) ipa e)
-  entry_at_end e leaf block half =
-      leaf_halved m t i e has_page whole index table_is leaf halves (λ mapped. subst (λ (l : ℕ). m.settings.block_level ≤ l) (sym (walk_seat m linked halves rd ipa realm is within level).depth) (block mapped)) (λ other x some there owned covers. at_seat m linked halves rd ipa realm is within level e half other x some there owned covers)
+  entry_at_end e leaf fits block half =
+      leaf_halved m t i e has_page whole index table_is leaf halves fits (subst (λ (l : ℕ). IsPlaced m.settings l e) (sym (walk_seat m linked halves rd ipa realm is within level).depth) block) (λ other x some there owned covers. at_seat m linked halves rd ipa realm is within level e half other x some there owned covers)
 
-  pub entry_alike : (e : RmmRttEntry) → is_table e ≡ false → is_assigned_ns e ≡ false → ((x : ℕ) (some : RmmRealm) → IsOfHalf some x (entry_at m (walk m realm ipa level) ipa) → IsOfHalf some x e)
+  pub entry_alike : (e : RmmRttEntry) → is_table e ≡ false → descriptor_of e < 2 ^ 48 → is_mapping e ≡ false → ((x : ℕ) (some : RmmRealm) → IsOfHalf some x (entry_at m (walk m realm ipa level) ipa) → IsOfHalf some x e)
       → HasHalves (with_entry m (walk m realm ipa level) ipa e)
   unfolding entry_at
-  entry_alike e leaf none same = alike_halved m t i e has_page whole index table_is leaf halves none same
+  entry_alike e leaf fits none same = alike_halved m t i e has_page whole index table_is leaf halves fits (placed_none m.settings (halves.level t) e none) same
 
   -- an entry, after a DELEGATED granule became one that is no table
   module _ (g : ℕ) (kept : RmmGranule) (content : List ℕ) (inside : g < length m.granules) (free : (granule_at m g).state ≡ Delegated) where
@@ -178,17 +157,19 @@ module _ (m : Machine) (linked : IsLinked m) (halves : HasHalves m) (rd ipa leve
     pub mid_halves : has_space kept.state ≡ false → HasHalves (with_page (with_granule m g kept) g content)
     mid_halves plain = plain_both m g kept content inside plain halves
 
-    pub entry_beside : (e : RmmRttEntry) → has_space kept.state ≡ false → is_table e ≡ false → is_assigned_ns e ≡ false → ((x : ℕ) (some : RmmRealm) → IsOfHalf some x (entry_at m (walk m realm ipa level) ipa) → IsOfHalf some x e)
+    pub entry_beside : (e : RmmRttEntry) → has_space kept.state ≡ false → is_table e ≡ false → descriptor_of e < 2 ^ 48 → IsPlaced m.settings (walk m realm ipa level).level e → ((x : ℕ) (some : RmmRealm) → IsOfHalf some x (entry_at m (walk m realm ipa level) ipa) → IsOfHalf some x e)
         → HasHalves (with_entry (with_page (with_granule m g kept) g content) (walk m realm ipa level) ipa e)
     unfolding entry_at
-    entry_beside e plain leaf none same =
-        alike_halved mid t i e page_inside (ap (length {A = ℕ}) page_there ∙ whole) index (ap (λ (r : RmmGranule). r.state) table_there ∙ table_is) leaf (mid_halves plain) none
+    entry_beside e plain leaf fits block same =
+        alike_halved mid t i e page_inside (ap (length {A = ℕ}) page_there ∙ whole) index (ap (λ (r : RmmGranule). r.state) table_there ∙ table_is) leaf
+        (record { level = halves.level; place = halves.place; is = plain_halved m g kept content halves.level halves.place inside plain halves.is }) fits
+        (subst (λ (l : ℕ). IsPlaced m.settings l e) (sym (walk_seat m linked halves rd ipa realm is within level).depth) block)
         (λ x some before. same x some (subst (λ (p : List ℕ). IsOfHalf some x (entry_in_page p i)) page_there before))
 
   -- the first entry of a table below, whose entries are all its children
   module _ (g to : ℕ) (named : table_below m (entry_at m (walk m realm ipa level) ipa) ≡ Some g) (few : (walk m realm ipa level).level ≤ 2) (leaf : is_table (entry_in_page (page_in m g) 0) ≡ false)
       (parts : has_parts (page_in m g) (entry_in_page (page_in m g) 0) to 512 0 ≡ true)
-      (block : is_assigned_ns (entry_in_page (page_in m g) 0) ≡ true → m.settings.block_level ≤ (walk m realm ipa level).level) where
+      (block : IsPlaced m.settings (walk m realm ipa level).level (entry_in_page (page_in m g) 0)) where
     part_kind : (j : ℕ) → j < 512 → kind_of (entry_in_page (page_in m g) j) ≡ kind_of (entry_in_page (page_in m g) 0)
     unfolding entry_in_page
     part_kind j lt =
@@ -197,11 +178,12 @@ module _ (m : Machine) (linked : IsLinked m) (halves : HasHalves m) (rd ipa leve
         ∙ child_kind (entry_in_page (page_in m g) 0) to j
 
     pub entry_folded : HasHalves (with_entry m (walk m realm ipa level) ipa (entry_in_page (page_in m g) 0))
-    unfolding entry_at
+    unfolding entry_at entry_in_page
     entry_folded =
         let seat = walk_seat m linked halves rd ipa realm is within level in
         let below = halves.is.below t i g table_is index named in
-        leaf_halved m t i (entry_in_page (page_in m g) 0) has_page whole index table_is leaf halves (λ mapped. subst (λ (l : ℕ). m.settings.block_level ≤ l) (sym seat.depth) (block mapped)) (λ other x some there owned covers.
+        leaf_halved m t i (entry_in_page (page_in m g) 0) has_page whole index table_is leaf halves (descriptor-few (word_of_page (page_in m g) 0))
+        (subst (λ (l : ℕ). IsPlaced m.settings l (entry_in_page (page_in m g) 0)) (sym seat.depth) block) (λ other x some there owned covers.
         let l : ℕ = halves.level t in
         let depth = seat.depth in
         let j : ℕ = entry_index (halves.level t + 1) x in
@@ -216,7 +198,7 @@ module _ (m : Machine) (linked : IsLinked m) (halves : HasHalves m) (rd ipa leve
 
   -- a new table in place of an entry, of which its entries are the children
   module _ (rtt to : ℕ) (inside : is_inside m rtt ≡ true) (g_in : number_of m rtt < length m.granules) (free : (granule_at m (number_of m rtt)).state ≡ Delegated) (low : rtt < 2 ^ 48)
-      (leaf : is_table (entry_at m (walk m realm ipa level) ipa) ≡ false) (few : (walk m realm ipa level).level ≤ 2) where
+      (leaf : is_table (entry_at m (walk m realm ipa level) ipa) ≡ false) (few : (walk m realm ipa level).level ≤ 2) (next_level : to ≡ (walk m realm ipa level).level + 1) where
     abbrev g : ℕ
     g = number_of m rtt
 
@@ -319,19 +301,22 @@ module _ (m : Machine) (linked : IsLinked m) (halves : HasHalves m) (rd ipa leve
         (halves.is.half other table j x some was (sym same.0 ∙ owned) lt (ap (λ (l : ℕ). x / entry_size l) (sym at.0) ∙ covers ∙ ap (λ (p : ℕ). p * 512 + j) at.1)))
         (cases_eq table g)
 
-    block_made : (table j : ℕ) → (granule_at made table).state ≡ Rtt → j < 512 → is_assigned_ns (entry_in_page (page_in made table) j) ≡ true → m.settings.block_level ≤ deep table
-    unfolding entry_at
-    block_made table j there lt mapped =
+    block_made : (table j : ℕ) → (granule_at made table).state ≡ Rtt → j < 512 → IsPlaced m.settings (deep table) (entry_in_page (page_in made table) j)
+    unfolding entry_at entry_in_page
+    block_made table j there lt =
         ⊎_elim
         (λ (here : table ≡ g).
         let entry : entry_in_page (page_in made table) j ≡ entry_in_page content j = ap (λ (h : ℕ). entry_in_page (page_in made h) j) here ∙ ap (λ (p : List ℕ). entry_in_page p j) content_now in
-        let mapped_above : is_assigned_ns parent ≡ true = sym (ns_alike (entry_in_page content j) parent (children_kind parent to j lt)) ∙ sym (ap is_assigned_ns entry) ∙ mapped in
-        let high = halves.is.block t i table_is index mapped_above in
-        subst (λ (l : ℕ). m.settings.block_level ≤ l) (sym (ap deep here ∙ at_g.0)) (omega arith))
+        let depth = (walk_seat m linked halves rd ipa realm is within level).depth in
+        let same : to ≡ halves.level t + 1 = next_level ∙ ap (λ (l : ℕ). l + 1) (sym depth) in
+        let child = placed_child m.settings (halves.level t) j parent (omega arith) (halves.is.block t i table_is index) in
+        let read : entry_in_page content j ≡ entry_of (entry_word (child_entry parent (halves.level t + 1) j)) =
+        ap entry_of (children_word parent to j lt) ∙ ap (λ (l : ℕ). entry_of (entry_word (child_entry parent l j))) same in
+        subst (IsPlaced m.settings (deep table)) (sym (entry ∙ read)) (subst (λ (l : ℕ). IsPlaced m.settings l (entry_of (entry_word (child_entry parent (halves.level t + 1) j)))) (sym (ap deep here ∙ at_g.0)) child))
         (λ (ne : table ≢ g).
         let same = kept table ne in
-        subst (λ (l : ℕ). m.settings.block_level ≤ l) (sym (at_other table ne).0)
-        (halves.is.block table j (sym (ap (λ (r : RmmGranule). r.state) same.0) ∙ there) lt (sym (ap (λ (p : List ℕ). is_assigned_ns (entry_in_page p j)) same.1) ∙ mapped)))
+        subst (λ (l : ℕ). IsPlaced m.settings l (entry_in_page (page_in made table) j)) (sym (at_other table ne).0)
+        (subst (λ (p : List ℕ). IsPlaced m.settings (halves.level table) (entry_in_page p j)) (sym same.1) (halves.is.block table j (sym (ap (λ (r : RmmGranule). r.state) same.0) ∙ there) lt)))
         (cases_eq table g)
 
     made_is : IsHalved made deep seat
@@ -357,9 +342,7 @@ module _ (m : Machine) (linked : IsLinked m) (halves : HasHalves m) (rd ipa leve
                 ap deep (sym it) ∙ at_g.0 ∙ ap (λ (l : ℕ). l + 1) (sym at.0),
                 ap seat (sym it) ∙ at_g.1 ∙ ap (λ (p : ℕ). p * 512 + i) (sym at.1),
               ),
-          λ mapped.
-              let never : is_assigned_ns (entry_of (entry_word (Table rtt))) ≡ false = ns_alike (entry_of (entry_word (Table rtt))) (Table rtt) (word_kind (Table rtt)) in
-              absurd (both_ways (is_assigned_ns (entry_of (entry_word (Table rtt)))) never mapped),
+          placed_word m.settings (deep t) (Table rtt) low (placed_none m.settings (deep t) (Table rtt) refl),
         )
 
     pub table_halves : HasHalves (with_entry (with_page (with_granule m (number_of m rtt) (of_realm rd Rtt)) (number_of m rtt) (children_page (entry_at m (walk m realm ipa level) ipa) to)) (walk m realm ipa level) ipa (Table rtt))

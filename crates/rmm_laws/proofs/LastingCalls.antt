@@ -50,14 +50,14 @@ use Rattle.rmm_laws.proofs.Effects.{aux_length}
 use Rattle.rmm_laws.proofs.Fold.{own_result}
 use Rattle.rmm_laws.proofs.Freed.{rtt_destroy_back, rtt_fold_back, data_destroy_back}
 use Rattle.rmm_laws.proofs.Guests.{entered_lasts, completed_lasts}
-use Rattle.rmm_laws.proofs.LeftAlone.{touches_of}
+use Rattle.rmm_laws.proofs.LeftAlone.{touches_host, touches_of}
 use Rattle.rmm_laws.proofs.Orders.{rd_is}
 use Rattle.rmm_laws.proofs.Passed.{Passed, kept, yes_from, is_delegated-true, is_undelegated-true, realm_of-some, rec_of-some, rd_named-is, some_same}
 use Rattle.rmm_laws.proofs.RecsGone.{fixed_of, destroyed_changed}
 use Rattle.rmm_laws.proofs.Lasting.{Lasts, lasts_all, lasts_plain, lasts_realm}
 use Rattle.rmm_laws.proofs.States.{same_realm}
 use Rattle.rmm_laws.proofs.Teardown.{own_word}
-use Rattle.rmm_laws.proofs.Touching.{Touches, IsMine}
+use Rattle.rmm_laws.proofs.Touching.{Touches, IsFree, IsMine, free_spare}
 use Rattle.rmm_laws.proofs.Writes.{granule_at-same, taken_inside}
 
 -- ---- RDs that a call does not name
@@ -77,12 +77,12 @@ not_spare m g realm is (inr free) = cc
 rd_or : (call : Call) (m : Machine) (g : ℕ) (realm : RmmRealm) → IsProper m → Passed (command_of call m).checks → (granule_at m g).state ≡ Rd realm
     → IsLasting (command_of call m).machine g realm ⊎ (named_realm m call ≡ Some g)
 rd_or call m g realm proper ok is =
-    let touches : Touches m (command_of call m).machine (named_realm m call) = touches_of call m proper ok in
+    let touches : Touches (touches_host call) m (command_of call m).machine (named_realm m call) = touches_of call m proper ok in
     ⊎_elim
     (λ (same : IsSameAt m (command_of call m).machine g). inl (realm, ap (λ (r : RmmGranule). r.state) same.0 ∙ is, refl))
-    (λ (mine : IsMine m (named_realm m call) g). ⊎_elim
+    (λ (mine : IsMine (touches_host call) m (named_realm m call) g). ⊎_elim
     (λ (ours : IsOfRealm m (named_realm m call) g). inr (named_by m (named_realm m call) g realm proper is ours))
-    (λ (spare : IsSpare m g). absurd (not_spare m g realm is spare))
+    (λ (free : IsFree (touches_host call) m g). absurd (not_spare m g realm is (free_spare (touches_host call) m g free)))
     mine)
     (touches.each g)
 
@@ -170,28 +170,28 @@ rec_gone rec m proper ok g realm is =
     changed)
     ((destroyed_changed rec m proper ok).2 g)
 
-after : (call : Call) (m : Machine) → IsProper m → Passed (command_of call m).checks → Keeps m call (command_of call m).machine
+pub realms_after : (call : Call) (m : Machine) → IsProper m → Passed (command_of call m).checks → Keeps m call (command_of call m).machine
 unfolding version features granule_delegate granule_undelegate realm_activate rec_aux_count rtt_read_entry rtt_create rtt_map_unprotected rtt_unmap_unprotected data_create source_checks target_checks data_create_unknown rtt_init_ripas range_checks rtt_set_ripas with_ripas_from
-after (RealmCreate rd params) m proper ok g realm is =
+realms_after (RealmCreate rd params) m proper ok g realm is =
     ⊎_elim (λ (same : IsLasting (command_of (RealmCreate rd params) m).machine g realm). inl same) (λ (never : named_realm m (RealmCreate rd params) ≡ Some g). absurd (cc)) (rd_or (RealmCreate rd params) m g realm proper ok is)
-after (RealmDestroy rd) m proper ok g realm is =
+realms_after (RealmDestroy rd) m proper ok g realm is =
     ⊎_elim
     (λ (same : IsLasting (command_of (RealmDestroy rd) m).machine g realm). inl same)
     (λ (named : named_realm m (RealmDestroy rd) ≡ Some g). inr (destroyed_is rd m ok g named))
     (rd_or (RealmDestroy rd) m g realm proper ok is)
-after (RecCreate rd rec params) m proper ok g realm is = rec_made rd rec params m proper ok g realm is
-after (RecDestroy rec) m proper ok g realm is = inl (rec_gone rec m proper ok g realm is)
-after (RecEnter rec run) m proper ok g realm is = inl (entered_lasts rec run m proper ok g realm is)
-after (PsciComplete calling target status) m proper ok g realm is = inl (completed_lasts calling target status m proper ok g realm is)
-after (DataDestroy rd ipa) m proper ok g realm is = inl (data_destroyed rd ipa m proper ok g realm is)
-after (RttDestroy rd ipa level) m proper ok g realm is = inl (table_destroyed rd ipa level m proper ok g realm is)
-after (RttFold rd ipa level) m proper ok g realm is = inl (table_folded rd ipa level m proper ok g realm is)
-after (RealmActivate rd) m proper ok g realm is =
+realms_after (RecCreate rd rec params) m proper ok g realm is = rec_made rd rec params m proper ok g realm is
+realms_after (RecDestroy rec) m proper ok g realm is = inl (rec_gone rec m proper ok g realm is)
+realms_after (RecEnter rec run) m proper ok g realm is = inl (entered_lasts rec run m proper ok g realm is)
+realms_after (PsciComplete calling target status) m proper ok g realm is = inl (completed_lasts calling target status m proper ok g realm is)
+realms_after (DataDestroy rd ipa) m proper ok g realm is = inl (data_destroyed rd ipa m proper ok g realm is)
+realms_after (RttDestroy rd ipa level) m proper ok g realm is = inl (table_destroyed rd ipa level m proper ok g realm is)
+realms_after (RttFold rd ipa level) m proper ok g realm is = inl (table_folded rd ipa level m proper ok g realm is)
+realms_after (RealmActivate rd) m proper ok g realm is =
     let old : RmmRealm = realm_at m rd in
     inl (lasts_realm m m (number_of m rd) old (record old { state = Active }) (realm_of-some (state_at m rd) ok.1.1.0) refl (lasts_all m) g realm is)
-after (RttInitRipas rd base top) m proper ok g realm is =
+realms_after (RttInitRipas rd base top) m proper ok g realm is =
     inl (lasts_realm m m (number_of m rd) (realm_at m rd) _ (realm_of-some (state_at m rd) ok.1.1.1.0) refl (lasts_all m) g realm is)
-after (DataCreate rd page ipa source flags) m proper ok g realm is =
+realms_after (DataCreate rd page ipa source flags) m proper ok g realm is =
     let old : RmmRealm = realm_at m rd in
     let r : ℕ = number_of m rd in
     let new : RmmRealm = with_rim old (rim_with_data old ipa flags (page_in m (number_of m source))) in
@@ -200,19 +200,19 @@ after (DataCreate rd page ipa source flags) m proper ok g realm is =
     let lasts : Lasts m marked = lasts_plain m m (number_of m page) (of_realm r Data) (ap is_rd free) (lasts_all m) in
     let there = lasts r old (realm_of-some (state_at m rd) ok.1.1.1.1.1.1.1.1.1.0) in
     inl (lasts_realm m marked r there.0 new there.1 (sym there.2) lasts g realm is)
-after (GranuleDelegate address) m proper ok g realm is =
+realms_after (GranuleDelegate address) m proper ok g realm is =
     inl (lasts_plain m m (number_of m address) (of_no_realm Delegated) (ap is_rd (is_undelegated-true (state_at m address) (yes_from (is_undelegated (state_at m address)) ok.1.1.0))) (lasts_all m) g realm is)
-after (GranuleUndelegate address) m proper ok g realm is =
+realms_after (GranuleUndelegate address) m proper ok g realm is =
     inl (lasts_plain m m (number_of m address) (of_no_realm Undelegated) (ap is_rd (is_delegated-true (state_at m address) (yes_from (is_delegated (state_at m address)) ok.1.1.0))) (lasts_all m) g realm is)
-after (RttCreate rd rtt ipa level) m proper ok g realm is =
+realms_after (RttCreate rd rtt ipa level) m proper ok g realm is =
     inl (lasts_plain m m (number_of m rtt) (of_realm (number_of m rd) Rtt) (ap is_rd (is_delegated-true (state_at m rtt) (yes_from (is_delegated (state_at m rtt)) ok.1.1.0))) (lasts_all m) g realm is)
-after (DataCreateUnknown rd page ipa) m proper ok g realm is =
+realms_after (DataCreateUnknown rd page ipa) m proper ok g realm is =
     inl (lasts_plain m m (number_of m page) (of_realm (number_of m rd) Data) (ap is_rd (is_delegated-true (state_at m page) (yes_from (is_delegated (state_at m page)) ok.1.1.0))) (lasts_all m) g realm is)
-after (RttSetRipas rd rec base top) m proper ok g realm is =
+realms_after (RttSetRipas rd rec base top) m proper ok g realm is =
     inl (lasts_plain m m (number_of m rec) _ (ap is_rd (rec_of-some (state_at m rec) ok.1.1.1.1.1.1.0)) (lasts_all m) g realm is)
-after _ m proper ok g realm is = inl (realm, is, refl)
+realms_after _ m proper ok g realm is = inl (realm, is, refl)
 
 pub call_realms : (o : Option Call) (r : Registers) (m : Machine) → IsProper m → KeepsRealms m o (rmi_at o r m).1
 unfolding performed
 call_realms None r m proper = λ rd realm is. inl (realm, is, refl)
-call_realms (Some call) r m proper = kept (KeepsRealms m (Some call)) (command_of call m) m (λ rd realm is. inl (realm, is, refl)) (after call m proper)
+call_realms (Some call) r m proper = kept (KeepsRealms m (Some call)) (command_of call m) m (λ rd realm is. inl (realm, is, refl)) (realms_after call m proper)

@@ -1,32 +1,55 @@
 -- What each call touches, and granules that it leaves as they were.
-use Rattle.std.proofs.Common.{ℕ, None, ⊎_elim}
+use Rattle.std.proofs.Common.{◌≡◌, ◌≢◌, ℕ, ◌&&◌, ◌⊎◌, inl, inr, Bool, true, false, Option, Some, None, refl, sym, ap, subst, ◌∙◌, ⊎_elim}
+use Rattle.std.specs.Prelude.{is_some}
+use Rattle.std.proofs.lemmas.Bool.{cases_Bool, cases_eq, and_parts, both_ways, cond-true, cond-false}
+use Rattle.granule_addr.specs.Page.{zero_page}
 use Rattle.rmi_abi.specs.declared.call.Call.{Call}
 use Rattle.rmi_abi.specs.declared.call.Call.TheVariants.{Version, GranuleDelegate, GranuleUndelegate, DataCreateUnknown, DataDestroy, RealmActivate, RealmCreate, RealmDestroy, RecCreate, RecDestroy, RecEnter, PsciComplete, RttCreate, RttDestroy, RttMapUnprotected, RttReadEntry, RttUnmapUnprotected, Features, RttFold, RecAuxCount, DataCreate, RttInitRipas, RttSetRipas}
+use Rattle.rmm_model.specs.declared.granule.RmmGranuleState.{RmmGranuleState}
+use Rattle.rmm_model.specs.declared.granule.RmmGranuleState.TheVariants.{Undelegated, Delegated, Rd}
+use Rattle.rmm_model.specs.declared.rec.PsciRequest.{PsciRequest}
+use Rattle.rmm_model.specs.declared.rec.PsciRequest.TheVariants.{CpuOn}
+use Rattle.rmm_model.specs.declared.rec.RmmRec.{RmmRec}
 use Rattle.rmm_model.specs.Call.{command_of, performed}
-use Rattle.rmm_model.specs.Machine.{Machine}
+use Rattle.rmm_model.specs.Granule.{of_no_realm, realm_of, rec_of}
+use Rattle.rmm_model.specs.Guest.{is_rec_named}
+use Rattle.rmm_model.specs.Machine.{Machine, granule_at, page_in, is_aligned, is_inside, number_of, state_at, with_granule, with_word}
+use Rattle.rmm_model.specs.Command.GranuleDelegate.{granule_delegate}
+use Rattle.rmm_model.specs.Command.Operand.{rec_at}
+use Rattle.rmm_model.specs.Command.PsciComplete.{psci_complete, with_rec, with_target}
 use Rattle.rmm_model.specs.Command.Features.{features}
 use Rattle.rmm_model.specs.Command.RecAuxCount.{rec_aux_count}
 use Rattle.rmm_model.specs.Command.RttReadEntry.{rtt_read_entry}
 use Rattle.rmm_model.specs.Command.Version.{version}
-use Rattle.rmm_laws.specs.Apart.{rd_named, named_realm, IsOfRealm, IsSpare, IsSameAt}
+use Rattle.rmm_laws.specs.Apart.{rd_named, realm_of_rec, named_realm, IsHostChanged, IsOfRealm, IsSpare, IsSameAt}
+use Rattle.rmm_laws.specs.Owner.{is_rd, IsOrderly, IsOwner}
 use Rattle.rmm_laws.specs.Proper.{IsProper}
-use Rattle.rmm_laws.proofs.Guests.{entered_touches, completed_touches}
-use Rattle.rmm_laws.proofs.Passed.{Passed, kept}
+use Rattle.rmm_laws.proofs.Aside.{same_granule, same_page}
+use Rattle.rmm_laws.proofs.Guests.{entered_hosts, entered_touches, completed_touches}
+use Rattle.rmm_laws.proofs.Passed.{Passed, kept, rec_of-some, rec_of-there, some_same}
 use Rattle.rmm_laws.proofs.RecLives.{rec_created_touches}
 use Rattle.rmm_laws.proofs.RecsGone.{destroyed_touches}
-use Rattle.rmm_laws.proofs.Touching.{Touches, IsMine, untouched}
+use Rattle.rmm_laws.proofs.Touching.{Touches, IsMine, free_spare, untouched}
 use Rattle.rmm_laws.proofs.TouchingCalls.{delegate_touches, undelegate_touches, activate_touches, realm_create_touches, realm_destroy_touches, rtt_create_touches, rtt_destroy_touches, rtt_fold_touches, map_touches, unmap_touches, init_ripas_touches, set_ripas_touches, data_create_touches, data_create_unknown_touches, data_destroy_touches}
+use Rattle.rmm_laws.proofs.Writes.{granule_at-other, page_in-other}
 
-pub touches_of : (call : Call) (m : Machine) → IsProper m → Passed (command_of call m).checks → Touches m (command_of call m).machine (named_realm m call)
+-- a call can change pages of the host
+abbrev pub touches_host : Call → Bool
+touches_host (GranuleDelegate address) = true
+touches_host (RecEnter rec run) = true
+touches_host (PsciComplete calling target status) = true
+touches_host call = false
+
+pub touches_of : (call : Call) (m : Machine) → IsProper m → Passed (command_of call m).checks → Touches (touches_host call) m (command_of call m).machine (named_realm m call)
 unfolding version features rec_aux_count rtt_read_entry
-touches_of (Version requested) m proper ok = untouched m None
-touches_of (Features index) m proper ok = untouched m None
+touches_of (Version requested) m proper ok = untouched false m None
+touches_of (Features index) m proper ok = untouched false m None
 touches_of (GranuleDelegate address) m proper ok = delegate_touches address m ok
 touches_of (GranuleUndelegate address) m proper ok = undelegate_touches address m ok
 touches_of (RealmCreate rd params) m proper ok = realm_create_touches rd params m ok
 touches_of (RealmActivate rd) m proper ok = activate_touches rd m ok
-touches_of (RecAuxCount rd) m proper ok = untouched m (rd_named m rd)
-touches_of (RttReadEntry rd ipa level) m proper ok = untouched m (rd_named m rd)
+touches_of (RecAuxCount rd) m proper ok = untouched false m (rd_named m rd)
+touches_of (RttReadEntry rd ipa level) m proper ok = untouched false m (rd_named m rd)
 touches_of (RttCreate rd rtt ipa level) m proper ok = rtt_create_touches rd rtt ipa level m proper.linked ok
 touches_of (RttDestroy rd ipa level) m proper ok = rtt_destroy_touches rd ipa level m proper.linked ok
 touches_of (RealmDestroy rd) m proper ok = realm_destroy_touches rd m proper.linked ok
@@ -46,8 +69,113 @@ touches_of (PsciComplete calling target status) m proper ok = completed_touches 
 pub left_alone : (call : Call) (m : Machine) (g : ℕ) → IsProper m → (IsOfRealm m (named_realm m call) g → ⊥) → (IsSpare m g → ⊥) → IsSameAt m (performed call m).1 g
 unfolding performed
 left_alone call m g proper not_ours not_spare =
-    let touches = kept (λ (n : Machine). Touches m n (named_realm m call)) (command_of call m) m (untouched m (named_realm m call)) (touches_of call m proper) in
+    let touches = kept (λ (n : Machine). Touches (touches_host call) m n (named_realm m call)) (command_of call m) m (untouched (touches_host call) m (named_realm m call)) (touches_of call m proper) in
     ⊎_elim
     (λ (same : IsSameAt m (performed call m).1 g). same)
-    (λ (mine : IsMine m (named_realm m call) g). absurd (⊎_elim not_ours not_spare mine))
+    (λ (mine : IsMine (touches_host call) m (named_realm m call) g). absurd (⊎_elim not_ours (λ free. not_spare (free_spare (touches_host call) m g free)) mine))
     (touches.each g)
+
+-- ---- pages of the host
+
+rd_some : (s : RmmGranuleState) → is_some (realm_of s) ≡ true → is_rd s ≡ true
+rd_some (Rd realm) is = refl
+rd_some _ is = absurd (cc)
+
+rd_by_rd : (m : Machine) (rd r : ℕ) → rd_named m rd ≡ Some r → is_rd (granule_at m r).state ≡ true
+rd_by_rd m rd r is =
+    let named : Bool = is_aligned rd && is_inside m rd && is_some (realm_of (state_at m rd)) in
+    ⊎_elim
+    (λ (sure : named ≡ true).
+    let it : number_of m rd ≡ r = some_same (sym (cond-true named (Some (number_of m rd)) None sure) ∙ is) in
+    ap (λ (g : ℕ). is_rd (granule_at m g).state) (sym it) ∙ rd_some (state_at m rd) (and_parts (is_aligned rd && is_inside m rd) (is_some (realm_of (state_at m rd))) sure).1)
+    (λ (never : named ≡ false). (let none : None ≡ Some r = sym (cond-false named (Some (number_of m rd)) None never) ∙ is in absurd (cc)))
+    (cases_Bool named)
+
+rd_by_rec : (m : Machine) (rec r : ℕ) → IsProper m → realm_of_rec m rec ≡ Some r → is_rd (granule_at m r).state ≡ true
+rd_by_rec m rec r proper is =
+    let g : ℕ = number_of m rec in
+    ⊎_elim
+    (λ (sure : is_rec_named m rec ≡ true).
+    let owned : (granule_at m g).owner ≡ Some r = sym (cond-true (is_rec_named m rec) (granule_at m g).owner None sure) ∙ is in
+    let there = rec_of-there (state_at m rec) (and_parts (is_aligned rec && is_inside m rec) (is_some (rec_of (state_at m rec))) sure).1 in
+    let orderly = subst (λ (s : RmmGranuleState). IsOrderly m s (granule_at m g).owner (page_in m g)) there (proper.ordered.each g) in
+    subst (IsOwner m) owned orderly.0)
+    (λ (never : is_rec_named m rec ≡ false). (let none : None ≡ Some r = sym (cond-false (is_rec_named m rec) (granule_at m g).owner None never) ∙ is in absurd (cc)))
+    (cases_Bool (is_rec_named m rec))
+
+-- the realm that a call is on is that of an RD
+named_rd : (m : Machine) (call : Call) (r : ℕ) → IsProper m → named_realm m call ≡ Some r → is_rd (granule_at m r).state ≡ true
+named_rd m (RealmActivate rd) r proper is = rd_by_rd m rd r is
+named_rd m (RealmDestroy rd) r proper is = rd_by_rd m rd r is
+named_rd m (RecAuxCount rd) r proper is = rd_by_rd m rd r is
+named_rd m (RecCreate rd rec params) r proper is = rd_by_rd m rd r is
+named_rd m (RecDestroy rec) r proper is = rd_by_rec m rec r proper is
+named_rd m (RecEnter rec run) r proper is = rd_by_rec m rec r proper is
+named_rd m (PsciComplete calling target status) r proper is = rd_by_rec m calling r proper is
+named_rd m (RttCreate rd rtt ipa level) r proper is = rd_by_rd m rd r is
+named_rd m (RttDestroy rd ipa level) r proper is = rd_by_rd m rd r is
+named_rd m (RttFold rd ipa level) r proper is = rd_by_rd m rd r is
+named_rd m (RttReadEntry rd ipa level) r proper is = rd_by_rd m rd r is
+named_rd m (RttMapUnprotected rd ipa level descriptor) r proper is = rd_by_rd m rd r is
+named_rd m (RttUnmapUnprotected rd ipa level) r proper is = rd_by_rd m rd r is
+named_rd m (RttInitRipas rd base top) r proper is = rd_by_rd m rd r is
+named_rd m (RttSetRipas rd rec base top) r proper is = rd_by_rd m rd r is
+named_rd m (DataCreate rd page ipa source flags) r proper is = rd_by_rd m rd r is
+named_rd m (DataCreateUnknown rd page ipa) r proper is = rd_by_rd m rd r is
+named_rd m (DataDestroy rd ipa) r proper is = rd_by_rd m rd r is
+named_rd m _ r proper is = absurd (cc)
+
+-- a page of the host is of no realm
+host_apart : (m : Machine) (named : Option ℕ) (g : ℕ) → IsProper m → ((r : ℕ) → named ≡ Some r → is_rd (granule_at m r).state ≡ true) → (granule_at m g).state ≡ Undelegated → IsOfRealm m named g → ⊥
+host_apart m (Some r) g proper rds free (inl here) = both_ways (is_rd (granule_at m r).state) (ap (λ (y : ℕ). is_rd (granule_at m y).state) (sym here) ∙ ap is_rd free) (rds r refl)
+host_apart m (Some r) g proper rds free (inr owned) =
+    let none : (granule_at m g).owner ≡ None = subst (λ (s : RmmGranuleState). IsOrderly m s (granule_at m g).owner (page_in m g)) free (proper.ordered.each g) in
+    cc
+host_apart m None g proper rds free ours = ours
+
+quiet : (call : Call) (m : Machine) (g : ℕ) → IsProper m → Passed (command_of call m).checks → (granule_at m g).state ≡ Undelegated → Touches false m (command_of call m).machine (named_realm m call)
+    → IsSameAt m (command_of call m).machine g
+quiet call m g proper ok free touches =
+    ⊎_elim
+    (λ (same : IsSameAt m (command_of call m).machine g). same)
+    (λ (mine : IsMine false m (named_realm m call) g). absurd (⊎_elim
+    (λ (ours : IsOfRealm m (named_realm m call) g). host_apart m (named_realm m call) g proper (λ r is. named_rd m call r proper is) free ours)
+    (λ (blank : (granule_at m g).state ≡ Delegated). cc)
+    mine))
+    (touches.each g)
+
+target_same : (m k : Machine) (g t : ℕ) (rec : RmmRec) (request : PsciRequest) (begins : Bool) → g ≢ t → IsSameAt m k g → IsSameAt m (with_target k t rec request begins) g
+target_same m k g t rec (CpuOn target entry_point context) true other same =
+    let on : Machine = with_rec k t (record rec { is_runnable = true }) in
+    let first : Machine = with_word on t 31 entry_point in
+    same_page m g first t _ other (same_page m g on t _ other (same_granule m g k t _ other same))
+target_same m k g t rec request begins other same = same
+
+completed_same : (calling target status : ℕ) (m : Machine) (g : ℕ) → Passed (psci_complete calling target status m).checks → (granule_at m g).state ≡ Undelegated → IsSameAt m (psci_complete calling target status m).machine g
+unfolding psci_complete
+completed_same calling target status m g ok free =
+    let caller = rec_of-some (state_at m calling) ok.1.1.1.0 in
+    let also = rec_of-some (state_at m target) ok.1.1.1.1.1.1.0 in
+    let not_caller : g ≢ number_of m calling = λ same. (let states : (granule_at m g).state ≡ state_at m calling = ap (λ (x : ℕ). (granule_at m x).state) same in cc) in
+    let not_target : g ≢ number_of m target = λ same. (let states : (granule_at m g).state ≡ state_at m target = ap (λ (x : ℕ). (granule_at m x).state) same in cc) in
+    target_same m _ g (number_of m target) (rec_at m target) (rec_at m calling).psci _ not_target (same_granule m g m (number_of m calling) _ not_caller (refl, refl))
+
+delegated_same : (address : ℕ) (m : Machine) (g : ℕ) → g ≢ number_of m address → IsSameAt m (granule_delegate address m).machine g
+unfolding granule_delegate
+delegated_same address m g other =
+    let x : ℕ = number_of m address in
+    (granule_at-other m x g (of_no_realm Delegated) other, page_in-other (with_granule m x (of_no_realm Delegated)) x g zero_page other)
+
+host_after : (call : Call) (m : Machine) (g : ℕ) → IsProper m → (granule_at m g).state ≡ Undelegated → (ok : Passed (command_of call m).checks) → Touches (touches_host call) m (command_of call m).machine (named_realm m call)
+    → IsSameAt m (command_of call m).machine g ⊎ IsHostChanged m (command_of call m).machine (Some call) g
+host_after (GranuleDelegate address) m g proper free ok touches =
+    ⊎_elim (λ (here : g ≡ number_of m address). inr here) (λ (other : g ≢ number_of m address). inl (delegated_same address m g other)) (cases_eq g (number_of m address))
+host_after (RecEnter rec run) m g proper free ok touches = inr (entered_hosts rec run m proper ok g free)
+host_after (PsciComplete calling target status) m g proper free ok touches = inl (completed_same calling target status m g ok free)
+host_after call m g proper free ok touches = inl (quiet call m g proper ok free touches)
+
+-- a call leaves pages of the host as they were, but for those that it is said to change
+pub host_left : (call : Call) (m : Machine) (g : ℕ) → IsProper m → (granule_at m g).state ≡ Undelegated → IsSameAt m (performed call m).1 g ⊎ IsHostChanged m (performed call m).1 (Some call) g
+unfolding performed
+host_left call m g proper free =
+    kept (λ (n : Machine). IsSameAt m n g ⊎ IsHostChanged m n (Some call) g) (command_of call m) m (inl (refl, refl)) (λ ok. host_after call m g proper free ok (touches_of call m proper ok))

@@ -1,11 +1,13 @@
 pub mod Accesses
 pub mod Answered
 pub mod Asking
+pub mod Along
 pub mod Aside
 pub mod Blocks
 pub mod Children
 pub mod Effects
 pub mod Entries
+pub mod EntryRipas
 pub mod EntryWords
 pub mod Fold
 pub mod Freed
@@ -14,6 +16,7 @@ pub mod Guests
 pub mod Halves
 pub mod Halving
 pub mod Keeping
+pub mod KeptTables
 pub mod Lasting
 pub mod LastingCalls
 pub mod LeftAlone
@@ -28,6 +31,7 @@ pub mod Orders
 pub mod Owning
 pub mod PageWords
 pub mod Passed
+pub mod Placing
 pub mod Plain
 pub mod Reaching
 pub mod RealmOrders
@@ -39,13 +43,17 @@ pub mod Refolding
 pub mod Releasing
 pub mod ReleasingCalls
 pub mod Requests
+pub mod RipasCalls
+pub mod RipasTables
 pub mod Running
+pub mod SameTables
 pub mod Seats
 pub mod Serving
 pub mod Sides
 pub mod StateCalls
 pub mod States
 pub mod Steps
+pub mod TableRipas
 pub mod Tables
 pub mod Teardown
 pub mod Tops

@@ -206,7 +206,7 @@ ripas_descriptor ripas (Table address) = refl
 ripas_descriptor ripas UnassignedNs = refl
 ripas_descriptor ripas (AssignedNs desc) = refl
 
-first_fixed-most : (changeable : Changeable) (page : List ℕ) (count i : ℕ) → first_fixed changeable page count i ≤ i + count
+pub first_fixed-most : (changeable : Changeable) (page : List ℕ) (count i : ℕ) → first_fixed changeable page count i ≤ i + count
 unfolding first_fixed
 first_fixed-most changeable page zero i = omega arith
 first_fixed-most changeable page (suc count) i =
@@ -246,7 +246,7 @@ module _ (m : Machine) (t first count : ℕ) (ripas : RmmRipas) (proper : IsLink
   unfolding entry_in_page
   entry_kept j lt beside = ap entry_of (word_of_page-with_words_from_other first new_word (page_in m t) whole_page count j few lt beside)
 
-  changed_or_kept : (j : ℕ) → ((first ≤ j) × (j < first + count)) ⊎ ((j < first) ⊎ (first + count ≤ j))
+  pub changed_or_kept : (j : ℕ) → ((first ≤ j) × (j < first + count)) ⊎ ((j < first) ⊎ (first + count ≤ j))
   changed_or_kept j =
       ⊎_elim (λ (below : j < first). inr (inl below))
       (λ (low : first ≤ j). ⊎_elim (λ (high : j < first + count). inl (low, high)) (λ (past : first + count ≤ j). inr (inr past)) (cases_lt j (first + count)))

@@ -1,15 +1,17 @@
 -- The starting tables of a new realm are of the halves that they cover.
 use Rattle.std.proofs.Common.{◌≡◌, ◌≢◌, ℕ, ◌+◌, ◌-◌, ◌*◌, ◌/◌, ◌^◌, ◌<◌, ◌≤◌, ◌&&◌, Bool, true, false, List, Some, refl, sym, ap, subst, ◌∙◌, ⊎_elim, lit≤, arith}
 use Rattle.std.specs.Prelude.{nat_le, nat_lt, if◌then◌else◌}
-use Rattle.std.proofs.lemmas.Bool.{cases_eq, cases_lt, cases_Bool, cond_both, cond-true, cond-false, and_from, and_left, and_right, le-leb, lt-ltb, lt-leb, le-ltb, ltb-true, ltb-false, both_ways}
+use Rattle.std.proofs.lemmas.Bool.{cases_eq, cases_lt, cases_Bool, cond_both, cond-true, cond-false, and_from, and_left, and_right, le-leb, lt-ltb, lt-leb, le-ltb, ltb-true, ltb-false}
 use Rattle.granule_addr.specs.Page.{zero_page}
 use Rattle.page_arena.specs.Pages.{length-page_of}
 use Rattle.rmi_abi.specs.declared.settings.RmmSettings.{RmmSettings}
 use Rattle.rmm_model.specs.declared.entry.RmmRttEntry.{RmmRttEntry}
 use Rattle.rmm_model.specs.declared.granule.RmmGranule.{RmmGranule}
+use Rattle.rmm_model.specs.declared.entry.RmmRttEntry.TheVariants.{Unassigned, UnassignedNs}
+use Rattle.rmm_model.specs.declared.entry.RmmRipas.TheVariants.{Empty}
 use Rattle.rmm_model.specs.declared.granule.RmmGranuleState.TheVariants.{Delegated, Rd, Rtt}
 use Rattle.rmm_model.specs.declared.realm.RmmRealm.{RmmRealm}
-use Rattle.rmm_model.specs.Entry.{entry_of, entry_word, is_table, is_assigned_ns}
+use Rattle.rmm_model.specs.Entry.{entry_of, entry_word, is_table}
 use Rattle.rmm_model.specs.Granule.{of_realm}
 use Rattle.rmm_model.specs.Level.{entry_size}
 use Rattle.rmm_model.specs.Machine.{Machine, granule_at, page_in}
@@ -17,10 +19,11 @@ use Rattle.rmm_model.specs.Realm.{is_protected}
 use Rattle.rmm_model.specs.Table.{entry_in_page}
 use Rattle.rmm_model.specs.Walk.{table_below}
 use Rattle.rmm_model.specs.Command.RealmCreate.{start_entry, start_page}
-use Rattle.rmm_laws.specs.Half.{IsOfHalf, HasHalves}
+use Rattle.rmm_laws.specs.Half.{IsOfHalf, IsPlaced, HasHalves}
 use Rattle.rmm_laws.specs.Role.{IsLinked}
 use Rattle.rmm_laws.proofs.EntryWords.{entry_word-fits}
-use Rattle.rmm_laws.proofs.Halves.{half_alike, word_kind, below_same, none_below, ns_alike, realm_same, no_rtt}
+use Rattle.rmm_laws.proofs.Placing.{placed_none, placed_word}
+use Rattle.rmm_laws.proofs.Halves.{half_alike, word_kind, below_same, none_below, realm_same, no_rtt}
 use Rattle.rmm_laws.proofs.PageWords.{word_of_page-with_words}
 use Rattle.rmm_laws.proofs.Passed.{some_same}
 use Rattle.rmm_laws.proofs.Realms.{IsRealm, IsStart, NoStart, start_or_none}
@@ -30,8 +33,11 @@ use Rattle.rmm_laws.proofs.Seats.{start_table, child_table}
 start_leaf : (realm : RmmRealm) (n : ℕ) → is_table (start_entry realm n) ≡ false
 start_leaf realm n = cond_both (is_protected realm (n * entry_size realm.start_level)) _ _ (λ (e : RmmRttEntry). is_table e ≡ false) (λ sure. refl) (λ never. refl)
 
-start_free : (realm : RmmRealm) (n : ℕ) → is_assigned_ns (start_entry realm n) ≡ false
-start_free realm n = cond_both (is_protected realm (n * entry_size realm.start_level)) _ _ (λ (e : RmmRttEntry). is_assigned_ns e ≡ false) (λ sure. refl) (λ never. refl)
+start_placed : (s : RmmSettings) (level : ℕ) (realm : RmmRealm) (n : ℕ) → IsPlaced s level (entry_of (entry_word (start_entry realm n)))
+start_placed s level realm n =
+    cond_both (is_protected realm (n * entry_size realm.start_level)) (Unassigned Empty) UnassignedNs (λ (e : RmmRttEntry). IsPlaced s level (entry_of (entry_word e)))
+    (λ sure. placed_word s level (Unassigned Empty) (omega arith) (placed_none s level (Unassigned Empty) refl))
+    (λ never. placed_word s level UnassignedNs (omega arith) (placed_none s level UnassignedNs refl))
 
 start_entry_is : (realm : RmmRealm) (k j : ℕ) → j < 512 → entry_in_page (start_page realm k) j ≡ entry_of (entry_word (start_entry realm (k * 512 + j)))
 unfolding start_page entry_in_page
@@ -173,20 +179,17 @@ module _ (p q : Machine) (linked : IsLinked p) (halves : HasHalves p) (rd : ℕ)
       start = start_then;
       below = below_then;
       half = half_then;
-      block = λ table i is lt mapped. ⊎_elim
+      block = λ table i is lt. ⊎_elim
           (λ (start : IsStart realm table).
           let entry : entry_in_page (page_in q table) i ≡ entry_of (entry_word (start_entry realm (start.0 * 512 + i))) =
           ap (λ (x : ℕ). entry_in_page (page_in q x) i) start.2 ∙ ap (λ (page : List ℕ). entry_in_page page i) (pages start.0 start.1) ∙ start_entry_is realm start.0 i lt in
-          let none : is_assigned_ns (entry_in_page (page_in q table) i) ≡ false =
-          ap is_assigned_ns entry
-          ∙ ns_alike (entry_of (entry_word (start_entry realm (start.0 * 512 + i)))) (start_entry realm (start.0 * 512 + i)) (word_kind (start_entry realm (start.0 * 512 + i)))
-          ∙ start_free realm (start.0 * 512 + i) in
-          absurd (both_ways (is_assigned_ns (entry_in_page (page_in q table) i)) none mapped))
+          let first = start_placed q.settings (level table) realm (start.0 * 512 + i) in
+          subst (IsPlaced q.settings (level table)) (sym entry) first)
           (λ (none : NoStart realm table).
           let same = step.beside table (not_rd table is) none in
-          subst (λ (s : RmmSettings). s.block_level ≤ level table) (sym step.settings)
-          (subst (λ (l : ℕ). p.settings.block_level ≤ l) (sym (other_at table none).0)
-          (halves.is.block table i (sym (ap (λ (r : RmmGranule). r.state) same.0) ∙ is) lt (sym (ap (λ (page : List ℕ). is_assigned_ns (entry_in_page page i)) same.1) ∙ mapped))))
+          subst (λ (s : RmmSettings). IsPlaced s (level table) (entry_in_page (page_in q table) i)) (sym step.settings)
+          (subst (λ (l : ℕ). IsPlaced p.settings l (entry_in_page (page_in q table) i)) (sym (other_at table none).0)
+          (subst (λ (page : List ℕ). IsPlaced p.settings (halves.level table) (entry_in_page page i)) (sym same.1) (halves.is.block table i (sym (ap (λ (r : RmmGranule). r.state) same.0) ∙ is) lt))))
           (start_or_none realm table);
     };
   }

@@ -1,5 +1,5 @@
 -- Commands keep the owners of granules, and the counts of RECs.
-use Rattle.std.proofs.Common.{◌≡◌, ◌≢◌, ℕ, ◌+◌, ◌-◌, ◌/◌, ◌%◌, ◌^◌, ◌<◌, ◌≤◌, ◌==◌, true, false, not, ◌&&◌, List, length, Option, Some, unwrap_or, refl, sym, ap, subst, ◌∙◌, ⊎_elim, arith}
+use Rattle.std.proofs.Common.{◌≡◌, ◌≢◌, ℕ, ◌+◌, ◌*◌, ◌-◌, ◌/◌, ◌%◌, ◌^◌, ◌<◌, ◌≤◌, ◌==◌, true, false, not, ◌&&◌, List, length, Option, Some, unwrap_or, refl, sym, ap, subst, ◌∙◌, ⊎_elim, arith}
 use Rattle.std.specs.Prelude.{nat_le, is_some}
 use Rattle.std.proofs.lemmas.Bool.{and_parts, and_from, both_ways, cases_lt, le-leb, cond_both, eqb-true, leb-true, ltb-true, ltb-false, not-true}
 use Rattle.std.proofs.lemmas.List.{length-set}
@@ -12,10 +12,10 @@ use Rattle.rmm_model.specs.declared.granule.RmmGranuleState.{RmmGranuleState}
 use Rattle.rmm_model.specs.declared.granule.RmmGranuleState.TheVariants.{Undelegated, Delegated, Rd, Data, Rtt}
 use Rattle.rmm_model.specs.declared.realm.RmmRealm.{RmmRealm}
 use Rattle.rmm_model.specs.declared.realm.RttWalk.{RttWalk}
-use Rattle.rmm_model.specs.Entry.{is_table, is_unassigned, is_assigned_ns, is_mapping, ripas_in}
+use Rattle.rmm_model.specs.Entry.{descriptor_of, is_table, is_unassigned, is_assigned_ns, is_mapping, ripas_in}
 use Rattle.rmm_model.specs.Granule.{of_no_realm, of_realm, is_undelegated, is_delegated}
 use Rattle.rmm_model.specs.Host.{is_host_page, can_access, can_fill, after_store, after_fill}
-use Rattle.rmm_model.specs.Level.{entry_index}
+use Rattle.rmm_model.specs.Level.{entry_index, entry_size}
 use Rattle.rmm_model.specs.Machine.{Machine, granule_at, page_in, is_aligned, is_inside, number_of, state_at, with_granule, with_page, with_word, with_blank}
 use Rattle.rmm_model.specs.Realm.{is_in_space, is_protected}
 use Rattle.rmm_model.specs.Table.{entry_in_page, has_parts}
@@ -25,25 +25,26 @@ use Rattle.rmm_model.specs.Command.DataCreateUnknown.{data_create_unknown}
 use Rattle.rmm_model.specs.Command.DataDestroy.{data_destroy, left_ripas}
 use Rattle.rmm_model.specs.Command.GranuleDelegate.{granule_delegate}
 use Rattle.rmm_model.specs.Command.GranuleUndelegate.{granule_undelegate}
-use Rattle.rmm_model.specs.Command.Operand.{realm_at, rec_at, is_level}
+use Rattle.rmm_model.specs.Command.Operand.{realm_at, rec_at, is_level, is_multiple}
 use Rattle.rmm_model.specs.Command.RealmActivate.{realm_activate}
 use Rattle.rmm_model.specs.Command.RipasRange.{with_ripas_from, change_count}
 use Rattle.rmm_model.specs.Command.RttCreate.{rtt_create}
 use Rattle.rmm_model.specs.Command.RttDestroy.{rtt_destroy, left_entry}
 use Rattle.rmm_model.specs.Command.RttFold.{rtt_fold, is_homogeneous, is_aligned_above}
 use Rattle.rmm_model.specs.Command.RttInitRipas.{rtt_init_ripas, init_changeable, range_checks}
-use Rattle.rmm_model.specs.Command.RttMapUnprotected.{rtt_map_unprotected}
+use Rattle.rmm_model.specs.Command.RttMapUnprotected.{rtt_map_unprotected, is_descriptor, has_attributes}
 use Rattle.rmm_model.specs.Command.RttSetRipas.{rtt_set_ripas, set_changeable, ripas_request_checks, is_rec_of}
 use Rattle.rmm_model.specs.Command.RttUnmapUnprotected.{rtt_unmap_unprotected}
-use Rattle.rmm_laws.specs.Half.{IsOfHalf, HasHalves}
+use Rattle.rmm_laws.specs.Half.{IsOfHalf, IsPlaced, HasHalves}
 use Rattle.rmm_laws.specs.Owner.{is_rd, IsOrderly, IsOrdered}
 use Rattle.rmm_laws.specs.Proper.{IsProper}
 use Rattle.rmm_laws.specs.Role.{Used, used, entry_uses, IsSound, IsLinked}
 use Rattle.rmm_laws.proofs.Entries.{number_inside, address_few}
 use Rattle.rmm_laws.proofs.Halves.{plain_both}
 use Rattle.rmm_laws.proofs.Halving.{ripas_halves, entry_at_end, entry_alike, mid_halves, entry_beside, entry_folded, made_halves, table_halves}
-use Rattle.rmm_laws.proofs.Mappings.{served, place_is, place_table, protected_within, unprotected_within, owned_protected, by_memory, some_of, change_count-few}
+use Rattle.rmm_laws.proofs.Mappings.{served, place_is, place_table, protected_within, unprotected_within, owned_protected, second_holds, by_memory, some_of, change_count-few}
 use Rattle.rmm_laws.proofs.Orders.{is_counter, is_memory_state, no_rd, plain_alike, ordered_both, ordered_realm, ordered_rec, ordered_table, ordered_memory}
+use Rattle.rmm_laws.proofs.Placing.{placed_none, placed_page}
 use Rattle.rmm_laws.proofs.Passed.{Passed, yes_from, is_delegated-true, is_undelegated-true, realm_of-some, rec_of-some}
 use Rattle.rmm_laws.proofs.Plain.{host_plain}
 use Rattle.rmm_laws.proofs.Seats.{in_half, in_upper, in_space}
@@ -117,8 +118,8 @@ rtt_create_ordered rd rtt ipa level m proper ok =
     let low = address_few m rtt proper.linked.sound inside in
     made m (number_of m rtt) (number_of m rd) (walk m realm ipa (level - 1)).table Rtt _ _ proper.linked.sound proper.ordered (number_inside m rtt inside) free refl (ap is_rd is)
     (place_table m proper.linked (number_of m rd) ipa (level - 1) realm is within (omega arith))
-    (made_halves m proper.linked proper.ordered.halves (number_of m rd) ipa (level - 1) realm is within (omega arith) rtt level inside (number_inside m rtt inside) free low leaf (omega arith))
-    (table_halves m proper.linked proper.ordered.halves (number_of m rd) ipa (level - 1) realm is within (omega arith) rtt level inside (number_inside m rtt inside) free low leaf (omega arith))
+    (made_halves m proper.linked proper.ordered.halves (number_of m rd) ipa (level - 1) realm is within (omega arith) rtt level inside (number_inside m rtt inside) free low leaf (omega arith) (omega arith))
+    (table_halves m proper.linked proper.ordered.halves (number_of m rd) ipa (level - 1) realm is within (omega arith) rtt level inside (number_inside m rtt inside) free low leaf (omega arith) (omega arith))
 
 -- a table at which a walk ends, and a table that its entry leads to
 module _ (m : Machine) (proper : IsProper m) (rd ipa level : ℕ) (is : (granule_at m (number_of m rd)).state ≡ Rd (realm_at m rd)) (within : ipa < 2 ^ (realm_at m rd).s2sz) (least : (realm_at m rd).start_level ≤ level)
@@ -146,7 +147,8 @@ left_halves : (m : Machine) (linked : IsLinked m) → HasHalves m → (rd ipa le
 left_halves m linked halves rd ipa level realm is within least =
     entry_at_end m linked halves rd ipa level realm is within least (left_entry realm ipa)
     (cond_both (is_protected realm ipa) _ _ (λ (e : RmmRttEntry). is_table e ≡ false) (λ sure. refl) (λ never. refl))
-    (λ mapped. absurd (both_ways (is_assigned_ns (left_entry realm ipa)) (cond_both (is_protected realm ipa) _ _ (λ (e : RmmRttEntry). is_assigned_ns e ≡ false) (λ sure. refl) (λ never. refl)) mapped))
+    (cond_both (is_protected realm ipa) (Unassigned Destroyed) UnassignedNs (λ (e : RmmRttEntry). descriptor_of e < 2 ^ 48) (λ sure. omega arith) (λ never. omega arith))
+    (placed_none m.settings (walk m realm ipa level).level (left_entry realm ipa) (cond_both (is_protected realm ipa) _ _ (λ (e : RmmRttEntry). is_mapping e ≡ false) (λ sure. refl) (λ never. refl)))
     (λ x same. cond_both (is_protected realm ipa) (Unassigned Destroyed) UnassignedNs (IsOfHalf realm x)
     (λ sure. in_half m linked halves rd ipa realm is within level x same (ltb-true _ _ sure))
     (λ never. in_upper m linked halves rd ipa realm is within level x same (ltb-false _ _ never)))
@@ -162,19 +164,18 @@ rtt_destroy_ordered rd ipa level m proper ok =
     (left_halves m proper.linked proper.ordered.halves (number_of m rd) ipa (level - 1) realm is within (omega arith))
 
 -- a mapping that is folded is at a level at which there are blocks
-mapping_of : (e : RmmRttEntry) → is_assigned_ns e ≡ true → is_mapping e ≡ true
-mapping_of (AssignedNs desc) is = refl
-mapping_of _ is = absurd (cc)
-
-folded_high : (m : Machine) (first : RmmRttEntry) (level above least : ℕ) → above ≡ level - 1 → least + 1 ≤ level → is_assigned_ns first ≡ true → (is_mapping first && nat_le level m.settings.block_level) ≡ false
-    → m.settings.block_level ≤ above
-folded_high m first level above least is more mapped passed =
-    ⊎_elim
-    (λ (low : m.settings.block_level < level). omega arith)
-    (λ (high : level ≤ m.settings.block_level).
-    absurd (both_ways (is_mapping first && nat_le level m.settings.block_level) passed
-    (and_from (is_mapping first) (nat_le level m.settings.block_level) (mapping_of first mapped) (le-leb level m.settings.block_level high))))
-    (cases_lt m.settings.block_level level)
+folded_placed : (m : Machine) (first : RmmRttEntry) (level above least : ℕ) → above ≡ level - 1 → least + 1 ≤ level → is_aligned_above first level ≡ true → (is_mapping first && nat_le level m.settings.block_level) ≡ false
+    → IsPlaced m.settings above first
+folded_placed m first level above least is more aligned passed = λ mapped.
+    let begins = second_holds (not (is_mapping first)) (is_multiple (descriptor_of first / 4096 * 4096) (entry_size (level - 1))) (ap not mapped) aligned in (
+      ⊎_elim
+          (λ (low : m.settings.block_level < level). omega arith)
+          (λ (high : level ≤ m.settings.block_level).
+          absurd (both_ways (is_mapping first && nat_le level m.settings.block_level) passed
+          (and_from (is_mapping first) (nat_le level m.settings.block_level) mapped (le-leb level m.settings.block_level high))))
+          (cases_lt m.settings.block_level level),
+      subst (λ (l : ℕ). descriptor_of first / 4096 * 4096 % entry_size l ≡ 0) (sym is) (eqb-true _ _ begins),
+    )
 
 pub rtt_fold_ordered : (rd ipa level : ℕ) (m : Machine) → IsProper m → Passed (rtt_fold rd ipa level m).checks → IsOrdered (rtt_fold rd ipa level m).machine
 unfolding rtt_fold is_homogeneous
@@ -192,7 +193,8 @@ rtt_fold_ordered rd ipa level m proper ok =
     let tests = and_parts (not (is_table first) && is_aligned_above first level) (has_parts (page_in m g) first level 512 0) (yes_from _ ok.1.1.1.1.1.1.1.1.0) in
     let leaf = not-true _ (and_parts (not (is_table first)) (is_aligned_above first level) tests.0).0 in
     table_freed m proper rd ipa (level - 1) is within (omega arith) (yes_from _ ok.1.1.1.1.1.1.1.0) _
-    (entry_folded m proper.linked proper.ordered.halves (number_of m rd) ipa (level - 1) realm is within (omega arith) g level named (omega arith) leaf tests.1 (λ mapped. folded_high m first level place.level realm.start_level there least mapped ok.1.1.1.1.1.1.1.1.1.0))
+    (entry_folded m proper.linked proper.ordered.halves (number_of m rd) ipa (level - 1) realm is within (omega arith) g level named (omega arith) leaf tests.1
+    (folded_placed m first level place.level realm.start_level there least (and_parts (not (is_table first)) (is_aligned_above first level) tests.0).1 ok.1.1.1.1.1.1.1.1.1.0))
 
 -- halves of entries that are replaced
 mapped_half : (realm : RmmRealm) (ipa : ℕ) (e : RmmRttEntry) → is_assigned_ns e ≡ true → IsOfHalf realm ipa e → 2 ^ (realm.s2sz - 1) ≤ ipa
@@ -208,7 +210,7 @@ memory_half m realm ipa (Assigned ripas address) is half = half
 memory_half m realm ipa _ is half = absurd (cc)
 
 pub map_ordered : (rd ipa level desc : ℕ) (m : Machine) → IsProper m → Passed (rtt_map_unprotected rd ipa level desc m).checks → IsOrdered (rtt_map_unprotected rd ipa level desc m).machine
-unfolding rtt_map_unprotected
+unfolding rtt_map_unprotected is_descriptor
 map_ordered rd ipa level desc m proper ok =
     let realm : RmmRealm = realm_at m rd in
     let is = realm_of-some (state_at m rd) ok.1.1.0 in
@@ -217,10 +219,12 @@ map_ordered rd ipa level desc m proper ok =
     let unprotected = yes_from _ ok.1.1.1.1.1.0 in
     let within = unprotected_within realm ipa unprotected in
     let there : (walk m realm ipa level).level ≡ level = eqb-true _ _ (yes_from _ ok.1.1.1.1.1.1.1.0) in
+    let is_desc = and_parts (has_attributes m.settings desc) (is_multiple (desc / 4096 * 4096) (entry_size level)) (yes_from _ ok.1.1.1.1.1.1.0) in
+    let fits : desc < 2 ^ 48 = ltb-true _ _ (and_parts _ _ (and_parts _ _ (and_parts _ _ (and_parts _ _ (and_parts _ _ is_desc.0).0).0).0).0).0 in
     let high : 2 ^ (realm.s2sz - 1) ≤ ipa = ltb-false _ _ (not-true _ (and_parts _ _ unprotected).0) in
     ordered_table m (walk m realm ipa level).table _ (place_table m proper.linked (number_of m rd) ipa level realm is within least) proper.ordered
-    (entry_at_end m proper.linked proper.ordered.halves (number_of m rd) ipa level realm is within least (AssignedNs desc) refl
-    (λ mapped. subst (λ (l : ℕ). m.settings.block_level ≤ l) (sym there) (leb-true _ _ levels.0))
+    (entry_at_end m proper.linked proper.ordered.halves (number_of m rd) ipa level realm is within least (AssignedNs desc) refl fits
+    (λ mapped. subst (λ (l : ℕ). (m.settings.block_level ≤ l) × (desc / 4096 * 4096 % entry_size l ≡ 0)) (sym there) (leb-true _ _ levels.0, eqb-true _ _ is_desc.1))
     (λ x same. (in_upper m proper.linked proper.ordered.halves (number_of m rd) ipa realm is within level x same high, in_space m proper.linked proper.ordered.halves (number_of m rd) ipa realm is within level x same)))
 
 pub unmap_ordered : (rd ipa level : ℕ) (m : Machine) → IsProper m → Passed (rtt_unmap_unprotected rd ipa level m).checks → IsOrdered (rtt_unmap_unprotected rd ipa level m).machine
@@ -232,7 +236,7 @@ unmap_ordered rd ipa level m proper ok =
     let least = leb-true _ _ (and_parts (nat_le realm.start_level level) (nat_le level 3) levels.1).0 in
     let within = unprotected_within realm ipa (yes_from _ ok.1.1.1.1.1.0) in
     ordered_table m (walk m realm ipa level).table _ (place_table m proper.linked (number_of m rd) ipa level realm is within least) proper.ordered
-    (entry_alike m proper.linked proper.ordered.halves (number_of m rd) ipa level realm is within least UnassignedNs refl refl (λ x some. mapped_half some x (entry_at m (walk m realm ipa level) ipa) (yes_from _ ok.1.1.1.1.1.1.1.0)))
+    (entry_alike m proper.linked proper.ordered.halves (number_of m rd) ipa level realm is within least UnassignedNs refl (omega arith) refl (λ x some. mapped_half some x (entry_at m (walk m realm ipa level) ipa) (yes_from _ ok.1.1.1.1.1.1.1.0)))
 
 -- ---- RIPAS
 
@@ -284,7 +288,8 @@ data_create_ordered rd target ipa source flags m proper ok =
     (place_table m proper.linked (number_of m rd) ipa 3 realm is within level)
     (mid_halves m proper.linked proper.ordered.halves (number_of m rd) ipa 3 realm is within level (number_of m target) (of_realm (number_of m rd) Data) (page_in m (number_of m source)) target_in free refl)
     (entry_beside m proper.linked proper.ordered.halves (number_of m rd) ipa 3 realm is within level (number_of m target) (of_realm (number_of m rd) Data) (page_in m (number_of m source)) target_in free
-    (Assigned Ram target) refl refl refl (λ x some. free_half some x (entry_at m (walk m realm ipa 3) ipa) (yes_from _ ok.1.1.1.1.1.1.1.1.1.1.1.1.1.1.0))))
+    (Assigned Ram target) refl refl (address_few m target proper.linked.sound (yes_from (is_inside m target) ok.1.1.1.1.1.0))
+    (placed_page m.settings (walk m realm ipa 3).level Ram target proper.linked.sound.platform.block (eqb-true _ _ (yes_from _ ok.1.1.1.1.1.1.1.1.1.1.1.1.1.0))) (λ x some. free_half some x (entry_at m (walk m realm ipa 3) ipa) (yes_from _ ok.1.1.1.1.1.1.1.1.1.1.1.1.1.1.0))))
 
 pub data_create_unknown_ordered : (rd target ipa : ℕ) (m : Machine) → IsProper m → Passed (data_create_unknown rd target ipa m).checks → IsOrdered (data_create_unknown rd target ipa m).machine
 unfolding data_create_unknown
@@ -299,7 +304,8 @@ data_create_unknown_ordered rd target ipa m proper ok =
     (mid_halves m proper.linked proper.ordered.halves (number_of m rd) ipa 3 realm is within level (number_of m target) (of_realm (number_of m rd) Data) zero_page
     (number_inside m target (yes_from (is_inside m target) ok.1.0)) free refl)
     (entry_beside m proper.linked proper.ordered.halves (number_of m rd) ipa 3 realm is within level (number_of m target) (of_realm (number_of m rd) Data) zero_page
-    (number_inside m target (yes_from (is_inside m target) ok.1.0)) free (Assigned (ripas_in (entry_at m (walk m realm ipa 3) ipa)) target) refl refl refl
+    (number_inside m target (yes_from (is_inside m target) ok.1.0)) free (Assigned (ripas_in (entry_at m (walk m realm ipa 3) ipa)) target) refl refl (address_few m target proper.linked.sound (yes_from (is_inside m target) ok.1.0))
+    (placed_page m.settings (walk m realm ipa 3).level (ripas_in (entry_at m (walk m realm ipa 3) ipa)) target proper.linked.sound.platform.block (eqb-true _ _ (yes_from _ ok.1.1.1.1.1.1.1.1.0)))
     (λ x some. free_half some x (entry_at m (walk m realm ipa 3) ipa) (yes_from _ ok.1.1.1.1.1.1.1.1.1.0)))
 
 -- the page that an entry of level 3 leads to
@@ -332,7 +338,7 @@ data_destroy_ordered rd ipa m proper ok =
     let state : (granule_at m (unwrap_or below 0)).state ≡ Data = ap (λ (r : RmmGranule). r.state) it in
     freed m (unwrap_or below 0) (walk m realm ipa 3).table _ proper.linked.sound proper.ordered (taken_inside m (unwrap_or below 0) (λ free. cc)) (ap is_counter state)
     (place_table m proper.linked (number_of m rd) ipa 3 realm is within level)
-    (entry_alike m proper.linked proper.ordered.halves (number_of m rd) ipa 3 realm is within level (Unassigned (left_ripas (ripas_in (entry_at m (walk m realm ipa 3) ipa)))) refl refl
+    (entry_alike m proper.linked proper.ordered.halves (number_of m rd) ipa 3 realm is within level (Unassigned (left_ripas (ripas_in (entry_at m (walk m realm ipa 3) ipa)))) refl (omega arith) refl
     (λ x some. memory_half m some x (entry_at m (walk m realm ipa 3) ipa) (yes_from (is_some below) ok.1.1.1.1.1.1.0)))
 
 -- ---- the host's memory

@@ -28,6 +28,7 @@ use Rattle.rmm_laws.proofs.Plain.{keep_plain_page}
 use Rattle.rmm_laws.proofs.Lasting.{Lasts, lasts_all, lasts_plain, lasts_realm}
 use Rattle.rmm_laws.proofs.Releasing.{Held, held_all, held_granule}
 use Rattle.rmm_laws.proofs.States.{IsAsBefore, same_realm, write_back}
+use Rattle.rmm_laws.proofs.SameTables.{KeepsTables, tables_all, tables_granule, tables_page}
 use Rattle.rmm_laws.proofs.Touching.{Touches, IsMine, untouched, mine_before, touch_granule, touch_page}
 use Rattle.rmm_laws.proofs.Writes.{is_user, granule_at-same, granule_at-other, taken_inside}
 
@@ -83,6 +84,16 @@ keep_rec_page m g rec page proper is whole same =
     ∙ sym (ap (λ (s : RmmGranuleState). state_uses m s owner level (page_in m g) g i part) is))
     (λ table. absurd (cc))
 
+-- memory is no table
+no_memory : (s : RmmGranuleState) → is_memory_state s ≡ true → s ≡ Rtt → ⊥
+no_memory s memory table = let never : is_memory_state s ≡ false = ap is_memory_state table in cc
+
+-- a granule of the host beside one that is written
+host_beside : (o m : Machine) (x : ℕ) (kept : RmmGranule) (h : ℕ) → (granule_at o h).state ≡ Undelegated → ((granule_at m x).state ≡ Undelegated → ⊥) → granule_at m h ≡ granule_at o h
+    → granule_at (with_granule m x kept) h ≡ granule_at o h
+host_beside o m x kept h free plain same =
+    granule_at-other m x h kept (λ here. plain (ap (λ (y : ℕ). (granule_at m y).state) (sym here) ∙ ap (λ (r : RmmGranule). r.state) same ∙ free)) ∙ same
+
 -- ---- machines in which a granule is a REC
 
 -- A granule is a REC of the realm of an RD, after writes that touched granules of that realm or of none.
@@ -91,17 +102,19 @@ pub record IsGoing (o : Machine) (w : ℕ) (g : ℕ) (m : Machine) : Type 0 wher
   pub ordered : IsOrdered m
   pub rec : RmmRec
   pub is : (granule_at m g).state ≡ IsRec rec
-  pub touches : Touches o m (Some w)
+  pub touches : Touches true o m (Some w)
   pub owned : (granule_at m g).owner ≡ Some w
-  pub mine : IsMine o (Some w) g
+  pub mine : IsMine true o (Some w) g
   pub vmids : m.vmids ≡ o.vmids
   pub held : Held o m
   pub lasts : Lasts o m
+  pub tables : KeepsTables o m
+  pub hosts : (h : ℕ) → (granule_at o h).state ≡ Undelegated → granule_at m h ≡ granule_at o h
   pub states : (rd : ℕ) (realm : RmmRealm) → (granule_at m rd).state ≡ Rd realm → IsAsBefore o rd realm ⊎ ((rd ≡ w) × (realm.state ≡ IsSystemOff) × HasRim o rd realm.rim)
 
 -- a REC before any write
 pub going_first : (g w : ℕ) (m : Machine) (rec : RmmRec) → IsProper m → (granule_at m g).state ≡ IsRec rec → (granule_at m g).owner ≡ Some w → IsGoing m w g m
-going_first g w m rec proper is owned = record { proper = proper.linked; ordered = proper.ordered; rec = rec; is = is; touches = untouched m (Some w); owned = owned; mine = inl (inr owned); vmids = refl; held = held_all m; lasts = lasts_all m; states = λ rd realm at. inl (realm, at, refl, refl) }
+going_first g w m rec proper is owned = record { proper = proper.linked; ordered = proper.ordered; rec = rec; is = is; touches = untouched true m (Some w); owned = owned; mine = inl (inr owned); vmids = refl; held = held_all m; lasts = lasts_all m; tables = tables_all m; hosts = λ h free. refl; states = λ rd realm at. inl (realm, at, refl, refl) }
 
 module _ (o : Machine) (w : ℕ) where
   pub going_inside : (g : ℕ) (m : Machine) → IsGoing o w g m → g < length m.granules
@@ -116,12 +129,14 @@ module _ (o : Machine) (w : ℕ) where
         ordered = ordered_rec m g going.rec rec (going_inside g m going) going.is going.ordered;
         rec = rec;
         is = ap (λ (r : RmmGranule). r.state) now;
-        touches = touch_granule o m (Some w) g kept going.touches going.mine;
+        touches = touch_granule true o m (Some w) g kept going.touches going.mine;
         owned = ap (λ (r : RmmGranule). r.owner) now ∙ going.owned;
         mine = going.mine;
         vmids = going.vmids;
         held = held_granule o m g kept refl going.held;
         lasts = lasts_plain o m g kept (ap is_rd going.is) going.lasts;
+        tables = tables_granule o m g kept (λ table. (let rec_is = going.is in cc)) going.tables;
+        hosts = λ h free. host_beside o m g kept h free (λ host. (let rec_is = going.is in cc)) (going.hosts h free);
         states = λ rd realm at. ⊎_elim
             (λ (written : (rd ≡ g) × (IsRec rec ≡ Rd realm)). (let never = written.1 in absurd (cc)))
             (λ (before : (granule_at m rd).state ≡ Rd realm). going.states rd realm before)
@@ -136,12 +151,14 @@ module _ (o : Machine) (w : ℕ) where
         ordered = ordered_rec_page m g going.rec page going.is (λ k lt. same k (omega arith)) going.ordered;
         rec = going.rec;
         is = going.is;
-        touches = touch_page o m (Some w) g page going.touches going.mine;
+        touches = touch_page true o m (Some w) g page going.touches going.mine;
         owned = going.owned;
         mine = going.mine;
         vmids = going.vmids;
         held = going.held;
         lasts = going.lasts;
+        tables = tables_page o m g page (λ table. (let rec_is = going.is in cc)) going.tables;
+        hosts = going.hosts;
         states = going.states;
       }
 
@@ -160,19 +177,21 @@ module _ (o : Machine) (w : ℕ) where
       (⊎_elim (λ (low : first + count ≤ 32). inr (omega arith)) (λ (high : 48 ≤ first). inl (omega arith)) beside))
 
   -- a page of memory
-  pub going_plain : (g h : ℕ) (m : Machine) (page : List ℕ) → IsGoing o w g m → h < length m.granules → length page ≡ 4096 → is_memory_state (granule_at m h).state ≡ true → IsMine m (Some w) h
+  pub going_plain : (g h : ℕ) (m : Machine) (page : List ℕ) → IsGoing o w g m → h < length m.granules → length page ≡ 4096 → is_memory_state (granule_at m h).state ≡ true → IsMine true m (Some w) h
       → IsGoing o w g (with_page m h page)
   going_plain g h m page going inside whole memory mine = record {
     proper = keep_plain_page m h page going.proper inside whole (memory_plain (granule_at m h).state memory);
     ordered = ordered_memory m h page memory going.ordered;
     rec = going.rec;
     is = going.is;
-    touches = touch_page o m (Some w) h page going.touches (mine_before o m (Some w) h going.touches mine);
+    touches = touch_page true o m (Some w) h page going.touches (mine_before true o m (Some w) h going.touches mine);
     owned = going.owned;
     mine = going.mine;
     vmids = going.vmids;
     held = going.held;
     lasts = going.lasts;
+    tables = tables_page o m h page (λ table. no_memory (granule_at m h).state memory table) going.tables;
+    hosts = going.hosts;
     states = going.states;
   }
 
@@ -191,12 +210,14 @@ module _ (o : Machine) (w : ℕ) where
         ordered = ordered_realm m rd realm other (taken_inside m rd (λ free. cc)) is recs (space, level, first, count) going.ordered;
         rec = going.rec;
         is = ap (λ (r : RmmGranule). r.state) still ∙ going.is;
-        touches = touch_granule o m (Some w) rd (of_no_realm (Rd other)) going.touches (inl (inl named));
+        touches = touch_granule true o m (Some w) rd (of_no_realm (Rd other)) going.touches (inl (inl named));
         owned = ap (λ (r : RmmGranule). r.owner) still ∙ going.owned;
         mine = going.mine;
         vmids = going.vmids;
         held = held_granule o m rd (of_no_realm (Rd other)) refl going.held;
         lasts = lasts_realm o m rd realm other is same going.lasts;
+        tables = tables_granule o m rd (of_no_realm (Rd other)) (λ table. cc) going.tables;
+        hosts = λ h free. host_beside o m rd (of_no_realm (Rd other)) h free (λ host. cc) (going.hosts h free);
         states = λ x new at. ⊎_elim
             (λ (written : (x ≡ rd) × (Rd other ≡ Rd new)).
             let it : other ≡ new = same_realm written.1 in

@@ -31,6 +31,7 @@ use Rattle.rmm_laws.proofs.Orders.{owner_is, rd_is, rd_of, is_counter, counted, 
 use Rattle.rmm_laws.proofs.Passed.{Passed, some_same, rec_of-some, rec_named-is}
 use Rattle.rmm_laws.proofs.RecLives.{IsRecMade, rec_gone}
 use Rattle.rmm_laws.proofs.Recs.{keep_realm}
+use Rattle.rmm_laws.proofs.SameTables.{KeepsTables, tables_all, tables_granule, tables_both, tables_wiped}
 use Rattle.rmm_laws.proofs.Touching.{Touches, mine_before, touch_blank, touch_granule, untouched}
 use Rattle.rmm_laws.proofs.Walks.{right, one_place}
 use Rattle.rmm_laws.proofs.Wiping.{first_named, IsWiped, all_wiped, all_total, touch_wiped}
@@ -290,20 +291,35 @@ module _ (rec : ℕ) (m : Machine) (proper : IsProper m) (ok : Passed (rec_destr
   rec_destroyed = subst (λ (k : Machine). IsProper (with_blank (with_aux k here (of_no_realm Delegated) m.settings.aux) here Delegated)) (sym less_is) after_proper
 
   -- what it touches: the REC, its auxiliary granules, and the RD
-  after_touches : Touches m after (Some w)
+  after_touches : Touches false m after (Some w)
   after_touches =
       let aux : ℕ = m.settings.aux in
-      let first : Touches m less (Some w) = touch_granule m m (Some w) w (of_no_realm (Rd (with_one_less realm))) (untouched m (Some w)) (inl (inl refl)) in
-      touch_blank m (with_aux less here (of_no_realm Delegated) aux) (Some w) here Delegated
-      (touch_wiped m less (Some w) here (of_no_realm Delegated) (λ n. tt) aux (with_aux less here (of_no_realm Delegated) aux) first (clean less here aux less_linked (rec_at m rec) still_rec refl)
-      (λ i h lt is. mine_before m less (Some w) h first (inl (inr (ap (λ (r : RmmGranule). r.owner) (aux_there less here aux less_linked (rec_at m rec) still_rec refl i h lt is) ∙ still_owned)))))
+      let first : Touches false m less (Some w) = touch_granule false m m (Some w) w (of_no_realm (Rd (with_one_less realm))) (untouched false m (Some w)) (inl (inl refl)) in
+      touch_blank false m (with_aux less here (of_no_realm Delegated) aux) (Some w) here Delegated
+      (touch_wiped false m less (Some w) here (of_no_realm Delegated) (λ n. tt) aux (with_aux less here (of_no_realm Delegated) aux) first (clean less here aux less_linked (rec_at m rec) still_rec refl)
+      (λ i h lt is. mine_before false m less (Some w) h first (inl (inr (ap (λ (r : RmmGranule). r.owner) (aux_there less here aux less_linked (rec_at m rec) still_rec refl i h lt is) ∙ still_owned)))))
       (inl (inr of_rec.1))
 
-  pub destroyed_touches : Touches m (rec_destroy rec m).machine (realm_of_rec m rec)
+  after_tables : KeepsTables m after
+  after_tables =
+      let aux : ℕ = m.settings.aux in
+      let first : KeepsTables m less = tables_granule m m w (of_no_realm (Rd (with_one_less realm))) (λ table. (let s = of_rd.1 in cc)) (tables_all m) in
+      tables_both m (with_aux less here (of_no_realm Delegated) aux) here (of_no_realm Delegated) zero_page (λ table. (let s = rec_is in cc))
+      (tables_wiped m less here (of_no_realm Delegated) (λ n. tt) aux (with_aux less here (of_no_realm Delegated) aux) first (clean less here aux less_linked (rec_at m rec) still_rec refl)
+      (λ i h lt is table.
+      let aux_is : (granule_at less h).state ≡ RecAux = ap (λ (r : RmmGranule). r.state) (aux_there less here aux less_linked (rec_at m rec) still_rec refl i h lt is) in
+      let same : (granule_at less h).state ≡ (granule_at m h).state = ap (λ (r : RmmGranule). r.state) (first h table).0 in
+      cc))
+
+  pub destroyed_tables : KeepsTables m (rec_destroy rec m).machine
+  unfolding rec_destroy
+  destroyed_tables = subst (λ (k : Machine). KeepsTables m (with_blank (with_aux k here (of_no_realm Delegated) m.settings.aux) here Delegated)) (sym less_is) after_tables
+
+  pub destroyed_touches : Touches false m (rec_destroy rec m).machine (realm_of_rec m rec)
   unfolding rec_destroy
   destroyed_touches =
-      subst (λ (o : Option ℕ). Touches m (rec_destroy rec m).machine o) (sym (rec_named-is m rec ok.0 ok.1.0 ok.1.1.0 ∙ of_rec.1))
-      (subst (λ (k : Machine). Touches m (with_blank (with_aux k here (of_no_realm Delegated) m.settings.aux) here Delegated) (Some w)) (sym less_is) after_touches)
+      subst (λ (o : Option ℕ). Touches false m (rec_destroy rec m).machine o) (sym (rec_named-is m rec ok.0 ok.1.0 ok.1.1.0 ∙ of_rec.1))
+      (subst (λ (k : Machine). Touches false m (with_blank (with_aux k here (of_no_realm Delegated) m.settings.aux) here Delegated) (Some w)) (sym less_is) after_touches)
 
   -- what comes back: the REC, and its auxiliary granules
   abbrev IsBack : Machine → ℕ → Type 0

@@ -14,7 +14,7 @@ use Rattle.rmm_model.specs.Level.{entry_size, entry_index, start_offset}
 use Rattle.rmm_model.specs.Machine.{Machine, granule_at, page_in}
 use Rattle.rmm_model.specs.Table.{entry_in_page}
 use Rattle.rmm_model.specs.Walk.{entry_at, table_below, walk_from, start_of, walk}
-use Rattle.rmm_laws.specs.Half.{IsOfHalf, HasHalves}
+use Rattle.rmm_laws.specs.Half.{IsOfHalf, IsPlaced, HasHalves}
 use Rattle.rmm_laws.specs.Role.{used, state_uses, uses, IsLinked}
 use Rattle.rmm_laws.proofs.Halves.{realm_same}
 use Rattle.rmm_laws.proofs.Mappings.{served}
@@ -53,7 +53,7 @@ module _ (m : Machine) (linked : IsLinked m) (halves : HasHalves m) (rd ipa : �
     pub depth : halves.level at.table ≡ at.level
     pub seat : halves.place at.table ≡ ipa / entry_size at.level / 512
 
-  seat_next : (at : RttWalk) (child : ℕ) → IsSeat at → table_below m (entry_at m at ipa) ≡ Some child → IsSeat (record { table = child; level = at.level + 1 })
+  pub seat_next : (at : RttWalk) (child : ℕ) → IsSeat at → table_below m (entry_at m at ipa) ≡ Some child → IsSeat (record { table = child; level = at.level + 1 })
   unfolding entry_at
   seat_next at child seat leads =
       let below : IsPlace m linked rd ipa (record { table = child; level = at.level + 1 }) = next m linked rd ipa at child seat.is leads in
@@ -77,7 +77,7 @@ module _ (m : Machine) (linked : IsLinked m) (halves : HasHalves m) (rd ipa : �
   from (suc levels) at seat = on levels at (table_below m (entry_at m at ipa)) refl seat (λ child there. from levels (record { table = child; level = at.level + 1 }) there)
 
   module _ (is : (granule_at m rd).state ≡ Rd realm) (within : ipa < 2 ^ realm.s2sz) where
-    start_seat : IsSeat (start_of realm ipa)
+    pub start_seat : IsSeat (start_of realm ipa)
     unfolding start_of start_offset
     start_seat =
         let fit = served m rd realm linked is in
@@ -102,6 +102,13 @@ module _ (m : Machine) (linked : IsLinked m) (halves : HasHalves m) (rd ipa : �
           let seat = walk_seat level in
           halves.is.half rd found.table i ipa realm is seat.is.table (entry_index-few found.level ipa)
           (ap (λ (l : ℕ). ipa / entry_size l) seat.depth ∙ sym (ap (λ (p : ℕ). p * 512 + i) seat.seat ∙ whole_index found.level ipa))
+
+      pub walk_placed : IsPlaced m.settings (walk m realm ipa level).level (entry_at m (walk m realm ipa level) ipa)
+      unfolding entry_at
+      walk_placed =
+          let seat = walk_seat level in
+          subst (λ (l : ℕ). IsPlaced m.settings l (entry_in_page (page_in m found.table) i)) seat.depth
+          (halves.is.block found.table i (ap (λ (r : RmmGranule). r.state) seat.is.table) (entry_index-few found.level ipa))
 
       pub found_few : (walk m realm ipa level).level ≤ 3
       found_few = few_at m linked rd ipa realm found (walk_seat level).is

@@ -15,7 +15,7 @@ use Rattle.rmm_model.specs.declared.realm.RmmRealm.{RmmRealm}
 use Rattle.rmm_model.specs.declared.realm.RttWalk.{RttWalk}
 use Rattle.rmm_model.specs.declared.rec.RmmRec.{RmmRec}
 use Rattle.rmm_model.specs.Call.{performed}
-use Rattle.rmm_model.specs.Entry.{is_live, is_table, is_assigned_ns}
+use Rattle.rmm_model.specs.Entry.{is_live, is_mapping, is_table}
 use Rattle.rmm_model.specs.Granule.{of_no_realm, of_realm, is_delegated, rec_of}
 use Rattle.rmm_model.specs.Guest.{is_rec_named}
 use Rattle.rmm_model.specs.Level.{entry_size, entry_index}
@@ -287,7 +287,7 @@ module _ (m : Machine) (proper : IsProper m) (rd : ℕ) (named : rd_named m rd �
         RttUnmapUnprotected rd ipa l,
         refl,
         mapping_step m rd ipa l desc named
-            (subst (λ (n : ℕ). m.settings.block_level ≤ n) at_place.1 (proper.ordered.halves.is.block table i at_place.0 index (ap is_assigned_ns at))) (omega arith) few address.2
+            (subst (λ (n : ℕ). m.settings.block_level ≤ n) at_place.1 (proper.ordered.halves.is.block table i at_place.0 index (ap is_mapping at)).0) (omega arith) few address.2
             (and_from (not (is_protected realm ipa)) (is_in_space realm ipa) (ap not (le-ltb ipa (2 ^ (realm.s2sz - 1)) kind.0)) (lt-ltb ipa (2 ^ realm.s2sz) kind.1)) reaches (entry_is ∙ at),
       )
       step_by (Table a) at live kind leads rest =

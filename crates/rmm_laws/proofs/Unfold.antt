@@ -32,7 +32,7 @@ use Rattle.rmm_model.specs.Command.RttFold.{rtt_fold, is_homogeneous, is_aligned
 use Rattle.rmm_laws.specs.Fold.{CanReplaceTable, IsAlike}
 use Rattle.rmm_laws.specs.Proper.{IsProper}
 use Rattle.rmm_laws.specs.Role.{IsSound, IsBegin}
-use Rattle.rmm_laws.proofs.Children.{length-children, part_word}
+use Rattle.rmm_laws.proofs.Children.{children_word, length-children, part_word}
 use Rattle.rmm_laws.proofs.Entries.{address_few, entry-same, entry-other, sound-with_entry}
 use Rattle.rmm_laws.proofs.EntryWords.{descriptor-few}
 use Rattle.rmm_laws.proofs.Freed.{succeeded, table_address}
@@ -42,7 +42,7 @@ use Rattle.rmm_laws.proofs.Passed.{Passed, yes_from, realm_of-some}
 use Rattle.rmm_laws.proofs.Teardown.{no_more}
 use Rattle.rmm_laws.proofs.Walks.{IsPlace, next, start_is, entry_index-few}
 use Rattle.rmm_laws.proofs.Writes.{granule_at-same, granule_at-other, page_in-same, page_in-other, inside-same, number-same, sound-with_granule, sound-with_page, taken_inside}
-use Rattle.rmm_laws.proofs.Fold.{reach, children_word, own_result}
+use Rattle.rmm_laws.proofs.Fold.{reach, own_result}
 
 table_entry : (m : Machine) (e : RmmRttEntry) (g : ℕ) → table_below m e ≡ Some g → e ≡ Table (descriptor_of e)
 table_entry m (Table a) g named = refl

@@ -162,9 +162,9 @@ module _ (m : Machine) (g : ℕ) (kept : RmmGranule) (served : (n : ℕ) → IfS
         ∙ all_total k (λ i lt. apart i (omega arith)) (λ i h lt. old i h (omega arith))
 
 -- granules of the realm, or of none, that are wiped
-pub touch_wiped : (o m : Machine) (named_realm : Option ℕ) (g : ℕ) (kept : RmmGranule) (served : (n : ℕ) → IfSome (realm_of kept.state) (IsServed n)) (k : ℕ) (n : Machine) → Touches o m named_realm → IsWiped m g kept served k n
-    → ((i h : ℕ) → i < k → granule_named m (aux_of (page_in m g) i) ≡ Some h → IsMine o named_realm h) → Touches o n named_realm
-touch_wiped o m named_realm g kept served k n before wiped mine = record {
+pub touch_wiped : (host : Bool) (o m : Machine) (named_realm : Option ℕ) (g : ℕ) (kept : RmmGranule) (served : (n : ℕ) → IfSome (realm_of kept.state) (IsServed n)) (k : ℕ) (n : Machine) → Touches host o m named_realm → IsWiped m g kept served k n
+    → ((i h : ℕ) → i < k → granule_named m (aux_of (page_in m g) i) ≡ Some h → IsMine host o named_realm h) → Touches host o n named_realm
+touch_wiped host o m named_realm g kept served k n before wiped mine = record {
   settings = wiped.settings ∙ before.settings;
   count = wiped.count ∙ before.count;
   each = λ x. ⊎_elim
@@ -173,7 +173,7 @@ touch_wiped o m named_realm g kept served k n before wiped mine = record {
       let same = wiped.other x none in
       ⊎_elim
       (λ (was : IsSameAt o m x). inl (same.0 ∙ was.0, same.1 ∙ was.1))
-      (λ (own : IsMine o named_realm x). inr own)
+      (λ (own : IsMine host o named_realm x). inr own)
       (before.each x))
       (first_named (λ i. granule_named m (aux_of (page_in m g) i)) x k);
 }

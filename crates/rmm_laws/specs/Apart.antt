@@ -1,7 +1,7 @@
 -- Realms apart: the granules that a call leaves as they are. RMM 1.0, RMI commands.
 use Rattle.std.specs.Prelude.{◌≡◌, ℕ, ◌⊎◌, ◌&&◌, Bool, true, false, Option, Some, None, is_some, if◌then◌else◌}
 use Rattle.rmi_abi.specs.declared.call.Call.{Call}
-use Rattle.rmi_abi.specs.declared.call.Call.TheVariants.{RealmActivate, RealmCreate, RealmDestroy, RecAuxCount, RecCreate, RecDestroy, RecEnter, PsciComplete, DataCreate, DataCreateUnknown, DataDestroy}
+use Rattle.rmi_abi.specs.declared.call.Call.TheVariants.{GranuleDelegate, RealmActivate, RealmCreate, RealmDestroy, RecAuxCount, RecCreate, RecDestroy, RecEnter, PsciComplete, DataCreate, DataCreateUnknown, DataDestroy}
 use Rattle.rmi_abi.specs.declared.call.Call.TheVariants.{RttCreate, RttDestroy, RttFold, RttReadEntry, RttMapUnprotected, RttUnmapUnprotected, RttInitRipas, RttSetRipas}
 use Rattle.rmm_model.specs.declared.granule.RmmGranuleState.TheVariants.{Undelegated, Delegated}
 use Rattle.rmm_model.specs.Granule.{realm_of}
@@ -56,6 +56,13 @@ IsSpare m g = ((granule_at m g).state ≡ Undelegated) ⊎ ((granule_at m g).sta
 -- a granule has the attributes and the page that it had
 abbrev pub IsSameAt : Machine → Machine → ℕ → Type 0
 IsSameAt m n g = (granule_at n g ≡ granule_at m g) × (page_in n g ≡ page_in m g)
+
+-- A call changes a page of the host: it delegates the granule. Or it enters a REC, whose guest and exit write pages of the
+-- host, and the granule keeps its attributes.
+abbrev pub IsHostChanged : Machine → Machine → Option Call → ℕ → Type 0
+IsHostChanged m n (Some (GranuleDelegate address)) g = g ≡ number_of m address
+IsHostChanged m n (Some (RecEnter rec run)) g = granule_at n g ≡ granule_at m g
+IsHostChanged m n call g = ⊥
 
 -- a granule is of another realm than the one that a call is on
 abbrev pub IsOfAnother : Machine → Option Call → ℕ → Type 0

@@ -1,10 +1,11 @@
 -- Halves of a realm's address space, and what a table has in each. RMM 1.0, Realm attributes, RTT entry.
-use Rattle.std.specs.Prelude.{◌≡◌, true, ℕ, ◌+◌, ◌-◌, ◌*◌, ◌/◌, ◌^◌, ◌<◌, ◌≤◌, Some}
+use Rattle.std.specs.Prelude.{◌≡◌, true, ℕ, ◌+◌, ◌-◌, ◌*◌, ◌/◌, ◌%◌, ◌^◌, ◌<◌, ◌≤◌, Some}
+use Rattle.rmi_abi.specs.declared.settings.RmmSettings.{RmmSettings}
 use Rattle.rmm_model.specs.declared.entry.RmmRttEntry.{RmmRttEntry}
 use Rattle.rmm_model.specs.declared.entry.RmmRttEntry.TheVariants.{Unassigned, Assigned, Table, UnassignedNs, AssignedNs}
 use Rattle.rmm_model.specs.declared.granule.RmmGranuleState.TheVariants.{Rd, Rtt}
 use Rattle.rmm_model.specs.declared.realm.RmmRealm.{RmmRealm}
-use Rattle.rmm_model.specs.Entry.{is_assigned_ns}
+use Rattle.rmm_model.specs.Entry.{descriptor_of, is_mapping}
 use Rattle.rmm_model.specs.Granule.{of_realm}
 use Rattle.rmm_model.specs.Level.{entry_size}
 use Rattle.rmm_model.specs.Machine.{Machine, granule_at, page_in}
@@ -19,9 +20,13 @@ IsOfHalf realm ipa UnassignedNs = 2 ^ (realm.s2sz - 1) ≤ ipa
 IsOfHalf realm ipa (AssignedNs desc) = (2 ^ (realm.s2sz - 1) ≤ ipa) × (ipa < 2 ^ realm.s2sz)
 IsOfHalf realm ipa (Table address) = ipa < 2 ^ realm.s2sz
 
+-- A mapping is at a level at which there are pages or blocks, and its memory begins at a multiple of their size.
+abbrev pub IsPlaced : RmmSettings → ℕ → RmmRttEntry → Type 0
+IsPlaced s level e = is_mapping e ≡ true → (s.block_level ≤ level) × (descriptor_of e / 4096 * 4096 % entry_size level ≡ 0)
+
 -- Entries are of the half that they cover. Functions give the level of each table, and its place among the tables of
 -- the level by address. Starting tables are in their order, and a table below is at the place of the entry that leads
--- to it. Memory of the host is mapped at levels at which there are pages or blocks.
+-- to it. Memory is mapped at levels at which there are pages or blocks, and begins at a multiple of their size.
 pub record IsHalved (m : Machine) (level place : ℕ → ℕ) : Type 0 where
   pub wide : (rd : ℕ) (realm : RmmRealm) → (granule_at m rd).state ≡ Rd realm → entry_size realm.start_level < 2 ^ realm.s2sz
   pub start : (rd k : ℕ) (realm : RmmRealm) → (granule_at m rd).state ≡ Rd realm → k < realm.table_count
@@ -30,7 +35,7 @@ pub record IsHalved (m : Machine) (level place : ℕ → ℕ) : Type 0 where
       → (level child ≡ level table + 1) × (place child ≡ place table * 512 + i)
   pub half : (rd table i ipa : ℕ) (realm : RmmRealm) → (granule_at m rd).state ≡ Rd realm → granule_at m table ≡ of_realm rd Rtt → i < 512
       → ipa / entry_size (level table) ≡ place table * 512 + i → IsOfHalf realm ipa (entry_in_page (page_in m table) i)
-  pub block : (table i : ℕ) → (granule_at m table).state ≡ Rtt → i < 512 → is_assigned_ns (entry_in_page (page_in m table) i) ≡ true → m.settings.block_level ≤ level table
+  pub block : (table i : ℕ) → (granule_at m table).state ≡ Rtt → i < 512 → IsPlaced m.settings (level table) (entry_in_page (page_in m table) i)
 
 -- Entries are of the half that they cover, by some levels and places of tables.
 pub record HasHalves (m : Machine) : Type 0 where

@@ -6,6 +6,7 @@ pub mod Owner
 pub mod Proper
 pub mod Refusal
 pub mod Request
+pub mod Ripas
 pub mod Role
 pub mod State
 pub mod Step

@@ -28,7 +28,7 @@ ghost use Rattle.rmm_model.specs.declared.rec.LastExit.TheVariants.{RipasChange}
 ghost use Rattle.rmm_model.specs.declared.rec.RmmRec.{RmmRec};
 ghost use Rattle.rmm_model.specs.Allowed.{allowed_words};
 ghost use Rattle.rmm_model.specs.Call.{command_of, performed, rmi};
-ghost use Rattle.rmm_model.specs.Entry.{is_live};
+ghost use Rattle.rmm_model.specs.Entry.{is_live, is_ram};
 ghost use Rattle.rmm_model.specs.Granule.{of_no_realm, of_realm};
 ghost use Rattle.rmm_model.specs.Guest.{rec_in, is_rec_named, queued};
 ghost use Rattle.rmm_model.specs.Level.{entry_size};
@@ -38,18 +38,19 @@ ghost use Rattle.rmm_model.specs.Command.Auxiliary.{with_aux};
 ghost use Rattle.rmm_model.specs.Command.Operand.{realm_at, rec_at};
 ghost use Rattle.rmm_model.specs.Command.RealmDestroy.{has_live_table, without_tables};
 ghost use Rattle.rmm_model.specs.Host.{after_store, after_fill};
-ghost use Rattle.rmm_model.specs.Machine.{Machine, granule_at, is_inside, number_of, page_in, with_blank};
+ghost use Rattle.rmm_model.specs.Machine.{Machine, granule_at, is_inside, is_secure, number_of, page_in, with_blank};
 ghost use Rattle.rmm_model.specs.Table.{entry_in_page, has_live};
 ghost use Rattle.rmm_model.specs.Walk.{entry_at, table_below, walk, top};
 ghost use Rattle.rmm_model.specs.Command.RecEnter.{interrupted, step_outcome, after_step, after_entry, after_first_step, after_exit};
-ghost use Rattle.rmm_laws.specs.Apart.{rd_named, changes_vmids, IsOfRealm, IsOfAnother, IsSameAt};
+ghost use Rattle.rmm_laws.specs.Apart.{rd_named, changes_vmids, IsHostChanged, IsOfRealm, IsOfAnother, IsSameAt};
 ghost use Rattle.rmm_laws.specs.Back.{ComesBack, RecComesBack, IsAssignedTo, IsReleased};
 ghost use Rattle.rmm_laws.specs.Fold.{CanReplaceTable, IsAlike};
-ghost use Rattle.rmm_laws.specs.Half.{IsOfHalf};
+ghost use Rattle.rmm_laws.specs.Half.{IsOfHalf, IsPlaced};
 ghost use Rattle.rmm_laws.specs.Owner.{is_rec_in};
 ghost use Rattle.rmm_laws.specs.Proper.{IsProper};
 ghost use Rattle.rmm_laws.specs.Refusal.{IsRefused, is_refusal, IsOneOf, IsRecEnter, IsFault, IsNotGiven, IsNotQueued, IsNotRunning, IsAccess, IsNotDone};
 ghost use Rattle.rmm_laws.specs.Request.{KeepsRequests, IsAskedFor};
+ghost use Rattle.rmm_laws.specs.Ripas.{KeepsRipas, ripas_at};
 ghost use Rattle.rmm_laws.specs.Role.{Used, page_count, uses, IsSound};
 ghost use Rattle.rmm_laws.specs.State.{IsRealmIn, KeepsStates, KeepsRealms, HasRim, IsMeasured, Measures, KeepsRims};
 ghost use Rattle.rmm_laws.specs.Step.{HasNextStep, HasRemoval, CanBeTornDown};
@@ -107,9 +108,12 @@ pub fn walks_end()
 {}
 
 /// Halves are apart: a walk of an address of a realm ends at an entry of the half that the address is in. So an ASSIGNED
-/// entry is at protected addresses alone, and an ASSIGNED_NS entry at unprotected ones.
+/// entry is at protected addresses alone, and an ASSIGNED_NS entry at unprotected ones. A mapping is at a level at which
+/// there are pages or blocks, and its memory begins at a multiple of their size.
 pub fn halves_are_apart()
-    ensures { (m : Machine) (rd ipa level : ℕ) (realm : RmmRealm) → IsProper m → (granule_at m rd).state ≡ Rd realm → ipa < 2 ^ realm.s2sz → IsOfHalf realm ipa (entry_at m (walk m realm ipa level) ipa) }
+    ensures half { (m : Machine) (rd ipa level : ℕ) (realm : RmmRealm) → IsProper m → (granule_at m rd).state ≡ Rd realm → ipa < 2 ^ realm.s2sz → IsOfHalf realm ipa (entry_at m (walk m realm ipa level) ipa) }
+    ensures placed { (m : Machine) (rd ipa level : ℕ) (realm : RmmRealm) → IsProper m → (granule_at m rd).state ≡ Rd realm → ipa < 2 ^ realm.s2sz
+        → IsPlaced m.settings (walk m realm ipa level).level (entry_at m (walk m realm ipa level) ipa) }
 {}
 
 /// Each table of a realm serves 512 entries from some address on, and a walk of each of their addresses reaches it.
@@ -236,12 +240,25 @@ pub fn requests_are_the_guest_s()
     ensures left { (m : Machine) (g : ℕ) (exit : RecExit) (last : LastExit) → KeepsRequests m None (after_exit m g exit last) }
 {}
 
-/// RMI_RTT_FOLD undoes RMI_RTT_CREATE: it succeeds right after it, with its operands, if the entry can replace the table.
-/// And RMI_RTT_CREATE undoes RMI_RTT_FOLD, with the granule that comes back. Then each granule has the attributes that it
-/// had before both, and each entry of each table is as it was. A table is folded only if the entry can replace it.
+/// RIPAS is the guest's. RMI_RTT_INIT_RIPAS and RMI_DATA_CREATE make it RAM while a realm is NEW. RMI_DATA_DESTROY and
+/// RMI_RTT_DESTROY make it DESTROYED, and a page that is destroyed leaves RIPAS that is not RAM. RMI_RTT_SET_RIPAS makes
+/// it what a REC of the realm asked for, within the range that it asked for. No other call changes the RIPAS of a
+/// protected address, and neither do stores and fills of the host, steps that guests are given, and interrupts.
+pub fn ripas_is_the_guest_s()
+    ensures calls { (r : Registers) (m : Machine) → IsProper m → KeepsRipas m (call_in r) (rmi r m).1 }
+    ensures taken { (m : Machine) (rd ipa : ℕ) → IsProper m → (performed (DataDestroy rd ipa) m).0.word ≡ Success → is_ram (ripas_at (performed (DataDestroy rd ipa) m).1 (realm_at m rd) ipa) ≡ false }
+    ensures stores { (m : Machine) (address word : ℕ) → IsProper m → KeepsRipas m None (after_store m address word) }
+    ensures fills { (m : Machine) (address value : ℕ) → IsProper m → KeepsRipas m None (after_fill m address value) }
+    ensures steps { (m : Machine) (rec : ℕ) (w : StepWords) → IsProper m → KeepsRipas m None (queued m rec w).1 }
+    ensures interrupts { (m : Machine) (rec : ℕ) → IsProper m → KeepsRipas m None (interrupted m rec).1 }
+{}
+
+/// RMI_RTT_FOLD undoes RMI_RTT_CREATE: it succeeds right after it, with its operands. And RMI_RTT_CREATE undoes
+/// RMI_RTT_FOLD, with the granule that comes back. Then each granule has the attributes that it had before both, and each
+/// entry of each table is as it was. A table is folded only if the entry can replace it.
 pub fn fold_and_unfold()
     ensures created { (m : Machine) (rd rtt ipa level : ℕ) → IsProper m → (performed (RttCreate rd rtt ipa level) m).0.word ≡ Success
-        → CanReplaceTable m (entry_at m (walk m (realm_at m rd) ipa (level - 1)) ipa) level → ((performed (RttFold rd ipa level) (performed (RttCreate rd rtt ipa level) m).1).0.word ≡ Success)
+        → ((performed (RttFold rd ipa level) (performed (RttCreate rd rtt ipa level) m).1).0.word ≡ Success)
         × IsAlike m (performed (RttFold rd ipa level) (performed (RttCreate rd rtt ipa level) m).1).1 }
     ensures folded { (m : Machine) (rd ipa level : ℕ) → IsProper m → (performed (RttFold rd ipa level) m).0.word ≡ Success
         → ((performed (RttCreate rd (performed (RttFold rd ipa level) m).0.x1 ipa level) (performed (RttFold rd ipa level) m).1).0.word ≡ Success)
@@ -251,12 +268,15 @@ pub fn fold_and_unfold()
 {}
 
 /// Other realms stay: a call leaves each granule as it was, but for those of the realm that it is on, and UNDELEGATED
-/// and DELEGATED ones. So it keeps the RDs, tables, pages and RECs of all other realms. Stores and fills of the host
+/// and DELEGATED ones. So it keeps the RDs, tables, pages and RECs of all other realms. UNDELEGATED ones stay as they
+/// were, but for one that is delegated, and for pages that a REC writes which is entered. Stores and fills of the host
 /// change UNDELEGATED granules alone, a step that a guest is given its REC, and an interrupt its REC and UNDELEGATED
-/// granules. A guest writes pages of its realm, and of the host. Settings and the number of granules stay. VMIDs are
+/// granules. A guest writes pages of its realm, and of the host
+/// outside the secure world. Settings and the number of granules stay. VMIDs are
 /// those before, but for calls that create or destroy a realm.
 pub fn other_realms_stay()
     ensures calls { (r : Registers) (m : Machine) (granule : ℕ) → IsProper m → IsOfAnother m (call_in r) granule → IsSameAt m (rmi r m).1 granule }
+    ensures hosts { (r : Registers) (m : Machine) (granule : ℕ) → IsProper m → (granule_at m granule).state ≡ Undelegated → IsSameAt m (rmi r m).1 granule ⊎ IsHostChanged m (rmi r m).1 (call_in r) granule }
     ensures stores { (m : Machine) (address word granule : ℕ) → (granule_at m granule).state ≢ Undelegated → IsSameAt m (after_store m address word) granule }
     ensures fills { (m : Machine) (address value granule : ℕ) → (granule_at m granule).state ≢ Undelegated → IsSameAt m (after_fill m address value) granule }
     ensures vmids { (r : Registers) (m : Machine) → IsProper m → changes_vmids (call_in r) ≡ false → (rmi r m).1.vmids ≡ m.vmids }
@@ -266,6 +286,8 @@ pub fn other_realms_stay()
     ensures interrupts { (m : Machine) (rec granule : ℕ) → granule ≢ number_of m rec → (granule_at m granule).state ≢ Undelegated → IsSameAt m (interrupted m rec).1 granule }
     ensures writes { (m : Machine) (rd rec ipa value granule : ℕ) (size : AccessSize) (outcome : StepOutcome) (realm : RmmRealm) → IsProper m → (granule_at m rd).state ≡ Rd realm
         → granule_at m granule ≢ of_realm rd Data → (granule_at m granule).state ≢ Undelegated → IsSameAt m (after_step m realm rec (Write ipa value size) outcome) granule }
+    ensures secure { (m : Machine) (rd rec ipa value granule : ℕ) (size : AccessSize) (outcome : StepOutcome) (realm : RmmRealm) → IsProper m → (granule_at m rd).state ≡ Rd realm
+        → (granule_at m granule).state ≡ Undelegated → is_secure m (m.settings.base + granule * 4096) ≡ true → IsSameAt m (after_step m realm rec (Write ipa value size) outcome) granule }
     ensures settings { (r : Registers) (m : Machine) → IsProper m → ((rmi r m).1.settings ≡ m.settings) × (length (rmi r m).1.granules ≡ length m.granules) }
 {}
 

@@ -1,5 +1,5 @@
-use Rattle.std.proofs.Common.{◌≡◌, ℕ, ◌/◌, ◌%◌, true, length, Option, Some, None, ⊎_elim, refl, ap, ◌∙◌}
-use Rattle.std.proofs.lemmas.Bool.{and_parts, cond_both}
+use Rattle.std.proofs.Common.{◌≡◌, ℕ, ◌/◌, ◌%◌, ◌⊎◌, inl, true, length, Option, Some, None, ⊎_elim, refl, sym, ap, subst, ◌+◌, ◌*◌, ◌∙◌}
+use Rattle.std.proofs.lemmas.Bool.{and_parts, both_ways, cond_both}
 use Rattle.std.specs.Prelude.{◌==◌}
 use Rattle.rmi_abi.specs.declared.call.Call.{Call}
 use Rattle.rmi_abi.specs.declared.registers.Registers.{Registers}
@@ -7,19 +7,20 @@ use Rattle.rmi_abi.specs.Call.{call_in}
 use Rattle.rmm_model.specs.Call.{command_of, performed, rmi, rmi_at}
 use Rattle.granule_addr.specs.Page.{page_of}
 use Rattle.rmm_model.specs.declared.granule.RmmGranuleState.TheVariants.{Undelegated, Data}
+use Rattle.rmm_model.specs.declared.granule.RmmGranule.{RmmGranule}
 use Rattle.rmm_model.specs.Granule.{of_realm}
 use Rattle.rmm_model.specs.Host.{is_host_page, can_access, can_fill}
 use Rattle.rmm_model.specs.Access.{low_bytes}
 use Rattle.rmm_model.specs.Step.{access}
 use Rattle.rmm_model.specs.Command.RecEnter.{after_step}
-use Rattle.rmm_model.specs.Machine.{Machine, granule_at, is_aligned, number_of, with_page, with_word}
-use Rattle.rmm_laws.specs.Apart.{named_realm, IsSameAt, IsOfAnother}
+use Rattle.rmm_model.specs.Machine.{Machine, granule_at, is_aligned, is_secure, number_of, with_page, with_word}
+use Rattle.rmm_laws.specs.Apart.{named_realm, IsHostChanged, IsSameAt, IsOfAnother}
 use Rattle.rmm_laws.specs.Proper.{IsProper}
-use Rattle.rmm_laws.proofs.LeftAlone.{touches_of, left_alone}
+use Rattle.rmm_laws.proofs.LeftAlone.{touches_host, touches_of, host_left, left_alone}
 use Rattle.rmm_laws.proofs.Passed.{kept}
 use Rattle.rmm_laws.proofs.Plain.{host_plain}
 use Rattle.rmm_laws.proofs.Aside.{given_apart, interrupt_apart, written_apart, plain_of}
-use Rattle.rmm_laws.proofs.Accesses.{accessed}
+use Rattle.rmm_laws.proofs.Accesses.{IsHostAt, IsPlainIfOk, accessed, reached_normal}
 use Rattle.rmm_laws.proofs.ReleasingCalls.{call_vmids}
 use Rattle.rmm_laws.proofs.Touching.{Touches, untouched}
 use Rattle.rmm_laws.proofs.Writes.{page_in-other}
@@ -32,6 +33,14 @@ by_call (Some call) r m g proper other = left_alone call m g proper other.0 othe
 pub returns-clause-calls : goal.returns-clause-calls
 unfolding rmi
 returns-clause-calls c = λ r m g proper other. by_call (call_in r) r m g proper other
+
+by_host : (o : Option Call) (r : Registers) (m : Machine) (g : ℕ) → IsProper m → (granule_at m g).state ≡ Undelegated → IsSameAt m (rmi_at o r m).1 g ⊎ IsHostChanged m (rmi_at o r m).1 o g
+by_host None r m g proper free = inl (refl, refl)
+by_host (Some call) r m g proper free = host_left call m g proper free
+
+pub returns-clause-hosts : goal.returns-clause-hosts
+unfolding rmi
+returns-clause-hosts c = λ r m g proper free. by_host (call_in r) r m g proper free
 
 pub returns-clause-fills : goal.returns-clause-fills
 returns-clause-fills c = λ m address value g taken.
@@ -51,7 +60,7 @@ by_settings : (o : Option Call) (r : Registers) (m : Machine) → IsProper m →
 unfolding performed
 by_settings None r m proper = (refl, refl)
 by_settings (Some call) r m proper =
-    let touches = kept (λ (n : Machine). Touches m n (named_realm m call)) (command_of call m) m (untouched m (named_realm m call)) (touches_of call m proper) in
+    let touches = kept (λ (n : Machine). Touches (touches_host call) m n (named_realm m call)) (command_of call m) m (untouched (touches_host call) m (named_realm m call)) (touches_of call m proper) in
     (touches.settings, touches.count)
 
 pub returns-clause-settings : goal.returns-clause-settings
@@ -66,6 +75,16 @@ returns-clause-writes c = λ m rd rec ipa value g size outcome realm proper is n
     (λ (ours : granule_at m h ≡ of_realm rd Data). not_ours (ap (granule_at m) same ∙ ours))
     (λ (host : (granule_at m h).state ≡ Undelegated). not_host (ap (λ (x : ℕ). (granule_at m x).state) same ∙ host))
     (plain_of m proper.linked rd realm is ipa h (access m realm ipa true size (low_bytes size value)) reaches (accessed m proper.linked rd realm is ipa true size (low_bytes size value))))
+
+pub returns-clause-secure : goal.returns-clause-secure
+unfolding after_step
+returns-clause-secure c = λ m rd rec ipa value g size outcome realm proper is host secure.
+    let came = access m realm ipa true size (low_bytes size value) in
+    written_apart m ipa value g size came
+    (λ h reaches same. ⊎_elim
+    (λ (ours : granule_at m h ≡ of_realm rd Data). (let it = ap (λ (r : RmmGranule). r.state) ours in let there = ap (λ (x : ℕ). (granule_at m x).state) same in cc))
+    (λ (at : IsHostAt m h). both_ways (is_secure m (m.settings.base + h * 4096)) (reached_normal m h proper.linked.sound at) (ap (λ (x : ℕ). is_secure m (m.settings.base + x * 4096)) (sym same) ∙ secure))
+    (subst (IsPlainIfOk m proper.linked rd realm is ipa) reaches (accessed m proper.linked rd realm is ipa true size (low_bytes size value))).1)
 
 pub returns-clause-stores : goal.returns-clause-stores
 returns-clause-stores c = λ m address word g taken.

@@ -1,0 +1,204 @@
+-- The RIPAS of addresses after writes of entries that lead to no table.
+use Rattle.std.proofs.Common.{◌≡◌, ◌≢◌, ℕ, zero, suc, ◌+◌, ◌-◌, ◌*◌, ◌/◌, ◌%◌, ◌^◌, ◌<◌, ◌≤◌, ◌⊎◌, inl, inr, ◌||◌, true, false, List, length, refl, sym, ap, subst, ◌∙◌, ⊎_elim, arith}
+use Rattle.std.specs.Prelude.{nat_le}
+use Rattle.std.proofs.Math.Bool.{or-false}
+use Rattle.std.proofs.lemmas.Bool.{cases_Bool, cases_eq, cond_both, and_parts, cond-false, cond-true, leb-false}
+use Rattle.rmm_model.specs.declared.entry.Changeable.{Changeable}
+use Rattle.rmm_model.specs.declared.entry.RmmRipas.{RmmRipas}
+use Rattle.rmm_model.specs.declared.entry.RmmRipas.TheVariants.{Destroyed}
+use Rattle.rmm_model.specs.declared.entry.RmmRttEntry.{RmmRttEntry}
+use Rattle.rmm_model.specs.declared.entry.RmmRttEntry.TheVariants.{Unassigned, Assigned}
+use Rattle.rmm_model.specs.declared.granule.RmmGranuleState.TheVariants.{Rd}
+use Rattle.rmm_model.specs.declared.realm.RmmRealm.{RmmRealm}
+use Rattle.rmm_model.specs.declared.realm.RttWalk.{RttWalk}
+use Rattle.rmm_model.specs.Entry.{can_change, entry_with_ripas, is_table, ripas_in}
+use Rattle.rmm_model.specs.Level.{entry_size, entry_index}
+use Rattle.rmm_model.specs.Machine.{Machine, granule_at, page_in}
+use Rattle.rmm_model.specs.Realm.{is_protected}
+use Rattle.rmm_model.specs.Table.{entry_in_page, first_fixed}
+use Rattle.rmm_model.specs.Walk.{entry_at, table_below, walk}
+use Rattle.rmm_model.specs.Command.RipasRange.{change_count, entries_below}
+use Rattle.rmm_laws.specs.Proper.{IsProper}
+use Rattle.rmm_laws.specs.Ripas.{ripas_at, IsBetween}
+use Rattle.rmm_laws.specs.Walk.{IsTableOf}
+use Rattle.rmm_laws.proofs.Along.{IsMet, along}
+use Rattle.rmm_laws.proofs.Halves.{none_below}
+use Rattle.rmm_laws.proofs.KeptTables.{on_same}
+use Rattle.rmm_laws.proofs.Mappings.{first_fixed-most, protected_within}
+use Rattle.rmm_laws.proofs.Seats.{IsSeat, walk_seat}
+use Rattle.rmm_laws.proofs.Serving.{level_cases}
+use Rattle.rmm_laws.proofs.Sides.{whole_index}
+use Rattle.rmm_laws.proofs.Walks.{entry_index-few}
+
+-- an address is within an entry that begins at another one
+pub entry_between : (l : ℕ) → l ≤ 3 → (ipa x : ℕ) → ipa % entry_size l ≡ 0 → x / entry_size l ≡ ipa / entry_size l → IsBetween ipa (ipa + entry_size l) x
+unfolding entry_size
+entry_between l few =
+    level_cases (λ (k : ℕ). (ipa x : ℕ) → ipa % entry_size k ≡ 0 → x / entry_size k ≡ ipa / entry_size k → IsBetween ipa (ipa + entry_size k) x)
+    (λ ipa x begins same. (omega arith, omega arith)) (λ ipa x begins same. (omega arith, omega arith)) (λ ipa x begins same. (omega arith, omega arith)) (λ ipa x begins same. (omega arith, omega arith)) l few
+
+-- The machines differ in entries of one table of a realm.
+module _ (m n : Machine) (proper : IsProper m) (settings : n.settings ≡ m.settings) (count : length n.granules ≡ length m.granules) (rd ipa level : ℕ) (realm : RmmRealm)
+    (is : (granule_at m rd).state ≡ Rd realm) (within : ipa < 2 ^ realm.s2sz) where
+  abbrev found : RttWalk
+  found = walk m realm ipa level
+
+  abbrev at : ℕ
+  at = entry_index (walk m realm ipa level).level ipa
+
+  -- an entry of the table is as it was, or both entries lead to no table, and each address in it has a RIPAS as is allowed
+  abbrev pub IsChanged : (ℕ → RmmRipas → RmmRipas → Type 0) → ℕ → Type 0
+  IsChanged G j =
+      (entry_in_page (page_in n (walk m realm ipa level).table) j ≡ entry_in_page (page_in m (walk m realm ipa level).table) j)
+      ⊎ ((is_table (entry_in_page (page_in m (walk m realm ipa level).table) j) ≡ false) × (is_table (entry_in_page (page_in n (walk m realm ipa level).table) j) ≡ false)
+      × ((x : ℕ) → x / entry_size (walk m realm ipa level).level ≡ ipa / entry_size (walk m realm ipa level).level / 512 * 512 + j
+      → (ripas_in (entry_in_page (page_in n (walk m realm ipa level).table) j) ≡ ripas_in (entry_in_page (page_in m (walk m realm ipa level).table) j))
+      ⊎ G x (ripas_in (entry_in_page (page_in m (walk m realm ipa level).table) j)) (ripas_in (entry_in_page (page_in n (walk m realm ipa level).table) j))))
+
+  -- the addresses that an entry of the table covers
+  pub covered : (x : ℕ) (p : RttWalk) → IsSeat m proper.linked proper.ordered.halves rd x realm p → p.table ≡ (walk m realm ipa level).table
+      → (p.level ≡ (walk m realm ipa level).level) × (x / entry_size (walk m realm ipa level).level ≡ ipa / entry_size (walk m realm ipa level).level / 512 * 512 + entry_index p.level x)
+  covered x p seat here =
+      let there = walk_seat m proper.linked proper.ordered.halves rd ipa realm is within level in
+      let same : p.level ≡ found.level = sym seat.depth ∙ ap proper.ordered.halves.level here ∙ there.depth in
+      let place : x / entry_size found.level / 512 ≡ ipa / entry_size found.level / 512 =
+      ap (λ (l : ℕ). x / entry_size l / 512) (sym same) ∙ sym seat.seat ∙ ap proper.ordered.halves.place here ∙ there.seat in
+      (same, sym (whole_index found.level x) ∙ ap (λ (q : ℕ). q * 512 + entry_index found.level x) place ∙ ap (λ (l : ℕ). ipa / entry_size found.level / 512 * 512 + entry_index l x) (sym same))
+
+  module _ (G : ℕ → RmmRipas → RmmRipas → Type 0) (x : ℕ) (each : (j : ℕ) → j < 512 → IsChanged G j) (others : (g : ℕ) → IsTableOf m rd g → g ≢ (walk m realm ipa level).table → page_in n g ≡ page_in m g) where
+    abbrev Q : RttWalk → RttWalk → Type 0
+    Q p q = (q ≡ p) × ((ripas_in (entry_at n p x) ≡ ripas_in (entry_at m p x)) ⊎ G x (ripas_in (entry_at m p x)) (ripas_in (entry_at n p x)))
+
+    abbrev Met : RttWalk → Type 0
+    Met p = IsMet m n proper.linked proper.ordered.halves rd x realm (λ table. Unit {0}) Q p
+
+    met_same : (p : RttWalk) → entry_at n p x ≡ entry_at m p x → Met p
+    met_same p entry = inl (on_same m n proper settings count rd x realm (λ table. Unit {0}) Q p entry (λ table leads. tt) (refl, inl (ap ripas_in entry)))
+
+    met_here : (p : RttWalk) → IsSeat m proper.linked proper.ordered.halves rd x realm p → p.table ≡ (walk m realm ipa level).table → Met p
+    unfolding entry_at
+    met_here p seat here =
+        let j : ℕ = entry_index p.level x in
+        let before : entry_in_page (page_in m p.table) j ≡ entry_in_page (page_in m found.table) j = ap (λ (t : ℕ). entry_in_page (page_in m t) j) here in
+        let after : entry_in_page (page_in n p.table) j ≡ entry_in_page (page_in n found.table) j = ap (λ (t : ℕ). entry_in_page (page_in n t) j) here in
+        ⊎_elim
+        (λ (same : entry_in_page (page_in n found.table) j ≡ entry_in_page (page_in m found.table) j). met_same p (after ∙ same ∙ sym before))
+        (λ other.
+        let none_before = ap (λ (e : RmmRttEntry). table_below m e) before ∙ none_below m (entry_in_page (page_in m found.table) j) (entry_in_page (page_in m found.table) j) refl other.0 in
+        let none_after = ap (λ (e : RmmRttEntry). table_below n e) after ∙ none_below n (entry_in_page (page_in n found.table) j) (entry_in_page (page_in n found.table) j) refl other.1 in
+        inl (record {
+          leads = none_after ∙ sym none_before;
+          good = λ table leads. tt;
+          end = (
+            refl,
+            subst (λ (t : ℕ). (ripas_in (entry_in_page (page_in n t) j) ≡ ripas_in (entry_in_page (page_in m t) j)) ⊎ G x (ripas_in (entry_in_page (page_in m t) j)) (ripas_in (entry_in_page (page_in n t) j))) (sym here)
+                (other.2 x (covered x p seat here).1),
+          );
+        }))
+        (each j (entry_index-few p.level x))
+
+    met : (p : RttWalk) → IsSeat m proper.linked proper.ordered.halves rd x realm p → Unit {0} → Met p
+    unfolding entry_at
+    met p seat good =
+        ⊎_elim
+        (λ (here : p.table ≡ found.table). met_here p seat here)
+        (λ (other : p.table ≢ found.table). met_same p (ap (λ (q : List ℕ). entry_in_page q (entry_index p.level x)) (others p.table seat.is.table other)))
+        (cases_eq p.table found.table)
+
+    -- the walk ends where it did, and what has become of the RIPAS there
+    pub changed : (after : RmmRealm) → after.start_level ≡ realm.start_level → after.first_table ≡ realm.first_table → is_protected realm x ≡ true → Q (walk m realm x 3) (walk n after x 3)
+    changed after start first protected = along m n proper.linked proper.ordered.halves rd x realm (λ table. Unit {0}) Q after start first is (protected_within realm x protected) tt met
+
+    pub changed_ripas : (after : RmmRealm) → after.start_level ≡ realm.start_level → after.first_table ≡ realm.first_table → is_protected realm x ≡ true
+        → (ripas_at n after x ≡ ripas_at m realm x) ⊎ G x (ripas_at m realm x) (ripas_at n after x)
+    changed_ripas after start first protected =
+        let both = changed after start first protected in
+        subst (λ (q : RttWalk). (ripas_in (entry_at n q x) ≡ ripas_at m realm x) ⊎ G x (ripas_at m realm x) (ripas_in (entry_at n q x))) (sym both.0) both.1
+
+  -- one entry is written
+  pub one_changed : (G : ℕ → RmmRipas → RmmRipas → Type 0) (e : RmmRttEntry) → entry_in_page (page_in n (walk m realm ipa level).table) (entry_index (walk m realm ipa level).level ipa) ≡ e
+      → ((j : ℕ) → j < 512 → j ≢ entry_index (walk m realm ipa level).level ipa → entry_in_page (page_in n (walk m realm ipa level).table) j ≡ entry_in_page (page_in m (walk m realm ipa level).table) j)
+      → is_table (entry_at m (walk m realm ipa level) ipa) ≡ false → is_table e ≡ false
+      → ((x : ℕ) → x / entry_size (walk m realm ipa level).level ≡ ipa / entry_size (walk m realm ipa level).level
+      → (ripas_in e ≡ ripas_in (entry_at m (walk m realm ipa level) ipa)) ⊎ G x (ripas_in (entry_at m (walk m realm ipa level) ipa)) (ripas_in e))
+      → (j : ℕ) → j < 512 → IsChanged G j
+  unfolding entry_at
+  one_changed G e now beside before leaf given j lt =
+      ⊎_elim
+      (λ (here : j ≡ at). subst (IsChanged G) (sym here) (inr (
+        before,
+        ap is_table now ∙ leaf,
+        λ x covers. subst (λ (f : RmmRttEntry). (ripas_in f ≡ ripas_in (entry_in_page (page_in m found.table) at)) ⊎ G x (ripas_in (entry_in_page (page_in m found.table) at)) (ripas_in f)) (sym now)
+            (given x (covers ∙ whole_index found.level ipa)),
+      )))
+      (λ (other : j ≢ at). inl (beside j lt other))
+      (cases_eq j at)
+
+-- ---- ranges
+
+fixed_from : (changeable : Changeable) (page : List ℕ) (count i j : ℕ) → i ≤ j → j < first_fixed changeable page count i → can_change changeable (entry_in_page page j) ≡ true
+unfolding first_fixed
+fixed_from changeable page zero i j low high = absurd (omega arith)
+fixed_from changeable page (suc count) i j low high =
+    ⊎_elim
+    (λ (can : can_change changeable (entry_in_page page i) ≡ true).
+    let more : j < first_fixed changeable page count (i + 1) = subst (λ (k : ℕ). j < k) (cond-true (can_change changeable (entry_in_page page i)) (first_fixed changeable page count (i + 1)) i can) high in
+    ⊎_elim
+    (λ (same : j ≡ i). ap (λ (k : ℕ). can_change changeable (entry_in_page page k)) same ∙ can)
+    (λ (other : j ≢ i). fixed_from changeable page count (i + 1) j (omega arith) more)
+    (cases_eq j i))
+    (λ (cannot : can_change changeable (entry_in_page page i) ≡ false).
+    let none : j < i = subst (λ (k : ℕ). j < k) (cond-false (can_change changeable (entry_in_page page i)) (first_fixed changeable page count (i + 1)) i cannot) high in
+    absurd (omega arith))
+    (cases_Bool (can_change changeable (entry_in_page page i)))
+
+-- entries whose RIPAS is changed are ones that can be
+pub can_in_range : (m : Machine) (changeable : Changeable) (found : RttWalk) (base top j : ℕ) → entry_index found.level base ≤ j → j < entry_index found.level base + change_count m changeable found base top
+    → can_change changeable (entry_in_page (page_in m found.table) j) ≡ true
+unfolding change_count
+can_in_range m changeable found base top j low high =
+    fixed_from changeable (page_in m found.table) (entries_below found base top) (entry_index found.level base) j low (omega arith)
+
+-- they are below the top
+change_below : (m : Machine) (changeable : Changeable) (found : RttWalk) (base top : ℕ) → change_count m changeable found base top ≤ (top - base) / entry_size found.level
+unfolding change_count entries_below
+change_below m changeable found base top =
+    let first : ℕ = entry_index found.level base in
+    let most = first_fixed-most changeable (page_in m found.table) (entries_below found base top) first in
+    let below : entries_below found base top ≤ (top - base) / entry_size found.level =
+    cond_both (nat_le ((top - base) / entry_size found.level) (512 - first)) _ _ (λ (k : ℕ). k ≤ (top - base) / entry_size found.level) (λ sure. omega arith)
+    (λ never. (let less = leb-false _ _ never in omega arith)) in
+    omega arith
+
+abbrev IsInRange : ℕ → Type 0
+IsInRange l = (base top x place first j count : ℕ) → base % entry_size l ≡ 0 → base / entry_size l ≡ place * 512 + first → x / entry_size l ≡ place * 512 + j → first ≤ j → j < first + count
+    → count ≤ (top - base) / entry_size l → IsBetween base top x
+
+range_between : (l : ℕ) → l ≤ 3 → IsInRange l
+unfolding entry_size
+range_between l few =
+    level_cases IsInRange
+    (λ base top x place first j count begins at covers low high below. (omega arith, omega arith))
+    (λ base top x place first j count begins at covers low high below. (omega arith, omega arith))
+    (λ base top x place first j count begins at covers low high below. (omega arith, omega arith))
+    (λ base top x place first j count begins at covers low high below. (omega arith, omega arith))
+    l few
+
+-- an address in an entry whose RIPAS is changed is in the range
+pub in_range : (m : Machine) (changeable : Changeable) (found : RttWalk) (base top x j : ℕ) → found.level ≤ 3 → base % entry_size found.level ≡ 0
+    → x / entry_size found.level ≡ base / entry_size found.level / 512 * 512 + j → entry_index found.level base ≤ j → j < entry_index found.level base + change_count m changeable found base top → IsBetween base top x
+in_range m changeable found base top x j few begins covers low high =
+    range_between found.level few base top x (base / entry_size found.level / 512) (entry_index found.level base) j (change_count m changeable found base top) begins (sym (whole_index found.level base)) covers low high
+    (change_below m changeable found base top)
+
+-- the RIPAS of an entry that is changed
+pub changed_to : (changeable : Changeable) (ripas : RmmRipas) (e : RmmRttEntry) → can_change changeable e ≡ true → (is_table e ≡ false) × (is_table (entry_with_ripas ripas e) ≡ false) × (ripas_in (entry_with_ripas ripas e) ≡ ripas)
+changed_to changeable ripas (Unassigned old) can = (refl, refl, refl)
+changed_to changeable ripas (Assigned old address) can = (refl, refl, refl)
+changed_to changeable ripas _ can = absurd (cc)
+
+-- DESTROYED is changed only if that was asked for
+pub destroyed_too : (changeable : Changeable) (e : RmmRttEntry) → can_change changeable e ≡ true → ripas_in e ≡ Destroyed → changeable.destroyed ≡ true
+destroyed_too changeable (Unassigned Destroyed) can is = sym (or-false changeable.destroyed) ∙ can
+destroyed_too changeable (Assigned Destroyed address) can is = sym (or-false changeable.destroyed) ∙ (and_parts changeable.assigned (changeable.destroyed || false) can).1
+destroyed_too changeable _ can is = absurd (cc)

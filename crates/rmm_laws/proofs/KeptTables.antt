@@ -1,0 +1,71 @@
+-- Tables that stay as they are, and the RIPAS of addresses then.
+use Rattle.std.proofs.Common.{◌≡◌, ℕ, inl, inr, true, List, length, Option, Some, None, refl, sym, ap, ◌∙◌, ⊎_elim, Bool}
+use Rattle.std.proofs.lemmas.Bool.{both_ways}
+use Rattle.rmm_model.specs.declared.entry.RmmRttEntry.{RmmRttEntry}
+use Rattle.rmm_model.specs.declared.granule.RmmGranule.{RmmGranule}
+use Rattle.rmm_model.specs.declared.granule.RmmGranuleState.TheVariants.{Rd}
+use Rattle.rmm_model.specs.declared.realm.RmmRealm.{RmmRealm}
+use Rattle.rmm_model.specs.declared.realm.RttWalk.{RttWalk}
+use Rattle.rmm_model.specs.Entry.{ripas_in}
+use Rattle.rmm_model.specs.Level.{entry_index}
+use Rattle.rmm_model.specs.Machine.{Machine, granule_at, page_in}
+use Rattle.rmm_model.specs.Realm.{is_protected}
+use Rattle.rmm_model.specs.Table.{entry_in_page}
+use Rattle.rmm_model.specs.Walk.{entry_at, table_below}
+use Rattle.rmm_laws.specs.Apart.{IsSameAt, IsOfRealm}
+use Rattle.rmm_laws.specs.Owner.{is_rd}
+use Rattle.rmm_laws.specs.Proper.{IsProper}
+use Rattle.rmm_laws.specs.Ripas.{ripas_at}
+use Rattle.rmm_laws.specs.Walk.{IsTableOf}
+use Rattle.rmm_laws.proofs.Along.{IsOn, along}
+use Rattle.rmm_laws.proofs.Halves.{below_same}
+use Rattle.rmm_laws.proofs.Mappings.{protected_within}
+use Rattle.rmm_laws.proofs.SameTables.{KeepsTables}
+use Rattle.rmm_laws.proofs.Touching.{Touches, IsFree, IsMine, free_spare}
+
+-- ---- tables of a realm
+
+-- tables of the realm of an RD have the pages that they had
+abbrev pub KeepsTablesOf : Machine → Machine → ℕ → Type 0
+KeepsTablesOf m n rd = (g : ℕ) → IsTableOf m rd g → page_in n g ≡ page_in m g
+
+pub tables_of : (m n : Machine) (rd : ℕ) → KeepsTables m n → KeepsTablesOf m n rd
+tables_of m n rd kept g is = (kept g (ap (λ (r : RmmGranule). r.state) is)).1
+
+not_ours : (m : Machine) (named : Option ℕ) (rd g : ℕ) → (named ≡ Some rd → ⊥) → ((r : ℕ) → named ≡ Some r → is_rd (granule_at m r).state ≡ true) → IsTableOf m rd g → IsOfRealm m named g → ⊥
+not_ours m (Some r) rd g apart rds is (inl here) =
+    both_ways (is_rd (granule_at m r).state) (ap (λ (y : ℕ). is_rd (granule_at m y).state) (sym here) ∙ ap (λ (c : RmmGranule). is_rd c.state) is) (rds r refl)
+not_ours m (Some r) rd g apart rds is (inr owned) = apart (sym owned ∙ ap (λ (c : RmmGranule). c.owner) is)
+not_ours m None rd g apart rds is ours = ours
+
+-- tables of a realm that a call does not touch
+pub tables_apart : (host : Bool) (m n : Machine) (named : Option ℕ) (rd : ℕ) → Touches host m n named → (named ≡ Some rd → ⊥) → ((r : ℕ) → named ≡ Some r → is_rd (granule_at m r).state ≡ true) → KeepsTablesOf m n rd
+tables_apart host m n named rd touches apart rds g is =
+    ⊎_elim
+    (λ (same : IsSameAt m n g). same.1)
+    (λ (mine : IsMine host m named g). absurd (⊎_elim
+    (λ (ours : IsOfRealm m named g). not_ours m named rd g apart rds is ours)
+    (λ (free : IsFree host m g). ⊎_elim (λ kept. (let s = ap (λ (r : RmmGranule). r.state) is in cc)) (λ blank. (let s = ap (λ (r : RmmGranule). r.state) is in cc)) (free_spare host m g free))
+    mine))
+    (touches.each g)
+
+-- ---- RIPAS
+
+module _ (m n : Machine) (proper : IsProper m) (settings : n.settings ≡ m.settings) (count : length n.granules ≡ length m.granules) (rd x : ℕ) (realm : RmmRealm) where
+  -- a place of a walk whose entry is as it was
+  pub on_same : (Good : ℕ → Type 0) (Q : RttWalk → RttWalk → Type 0) (p : RttWalk) → entry_at n p x ≡ entry_at m p x → ((table : ℕ) → table_below m (entry_at m p x) ≡ Some table → Good table) → Q p p
+      → IsOn m n proper.linked proper.ordered.halves rd x realm Good Q p
+  on_same Good Q p entry good end = record { leads = below_same m n settings count (entry_at n p x) ∙ ap (λ (e : RmmRttEntry). table_below m e) entry; good = good; end = end }
+
+  abbrev SameRipas : RttWalk → RttWalk → Type 0
+  SameRipas p q = ripas_in (entry_at n q x) ≡ ripas_in (entry_at m p x)
+
+  -- the RIPAS of an address of a realm whose tables are as they were
+  pub same_ripas : (after : RmmRealm) → after.start_level ≡ realm.start_level → after.first_table ≡ realm.first_table → (granule_at m rd).state ≡ Rd realm → is_protected realm x ≡ true → KeepsTablesOf m n rd
+      → ripas_at n after x ≡ ripas_at m realm x
+  unfolding entry_at
+  same_ripas after level first is protected kept =
+      along m n proper.linked proper.ordered.halves rd x realm (λ table. Unit {0}) SameRipas after level first is (protected_within realm x protected) tt
+      (λ p seat good.
+      let entry : entry_at n p x ≡ entry_at m p x = ap (λ (q : List ℕ). entry_in_page q (entry_index p.level x)) (kept p.table seat.is.table) in
+      inl (on_same (λ table. Unit {0}) SameRipas p entry (λ table leads. tt) (ap ripas_in entry)))

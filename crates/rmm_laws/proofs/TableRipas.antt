@@ -1,0 +1,207 @@
+-- The RIPAS of addresses after a table was made in the place of an entry, or an entry took the place of a table.
+use Rattle.std.proofs.Common.{◌≡◌, ◌≢◌, ℕ, zero, suc, ◌+◌, ◌*◌, ◌/◌, ◌^◌, ◌<◌, ◌≤◌, ◌⊎◌, inl, inr, true, false, List, length, Some, None, refl, sym, ap, subst, ◌∙◌, ⊎_elim, arith}
+use Rattle.std.specs.Prelude.{nat_lt, ◌==◌}
+use Rattle.std.proofs.lemmas.Bool.{cases_eq, cond-true, and_from, lt-ltb}
+use Rattle.rmm_model.specs.declared.entry.RmmRipas.{RmmRipas}
+use Rattle.rmm_model.specs.declared.entry.RmmRttEntry.{RmmRttEntry}
+use Rattle.rmm_model.specs.declared.granule.RmmGranule.{RmmGranule}
+use Rattle.rmm_model.specs.declared.granule.RmmGranuleState.{RmmGranuleState}
+use Rattle.rmm_model.specs.declared.granule.RmmGranuleState.TheVariants.{Rd, Rtt}
+use Rattle.rmm_model.specs.declared.realm.RmmRealm.{RmmRealm}
+use Rattle.rmm_model.specs.declared.realm.RttWalk.{RttWalk}
+use Rattle.rmm_model.specs.Entry.{is_table, ripas_in}
+use Rattle.rmm_model.specs.Level.{entry_size, entry_index, start_offset}
+use Rattle.rmm_model.specs.Machine.{Machine, granule_at, page_in}
+use Rattle.rmm_model.specs.Realm.{is_protected}
+use Rattle.rmm_model.specs.Table.{entry_in_page}
+use Rattle.rmm_model.specs.Walk.{entry_at, table_below, walk_from, start_of, walk}
+use Rattle.rmm_laws.specs.Proper.{IsProper}
+use Rattle.rmm_laws.specs.Ripas.{ripas_at}
+use Rattle.rmm_laws.specs.Role.{used, state_uses, uses}
+use Rattle.rmm_laws.specs.Walk.{IsTableOf}
+use Rattle.rmm_laws.proofs.Along.{IsMet, along, stops, goes}
+use Rattle.rmm_laws.proofs.EntryRipas.{covered}
+use Rattle.rmm_laws.proofs.Halves.{no_rtt, none_below}
+use Rattle.rmm_laws.proofs.KeptTables.{on_same}
+use Rattle.rmm_laws.proofs.Mappings.{served, protected_within}
+use Rattle.rmm_laws.proofs.Seats.{IsSeat, seat_next, walk_seat}
+use Rattle.rmm_laws.proofs.Serving.{few_at}
+use Rattle.rmm_laws.proofs.Sides.{whole_index}
+use Rattle.rmm_laws.proofs.Walks.{by_entry, one_place, start_inside, uses-entry, entry_index-few}
+
+-- The machines differ in one entry of a table of a realm, and in the table that it leads to.
+module _ (m n : Machine) (proper : IsProper m) (settings : n.settings ≡ m.settings) (count : length n.granules ≡ length m.granules) (rd ipa level : ℕ) (realm : RmmRealm)
+    (is : (granule_at m rd).state ≡ Rd realm) (within : ipa < 2 ^ realm.s2sz) (g : ℕ)
+    (beside : (j : ℕ) → j < 512 → j ≢ entry_index (walk m realm ipa level).level ipa
+    → entry_in_page (page_in n (walk m realm ipa level).table) j ≡ entry_in_page (page_in m (walk m realm ipa level).table) j) (x : ℕ) where
+  abbrev found : RttWalk
+  found = walk m realm ipa level
+
+  abbrev at : ℕ
+  at = entry_index (walk m realm ipa level).level ipa
+
+  abbrev Seat : RttWalk → Type 0
+  Seat p = IsSeat m proper.linked proper.ordered.halves rd x realm p
+
+  there : IsSeat m proper.linked proper.ordered.halves rd ipa realm (walk m realm ipa level)
+  there = walk_seat m proper.linked proper.ordered.halves rd ipa realm is within level
+
+  abbrev child : RttWalk → RttWalk
+  child p = record { table = g; level = p.level + 1 }
+
+  abbrev entry_here : RttWalk → RmmRttEntry
+  entry_here p = entry_in_page (page_in n (walk m realm ipa level).table) (entry_index p.level x)
+
+  -- a place whose entry is another one of the table
+  same_beside : (p : RttWalk) → p.table ≡ (walk m realm ipa level).table → entry_index p.level x ≢ entry_index (walk m realm ipa level).level ipa → entry_at n p x ≡ entry_at m p x
+  unfolding entry_at
+  same_beside p here other =
+      subst (λ (t : ℕ). entry_in_page (page_in n t) (entry_index p.level x) ≡ entry_in_page (page_in m t) (entry_index p.level x)) (sym here) (beside (entry_index p.level x) (entry_index-few p.level x) other)
+
+  -- a place whose entry is the one that differs
+  same_place : (k : Machine) (p : RttWalk) → p.table ≡ (walk m realm ipa level).table → entry_index p.level x ≡ entry_index (walk m realm ipa level).level ipa
+      → entry_at k p x ≡ entry_in_page (page_in k (walk m realm ipa level).table) (entry_index (walk m realm ipa level).level ipa)
+  unfolding entry_at
+  same_place k p here same = ap (λ (t : ℕ). entry_in_page (page_in k t) (entry_index p.level x)) here ∙ ap (λ (j : ℕ). entry_in_page (page_in k found.table) j) same
+
+  -- the address is one of the entry
+  same_entry : (p : RttWalk) → Seat p → p.table ≡ (walk m realm ipa level).table → entry_index p.level x ≡ entry_index (walk m realm ipa level).level ipa
+      → x / entry_size (walk m realm ipa level).level ≡ ipa / entry_size (walk m realm ipa level).level
+  unfolding entry_at
+  same_entry p seat here same =
+      let at_entry = covered m n proper settings count rd ipa level realm is within x p seat here in
+      let number : ipa / entry_size found.level / 512 * 512 + entry_index p.level x ≡ ipa / entry_size found.level / 512 * 512 + entry_index found.level ipa = ap (λ (j : ℕ). ipa / entry_size found.level / 512 * 512 + j) same in
+      let whole : ipa / entry_size found.level / 512 * 512 + entry_index found.level ipa ≡ ipa / entry_size found.level = whole_index found.level ipa in
+      at_entry.1 ∙ number ∙ whole
+
+  -- ---- a table that is made
+
+  module _ (leaf : is_table (entry_at m (walk m realm ipa level) ipa) ≡ false)
+      (leads : table_below n (entry_in_page (page_in n (walk m realm ipa level).table) (entry_index (walk m realm ipa level).level ipa)) ≡ Some g)
+      (others : (h : ℕ) → IsTableOf m rd h → h ≢ (walk m realm ipa level).table → page_in n h ≡ page_in m h) (few : (walk m realm ipa level).level ≤ 2)
+      (flat : (j : ℕ) → j < 512 → table_below n (entry_in_page (page_in n g) j) ≡ None)
+      (alike : (j : ℕ) → j < 512 → ripas_in (entry_in_page (page_in n g) j) ≡ ripas_in (entry_at m (walk m realm ipa level) ipa)) where
+    abbrev Same : RttWalk → RttWalk → Type 0
+    Same p q = ripas_in (entry_at n q x) ≡ ripas_in (entry_at m p x)
+
+    abbrev MetSame : RttWalk → Type 0
+    MetSame p = IsMet m n proper.linked proper.ordered.halves rd x realm (λ table. Unit {0}) Same p
+
+    on_as_before : (p : RttWalk) → entry_at n p x ≡ entry_at m p x → MetSame p
+    on_as_before p entry = inl (on_same m n proper settings count rd x realm (λ table. Unit {0}) Same p entry (λ table leads. tt) (ap ripas_in entry))
+
+    made_here : (p : RttWalk) → Seat p → p.table ≡ (walk m realm ipa level).table → entry_index p.level x ≡ entry_index (walk m realm ipa level).level ipa → (levels : ℕ) → p.level + levels ≡ 3
+        → Same (walk_from m x levels p) (walk_from n x levels p)
+    unfolding entry_at
+    made_here p seat here same zero far = (let level_is = (covered m n proper settings count rd ipa level realm is within x p seat here).0 in absurd (omega arith))
+    made_here p seat here same (suc levels) far =
+        let entry : entry_at m p x ≡ entry_at m found ipa = same_place m p here same in
+        let none = ap (λ (e : RmmRttEntry). table_below m e) entry ∙ none_below m (entry_at m found ipa) (entry_at m found ipa) refl leaf in
+        let on : table_below n (entry_at n p x) ≡ Some g = ap (λ (e : RmmRttEntry). table_below n e) (same_place n p here same) ∙ leads in
+        let j : ℕ = entry_index (p.level + 1) x in
+        let lt = entry_index-few (p.level + 1) x in
+        ap (λ (q : RttWalk). ripas_in (entry_at n q x)) (goes n x levels g p on ∙ stops n x levels (child p) (flat j lt))
+        ∙ alike j lt
+        ∙ ap ripas_in (sym entry)
+        ∙ ap (λ (q : RttWalk). ripas_in (entry_at m q x)) (sym (stops m x (suc levels) p none))
+
+    met_made : (p : RttWalk) → Seat p → Unit {0} → MetSame p
+    unfolding entry_at
+    met_made p seat good =
+        ⊎_elim
+        (λ (here : p.table ≡ found.table). ⊎_elim
+        (λ (same : entry_index p.level x ≡ at). inr (made_here p seat here same))
+        (λ (other : entry_index p.level x ≢ at). on_as_before p (same_beside p here other))
+        (cases_eq (entry_index p.level x) at))
+        (λ (other : p.table ≢ found.table). on_as_before p (ap (λ (q : List ℕ). entry_in_page q (entry_index p.level x)) (others p.table seat.is.table other)))
+        (cases_eq p.table found.table)
+
+    pub made_ripas : (after : RmmRealm) → after.start_level ≡ realm.start_level → after.first_table ≡ realm.first_table → is_protected realm x ≡ true → ripas_at n after x ≡ ripas_at m realm x
+    made_ripas after start first protected = along m n proper.linked proper.ordered.halves rd x realm (λ table. Unit {0}) Same after start first is (protected_within realm x protected) tt met_made
+
+  -- ---- a table that is gone
+
+  module _ (leads : table_below m (entry_at m (walk m realm ipa level) ipa) ≡ Some g)
+      (leaf : is_table (entry_in_page (page_in n (walk m realm ipa level).table) (entry_index (walk m realm ipa level).level ipa)) ≡ false)
+      (others : (h : ℕ) → IsTableOf m rd h → h ≢ (walk m realm ipa level).table → h ≢ g → page_in n h ≡ page_in m h)
+      (flat : (j : ℕ) → j < 512 → table_below m (entry_in_page (page_in m g) j) ≡ None) (G : RmmRipas → RmmRipas → Type 0)
+      (given : (j : ℕ) → j < 512 → x / entry_size (walk m realm ipa level).level ≡ ipa / entry_size (walk m realm ipa level).level
+      → (ripas_in (entry_in_page (page_in n (walk m realm ipa level).table) (entry_index (walk m realm ipa level).level ipa)) ≡ ripas_in (entry_in_page (page_in m g) j))
+      ⊎ G (ripas_in (entry_in_page (page_in m g) j)) (ripas_in (entry_in_page (page_in n (walk m realm ipa level).table) (entry_index (walk m realm ipa level).level ipa)))) where
+    abbrev Q : RttWalk → RttWalk → Type 0
+    Q p q = (ripas_in (entry_at n q x) ≡ ripas_in (entry_at m p x)) ⊎ G (ripas_in (entry_at m p x)) (ripas_in (entry_at n q x))
+
+    abbrev Other : ℕ → Type 0
+    Other table = table ≢ g
+
+    abbrev Met : RttWalk → Type 0
+    Met p = IsMet m n proper.linked proper.ordered.halves rd x realm Other Q p
+
+    -- the table is used by the entry
+    user : uses m proper.linked.level (walk m realm ipa level).table (entry_index (walk m realm ipa level).level ipa) 0 ≡ Some (used Rtt (Some rd) ((walk m realm ipa level).level + 1) g)
+    unfolding entry_at
+    user =
+        uses-entry m proper.linked rd ipa found at 0 there.is (entry_index-few found.level ipa)
+        ∙ by_entry m proper.linked rd ipa (Some rd) found.level g (entry_in_page (page_in m found.table) at) leads
+
+    -- no other entry leads to it
+    only_here : (p : RttWalk) → Seat p → table_below m (entry_at m p x) ≡ Some g → (p.table ≡ (walk m realm ipa level).table) × (entry_index p.level x ≡ entry_index (walk m realm ipa level).level ipa)
+    unfolding entry_at
+    only_here p seat to =
+        let j : ℕ = entry_index p.level x in
+        let other : uses m proper.linked.level p.table j 0 ≡ Some (used Rtt (Some rd) (p.level + 1) g) =
+        uses-entry m proper.linked rd x p j 0 seat.is (entry_index-few p.level x) ∙ by_entry m proper.linked rd x (Some rd) p.level g (entry_in_page (page_in m p.table) j) to in
+        let one = one_place m proper.linked p.table j 0 found.table at 0 (used Rtt (Some rd) (p.level + 1) g) (used Rtt (Some rd) (found.level + 1) g) other user refl in
+        (one.0, one.1)
+
+    start_other : x < 2 ^ realm.s2sz → (start_of realm x).table ≢ g
+    unfolding uses start_of
+    start_other inside same =
+        let k : ℕ = start_offset realm.start_level x in
+        let fit = served m rd realm proper.linked is in
+        let lt = start_inside realm.start_level x realm.s2sz realm.table_count inside fit.served in
+        let gives : uses m proper.linked.level rd k 0 ≡ Some (used Rtt (Some rd) realm.start_level (realm.first_table + k)) =
+        ap (λ (s : RmmGranuleState). state_uses m s (granule_at m rd).owner (proper.linked.level rd) (page_in m rd) rd k 0) is
+        ∙ cond-true _ _ _ (and_from (nat_lt k realm.table_count) (0 == 0) (lt-ltb k realm.table_count lt) refl) in
+        let one = one_place m proper.linked rd k 0 found.table at 0 (used Rtt (Some rd) realm.start_level (realm.first_table + k)) (used Rtt (Some rd) (found.level + 1) g) gives user same in
+        no_rtt realm (sym is ∙ ap (λ (h : ℕ). (granule_at m h).state) one.0 ∙ ap (λ (c : RmmGranule). c.state) there.is.table)
+
+    gone_here : (p : RttWalk) → Seat p → p.table ≡ (walk m realm ipa level).table → entry_index p.level x ≡ entry_index (walk m realm ipa level).level ipa → (levels : ℕ) → p.level + levels ≡ 3
+        → Q (walk_from m x levels p) (walk_from n x levels p)
+    unfolding entry_at
+    gone_here p seat here same zero far =
+        let on : table_below m (entry_at m p x) ≡ Some g = ap (λ (e : RmmRttEntry). table_below m e) (same_place m p here same) ∙ leads in
+        let few = few_at m proper.linked rd x realm (child p) (seat_next m proper.linked proper.ordered.halves rd x realm p g seat on).is in
+        absurd (omega arith)
+    gone_here p seat here same (suc levels) far =
+        let on : table_below m (entry_at m p x) ≡ Some g = ap (λ (e : RmmRttEntry). table_below m e) (same_place m p here same) ∙ leads in
+        let entry = same_place n p here same in
+        let e : RmmRttEntry = entry_in_page (page_in n found.table) at in
+        let none = ap (λ (e : RmmRttEntry). table_below n e) entry ∙ none_below n e e refl leaf in
+        let j : ℕ = entry_index (p.level + 1) x in
+        let lt = entry_index-few (p.level + 1) x in
+        let here_then : Q (child p) p =
+        subst (λ (f : RmmRttEntry). (ripas_in f ≡ ripas_in (entry_in_page (page_in m g) j)) ⊎ G (ripas_in (entry_in_page (page_in m g) j)) (ripas_in f)) (sym entry) (given j lt (same_entry p seat here same)) in
+        subst (λ (q : RttWalk). Q q (walk_from n x (suc levels) p)) (sym (goes m x levels g p on ∙ stops m x levels (child p) (flat j lt)))
+        (subst (λ (q : RttWalk). Q (child p) q) (sym (stops n x (suc levels) p none)) here_then)
+
+    met_gone : (p : RttWalk) → Seat p → Other p.table → Met p
+    unfolding entry_at
+    met_gone p seat good =
+        ⊎_elim
+        (λ (here : p.table ≡ found.table). ⊎_elim
+        (λ (same : entry_index p.level x ≡ at). inr (gone_here p seat here same))
+        (λ (other : entry_index p.level x ≢ at).
+        let entry = same_beside p here other in
+        inl (on_same m n proper settings count rd x realm Other Q p entry (λ table to it. other (only_here p seat (to ∙ ap (λ (t : ℕ). Some t) it)).1) (inl (ap ripas_in entry))))
+        (cases_eq (entry_index p.level x) at))
+        (λ (other : p.table ≢ found.table).
+        let entry : entry_at n p x ≡ entry_at m p x = ap (λ (q : List ℕ). entry_in_page q (entry_index p.level x)) (others p.table seat.is.table other good) in
+        inl (on_same m n proper settings count rd x realm Other Q p entry (λ table to it. other (only_here p seat (to ∙ ap (λ (t : ℕ). Some t) it)).0) (inl (ap ripas_in entry))))
+        (cases_eq p.table found.table)
+
+    pub gone_ripas : (after : RmmRealm) → after.start_level ≡ realm.start_level → after.first_table ≡ realm.first_table → is_protected realm x ≡ true
+        → (ripas_at n after x ≡ ripas_at m realm x) ⊎ G (ripas_at m realm x) (ripas_at n after x)
+    gone_ripas after start first protected =
+        let inside = protected_within realm x protected in
+        along m n proper.linked proper.ordered.halves rd x realm Other Q after start first is inside (start_other inside) met_gone
