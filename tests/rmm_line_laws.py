@@ -84,7 +84,7 @@ def leaves_of(it: Seen, realm: Realm) -> list[Leaf]:
         step = size(level)
         # Adjacent entries are mostly alike.
         for entry, alike in groupby(it.granules[(table - it.base) // PAGE][2]):  # type: ignore[call-overload]
-            end = at + step * sum(1 for _ in alike)
+            end = at + step * len([*alike])
             if entry.kind == "TABLE":
                 spans.append((level + 1, at, entry.address))
             elif entry.kind in ("UNASSIGNED", "ASSIGNED"):
