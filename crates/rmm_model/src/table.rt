@@ -25,9 +25,7 @@ pub fn first_live(page: &[u8], from: u16) -> u16
     512
 }
 
-// Whether eight entries of a table, from one on, are not live, as one comparison of their words says.
-//
-// Other words of entries that are not live do not pass.
+// Whether eight entries of a table, from one on, have words below those of live entries. They are compared at once.
 fn are_low(page: &[u8], first: u16) -> bool
     requires page { length page.now ≡ 4096 }
     requires first { first + 8 ≤ 512 }
