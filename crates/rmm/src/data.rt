@@ -65,7 +65,6 @@ fn find_vacancy<S: PageStore>(
 }
 
 // RMI_DATA_CREATE_UNKNOWN
-#[inline(never)]
 #[tactic(auto, unfolding(rmm_model::specs::Command::DataCreateUnknown::data_create_unknown))]
 pub fn data_create_unknown<S: PageStore>(
     granules: &mut Granules<S>,
@@ -154,7 +153,6 @@ fn find_mapped<S: PageStore>(
 }
 
 // RMI_DATA_DESTROY
-#[inline(never)]
 #[tactic(auto, unfolding(rmm_model::specs::Command::DataDestroy::data_destroy))]
 pub fn data_destroy<S: PageStore>(granules: &mut Granules<S>, rd: u64, ipa: u64) -> SmcResult
     ensures answer { result

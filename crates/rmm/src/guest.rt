@@ -90,6 +90,7 @@ pub fn add_result<S: PageStore>(granules: &mut Granules<S>, g: Gran, rec: &RmmRe
 }
 
 // The guest of a REC has one result more.
+#[inline(always)]
 #[tactic(auto, unfolding(rmm_model::specs::Guest::with_result, crate::specs::Results::with_result_of))]
 pub fn push_result<S: PageStore>(granules: &mut Granules<S>, g: Gran, r: &StepResult)
     requires { g < granule_count granules.old }

@@ -145,7 +145,6 @@ fn find_request<S: PageStore>(
 }
 
 // RMI_PSCI_COMPLETE
-#[inline(never)]
 #[tactic(auto, unfolding(rmm_model::specs::Command::PsciComplete::psci_complete))]
 pub fn psci_complete<S: PageStore>(
     granules: &mut Granules<S>,

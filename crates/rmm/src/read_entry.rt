@@ -34,7 +34,6 @@ fn find_entry<S: PageStore>(
 }
 
 // RMI_RTT_READ_ENTRY
-#[inline(never)]
 #[tactic(auto, unfolding(rmm_model::specs::Command::RttReadEntry::rtt_read_entry))]
 pub fn rtt_read_entry<S: PageStore>(
     granules: &Granules<S>,

@@ -79,6 +79,7 @@ fn emulated(step: GuestStep, gpr0: u64) -> StepResult
 }
 
 // The step that made the last exit ends with a result.
+#[inline(always)]
 fn end_step<S: PageStore>(granules: &mut Granules<S>, g: Gran, r: &StepResult)
     requires { g < granule_count granules.old }
     ensures machine { granules.new ≡ command.with_step_ended granules.old g r.now }
@@ -257,6 +258,7 @@ fn call<S: PageStore>(
 }
 
 // A guest calls to turn its realm off.
+#[inline(always)]
 fn turn_off<S: PageStore>(
     granules: &mut Granules<S>,
     realm: &RmmRealm,

@@ -90,7 +90,6 @@ fn find_vacancy<S: PageStore>(
 }
 
 // RMI_RTT_CREATE
-#[inline(never)]
 #[tactic(auto, unfolding(rmm_model::specs::Command::RttCreate::rtt_create))]
 pub fn rtt_create<S: PageStore>(
     granules: &mut Granules<S>,

@@ -135,6 +135,7 @@ fn of_access(writes: bool, size: AccessSize, level: u8) -> u64
 }
 
 // The granule of an unprotected address, or what comes of an access there.
+#[inline(always)]
 fn unprotected_access<S: PageStore>(
     granules: &Granules<S>,
     entry: RmmRttEntry,

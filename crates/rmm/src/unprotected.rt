@@ -54,7 +54,6 @@ fn find_vacancy<S: PageStore>(
 }
 
 // RMI_RTT_MAP_UNPROTECTED
-#[inline(never)]
 #[tactic(auto, unfolding(rmm_model::specs::Command::RttMapUnprotected::rtt_map_unprotected))]
 pub fn rtt_map_unprotected<S: PageStore>(
     granules: &mut Granules<S>,
@@ -135,7 +134,6 @@ fn find_mapped<S: PageStore>(
 }
 
 // RMI_RTT_UNMAP_UNPROTECTED
-#[inline(never)]
 #[tactic(auto, unfolding(rmm_model::specs::Command::RttUnmapUnprotected::rtt_unmap_unprotected))]
 pub fn rtt_unmap_unprotected<S: PageStore>(
     granules: &mut Granules<S>,

@@ -39,6 +39,9 @@ const REPEATED: u64 = 0x0101_0101_0101_0101;
 
 const KIND: u64 = 0x100_0000_0000_0000;
 
+// The least word of a live entry.
+pub(crate) const LEAST_LIVE: u64 = 4 * KIND;
+
 pub(crate) const ADDRESSES: u64 = 0x1_0000_0000_0000;
 
 /// The entry that a word is read as, whatever the word.

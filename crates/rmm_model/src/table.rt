@@ -1,8 +1,10 @@
 //! Tables: pages of 512 entries.
-ghost use Rattle.std.specs.Prelude.{◌≡◌, ◌-◌, ◌^◌, ◌<◌, ◌≤◌, length};
+ghost use Rattle.std.specs.Prelude.{◌≡◌, ◌+◌, ◌-◌, ◌^◌, ◌<◌, ◌≤◌, length};
+ghost use Rattle.std.specs.Bool.{OnTrue};
 ghost use Rattle.rmm_model.specs.Table as tables;
 ghost use Rattle.rmm_model.specs.Entry.{descriptor_of};
 
+use crate::entry::LEAST_LIVE;
 use crate::{Changeable, ChildWords, RmmRttEntry, entry_from_word};
 use page_arena::word_in;
 
@@ -23,13 +25,44 @@ pub fn first_live(page: &[u8], from: u16) -> u16
     512
 }
 
+// Whether eight entries of a table, from one on, have words below those of live entries. They are compared at once.
+fn are_low(page: &[u8], first: u16) -> bool
+    requires page { length page.now ≡ 4096 }
+    requires first { first + 8 ≤ 512 }
+    ensures { OnTrue result
+        (tables.first_live_from page.now first ≡ tables.first_live_from page.now (first + 8)) }
+{
+    let at = first as usize;
+    let a = word_in(page, at);
+    let b = word_in(page, at + 1);
+    let c = word_in(page, at + 2);
+    let d = word_in(page, at + 3);
+    let e = word_in(page, at + 4);
+    let f = word_in(page, at + 5);
+    let g = word_in(page, at + 6);
+    let h = word_in(page, at + 7);
+    a < LEAST_LIVE
+        && b < LEAST_LIVE
+        && c < LEAST_LIVE
+        && d < LEAST_LIVE
+        && e < LEAST_LIVE
+        && f < LEAST_LIVE
+        && g < LEAST_LIVE
+        && h < LEAST_LIVE
+}
+
 /// Whether an entry of a table is live.
 #[tactic(auto, unfolding(crate::specs::Table::has_live))]
 pub fn has_live(page: &[u8]) -> bool
     requires { length page.now ≡ 4096 }
     ensures { result ≡ tables.has_live page.now }
 {
-    first_live(page, 0) != 512
+    for k in 0..64 {
+        if !are_low(page, 8 * k) {
+            return first_live(page, 8 * k) != 512;
+        }
+    }
+    false
 }
 
 /// The first entry of a table from one on whose RIPAS is not changed; `end`, if those before it are all changed.
