@@ -634,18 +634,22 @@ static inline uint64_t rhm_run(rhm_handle *handle, uint64_t build, rhm_command c
     return rhm_commit(handle, build, &command, &answer, value);
 }
 
-/* An undo likewise. The value is the number of operations that are left open, whatever the status. */
+/* An undo likewise. The value is the number of operations that are left open, also if the RMM has not performed it. It is
+ * 0 if rhm_prepare_undo refuses. */
 static inline uint64_t rhm_run_undo(rhm_handle *handle, uint64_t build, rhm_perform perform, void *context,
                                     uint64_t *value)
 {
     rhm_actions actions;
     rhm_build reading;
     uint64_t status = rhm_prepare_undo(handle, build, &actions);
-    if (status == RHM_DONE) {
-        rhm_answer answer = rhm_performed(&actions, perform, context);
-        status = rhm_commit_undo(handle, build, &answer, value);
+    if (status != RHM_DONE) {
+        *value = 0;
+        return status;
     }
-    *value = rhm_read_build(handle, build, &reading) ? reading.open_count : 0;
+    rhm_answer answer = rhm_performed(&actions, perform, context);
+    status = rhm_commit_undo(handle, build, &answer, value);
+    if (status != RHM_DONE && rhm_read_build(handle, build, &reading))
+        *value = reading.open_count;
     return status;
 }
 

@@ -405,10 +405,12 @@ class Host:
         return self.commit(build, name, *operands, answer=self._performed(actions, perform))
 
     def run_undo(self, build, *, perform):
+        """An undo in the two steps. The value is the number of operations that are left open, also if the RMM refuses it."""
         actions = self.prepare_undo(build)
         if isinstance(actions, Result):
             return actions
-        return self.commit_undo(build, self._performed(actions, perform))
+        result = self.commit_undo(build, self._performed(actions, perform))
+        return result if result.is_done else Result(result.status, self.read_build(build)["open_count"])
 
     def settle_undo(self, build):
         """Commits the next undo with the output that the host expects, and performs nothing: the RMM has performed it."""

@@ -117,6 +117,7 @@ static bool try_own_call(void)
     CHECKED(boot());
     CHECKED(rmm_data_destroy(&rmm, at(0), 0, NULL, NULL) == RMM_SUCCESS);
     CHECKED(abort_build() == RHM_DIVERGED && open_count() == OPEN);
+    CHECKED(rhm_run_undo(&host, 0, perform, NULL, &value) == RHM_DIVERGED && value == OPEN);
     CHECKED(rhm_settle_undo(&host, 0, &value) == RHM_DONE && value == OPEN - 1);
     CHECKED(abort_build() == RHM_DONE && is_all_back());
     return true;
