@@ -60,8 +60,8 @@ use Rattle.host_ledger.specs.Summary.{summary_of}
 use Rattle.host_ledger.specs.View.{HostView, world_of, granule_of_page}
 use Rattle.host_ledger.proofs.Worlds.{world_is}
 use Rattle.host_ledger.specs.Vmids.{is_vmid_free, lowest_vmid}
-use Rattle.history_calls.specs.Refused.{unless, is_delegated_in, can_start, end_in, room_refusal, is_free_row, are_free_rows, run_refusal, write_refusal, rec_in, enter_refusal, poke_refusal, rec_refusal, realm_refusal}
-use Rattle.history_calls.specs.Refused.{refusal_in_realm, refusal_if_realm, refusal_without_act, refusal_of_act, else, is_undelegated_state, model_refusal}
+use Rattle.history_calls.specs.Refused.{unless, is_delegated_in, can_start, end_in, room_refusal, is_free_row, are_free_rows, run_refusal, write_refusal, rec_of_number, enter_refusal, poke_refusal, rec_refusal, realm_refusal}
+use Rattle.history_calls.specs.Refused.{refusal_in_realm, refusal_if_realm, refusal_without_act, refusal_of_act, else, is_undelegated_page, model_refusal}
 use Rattle.history_calls.specs.Prepared.{allocated_before, act_before, access_refusal, entry_refusal, exit_refusal}
 
 -- the refusal of an outcome
@@ -313,7 +313,7 @@ module _ (host : HostView) (build : ℕ) where
     activate_refused realm = in_realm acts.Activate realm _ (λ rd row there. guarded (is_new row.state) error_realm _ _ (λ new. refl))
 
     enter_refused : (number : ℕ) (realm : Option Seen)
-        → else (entry_refusal (rec_in (row_in realm) number)) (option_map refusal.Rmi (refusal_if_realm host granules ready (acts.Enter number) (row_in realm)))
+        → else (entry_refusal (rec_of_number (row_in realm) number)) (option_map refusal.Rmi (refusal_if_realm host granules ready (acts.Enter number) (row_in realm)))
         ≡ option_map refusal.Rmi (refusal_in (on_realm realm (λ rd. rec_enter rd number)))
     unfolding with_realm with_rec
     enter_refused number None = refl
@@ -332,13 +332,13 @@ module _ (host : HostView) (build : ℕ) where
             ap (option_map refusal.Rmi) (guarded (not (is_new row.state)) error_realm _ _ (λ active. guarded (is_ready rec.state) error_rec _ _ (λ ready. refl)))
 
         at : (o : Option RealmRow)
-            → else (entry_refusal (rec_in o number)) (option_map refusal.Rmi (refusal_if_realm host granules ready (acts.Enter number) o))
+            → else (entry_refusal (rec_of_number o number)) (option_map refusal.Rmi (refusal_if_realm host granules ready (acts.Enter number) o))
             ≡ option_map refusal.Rmi (refusal_in (elim o [ Some row ↦ with_rec row number (entered row) | None ↦ Err error_input ]))
         at None = refl
         at (Some row) = of_rec row (get row.recs number)
 
     poke_refused : (number ipa offset value : ℕ) (realm : Option Seen)
-        → else (entry_refusal (rec_in (row_in realm) number)) (option_map refusal.Rmi (refusal_if_realm host granules ready (acts.Poke number ipa offset value) (row_in realm)))
+        → else (entry_refusal (rec_of_number (row_in realm) number)) (option_map refusal.Rmi (refusal_if_realm host granules ready (acts.Poke number ipa offset value) (row_in realm)))
         ≡ option_map refusal.Rmi (refusal_in (on_realm realm (λ rd. guest_write rd number ipa offset value)))
     unfolding with_realm with_rec
     poke_refused number ipa offset value None = refl
@@ -358,7 +358,7 @@ module _ (host : HostView) (build : ℕ) where
             guarded (not (is_ready rec.state)) error_rec _ _ (λ runs. ap write_refusal (inside row ipa 3 (in_space ipa row.root.width is)) ∙ write row.rows ipa _)))
 
         at : (o : Option RealmRow)
-            → else (entry_refusal (rec_in o number)) (option_map refusal.Rmi (refusal_if_realm host granules ready (acts.Poke number ipa offset value) o))
+            → else (entry_refusal (rec_of_number o number)) (option_map refusal.Rmi (refusal_if_realm host granules ready (acts.Poke number ipa offset value) o))
             ≡ option_map refusal.Rmi (refusal_in (elim o [ Some row ↦ with_rec row number (written row) | None ↦ Err error_input ]))
         at None = refl
         at (Some row) = of_rec row (get row.recs number)
@@ -403,7 +403,7 @@ module _ (host : HostView) (build : ℕ) where
       ∙ guarded _ error_input _ _ (λ is. refl)
 
   exit_refused : (number : ℕ) (realm : Option Seen)
-      → else (exit_refusal (rec_in (row_in realm) number)) None ≡ first_that_holds (refused_by (on_realm realm (λ rd. rec_exit rd number)))
+      → else (exit_refusal (rec_of_number (row_in realm) number)) None ≡ first_that_holds (refused_by (on_realm realm (λ rd. rec_exit rd number)))
   unfolding check with_realm with_rec
   exit_refused number None = refl
   exit_refused number (Some rd) = at rd.cell.descriptor
@@ -424,7 +424,7 @@ module _ (host : HostView) (build : ℕ) where
       of_rec row (Some rec) = by row rec rec.state
 
       at : (o : Option RealmRow)
-          → else (exit_refusal (rec_in o number)) None
+          → else (exit_refusal (rec_of_number o number)) None
           ≡ first_that_holds (refused_by (elim o [ Some row ↦ elim (get row.recs number) [ Some rec ↦ left_by row rec | None ↦ Err error_input ] | None ↦ Err error_input ]))
       at None = refl
       at (Some row) = of_rec row (get row.recs number)
@@ -468,7 +468,7 @@ module _ (host : HostView) (build : ℕ) where
   model_is wide (Delegate page) = at (granule_of_page host build page)
     where
       at : (o : Option ℕ)
-          → by_act (cons_option o []) (is_undelegated_state (option_map (λ g. (cell_at machine g).state) o)) (Delegate page) (act_of (Delegate page) (cons_option o []) (allocated_before host build))
+          → by_act (cons_option o []) (is_undelegated_page (option_map (λ g. (cell_at machine g).state) o)) (Delegate page) (act_of (Delegate page) (cons_option o []) (allocated_before host build))
           ≡ first_that_holds (refused_by (outcome (act_of (Delegate page) (cons_option o []) (allocated_before host build)) (cons_option o [])))
       at None = refl
       at (Some g) = ap (option_map refusal.Rmi) (guarded (is_undelegated (seen machine g)) error_input _ _ (λ is. refl)) ∙ as_refusal _
@@ -492,7 +492,7 @@ module _ (host : HostView) (build : ℕ) where
   model_is wide (Data page ipa source) = at (granule_of_page host build page) (granule_of_page host build source)
     where
       at : (o p : Option ℕ)
-          → by_act (cons_option o (cons_option p [])) (is_undelegated_state (option_map (λ g. (cell_at machine g).state) p)) (Data page ipa source) (act_of (Data page ipa source) (cons_option o (cons_option p [])) (allocated_before host build))
+          → by_act (cons_option o (cons_option p [])) (is_undelegated_page (option_map (λ g. (cell_at machine g).state) p)) (Data page ipa source) (act_of (Data page ipa source) (cons_option o (cons_option p [])) (allocated_before host build))
           ≡ first_that_holds (refused_by (outcome (act_of (Data page ipa source) (cons_option o (cons_option p [])) (allocated_before host build)) (cons_option o (cons_option p []))))
       at None None = refl
       at None (Some s) = refl
@@ -534,10 +534,10 @@ module _ (host : HostView) (build : ℕ) where
   model_is wide (Poke number ipa offset value) = by (is_ipa ipa)
     where
       by : (fits : Bool)
-          → else (entry_refusal (rec_in (row_in realm) number)) (by_act [] true (Poke number ipa offset value) (act_if fits (acts.Poke number ipa offset value)))
+          → else (entry_refusal (rec_of_number (row_in realm) number)) (by_act [] true (Poke number ipa offset value) (act_if fits (acts.Poke number ipa offset value)))
           ≡ first_that_holds (refused_by (outcome (act_if fits (acts.Poke number ipa offset value)) []))
       by true = poke_refused [] true number ipa offset value realm ∙ as_refusal _
-      by false = none (rec_in (row_in realm) number)
+      by false = none (rec_of_number (row_in realm) number)
         where
           none : (o : Option (ℕ × RecAttributes)) → else (entry_refusal o) (Some (refusal.Rmi error_input)) ≡ Some (refusal.Rmi error_input)
           none None = refl

@@ -37,15 +37,15 @@ unless holds rmi rest = cond holds rest (Some rmi)
 abbrev pub is_delegated_in : World → ℕ → Bool
 is_delegated_in world granule = is_delegated (seen world.machine granule)
 
-abbrev pub is_undelegated_state : Option GranuleState → Bool
-is_undelegated_state (Some state) = elim state [ Undelegated ↦ true | _ ↦ false ]
-is_undelegated_state None = false
+abbrev pub is_undelegated_page : Option GranuleState → Bool
+is_undelegated_page (Some state) = elim state [ Undelegated ↦ true | _ ↦ false ]
+is_undelegated_page None = false
 
 -- The page of the host that a command names is UNDELEGATED: that of RMI_GRANULE_DELEGATE, and the source of
 -- RMI_DATA_CREATE.
 abbrev pub is_host_page : HostView → ℕ → Cmd → Bool
-is_host_page host build (Delegate page) = is_undelegated_state (state_of_leased host build page)
-is_host_page host build (Data page ipa source) = is_undelegated_state (state_of_leased host build source)
+is_host_page host build (Delegate page) = is_undelegated_page (state_of_leased host build page)
+is_host_page host build (Data page ipa source) = is_undelegated_page (state_of_leased host build source)
 is_host_page host build _ = true
 
 -- a granule can be a starting table beside that RD
@@ -103,8 +103,8 @@ write_refusal None = Some (error_rtt 0)
 -- ---- RECs
 
 -- the REC of a number
-abbrev pub rec_in : Option RealmRow → ℕ → Option (ℕ × RecAttributes)
-rec_in row number =
+abbrev pub rec_of_number : Option RealmRow → ℕ → Option (ℕ × RecAttributes)
+rec_of_number row number =
     option_map (λ (rec : RecRow). (rec.granule, rec_attributes_of number rec)) (option_and_then (λ (realm : RealmRow). get realm.recs number) row)
 
 abbrev pub enter_refusal : RealmAttributes → Option (ℕ × RecAttributes) → Option Rmi
@@ -137,9 +137,9 @@ refusal_in_memory world row ready realm _ = None
 abbrev pub refusal_in_realm : HostView → Option RealmRow → List ℕ → Bool → RealmAttributes → Act → Option Rmi
 refusal_in_realm host row granules ready realm (acts.Rec granule auxiliaries number) = rec_refusal host realm granules
 refusal_in_realm host row granules ready realm acts.Activate = state_refusal realm
-refusal_in_realm host row granules ready realm (acts.Enter number) = enter_refusal realm (rec_in row number)
+refusal_in_realm host row granules ready realm (acts.Enter number) = enter_refusal realm (rec_of_number row number)
 refusal_in_realm host row granules ready realm (acts.Poke number ipa offset value) =
-    poke_refusal (is_protected_at ipa realm.root.width) (end_in row ipa 3) (rec_in row number)
+    poke_refusal (is_protected_at ipa realm.root.width) (end_in row ipa 3) (rec_of_number row number)
 refusal_in_realm host row granules ready realm act = refusal_in_memory (world_of host) row ready realm act
 
 abbrev pub refusal_if_realm : HostView → List ℕ → Bool → Act → Option RealmRow → Option Rmi

@@ -235,7 +235,7 @@ fn enter_refusal<S: PageStore>(
     realm: &RealmDesc,
     number: RecNo,
 ) -> Option<Rmi>
-    ensures { result ≡ refused.enter_refusal realm.now (refused.rec_in (row_of (world_of host.now) build) number) }
+    ensures { result ≡ refused.enter_refusal realm.now (refused.rec_of_number (row_of (world_of host.now) build) number) }
 {
     let Some((_granule, rec)) = host.rec(build, number) else {
         return Some(Rmi::INPUT);
@@ -254,7 +254,7 @@ fn poke_refusal<S: PageStore>(
     protected: bool,
     ipa: IpaGran,
 ) -> Option<Rmi>
-    ensures { result ≡ refused.poke_refusal protected (refused.end_in (row_of (world_of host.now) build) ipa 3) (refused.rec_in (row_of (world_of host.now) build) number) }
+    ensures { result ≡ refused.poke_refusal protected (refused.end_in (row_of (world_of host.now) build) ipa 3) (refused.rec_of_number (row_of (world_of host.now) build) number) }
 {
     let Some((_granule, rec)) = host.rec(build, number) else {
         return Some(Rmi::INPUT);
