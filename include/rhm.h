@@ -6,7 +6,7 @@
  *
  * The host has a model of an RMM. A command of a build is performed on the model at once by rhm_ask. In front of an RMM
  * it takes two steps: rhm_prepare gives the operations that the hypervisor performs there, and changes nothing;
- * rhm_commit is given the answer, and performs the command here if that is the expected one. rhm_run does both, with a
+ * rhm_commit is given the answer, and performs the command here if it is the model's. rhm_run does both, with a
  * function of the hypervisor for each operation.
  *
  * Each name here begins with `rhm_` or `RHM_`, so the headers of a hypervisor or of rmm.h can be included too.
@@ -108,11 +108,9 @@ enum {
     /* the handle is closed, and what is asked for is no command */
     RHM_HANDLE_CLOSED = 14,
     RHM_NO_COMMAND = 15,
-    /* of rhm_commit and rhm_commit_undo alone: the RMM has not performed the call; it has, and the model refuses it; it
-     * has, with another output */
-    RHM_NOT_EXPECTED = 16,
-    RHM_DIVERGED = 17,
-    RHM_OTHER_OUTPUT = 18
+    /* of rhm_commit and rhm_commit_undo alone: X0 is not the model's; X1 is not */
+    RHM_DIVERGED = 16,
+    RHM_OTHER_OUTPUT = 17
 };
 
 /* ---- commands of a build. It names its pages by its own numbers, from 0 on in the order of taking */
@@ -205,11 +203,12 @@ typedef struct rhm_action {
 
 /* The operations for a command, in sequence. */
 typedef struct rhm_actions {
-    uint64_t count; /* at most 5 */
+    uint64_t count;    /* at most 5 */
+    uint64_t expected; /* X0 of the model: 0 if it performs the call, or the word of its refusal */
     rhm_action actions[5];
 } rhm_actions;
 
-RHM_STATIC_ASSERT(sizeof(rhm_action) == 256 && sizeof(rhm_actions) == 1288, "rhm_actions has 1288 bytes");
+RHM_STATIC_ASSERT(sizeof(rhm_action) == 256 && sizeof(rhm_actions) == 1296, "rhm_actions has 1296 bytes");
 
 /* X0 and X1 after the call. They do not matter for a command without one. */
 typedef struct rhm_answer {
@@ -220,22 +219,24 @@ typedef struct rhm_answer {
 /* Prepares a command, and changes nothing. RHM_DONE, with the operations for the RMM in `actions`; or the refusal that
  * the host gives before it calls an RMM, which is also that of rhm_ask. RHM_RMI is an operand that no call has: a level 4,
  * or the number of a REC that there is not. It is also an access to a page that is not UNDELEGATED, and the exit of a REC
- * that does not run. RHM_NO_BLOCK comes of a RHM_TAKE, which makes no call.
+ * that does not run. RHM_NO_BLOCK comes of a RHM_TAKE, which makes no call. A call that the model refuses is prepared:
+ * `expected` has its word.
  * Required: handle; `command` is not NULL, and each of its fields is written; `actions` is not NULL, and may be written
  * to. */
 uint64_t rhm_prepare(rhm_handle *handle, uint64_t build, const rhm_command *command, rhm_actions *actions) RHM_NO_NULL;
 
-/* Commits a command, after its operations were performed. If the answer is the expected one, it is performed on the model
- * as by rhm_ask.
+/* Commits a command, after its operations were performed, by the RMM's answer beside the model's. If both perform it, it
+ * is performed here as by rhm_ask: RHM_DONE. If both refuse it with the same word, RHM_RMI comes as of rhm_ask.
  *
- * RHM_NOT_EXPECTED: the RMM has not performed the call. X0 is not RMI_SUCCESS, nor 2^64 - 2 after an entry, which the RMM
- * of this repository answers while a guest runs on. All 64 bits are compared: of firmware that leaves an index beside
- * RMI_SUCCESS, the hypervisor gives X0 & 0xff.
- * RHM_OTHER_OUTPUT: it has, and X1 is not the `output` of the call. The call is not to be made again. If the hypervisor
- * goes on nevertheless, it commits with `output` as X1.
- * RHM_DIVERGED: it has, with that output, and the model refuses the call with the result word `value`. It comes neither of
- * a command that makes no call, as RHM_EXIT, nor of an undo.
- * Of each of the three, nothing is recorded.
+ * RHM_DIVERGED: X0 is not the model's, which is `value`. That is 0 if the model performs the call.
+ * RHM_OTHER_OUTPUT: both perform it, and X1 is not the `output` of the call. The call is not to be made again. If the
+ * hypervisor goes on nevertheless, it commits with `output` as X1.
+ * Of each of the two, nothing is recorded. It is the hypervisor that decides what to do.
+ *
+ * The RMM has performed a call if the status of X0 is RMI_SUCCESS: its bits 7:0 are 0. RMM 1.0 does not say what index is
+ * beside it. After an entry X0 may also be 2^64 - 2, which the RMM of this repository answers while a guest runs on.
+ * Words of refusals are compared whole. A call that the RMM refuses has changed nothing there. RHM_DIVERGED comes neither
+ * of a command that makes no call, as RHM_EXIT, nor of an undo that the RMM performs.
  *
  * What is recorded is what was performed if no other call came for the build since rhm_prepare; for a RHM_REALM, none that
  * creates or removes another realm; and for a RHM_REALM or a RHM_REC, no operation of another one, since they share the
@@ -246,7 +247,8 @@ uint64_t rhm_prepare(rhm_handle *handle, uint64_t build, const rhm_command *comm
 uint64_t rhm_commit(rhm_handle *handle, uint64_t build, const rhm_command *command, const rhm_answer *answer,
                     uint64_t *value) RHM_NO_NULL;
 
-/* The same of an undo. An RMM that refuses it leaves the operation open: RHM_NOT_EXPECTED, and it can be tried again.
+/* The same of an undo. The model performs each that is prepared. An RMM that refuses it leaves the operation open:
+ * RHM_DIVERGED, and it can be tried again.
  * After RHM_OTHER_OUTPUT it is open here, and performed there: rhm_settle_undo commits it.
  * Required: handle; `actions`, `answer` and `value` as above. */
 uint64_t rhm_prepare_undo(rhm_handle *handle, uint64_t build, rhm_actions *actions) RHM_NO_NULL;
@@ -571,7 +573,7 @@ static inline const char *rhm_status_name(uint64_t status)
         "RHM_DONE",          "RHM_NO_BUILD",      "RHM_ABORTING",      "RHM_BAD_ORDER",     "RHM_NOT_LEASED",
         "RHM_REALM_THERE",   "RHM_NO_REALM",      "RHM_NOTHING_TO_UNDO", "RHM_REC_RUNNING", "RHM_JOURNAL_FULL",
         "RHM_HISTORY_FULL",  "RHM_NO_BLOCK",      "RHM_NO_VMID",       "RHM_RMI",           "RHM_HANDLE_CLOSED",
-        "RHM_NO_COMMAND",    "RHM_NOT_EXPECTED",  "RHM_DIVERGED",      "RHM_OTHER_OUTPUT",
+        "RHM_NO_COMMAND",    "RHM_DIVERGED",      "RHM_OTHER_OUTPUT",
     };
     return status < sizeof names / sizeof names[0] ? names[status] : "?";
 }
@@ -632,18 +634,23 @@ static inline uint64_t rhm_run(rhm_handle *handle, uint64_t build, rhm_command c
     return rhm_commit(handle, build, &command, &answer, value);
 }
 
-/* An undo likewise. */
+/* An undo likewise. The value is the number of operations that are left open, also if the RMM has not performed it. It is
+ * 0 if rhm_prepare_undo refuses. */
 static inline uint64_t rhm_run_undo(rhm_handle *handle, uint64_t build, rhm_perform perform, void *context,
                                     uint64_t *value)
 {
     rhm_actions actions;
+    rhm_build reading;
     uint64_t status = rhm_prepare_undo(handle, build, &actions);
     if (status != RHM_DONE) {
         *value = 0;
         return status;
     }
     rhm_answer answer = rhm_performed(&actions, perform, context);
-    return rhm_commit_undo(handle, build, &answer, value);
+    status = rhm_commit_undo(handle, build, &answer, value);
+    if (status != RHM_DONE && rhm_read_build(handle, build, &reading))
+        *value = reading.open_count;
+    return status;
 }
 
 /* Commits the undo that is next, with `output` as X1, and performs nothing. It is for an undo that the RMM has performed:
@@ -664,7 +671,7 @@ static inline uint64_t rhm_settle_undo(rhm_handle *handle, uint64_t build, uint6
 }
 
 /* An abort likewise: it begins, unless the build is in abort, and one undo after another is run until nothing is open. If
- * one is not done, its status comes, and the build stays in abort with what is left. After RHM_NOT_EXPECTED another
+ * one is not done, its status comes, and the build stays in abort with what is left. After RHM_DIVERGED another
  * rhm_run_abort goes on, with the same undo. After RHM_OTHER_OUTPUT rhm_settle_undo has to come first: the call was
  * performed, and is not to be made again. */
 static inline uint64_t rhm_run_abort(rhm_handle *handle, uint64_t build, rhm_perform perform, void *context)

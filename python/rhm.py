@@ -29,7 +29,7 @@ MOST = 2**64 - 1
 STATUSES = (
     "RHM_DONE", "RHM_NO_BUILD", "RHM_ABORTING", "RHM_BAD_ORDER", "RHM_NOT_LEASED", "RHM_REALM_THERE", "RHM_NO_REALM",
     "RHM_NOTHING_TO_UNDO", "RHM_REC_RUNNING", "RHM_JOURNAL_FULL", "RHM_HISTORY_FULL", "RHM_NO_BLOCK", "RHM_NO_VMID",
-    "RHM_RMI", "RHM_HANDLE_CLOSED", "RHM_NO_COMMAND", "RHM_NOT_EXPECTED", "RHM_DIVERGED", "RHM_OTHER_OUTPUT",
+    "RHM_RMI", "RHM_HANDLE_CLOSED", "RHM_NO_COMMAND", "RHM_DIVERGED", "RHM_OTHER_OUTPUT",
 )
 DONE, ABORTING = 0, 2
 GRANULE_STATES = ("UNDELEGATED", "DELEGATED", "RD", "REC", "REC_AUX", "DATA", "RTT")
@@ -147,6 +147,14 @@ class Action:
         return f"Action({self.kind} {self.address:#x})"
 
 
+class Actions(list):
+    """The operations for a command, in sequence. `expected` is X0 of the model: 0, or the word of its refusal."""
+
+    def __init__(self, it):
+        super().__init__(Action(one) for one in it.actions[: it.count])
+        self.expected = it.expected
+
+
 class _Handle(ctypes.Structure):
     _fields_ = [("is_open", _BOOL), ("host", ctypes.c_void_p)]
 
@@ -164,7 +172,7 @@ class _Action(ctypes.Structure):
 
 
 class _Actions(ctypes.Structure):
-    _fields_ = [("count", _U64), ("actions", _Action * 5)]
+    _fields_ = [("count", _U64), ("expected", _U64), ("actions", _Action * 5)]
 
 
 class _Answer(ctypes.Structure):
@@ -362,7 +370,7 @@ class Host:
     # ---- in front of an RMM
 
     def prepare(self, build, name, *operands):
-        """The operations for a command; or the Result that refuses it. Nothing changes."""
+        """The Actions for a command; or the Result that refuses it. Nothing changes."""
         return self._prepared("prepare", _number(build), ctypes.byref(_command(name, operands)))
 
     def prepare_undo(self, build):
@@ -371,7 +379,7 @@ class Host:
     def _prepared(self, name, *given):
         actions = _Actions()
         status = self._call(name, *given, ctypes.byref(actions))
-        return [Action(it) for it in actions.actions[: actions.count]] if status == DONE else Result(status, 0)
+        return Actions(actions) if status == DONE else Result(status, 0)
 
     def commit(self, build, name, *operands, answer=(0, 0)):
         """Commits a command that was prepared, after an answer with this X0 and X1."""
@@ -397,10 +405,12 @@ class Host:
         return self.commit(build, name, *operands, answer=self._performed(actions, perform))
 
     def run_undo(self, build, *, perform):
+        """An undo in the two steps. The value is the number of operations that are left open, also if the RMM refuses it."""
         actions = self.prepare_undo(build)
         if isinstance(actions, Result):
             return actions
-        return self.commit_undo(build, self._performed(actions, perform))
+        result = self.commit_undo(build, self._performed(actions, perform))
+        return result if result.is_done else Result(result.status, self.read_build(build)["open_count"])
 
     def settle_undo(self, build):
         """Commits the next undo with the output that the host expects, and performs nothing: the RMM has performed it."""

@@ -147,7 +147,7 @@ static void abort_build(struct vmm *vmm, uint64_t build)
         vmm->is_undoing = false;
         pthread_mutex_unlock(&vmm->lock);
         sched_yield();
-    } while (status == RHM_NOT_EXPECTED || (status == RHM_DONE && left > 0));
+    } while (status == RHM_DIVERGED || (status == RHM_DONE && left > 0));
 }
 
 /* Builds a realm; if a step is not done, gives everything back. */

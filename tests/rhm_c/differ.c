@@ -104,7 +104,7 @@ static bool try_other_output(void)
     CHECKED(boot());
     is_output_wrong = true;
     CHECKED(abort_build() == RHM_OTHER_OUTPUT && open_count() == OPEN && destroyed == 1);
-    CHECKED(abort_build() == RHM_NOT_EXPECTED && open_count() == OPEN && destroyed == 2);
+    CHECKED(abort_build() == RHM_DIVERGED && open_count() == OPEN && destroyed == 2);
     CHECKED(rhm_settle_undo(&host, 0, &value) == RHM_DONE && value == OPEN - 1 && destroyed == 2);
     CHECKED(abort_build() == RHM_DONE && is_all_back() && destroyed == 2);
     return true;
@@ -116,7 +116,8 @@ static bool try_own_call(void)
     uint64_t value = 99;
     CHECKED(boot());
     CHECKED(rmm_data_destroy(&rmm, at(0), 0, NULL, NULL) == RMM_SUCCESS);
-    CHECKED(abort_build() == RHM_NOT_EXPECTED && open_count() == OPEN);
+    CHECKED(abort_build() == RHM_DIVERGED && open_count() == OPEN);
+    CHECKED(rhm_run_undo(&host, 0, perform, NULL, &value) == RHM_DIVERGED && value == OPEN);
     CHECKED(rhm_settle_undo(&host, 0, &value) == RHM_DONE && value == OPEN - 1);
     CHECKED(abort_build() == RHM_DONE && is_all_back());
     return true;
@@ -129,7 +130,7 @@ static bool try_diverged(void)
     rhm_command table = rhm_create_rtt(5, UNPROTECTED, 2);
     CHECKED(boot() && run(rhm_delegate(5)) == RHM_DONE && open_count() == OPEN + 1);
     CHECKED(rhm_run(&host, 0, table, perform, NULL, &value) == RHM_DIVERGED && value == RMM_ERROR_INPUT);
-    CHECKED(abort_build() == RHM_NOT_EXPECTED && open_count() == OPEN + 1);
+    CHECKED(abort_build() == RHM_DIVERGED && open_count() == OPEN + 1);
     CHECKED(rmm_rtt_destroy(&rmm, at(0), UNPROTECTED * RHM_GRANULE_SIZE, 2, &rtt, NULL) == RMM_SUCCESS && rtt == at(5));
     CHECKED(abort_build() == RHM_DONE && is_all_back());
     return true;

@@ -21,7 +21,7 @@ from rhm import GRANULE_STATES, Host
 from second_rmm.bench import Bench
 
 BASE, PAGES, AUX, BUILDS = 0x80000000, 96, 1, 3
-RMI, NOT_EXPECTED = 13, 16
+RMI = 13
 BLOCK = 4
 VIEW = TOP / "bin/realmview"
 
@@ -107,12 +107,11 @@ class History:
         self.commands += 1
         if not isinstance(before, list):
             wanted(before.status, other.status)
+        wanted((one.status, one.value), (other.status, 0 if isinstance(before, tuple) else other.value))
+        # (what makes no call is refused before)
         if other.status == RMI and isinstance(before, list):
-            # (what makes no call is refused before)
             self.refused += 1
-            wanted((one.status, self.firmware.answer), (NOT_EXPECTED, other.value))
-        else:
-            wanted((one.status, one.value), (other.status, 0 if isinstance(before, tuple) else other.value))
+            wanted(self.firmware.answer, other.value)
 
     def step(self, build, step):
         if step[0] in ("undo", "abort"):

@@ -13,8 +13,10 @@ TOP = Path(__file__).resolve().parent.parent.parent
 sys.path[:0] = [str(TOP / "python")]
 from rhm import Host, Result
 
-# RMI_ERROR_INPUT, RMI_ERROR_REALM, RMI_ERROR_REC.
-INPUT, REALM, REC = 1, 2, 3
+# RMI_ERROR_INPUT, RMI_ERROR_REALM, RMI_ERROR_REC, RMI_ERROR_RTT.
+INPUT, REALM, REC, RTT = 1, 2, 3, 4
+# The first page of the half of 39 bits that is unprotected: 2^38 / 4096.
+UNPROTECTED = 2**26
 BASE, BLOCK = 0x80000000, 4
 BOOT = [
     ("take", BLOCK), *[("delegate", page) for page in range(8)], ("realm", 0, 1, 39), ("rtt", 2, 0, 2), ("rtt", 3, 0, 3),
@@ -62,14 +64,59 @@ def refused_before():
 def answers():
     """The statuses of a commit, by the answer of the RMM."""
     host = booted()
-    wanted("X0 is RMI_ERROR_REALM", host.commit(0, "enter", 0, 0, answer=(REALM, 0)), "RHM_NOT_EXPECTED")
+    wanted("an entry that both refuse", host.commit(0, "enter", 0, 0, answer=(REALM, 0)), "RHM_RMI", REALM)
+    wanted("an entry that the RMM refuses with another word", host.commit(0, "enter", 0, 0, answer=(REC, 0)), "RHM_DIVERGED", REALM)
     wanted("an entry that the model refuses", host.commit(0, "enter", 0, 0, answer=(0, 0)), "RHM_DIVERGED", REALM)
     wanted("the same", host.commit(0, "enter", 0, 0, answer=(2**64 - 2, 0)), "RHM_DIVERGED", REALM)
-    wanted("a delegation", host.commit(0, "delegate", 8, answer=(INPUT, 0)), "RHM_NOT_EXPECTED")
-    wanted("an index beside RMI_SUCCESS", host.commit(0, "delegate", 8, answer=(0x100, 0)), "RHM_NOT_EXPECTED")
-    wanted("a delegation", host.commit(0, "delegate", 8, answer=(0, 9)), "RHM_DONE")
+    wanted("a delegation that the RMM refuses", host.commit(0, "delegate", 8, answer=(INPUT, 0)), "RHM_DIVERGED")
+    wanted("an entry's answer", host.commit(0, "delegate", 8, answer=(2**64 - 2, 0)), "RHM_DIVERGED")
+    wanted("an index beside RMI_SUCCESS", host.commit(0, "delegate", 8, answer=(0x100, 9)), "RHM_DONE")
     wanted("a block", host.prepare(0, "take", 9), "RHM_NO_BLOCK")
     wanted("a block", host.commit(0, "take", 9), "RHM_NO_BLOCK", 9)
+
+
+def expected_of(host, build, rows):
+    """The word that the model is said to answer to a call, and does answer."""
+    for step, word in rows:
+        before = host.history
+        prepared = host.prepare(build, *step)
+        wanted(f"prepare {step}", prepared, "RHM_DONE")
+        if prepared.expected != word or host.history != before:
+            raise AssertionError(f"prepare {step}: {prepared.expected:#x}, and not {word:#x}")
+        if word:
+            wanted(f"ask {step}", host.ask(build, *step), "RHM_RMI", word)
+
+
+def expected_words():
+    """X0 of the model is known before the call. RMM 1.0, RMI_ERROR_RTT has the level where the walk ends in its index."""
+    host, second = booted(("delegate", 10)), 2**18
+    expected_of(host, 0, [
+        (("delegate", 8), 0), (("delegate", 0), INPUT), (("rtt", 10, second, 2), 0), (("rtt", 9, second, 2), INPUT),
+        (("rtt", 10, 0, 2), RTT + 0x100), (("rtt", 10, second, 3), RTT + 0x100), (("rtt", 10, 512, 3), 0), (("rtt", 10, 513, 3), INPUT),
+        (("rtt", 10, UNPROTECTED, 2), INPUT), (("ripas", 1, 2), 0), (("ripas", 0, 1), RTT + 0x300), (("ripas", 1, 511), 0),
+        (("ripas", 511, 2), INPUT), (("ripas", second, 1), RTT + 0x100), (("ripas", 512, 1), RTT + 0x200), (("ripas", UNPROTECTED, 1), INPUT),
+        (("data", 10, 1, 9), 0), (("data", 10, 0, 9), RTT + 0x300), (("data", 10, 1, 0), INPUT), (("data", 9, 1, 8), INPUT),
+        (("data", 10, 512, 9), RTT + 0x200), (("unknown", 10, 1), 0), (("unknown", 10, 0), RTT + 0x300), (("unknown", 9, 1), INPUT),
+        (("unknown", 10, UNPROTECTED), INPUT), (("rec", 10, [11]), INPUT), (("rec", 10, [10]), INPUT), (("rec", 10, []), INPUT),
+        (("activate",), 0), (("enter", 0, 0), REALM), (("poke", 0, 0, 0, 9, 0), REC),
+    ])
+    wanted("a delegation", host.delegate(0, 11), "RHM_DONE")
+    expected_of(host, 0, [(("rec", 10, [11]), 0)])
+    wanted("the realm", host.activate(0), "RHM_DONE")
+    expected_of(host, 0, [
+        (("activate",), REALM), (("ripas", 1, 1), REALM), (("ripas", 511, 2), INPUT), (("data", 10, 0, 9), REALM), (("unknown", 10, 1), 0),
+        (("rec", 10, [11]), REALM), (("rec", 10, []), INPUT), (("enter", 0, 0), 0),
+    ])
+    wanted("an entry", host.enter(0, 0, 0), "RHM_DONE")
+    expected_of(host, 0, [
+        (("enter", 0, 0), REC), (("poke", 0, 0, 0, 9, 0), 0), (("poke", 0, 1, 0, 9, 0), RTT + 0x300), (("poke", 0, 512, 0, 9, 0), RTT + 0x200),
+        (("poke", 0, UNPROTECTED, 0, 9, 0), INPUT),
+    ])
+    wanted("four pages", host.take(1, 2), "RHM_DONE")
+    expected_of(host, 1, [(("realm", 0, 1, 39), INPUT), (("delegate", 0), 0)])
+    for page in 0, 1:
+        wanted("a delegation", host.delegate(1, page), "RHM_DONE")
+    expected_of(host, 1, [(("realm", 0, 1, 39), 0), (("realm", 1, 1, 39), INPUT), (("realm", 0, 2, 39), INPUT), (("realm", 0, 1, 40), INPUT)])
 
 
 def outputs():
@@ -77,7 +124,7 @@ def outputs():
     host = booted()
     wanted("the REC", host.undo(0), "RHM_DONE", 13)
     # (the data are page 4, and the table of level 3 is page 3)
-    for page, answer, name in (4, (0, BASE), "RHM_OTHER_OUTPUT"), (3, (0x304, 0), "RHM_NOT_EXPECTED"):
+    for page, answer, name in (4, (0, BASE), "RHM_OTHER_OUTPUT"), (3, (0x304, 0), "RHM_DIVERGED"):
         left = host.read_build(0)["open_count"]
         wanted("an undo", host.commit_undo(0, answer), name)
         wanted("it again", host.commit_undo(0, (0, BASE + 4096 * page)), "RHM_DONE", left - 1)
@@ -138,6 +185,6 @@ def full_history():
     wanted("an abort", host.abort(0), "RHM_DONE", 14)
 
 
-for part in refused_before, answers, outputs, settled, two_entries, way_back, full_history:
+for part in refused_before, answers, expected_words, outputs, settled, two_entries, way_back, full_history:
     part()
 print(f"{counted} statuses are as rhm.h has them")

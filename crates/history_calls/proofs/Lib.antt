@@ -2,3 +2,4 @@ pub mod Asked
 pub mod Decided
 pub mod FreeBlocks
 pub mod Made
+pub mod Refused

@@ -3,3 +3,4 @@ pub mod Actions
 pub mod Runs
 pub mod Made
 pub mod Prepared
+pub mod Refused

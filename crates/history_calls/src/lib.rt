@@ -15,6 +15,7 @@ mod frame;
 mod free_block;
 pub mod law;
 mod prepared;
+mod refusal;
 mod runs;
 mod text;
 
@@ -22,5 +23,6 @@ pub use action::HostAction;
 pub use actions::{Actions, actions_of};
 pub use frame::{Frame, HOST_GRANULES, MOST_RUNS};
 pub use prepared::{actions_asked, actions_back};
+pub use refusal::refusal_asked;
 pub use runs::RunPages;
 pub use text::{push_action, push_platform};

@@ -30,7 +30,7 @@ fn next_rec<S: PageStore>(host: &Host<S>, build: BuildId) -> RecNo
 }
 
 // The values that are allocated for a command. The byte of a Peek is not known yet.
-fn allocated<S: PageStore>(host: &Host<S>, build: BuildId) -> Allocated
+pub(crate) fn allocated<S: PageStore>(host: &Host<S>, build: BuildId) -> Allocated
     ensures { result ≡ prepared.allocated_before host.now build }
 {
     let vmid = match host.ledger().lowest_vmid() {
@@ -125,7 +125,11 @@ fn exit_refusal<S: PageStore>(host: &Host<S>, build: BuildId, number: RecNo) -> 
 }
 
 // The refusal of the model that needs no answer of an RMM.
-fn refused_before<S: PageStore>(host: &Host<S>, build: BuildId, cmd: &Cmd) -> Option<Refusal>
+pub(crate) fn refused_before<S: PageStore>(
+    host: &Host<S>,
+    build: BuildId,
+    cmd: &Cmd,
+) -> Option<Refusal>
     requires passed { first_that_holds (checks_of (summary_of host.now) build cmd.now) ≡ None }
     ensures { result ≡ prepared.refused_before host.now build cmd.now }
 {

@@ -67,9 +67,10 @@ raw_action action = rec_action action
 abbrev pub raw_at : List HostAction → ℕ → RawAction
 raw_at actions place = elim (slice_get actions place) [ Some action ↦ raw_action action | None ↦ plain_action 0 0 ]
 
--- Operations of a host as C has them: at most 5, the first of them in sequence.
-abbrev pub raw_actions : List HostAction → RawActions
-raw_actions actions = record {
+-- Operations of a host as C has them: X0 of the model, and at most 5, the first of them in sequence.
+abbrev pub raw_actions : ℕ → List HostAction → RawActions
+raw_actions expected actions = record {
   count = length actions;
+  expected = expected;
   actions = raw_at actions 0 ∷ raw_at actions 1 ∷ raw_at actions 2 ∷ raw_at actions 3 ∷ raw_at actions 4 ∷ [];
 }

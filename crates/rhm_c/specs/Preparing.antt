@@ -7,30 +7,37 @@ use Rattle.history_calls.specs.declared.action.HostAction.{HostAction}
 use Rattle.history_calls.specs.Frame.{Place}
 use Rattle.host_ledger.specs.View.{HostView}
 use Rattle.rhm_c.specs.Action.{raw_actions}
-use Rattle.rhm_c.specs.Answer.{refusal_status}
+use Rattle.realm_host.specs.Call.{Ask}
+use Rattle.realm_host.specs.Refusals.{refusal_of}
+use Rattle.rhm_c.specs.Answer.{refusal_status, refusal_value}
 use Rattle.rhm_c.specs.Command.{command_asked, build_in, no_such_build}
 use Rattle.rhm_c.specs.declared.placed_host.PlacedHost.{PlacedHost}
 use Rattle.history_calls.specs.Prepared.{actions_asked, actions_back}
 use Rattle.rhm_c.specs.declared.action.RawActions.{RawActions}
 use Rattle.rhm_c.specs.declared.command.RawCommand.{RawCommand}
 
--- the status, and the operations; those before stay if there are none
-abbrev pub prepared_or_refused : Result (ArrayVec HostAction) Refusal → RawActions → ℕ × RawActions
-prepared_or_refused (Ok actions) old = (0, raw_actions actions.items)
-prepared_or_refused (Err refusal) old = (refusal_status refusal, old)
+-- X0 of the model, by its refusal
+abbrev pub word_of : Option Refusal → ℕ
+word_of (Some refusal) = refusal_value refusal
+word_of None = 0
+
+-- the status, and the operations with X0 of the model; those before stay if there are none
+abbrev pub prepared_or_refused : Result (ArrayVec HostAction) Refusal → Option Refusal → RawActions → ℕ × RawActions
+prepared_or_refused (Ok actions) refusal old = (0, raw_actions (word_of refusal) actions.items)
+prepared_or_refused (Err own) refusal old = (refusal_status own, old)
 
 abbrev pub prepared_of : RawCommand → RawActions → Place → HostView → Result (ℕ × Cmd) ℕ → ℕ × RawActions
-prepared_of raw old place host (Ok asked) = prepared_or_refused (actions_asked place host asked.0 (raw.run % 64) asked.1) old
+prepared_of raw old place host (Ok asked) = prepared_or_refused (actions_asked place host asked.0 (raw.run % 64) asked.1) (refusal_of host asked.0 (Ask asked.1)) old
 prepared_of raw old place host (Err status) = (status, old)
 
--- A command that is prepared.
+-- A command that is prepared. X0 of the model is that of the host that is asked for the command.
 abbrev pub prepared : ℕ → RawCommand → RawActions → Place → HostView → ℕ × RawActions
 prepared build raw old place host = prepared_of raw old place host (command_asked build raw)
 
--- An undo that is prepared.
+-- An undo that is prepared. The model performs it.
 abbrev pub prepared_undo : ℕ → RawActions → Place → HostView → ℕ × RawActions
 prepared_undo build old place host = elim (build_in build) [
-  | Some number ↦ prepared_or_refused (actions_back place host number) old
+  | Some number ↦ prepared_or_refused (actions_back place host number) None old
   | None ↦ (no_such_build, old)
 ]
 

@@ -29,11 +29,13 @@ pub struct RawAction {
     pub aux: [u64; 16],
 }
 
-/// The operations of a host for a command: how many there are, at most 5, and each.
+/// The operations of a host for a command: how many there are, at most 5, and each. X0 of the model is 0 if it performs
+/// the call, and else the word of its refusal.
 #[repr(C)]
 #[derive(Clone, Copy)]
 pub struct RawActions {
     pub count: u64,
+    pub expected: u64,
     pub actions: [RawAction; 5],
 }
 
@@ -198,12 +200,13 @@ fn raw_at(actions: &[HostAction], place: usize) -> RawAction
     }
 }
 
-/// The operations as C has them.
-pub(crate) fn raw_actions(actions: &[HostAction]) -> RawActions
-    ensures { result ≡ shown.raw_actions actions.now }
+/// The operations as C has them, with X0 of the model.
+pub(crate) fn raw_actions(actions: &[HostAction], expected: u64) -> RawActions
+    ensures { result ≡ shown.raw_actions expected actions.now }
 {
     RawActions {
         count: actions.len() as u64,
+        expected,
         actions: [
             raw_at(actions, 0),
             raw_at(actions, 1),

@@ -70,7 +70,7 @@ pub(crate) fn refusal_status(refusal: &Refusal) -> u64
 }
 
 // The value of a refusal.
-fn refusal_value(refusal: &Refusal) -> u64
+pub(crate) fn refusal_value(refusal: &Refusal) -> u64
     ensures { result ≡ answers.refusal_value refusal.now }
 {
     match refusal {

@@ -12,8 +12,8 @@ use granule_addr::BuildId;
 use host_commands::Cmd;
 use std::alloc::Global;
 
-// Performs a command of a build.
-fn ask(host: &mut PlainHost, build: BuildId, cmd: &Cmd) -> CallAnswer
+/// Performs a command of a build.
+pub(crate) fn ask(host: &mut PlainHost, build: BuildId, cmd: &Cmd) -> CallAnswer
     ensures { IsAnsweredAs answered_as host.old build (Ask cmd.now) result host.new }
 {
     match host.ask(build, cmd) {

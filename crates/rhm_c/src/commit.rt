@@ -1,20 +1,19 @@
-//! Commands and undos that are committed: the RMM has answered, and the host performs them if the answer is the expected
-//! one.
+//! Commands and undos that are committed: the RMM has answered, and the host performs them if the model's answer is the
+//! same.
 ghost use Rattle.std.specs.Prelude.{◌≡◌};
 ghost use Rattle.std.specs.List.{list_all};
-ghost use Rattle.realm_host.specs.Call.{Ask, Undo};
 ghost use Rattle.rhm_c.specs.Command as commands;
 ghost use Rattle.rhm_c.specs.Answer.{IsOnHandle};
 ghost use Rattle.rhm_c.specs.Commit as commits;
 
-use crate::answer::{CallAnswer, closed, done, only, refused, reply_value};
-use crate::asking::given;
+use crate::answer::{CallAnswer, closed, only, refused};
+use crate::asking::{ask, given};
 use crate::command::{asked, build_of};
 use crate::placed_host::PlainHost;
+use crate::undo::undo;
 use crate::{HostHandle, RawCommand};
-use granule_addr::BuildId;
-use history_calls::{Actions, Frame, HostAction, actions_asked, actions_back};
-use host_commands::{Cmd, Refusal};
+use history_calls::{Actions, Frame, HostAction, actions_asked, actions_back, refusal_asked};
+use host_commands::Refusal;
 use std::alloc::Global;
 
 /// The registers X0 and X1 after the call. They do not matter if no call was to be made.
@@ -28,23 +27,30 @@ pub struct FirmwareAnswer {
 // The X0 after an entry of a REC that runs on, as the RMM by registers of this repository has it.
 const RUNNING: u64 = 0xFFFF_FFFF_FFFF_FFFE;
 
-// The statuses of a call that the RMM has not performed, of one that the model refuses, of one with another output, and
-// of a build that there is not.
-const NOT_EXPECTED: u64 = 16;
+// The statuses of an X0 that is not the model's, of another output, and of a build that there is not.
+const DIVERGED: u64 = 16;
 
-const DIVERGED: u64 = 17;
-
-const OTHER_OUTPUT: u64 = 18;
+const OTHER_OUTPUT: u64 = 17;
 
 const NO_BUILD: u64 = 1;
 
-// Whether this X0 says that the RMM has performed an operation.
+// An X0 that is not the model's, which is `word`.
+fn diverged(word: u64) -> CallAnswer
+    ensures { result ≡ commits.diverged word }
+{
+    CallAnswer {
+        status: DIVERGED,
+        value: word,
+    }
+}
+
+// Whether this X0 says that the RMM has performed an operation: its status is RMI_SUCCESS.
 fn is_performed(action: &HostAction, x0: u64) -> bool
     ensures { result ≡ commits.is_performed x0 action.now }
 {
     match action {
-        HostAction::Call { .. } => x0 == 0,
-        HostAction::Enter { .. } => x0 == 0 || x0 == RUNNING,
+        HostAction::Call { .. } => x0 % 256 == 0,
+        HostAction::Enter { .. } => x0 % 256 == 0 || x0 == RUNNING,
         _ => true,
     }
 }
@@ -76,12 +82,12 @@ fn are_outputs(actions: &[HostAction], x1: u64) -> bool
     actions.iter().all(|action| is_output(action, x1))
 }
 
-// Whether an answer says that the RMM has performed the operations, with these outputs; or the answer to it.
-fn check_answer(actions: &[HostAction], answer: &FirmwareAnswer) -> Result<(), CallAnswer>
-    ensures { result ≡ commits.checked_answer answer.now actions.now }
+// Whether an answer is the model's, which performs the operations; or what it is said to be.
+fn check_performed(actions: &[HostAction], answer: &FirmwareAnswer) -> Result<(), CallAnswer>
+    ensures { result ≡ commits.check_performed answer.now actions.now }
 {
     if !are_performed(actions, answer.x0) {
-        return Err(only(NOT_EXPECTED));
+        return Err(diverged(0));
     }
     if !are_outputs(actions, answer.x1) {
         return Err(only(OTHER_OUTPUT));
@@ -89,46 +95,30 @@ fn check_answer(actions: &[HostAction], answer: &FirmwareAnswer) -> Result<(), C
     Ok(())
 }
 
-// Whether a call that was prepared can be committed; or the answer to it.
-fn check(prepared: Result<Actions, Refusal>, answer: &FirmwareAnswer) -> Result<(), CallAnswer>
-    ensures { result ≡ commits.committable answer.now prepared }
-{
-    match prepared {
-        Ok(actions) => check_answer(actions.as_slice(), answer),
-        Err(refusal) => Err(refused(&refusal)),
-    }
-}
-
-// A refusal of a call that the RMM performed.
-fn diverged(refusal: &Refusal) -> CallAnswer
-    ensures { result ≡ commits.refused_here refusal.now }
+// What the X0 of a call is said to be that the model refuses.
+fn check_refused(refusal: &Refusal, x0: u64) -> CallAnswer
+    ensures { result ≡ commits.check_refused x0 refusal.now }
 {
     match refusal {
-        Refusal::Rmi(rmi) => CallAnswer {
-            status: DIVERGED,
-            value: rmi.word(),
-        },
+        Refusal::Rmi(rmi) if x0 != rmi.word() => diverged(rmi.word()),
         _ => refused(refusal),
     }
 }
 
-// Performs a command that the RMM performed.
-fn ask(host: &mut PlainHost, build: BuildId, cmd: &Cmd) -> CallAnswer
-    ensures { commits.IsPerformedHere host.old build (Ask cmd.now) result host.new }
+// Whether a call that was prepared can be committed, by the refusal of the host that is asked for it; or the answer.
+fn check(
+    prepared: Result<Actions, Refusal>,
+    refusal: Option<Refusal>,
+    answer: &FirmwareAnswer,
+) -> Result<(), CallAnswer>
+    ensures { result ≡ commits.committable answer.now refusal prepared }
 {
-    match host.ask(build, cmd) {
-        Ok(reply) => done(reply_value(reply)),
-        Err(refusal) => diverged(&refusal),
-    }
-}
-
-// Performs an undo that the RMM performed.
-fn undo(host: &mut PlainHost, build: BuildId) -> CallAnswer
-    ensures { commits.IsPerformedHere host.old build Undo result host.new }
-{
-    match host.undo(build) {
-        Ok(undone) => done(u64::from(undone.left)),
-        Err(refusal) => diverged(&refusal),
+    match prepared {
+        Ok(actions) => match refusal {
+            Some(refusal) => Err(check_refused(&refusal, answer.x0)),
+            None => check_performed(actions.as_slice(), answer),
+        },
+        Err(refusal) => Err(refused(&refusal)),
     }
 }
 
@@ -147,7 +137,7 @@ fn commit(
         Err(status) => return only(status),
     };
     let prepared = actions_asked(frame, host, build, (raw.run % 64) as u16, &cmd);
-    match check(prepared, answer) {
+    match check(prepared, refusal_asked(host, build, &cmd), answer) {
         Ok(()) => ask(host, build, &cmd),
         Err(answer) => answer,
     }
@@ -165,18 +155,17 @@ fn commit_undo(
     let Some(build) = build_of(build) else {
         return only(NO_BUILD);
     };
-    match check(actions_back(frame, host, build), answer) {
+    match check(actions_back(frame, host, build), None, answer) {
         Ok(()) => undo(host, build),
         Err(answer) => answer,
     }
 }
 
-/// Commits a command of a build that was prepared: the RMM has answered with these registers. If the answer is the
-/// expected one, performs the command as `rhm_ask` does, and returns 0.
+/// Commits a command of a build that was prepared: the RMM has answered with these registers. If the model's answer is
+/// the same, does what `rhm_ask` does, and returns what it returns.
 ///
-/// Else nothing changes. 16: the RMM has not performed the call, since X0 is not RMI_SUCCESS. 18: it has, and X1 is not the
-/// output that the host knows. 17: it has, and the model refuses the call, with the result word in `value`. All other
-/// numbers are those of `rhm_ask`.
+/// Else nothing changes. 16: X0 is not the model's, which is `value`: 0 if the model performs the call, and else the word
+/// of its refusal. 17: X0 is the model's, and X1 is not the output that the host knows.
 #[unsafe(no_mangle)]
 pub extern "C" fn rhm_commit(
     alloc: Global,

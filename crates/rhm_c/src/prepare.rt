@@ -3,11 +3,11 @@ ghost use Rattle.std.specs.Prelude.{◌≡◌};
 ghost use Rattle.rhm_c.specs.Preparing as preparing;
 
 use crate::action::raw_actions;
-use crate::answer::refusal_status;
+use crate::answer::{refusal_status, refusal_value};
 use crate::command::{asked, build_of};
 use crate::placed_host::PlainHost;
 use crate::{HostHandle, RawActions, RawCommand};
-use history_calls::{Actions, Frame, actions_asked, actions_back};
+use history_calls::{Actions, Frame, actions_asked, actions_back, refusal_asked};
 use host_commands::Refusal;
 use std::alloc::Global;
 
@@ -16,13 +16,23 @@ const CLOSED: u64 = 14;
 
 const NO_BUILD: u64 = 1;
 
-// Writes operations; or returns the number of the refusal.
-fn write(actions: Result<Actions, Refusal>, into: &mut RawActions) -> u64
-    ensures { (result, into.new) ≡ preparing.prepared_or_refused actions into.old }
+// X0 of the model, by its refusal.
+fn word_of(refusal: &Option<Refusal>) -> u64
+    ensures { result ≡ preparing.word_of refusal.now }
+{
+    match refusal {
+        Some(refusal) => refusal_value(refusal),
+        None => 0,
+    }
+}
+
+// Writes operations, and X0 of the model; or returns the number of the refusal.
+fn write(actions: Result<Actions, Refusal>, refusal: Option<Refusal>, into: &mut RawActions) -> u64
+    ensures { (result, into.new) ≡ preparing.prepared_or_refused actions refusal into.old }
 {
     match actions {
         Ok(actions) => {
-            *into = raw_actions(actions.as_slice());
+            *into = raw_actions(actions.as_slice(), word_of(&refusal));
             0
         }
         Err(refusal) => refusal_status(&refusal),
@@ -43,6 +53,7 @@ fn prepare(
         Ok((build, cmd)) => {
             write(
                 actions_asked(frame, host, build, (raw.run % 64) as u16, &cmd),
+                refusal_asked(host, build, &cmd),
                 into,
             )
         }
@@ -55,13 +66,13 @@ fn prepare_undo(frame: Frame, host: &PlainHost, build: u64, into: &mut RawAction
     ensures { (result, into.new) ≡ preparing.prepared_undo build into.old frame host.now }
 {
     match build_of(build) {
-        Some(build) => write(actions_back(frame, host, build), into),
+        Some(build) => write(actions_back(frame, host, build), None, into),
         None => NO_BUILD,
     }
 }
 
 /// Prepares a command of a build, and changes nothing. Returns 0, with the operations that the hypervisor performs on
-/// its RMM, in sequence; a Take needs none.
+/// its RMM, in sequence; a Take needs none. `expected` is X0 of the model: 0, or the word of its refusal.
 ///
 /// Else `actions` stays as it is. 1 to 12 is the number of the refusal that the host gives before it calls the RMM. 13
 /// is an operand that no call has, 14 a closed handle, and 15 what is no command.

@@ -15,8 +15,8 @@ use std::alloc::Global;
 // The status of a build that there is not.
 const NO_BUILD: u64 = 1;
 
-// Reverses the newest operation that a build has open.
-fn undo(host: &mut PlainHost, build: BuildId) -> CallAnswer
+/// Reverses the newest operation that a build has open.
+pub(crate) fn undo(host: &mut PlainHost, build: BuildId) -> CallAnswer
     ensures { IsUndoneHere host.old build result host.new }
 {
     match host.undo(build) {
