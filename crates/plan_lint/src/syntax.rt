@@ -85,8 +85,7 @@ fn other_header(at: usize, before: &str, after: &str, found: &mut Findings) {
 
 // A string that its line does not close.
 fn unclosed_string(at: usize, before: &str, found: &mut Findings) {
-    let is_quote = |it: char| it == '"' || it == '\'';
-    let len = match before.rsplit_once(is_quote) {
+    let len = match before.rsplit_once(['"', '\'']) {
         Some((front, _)) => before.len().saturating_sub(front.len()),
         None => 0,
     };
@@ -97,8 +96,7 @@ fn unclosed_string(at: usize, before: &str, found: &mut Findings) {
 
 // What is no item of an array: a step without quotes, the end of the text, or something else.
 fn in_array(span: Span, message: &str, after: &str, found: &mut Findings) {
-    let is_end = |it: char| matches!(it, ',' | ']' | '#' | '"');
-    let item = match after.split_once(is_end) {
+    let item = match after.split_once([',', ']', '#', '"']) {
         Some((item, _)) => item.trim_end(),
         None => after,
     };
