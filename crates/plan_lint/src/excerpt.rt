@@ -31,7 +31,7 @@ fn begins_char(byte: u8) -> bool {
 }
 
 /// The place after the first `at` bytes. The text is gone through from the place `from` on.
-pub fn place_at(text: &[u8], from: Cursor, at: usize) -> Cursor {
+pub(crate) fn place_at(text: &[u8], from: Cursor, at: usize) -> Cursor {
     let mut place = from;
     for byte in text.get(from.at..at).unwrap_or(&[]) {
         place.at = place.at.saturating_add(1);
@@ -47,7 +47,7 @@ pub fn place_at(text: &[u8], from: Cursor, at: usize) -> Cursor {
 }
 
 /// The bytes as a text of one line: a space for each control character, and U+FFFD for what is no UTF-8.
-pub fn plain_text(alloc: Global, bytes: &[u8]) -> Result<String, AllocError> {
+pub(crate) fn plain_text(alloc: Global, bytes: &[u8]) -> Result<String, AllocError> {
     let mut shown = Vec::with_capacity(alloc, bytes.len())?;
     for byte in bytes {
         let is_control = *byte < b' ' || *byte == 0x7f;
@@ -81,7 +81,7 @@ fn shown_back(alloc: Global, back: &[u8]) -> Result<Vec<u8>, AllocError> {
 }
 
 /// The first bytes, as many as there are.
-pub fn first_of(bytes: &[u8], len: usize) -> &[u8] {
+pub(crate) fn first_of(bytes: &[u8], len: usize) -> &[u8] {
     &bytes[..len.min(bytes.len())]
 }
 
@@ -106,7 +106,7 @@ fn push_carets(text: &mut String, before: usize, count: usize) -> Result<(), All
 }
 
 /// Appends the line before and after a place, and carets under its first `len` bytes after the place.
-pub fn push_excerpt(
+pub(crate) fn push_excerpt(
     alloc: Global,
     text: &mut String,
     front: &[u8],

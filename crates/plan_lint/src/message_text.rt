@@ -18,7 +18,11 @@ pub enum Piece<'a> {
 }
 
 /// Appends the words with a piece in the place of each `{}`, in their order.
-pub fn push_filled(text: &mut String, words: &str, pieces: &[Piece<'_>]) -> Result<(), AllocError> {
+pub(crate) fn push_filled(
+    text: &mut String,
+    words: &str,
+    pieces: &[Piece<'_>],
+) -> Result<(), AllocError> {
     let mut rest = words;
     for piece in pieces {
         let (front, back) = rest.split_once("{}").unwrap_or((rest, ""));
@@ -30,7 +34,7 @@ pub fn push_filled(text: &mut String, words: &str, pieces: &[Piece<'_>]) -> Resu
 }
 
 /// A beginning, and the words with their pieces after it.
-pub fn filled(
+pub(crate) fn filled(
     alloc: Global,
     beginning: &str,
     words: &str,

@@ -7,7 +7,7 @@ use std::ops::Range;
 use std::str::from_utf8;
 
 /// Finds what the reader of TOML stopped at. The words are the reader's, unless the mistake is one that plans have.
-pub fn syntax(bytes: &[u8], range: Range<usize>, message: &str, found: &mut Findings) {
+pub(crate) fn syntax(bytes: &[u8], range: Range<usize>, message: &str, found: &mut Findings) {
     let span = Span {
         start: range.start,
         end: range.end,
