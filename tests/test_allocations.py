@@ -14,8 +14,8 @@
   threads     each build but one has a thread of its own; where no thread can be made, the text of `run` is as good
   blocks      a block that is named is taken as fast as one that the store picks, and in 4,096 pages as fast as in 512
 
-`make allocations` also has tests/runs, tests/faults and all traces, which takes some minutes. A C compiler is needed, $CC or cc, and
-the C library of GNU.
+`make allocations` also has tests/runs, tests/faults, all traces, and the words of realmview over all plans, which takes some minutes. A
+C compiler is needed, $CC or cc, and the C library of GNU.
 """
 import collections
 import itertools
@@ -32,6 +32,8 @@ from programs import HOST, MEMORY, RUNS, SECONDS, TOP, TRACER, VIEW, fault_at, f
 pytestmark = needs(HOST, TRACER, VIEW, MEMORY)
 PART, MOST_BYTES = 4096, 1 << 20
 NO_MEMORY = (3, b"", b"memory\n")
+# The plans that realmview is refused memory for: realms, each refusal, marks, and orders that differ.
+FEW_VIEWS = ("realm", "refusals", "rollback", "some-orders")
 # Beside plans/: traces in which commands are accepted and refused, and faults of each kind.
 FEW_TRACES = ("granules", "measurement", "rec")
 FEW_CHECKS = ("all_at_once", "numbers_of_other_kinds", "steps_of_inline_tables", "toml_open_array", "warning_too_few_turns")
@@ -300,7 +302,7 @@ def test_refusals_of_plan(check, library, path):
     refused(check, library, of_plan(path))
 
 
-@over_plans
+@some(files("plans", RUNS), FEW_VIEWS)
 def test_refusals_of_views(check, library, path):
     refused(check, library, of_views(path))
 

@@ -53,10 +53,15 @@ struct Label {
 
 // Whether a label may stand after this: after spaces, or after a place as `plan:4:28: `.
 fn may_begin_label(before: &[u8]) -> bool {
-    match before {
-        [.., digit, b':', b' '] => digit.is_ascii_digit(),
-        _ => before.iter().all(|byte| *byte == b' '),
+    if let [.., digit, b':', b' '] = before {
+        return digit.is_ascii_digit();
     }
+    for byte in before {
+        if *byte != b' ' {
+            return false;
+        }
+    }
+    true
 }
 
 // The label that a text begins with: its length and its colour.
@@ -91,13 +96,29 @@ fn label_in(line: &[u8]) -> Option<Label>
 
 // Whether a line is that of a turn that is refused.
 fn is_refused_turn(line: &[u8]) -> bool {
-    let begins = line.first().is_some_and(|byte| byte.is_ascii_digit());
-    begins && line.windows(6).any(|part| part == b" = no ".as_slice())
+    match line {
+        [first, ..] if first.is_ascii_digit() => {}
+        _ => return false,
+    }
+    for start in 0..line.len() {
+        if line[start..].starts_with(b" = no ") {
+            return true;
+        }
+    }
+    false
 }
 
 // Whether a line marks a word of the line above it.
 fn is_of_carets(line: &[u8]) -> bool {
-    line.iter().all(|byte| matches!(*byte, b' ' | b'^')) && line.iter().any(|byte| *byte == b'^')
+    let mut has_caret = false;
+    for byte in line {
+        match *byte {
+            b'^' => has_caret = true,
+            b' ' => {}
+            _ => return false,
+        }
+    }
+    has_caret
 }
 
 // The colour of a line on one that differs: its heading has the verdict, and another line has our answer.
@@ -158,9 +179,12 @@ fn push_line(out: &mut Vec<u8>, painting: Painting, line: &[u8]) -> Result<(), A
 fn line_len(text: &[u8]) -> usize
     ensures { result ≤ length text.now }
 {
-    text.iter()
-        .position(|byte| *byte == b'\n')
-        .unwrap_or(text.len())
+    for len in 0..text.len() {
+        if text[len] == b'\n' {
+            return len;
+        }
+    }
+    text.len()
 }
 
 /// The text as a terminal is given it: some pieces of it are between escape sequences.

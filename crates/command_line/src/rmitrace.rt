@@ -149,8 +149,10 @@ fn is_of_line(place: usize) -> bool {
 // The place of a name of lines. In a trace the name of a check is in brackets.
 fn place_of(alloc: Global, name: &str) -> Result<Option<usize>, AllocError> {
     let check = format!(in alloc; "({name})")?;
-    let place = find_name(name.as_bytes()).or(find_name(check.as_bytes()));
-    Ok(place.filter(|place| is_of_line(*place)))
+    match find_name(name.as_bytes()).or(find_name(check.as_bytes())) {
+        Some(place) if is_of_line(place) => Ok(Some(place)),
+        _ => Ok(None),
+    }
 }
 
 // A name of lines as an option has it.

@@ -1,5 +1,2 @@
-pub mod Places
-pub mod Cursors
 pub mod Findings
-pub mod Plain
 pub mod Texts

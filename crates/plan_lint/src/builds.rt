@@ -7,7 +7,7 @@ use crate::step_text::{InvalidStep, of_step};
 use realm_plan::{MOST_BUILDS, MOST_STEPS, PlanFault, step_from_text};
 
 /// How many builds a plan has, if it says.
-pub fn count_of_builds(outline: &Outline) -> Option<usize> {
+pub(crate) fn count_of_builds(outline: &Outline) -> Option<usize> {
     match outline.value("build") {
         Some(value) if !value.is_array() => None,
         None if outline.builds.is_empty() => None,
@@ -16,7 +16,7 @@ pub fn count_of_builds(outline: &Outline) -> Option<usize> {
 }
 
 /// Finds what is wrong with the builds.
-pub fn builds(text: &str, outline: &Outline, meant: Meant, found: &mut Findings) {
+pub(crate) fn builds(text: &str, outline: &Outline, meant: Meant, found: &mut Findings) {
     let has_builds = !outline.builds.is_empty();
     match outline.value("build") {
         Some(value) if !value.is_array() => return no_builds(text, value, found),

@@ -11,7 +11,7 @@ use std::alloc::{AllocError, Global};
 use std::str::from_utf8;
 
 /// Finds what is wrong with bytes that have this fault. The one error is that allocation failed.
-pub fn errors_in(
+pub(crate) fn errors_in(
     alloc: Global,
     bytes: &[u8],
     fault: PlanFault,

@@ -1,10 +1,4 @@
-//! A line of a text, and carets under a stretch of it.
-ghost use Rattle.std.specs.Prelude.{◌≡◌, ◌<◌, ◌++◌, OnOk, IfOk, codes, replicate, take, string_bytes};
-ghost use Rattle.plan_lint.specs.Plain.{plain_text};
-ghost use Rattle.plan_lint.specs.Texts.{shown_front, shown_back, char_count, carets, excerpt};
-
-use crate::cursor::begins_char;
-use crate::plain::plain_text;
+//! Places of a text, and a line of it with carets under a stretch.
 use std::alloc::{AllocError, Global};
 
 /// The most bytes that are shown before the first caret, and from it on.
@@ -13,10 +7,57 @@ const MOST: usize = 80;
 /// How many are shown where some are left out.
 const LESS: usize = 78;
 
+/// A place of a text, with its line and its column, both from 1.
+#[derive(Clone, Copy)]
+pub struct Cursor {
+    pub at: usize,
+    pub line: usize,
+    pub column: usize,
+    /// The beginning of its line.
+    pub start: usize,
+}
+
+/// The place at the beginning of a text.
+pub const FIRST: Cursor = Cursor {
+    at: 0,
+    line: 1,
+    column: 1,
+    start: 0,
+};
+
+// Whether the byte begins a character: it is not one inside a character.
+fn begins_char(byte: u8) -> bool {
+    byte < 128 || byte >= 192
+}
+
+/// The place after the first `at` bytes. The text is gone through from the place `from` on.
+pub(crate) fn place_at(text: &[u8], from: Cursor, at: usize) -> Cursor {
+    let mut place = from;
+    for byte in text.get(from.at..at).unwrap_or(&[]) {
+        place.at = place.at.saturating_add(1);
+        if *byte == b'\n' {
+            place.line = place.line.saturating_add(1);
+            place.column = 1;
+            place.start = place.at;
+        } else if begins_char(*byte) {
+            place.column = place.column.saturating_add(1);
+        }
+    }
+    place
+}
+
+/// The bytes as a text of one line: a space for each control character, and U+FFFD for what is no UTF-8.
+pub(crate) fn plain_text(alloc: Global, bytes: &[u8]) -> Result<String, AllocError> {
+    let mut shown = Vec::with_capacity(alloc, bytes.len())?;
+    for byte in bytes {
+        let is_control = *byte < b' ' || *byte == 0x7f;
+        shown.push(if is_control { b' ' } else { *byte })?;
+    }
+    String::from_utf8_lossy(alloc, &shown)
+}
+
 // The end of the line before a place, as far as it is shown.
-fn shown_front(alloc: Global, front: &[u8]) -> Result<Vec<u8>, AllocError>
-    ensures { IfOk result (λ v. v.items ≡ shown_front front.now) }
-{
+fn shown_front(alloc: Global, front: &[u8]) -> Result<Vec<u8>, AllocError> {
     let mut line = Vec::new(alloc);
     if front.len() <= MOST {
         line.extend_from_slice(front)?;
@@ -28,9 +69,7 @@ fn shown_front(alloc: Global, front: &[u8]) -> Result<Vec<u8>, AllocError>
 }
 
 // The beginning of the line after a place, as far as it is shown.
-fn shown_back(alloc: Global, back: &[u8]) -> Result<Vec<u8>, AllocError>
-    ensures { IfOk result (λ v. v.items ≡ shown_back back.now) }
-{
+fn shown_back(alloc: Global, back: &[u8]) -> Result<Vec<u8>, AllocError> {
     let mut line = Vec::new(alloc);
     if back.len() <= MOST {
         line.extend_from_slice(back)?;
@@ -42,63 +81,44 @@ fn shown_back(alloc: Global, back: &[u8]) -> Result<Vec<u8>, AllocError>
 }
 
 /// The first bytes, as many as there are.
-pub fn first_of(bytes: &[u8], len: usize) -> &[u8]
-    ensures { result.now ≡ take len bytes.now }
-{
+pub(crate) fn first_of(bytes: &[u8], len: usize) -> &[u8] {
     &bytes[..len.min(bytes.len())]
 }
 
 // How many characters a text has.
-fn char_count(text: &str) -> usize
-    ensures { result ≡ char_count text.now }
-{
-    text.as_bytes().iter().filter(|b| begins_char(**b)).count()
-}
-
-// Appends so many of a character.
-fn push_times(text: &mut String, char: char, count: usize) -> Result<(), AllocError>
-    requires { char < 128 }
-    ensures { OnOk result (string_bytes text.new ≡ string_bytes text.old ++ replicate count char) }
-{
-    for _ in 0..count {
-        text.push(char)?;
+fn char_count(text: &str) -> usize {
+    let mut count: usize = 0;
+    for byte in text.as_bytes() {
+        count = count.saturating_add(usize::from(begins_char(*byte)));
     }
-    Ok(())
+    count
 }
 
 // Appends carets after `before` spaces, one at least.
-fn push_carets(text: &mut String, before: usize, count: usize) -> Result<(), AllocError>
-    ensures { OnOk result (string_bytes text.new ≡ string_bytes text.old ++ carets before count) }
-{
-    push_times(text, ' ', before)?;
-    push_times(text, '^', count.max(1))?;
-    text.push('\n')
-}
-
-// Appends a line.
-fn push_line(text: &mut String, front: &str, back: &str) -> Result<(), AllocError>
-    ensures { OnOk result (string_bytes text.new ≡ string_bytes text.old ++ (front.now ++ (back.now ++ codes "\n"))) }
-{
-    text.push_str(front)?;
-    text.push_str(back)?;
+fn push_carets(text: &mut String, before: usize, count: usize) -> Result<(), AllocError> {
+    for _ in 0..before {
+        text.push(' ')?;
+    }
+    for _ in 0..count.max(1) {
+        text.push('^')?;
+    }
     text.push('\n')
 }
 
 /// Appends the line before and after a place, and carets under its first `len` bytes after the place.
-#[tactic(auto, unfolding(crate::specs::Texts::excerpt))]
-pub fn push_excerpt(
+pub(crate) fn push_excerpt(
     alloc: Global,
     text: &mut String,
     front: &[u8],
     back: &[u8],
     len: usize,
-) -> Result<(), AllocError>
-    ensures { OnOk result (string_bytes text.new ≡ string_bytes text.old ++ excerpt front.now back.now len) }
-{
+) -> Result<(), AllocError> {
     let front = plain_text(alloc, &shown_front(alloc, front)?)?;
     let back = shown_back(alloc, back)?;
     let shown = plain_text(alloc, &back)?;
     let marked = plain_text(alloc, first_of(&back, len))?;
-    push_line(text, &front, &shown)?;
+    text.push_str(&front)?;
+    text.push_str(&shown)?;
+    text.push('\n')?;
     push_carets(text, char_count(&front), char_count(&marked))
 }

@@ -13,7 +13,7 @@ pub struct Span {
 
 impl Span {
     /// The `len` bytes from a place on.
-    pub fn new(start: usize, len: usize) -> Span {
+    pub(crate) fn new(start: usize, len: usize) -> Span {
         let end = start.saturating_add(len);
         Span { start, end }
     }
@@ -47,7 +47,7 @@ pub struct Findings {
 }
 
 impl Findings {
-    pub fn new(alloc: Global) -> Findings {
+    pub(crate) fn new(alloc: Global) -> Findings {
         Findings {
             alloc,
             list: Vec::new(alloc),
@@ -56,7 +56,7 @@ impl Findings {
     }
 
     /// All findings. The one error is that an allocation failed.
-    pub fn finish(self) -> Result<Vec<Finding>, AllocError> {
+    pub(crate) fn finish(self) -> Result<Vec<Finding>, AllocError> {
         if self.has_failed {
             Err(AllocError)
         } else {
@@ -65,7 +65,13 @@ impl Findings {
     }
 
     /// Adds a finding. The words have a gap `{}` for each piece.
-    pub fn add(&mut self, severity: Severity, span: Span, words: &str, pieces: &[Piece<'_>]) {
+    pub(crate) fn add(
+        &mut self,
+        severity: Severity,
+        span: Span,
+        words: &str,
+        pieces: &[Piece<'_>],
+    ) {
         let Ok(words) = filled(self.alloc, "", words, pieces) else {
             self.has_failed = true;
             return;
@@ -80,21 +86,27 @@ impl Findings {
     }
 
     /// Adds an error with one fault.
-    pub fn error(&mut self, fault: PlanFault, span: Span, words: &str, pieces: &[Piece<'_>]) {
+    pub(crate) fn error(
+        &mut self,
+        fault: PlanFault,
+        span: Span,
+        words: &str,
+        pieces: &[Piece<'_>],
+    ) {
         self.add(Severity::Error(fault, None), span, words, pieces);
     }
 
-    pub fn warning(&mut self, span: Span, words: &str, pieces: &[Piece<'_>]) {
+    pub(crate) fn warning(&mut self, span: Span, words: &str, pieces: &[Piece<'_>]) {
         self.add(Severity::Warning, span, words, pieces);
     }
 
     /// Adds a line of help to the last finding.
-    pub fn help(&mut self, words: &str, pieces: &[Piece<'_>]) {
+    pub(crate) fn help(&mut self, words: &str, pieces: &[Piece<'_>]) {
         self.note("help: ", words, pieces);
     }
 
     /// Adds a line with this beginning to the last finding.
-    pub fn note(&mut self, beginning: &str, words: &str, pieces: &[Piece<'_>]) {
+    pub(crate) fn note(&mut self, beginning: &str, words: &str, pieces: &[Piece<'_>]) {
         let Ok(line) = filled(self.alloc, beginning, words, pieces) else {
             self.has_failed = true;
             return;
@@ -105,7 +117,7 @@ impl Findings {
     }
 
     /// The name that was probably meant by a word.
-    pub fn nearest(&mut self, names: &[&'static str], word: &str) -> Option<&'static str> {
+    pub(crate) fn nearest(&mut self, names: &[&'static str], word: &str) -> Option<&'static str> {
         let Ok(near) = nearest(self.alloc, names, word) else {
             self.has_failed = true;
             return None;

@@ -16,7 +16,7 @@ pub enum OperandKind {
 
 impl OperandKind {
     /// Such a number in words, and the greatest one of a step.
-    pub fn limits(self) -> (&'static str, u64) {
+    pub(crate) fn limits(self) -> (&'static str, u64) {
         match self {
             OperandKind::Order => ("the order of a block", 255),
             OperandKind::Page => ("a page", 4095),
@@ -91,7 +91,7 @@ const FORMS: [Form; 18] = [
 ];
 
 /// The form of the step with this word, if there is one.
-pub fn form_of(word: &str) -> Option<Form> {
+pub(crate) fn form_of(word: &str) -> Option<Form> {
     for form in &FORMS {
         if form.word == word {
             return Some(*form);
@@ -101,7 +101,7 @@ pub fn form_of(word: &str) -> Option<Form> {
 }
 
 /// The step of the command that has this name in the RMI, in a trace or in a history.
-pub fn step_of_command(name: &str) -> Option<&'static str> {
+pub(crate) fn step_of_command(name: &str) -> Option<&'static str> {
     for form in &FORMS {
         for other in form.other_names.split_whitespace() {
             if name.eq_ignore_ascii_case(other) {

@@ -20,7 +20,7 @@ impl Meant {
 
 /// Finds the keys that neither a plan nor a build has. One that is there several times in a row, as in `[machine.cpu]`
 /// below `[machine]`, is found once.
-pub fn unknown_keys(outline: &Outline, found: &mut Findings) -> Meant {
+pub(crate) fn unknown_keys(outline: &Outline, found: &mut Findings) -> Meant {
     let mut meant = Meant {
         pages: outline.has_deeper_pages,
         build: false,
@@ -96,7 +96,7 @@ fn is_near_steps(key: &KeyValue, found: &mut Findings) -> bool {
 }
 
 /// Whether an unknown key of a build without steps means `steps`.
-pub fn means_steps(build: &Build, found: &mut Findings) -> bool {
+pub(crate) fn means_steps(build: &Build, found: &mut Findings) -> bool {
     for key in &build.keys {
         if is_near_steps(key, found) {
             return true;
@@ -126,7 +126,7 @@ const NUMBERS: [(&str, i64, i64); 4] = [
 ];
 
 /// Finds what is wrong with the numbers of a plan.
-pub fn numbers(outline: &Outline, meant: Meant, found: &mut Findings) {
+pub(crate) fn numbers(outline: &Outline, meant: Meant, found: &mut Findings) {
     for (name, low, high) in &NUMBERS {
         if let Some(value) = outline.value(name) {
             number(name, *low, *high, value, found);
@@ -152,7 +152,7 @@ fn number(name: &str, low: i64, high: i64, value: &Value, found: &mut Findings) 
 }
 
 /// A value in the place of an integer.
-pub fn no_integer(value: &Value, found: &mut Findings) {
+pub(crate) fn no_integer(value: &Value, found: &mut Findings) {
     of_kind(value, "an integer", found);
     if let Some(text) = value.as_text() {
         if text.parse::<i64>().is_ok() {
@@ -162,7 +162,7 @@ pub fn no_integer(value: &Value, found: &mut Findings) {
 }
 
 /// A value of another kind than the expected one.
-pub fn of_kind(value: &Value, expected: &str, found: &mut Findings) {
+pub(crate) fn of_kind(value: &Value, expected: &str, found: &mut Findings) {
     let pieces = [Words(expected), Words(value.content.kind())];
     let words = "expected {}, found {}";
     found.error(PlanFault::Key, value.span, words, &pieces);

@@ -6,25 +6,23 @@
 #![tactic(auto)]
 
 mod builds;
-mod cursor;
 mod document;
 mod excerpt;
 mod finding;
 mod forms;
 mod judging;
 mod keys;
-mod law;
 mod lints;
 mod message_text;
 mod nearest;
 mod needs;
 mod order;
 mod outline;
-mod plain;
 mod report;
 mod step_text;
 mod syntax;
 mod walk;
 
-pub use law::places_lie_inside;
+pub use finding::{Finding, Severity, Span};
+pub use judging::{Judged, Size, judge};
 pub use report::LintReport;

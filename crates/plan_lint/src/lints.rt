@@ -10,7 +10,11 @@ use std::alloc::{AllocError, Global};
 use std::str::from_utf8;
 
 /// Finds the likely slips of the plan that the bytes are. The one error is that allocation failed.
-pub fn slips_in(alloc: Global, bytes: &[u8], plan: &Plan) -> Result<Vec<Finding>, AllocError> {
+pub(crate) fn slips_in(
+    alloc: Global,
+    bytes: &[u8],
+    plan: &Plan,
+) -> Result<Vec<Finding>, AllocError> {
     let outline = outline_of(alloc, from_utf8(bytes).unwrap_or(""))?;
     let mut found = Findings::new(alloc);
     if plan.order.is_empty() {

@@ -17,22 +17,31 @@ pub enum Piece<'a> {
     Plural(usize),
 }
 
-/// A beginning, and the words with a piece in the place of each `{}`, in their order.
-pub fn filled(
+/// Appends the words with a piece in the place of each `{}`, in their order.
+pub(crate) fn push_filled(
+    text: &mut String,
+    words: &str,
+    pieces: &[Piece<'_>],
+) -> Result<(), AllocError> {
+    let mut rest = words;
+    for piece in pieces {
+        let (front, back) = rest.split_once("{}").unwrap_or((rest, ""));
+        text.push_str(front)?;
+        push_piece(text, *piece)?;
+        rest = back;
+    }
+    text.push_str(rest)
+}
+
+/// A beginning, and the words with their pieces after it.
+pub(crate) fn filled(
     alloc: Global,
     beginning: &str,
     words: &str,
     pieces: &[Piece<'_>],
 ) -> Result<String, AllocError> {
     let mut text = String::from_str(alloc, beginning)?;
-    let mut rest = words;
-    for piece in pieces {
-        let (front, back) = rest.split_once("{}").unwrap_or((rest, ""));
-        text.push_str(front)?;
-        push_piece(&mut text, *piece)?;
-        rest = back;
-    }
-    text.push_str(rest)?;
+    push_filled(&mut text, words, pieces)?;
     Ok(text)
 }
 

@@ -7,7 +7,7 @@ const LONGEST: usize = 32;
 
 /// The name that is the nearest to the word, if one is near. A near name is the same but for capital letters, or
 /// differs in up to a third of the longer of the two. Of several, the first.
-pub fn nearest(
+pub(crate) fn nearest(
     alloc: Global,
     names: &[&'static str],
     word: &str,

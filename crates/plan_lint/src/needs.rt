@@ -14,7 +14,7 @@ const MOST_OPEN: usize = 512;
 pub const MOST_ORDER: u8 = 9;
 
 /// The pages of a block. Blocks that no machine has count as 4,096 pages.
-pub fn block_len(order: u8) -> usize {
+pub(crate) fn block_len(order: u8) -> usize {
     1 << order.min(12)
 }
 
@@ -36,7 +36,7 @@ pub struct KnownState {
 
 impl KnownState {
     /// The state of a build with these steps before the first of them.
-    pub fn new(alloc: Global, plan: &Plan, steps: &[PlanStep]) -> KnownState {
+    pub(crate) fn new(alloc: Global, plan: &Plan, steps: &[PlanStep]) -> KnownState {
         let (mut pages, mut realms) = (0usize, 0usize);
         for steps in &plan.builds {
             for step in steps {
@@ -64,7 +64,7 @@ impl KnownState {
     }
 
     /// The turns that the next step takes at least.
-    pub fn turns_of(&mut self, step: Step) -> Result<usize, AllocError> {
+    pub(crate) fn turns_of(&mut self, step: Step) -> Result<usize, AllocError> {
         let reversed = match step {
             Step::Ask(cmd) => {
                 self.ask(cmd)?;

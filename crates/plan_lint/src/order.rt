@@ -16,7 +16,7 @@ struct Stray {
 }
 
 /// Finds what is wrong with `order`, in a plan of that many builds, if it says how many.
-pub fn order(
+pub(crate) fn order(
     outline: &Outline,
     builds: Option<usize>,
     found: &mut Findings,

@@ -21,7 +21,7 @@ pub enum Content {
 
 impl Content {
     /// The kind in words.
-    pub fn kind(&self) -> &'static str {
+    pub(crate) fn kind(&self) -> &'static str {
         match self {
             Content::Text(_) => "a string",
             Content::Scalar(Scalar::Integer(_)) => "an integer",
@@ -43,21 +43,21 @@ pub struct Value {
 }
 
 impl Value {
-    pub fn as_whole(&self) -> Option<i64> {
+    pub(crate) fn as_whole(&self) -> Option<i64> {
         match &self.content {
             Content::Scalar(Scalar::Integer(whole)) => Some(*whole),
             _ => None,
         }
     }
 
-    pub fn as_text(&self) -> Option<&str> {
+    pub(crate) fn as_text(&self) -> Option<&str> {
         match &self.content {
             Content::Text(text) => Some(text.as_str()),
             _ => None,
         }
     }
 
-    pub fn is_array(&self) -> bool {
+    pub(crate) fn is_array(&self) -> bool {
         matches!(self.content, Content::Array)
     }
 }
@@ -83,7 +83,7 @@ pub struct Build {
 
 impl Build {
     /// The value of its key `steps`.
-    pub fn steps_value(&self) -> Option<&Value> {
+    pub(crate) fn steps_value(&self) -> Option<&Value> {
         value_of(&self.keys, "steps")
     }
 }
@@ -103,17 +103,17 @@ pub struct Outline {
 
 impl Outline {
     /// The value of a key of the plan.
-    pub fn value(&self, name: &str) -> Option<&Value> {
+    pub(crate) fn value(&self, name: &str) -> Option<&Value> {
         value_of(&self.keys, name)
     }
 
     /// Whether the plan lacks a key.
-    pub fn lacks(&self, name: &str) -> bool {
+    pub(crate) fn lacks(&self, name: &str) -> bool {
         is_among(&self.missing, name)
     }
 
     /// The place before the first key or header of the text.
-    pub fn start(&self) -> Span {
+    pub(crate) fn start(&self) -> Span {
         let start = match (self.keys.first(), self.builds.first()) {
             (Some(key), Some(build)) => key.key.start.min(build.value.span.start),
             (Some(key), None) => key.key.start,
@@ -124,7 +124,7 @@ impl Outline {
     }
 
     /// The value of `order`, or the beginning of the text.
-    pub fn order_span(&self) -> Span {
+    pub(crate) fn order_span(&self) -> Span {
         match self.value("order") {
             Some(value) => value.span,
             None => self.start(),
@@ -132,7 +132,7 @@ impl Outline {
     }
 
     /// A turn, or else the value of `order`.
-    pub fn turn_span(&self, place: usize) -> Span {
+    pub(crate) fn turn_span(&self, place: usize) -> Span {
         match self.turns.get(place) {
             Some(turn) => turn.span,
             None => self.order_span(),
@@ -140,7 +140,7 @@ impl Outline {
     }
 
     /// The place of a step of a build, or else of the build, or else the beginning of the text.
-    pub fn step_span(&self, build: usize, step: usize) -> Span {
+    pub(crate) fn step_span(&self, build: usize, step: usize) -> Span {
         match self.builds.get(build) {
             Some(build) => build.steps.get(step).unwrap_or(&build.value).span,
             None => Span::new(0, 0),
@@ -149,7 +149,7 @@ impl Outline {
 }
 
 /// Whether one of the names is this.
-pub fn is_among(names: &[&'static str], name: &str) -> bool {
+pub(crate) fn is_among(names: &[&'static str], name: &str) -> bool {
     for it in names {
         if *it == name {
             return true;

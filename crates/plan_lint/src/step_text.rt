@@ -57,7 +57,7 @@ struct Argument<'a> {
 }
 
 /// Finds the first thing that is wrong with the text.
-pub fn of_step(step: &InvalidStep<'_>, found: &mut Findings) {
+pub(crate) fn of_step(step: &InvalidStep<'_>, found: &mut Findings) {
     if step.written.is_empty() {
         let words = "expected a step, found an empty string";
         return found.error(step.fault, step.whole, words, &[]);

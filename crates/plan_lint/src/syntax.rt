@@ -7,7 +7,7 @@ use std::ops::Range;
 use std::str::from_utf8;
 
 /// Finds what the reader of TOML stopped at. The words are the reader's, unless the mistake is one that plans have.
-pub fn syntax(bytes: &[u8], range: Range<usize>, message: &str, found: &mut Findings) {
+pub(crate) fn syntax(bytes: &[u8], range: Range<usize>, message: &str, found: &mut Findings) {
     let span = Span {
         start: range.start,
         end: range.end,
@@ -85,8 +85,7 @@ fn other_header(at: usize, before: &str, after: &str, found: &mut Findings) {
 
 // A string that its line does not close.
 fn unclosed_string(at: usize, before: &str, found: &mut Findings) {
-    let is_quote = |it: char| it == '"' || it == '\'';
-    let len = match before.rsplit_once(is_quote) {
+    let len = match before.rsplit_once(['"', '\'']) {
         Some((front, _)) => before.len().saturating_sub(front.len()),
         None => 0,
     };
@@ -97,8 +96,7 @@ fn unclosed_string(at: usize, before: &str, found: &mut Findings) {
 
 // What is no item of an array: a step without quotes, the end of the text, or something else.
 fn in_array(span: Span, message: &str, after: &str, found: &mut Findings) {
-    let is_end = |it: char| matches!(it, ',' | ']' | '#' | '"');
-    let item = match after.split_once(is_end) {
+    let item = match after.split_once([',', ']', '#', '"']) {
         Some((item, _)) => item.trim_end(),
         None => after,
     };

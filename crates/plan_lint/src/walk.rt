@@ -60,7 +60,7 @@ struct Walk<'a> {
 }
 
 /// The parts of a plan's text.
-pub fn outline_of(alloc: Global, text: &str) -> Result<Outline, AllocError> {
+pub(crate) fn outline_of(alloc: Global, text: &str) -> Result<Outline, AllocError> {
     let mut walk = Walk {
         alloc,
         whole: text.len(),

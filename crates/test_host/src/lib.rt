@@ -15,8 +15,6 @@
 #![tactic(auto)]
 
 #[cfg(test)]
-mod audit;
-#[cfg(test)]
 mod blocks;
 #[cfg(test)]
 mod calls;
