@@ -8,4 +8,5 @@ pub mod Results
 pub mod Runs
 pub mod SideBySide
 pub mod StatesDiffer
+pub mod Walks
 pub mod WordEdits
