@@ -1,4 +1,4 @@
-use Rattle.std.proofs.Common.{◌≡◌, List, ◌++◌, ◌∙◌, Some, None, ap, rules}
+use Rattle.std.proofs.Common.{◌≡◌, List, ◌++◌, ◌∙◌, Some, ap, rules}
 use Rattle.rmi_abi.specs.declared.settings.RmmSettings.{RmmSettings}
 use Rattle.rmm_model.specs.declared.condition.Condition.TheVariants.{SrcAlign, SrcBound, SrcPas, DataAlign, DataBound, DataState}
 use Rattle.rmm_model.specs.Check.{Check, first_failing}

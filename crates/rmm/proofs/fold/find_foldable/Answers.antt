@@ -1,4 +1,4 @@
-use Rattle.std.proofs.Common.{◌≡◌, ℕ, ◌+◌, ◌-◌, [], ◌∷◌, ◌++◌, Bool, not, is_some, List, Some, None, rules, refl, ap, ◌∙◌}
+use Rattle.std.proofs.Common.{◌≡◌, ℕ, ◌+◌, ◌-◌, ◌++◌, List, Some, rules, ap, ◌∙◌}
 use Rattle.rmm_model.specs.declared.entry.RmmRttEntry.{RmmRttEntry}
 use Rattle.rmm_model.specs.declared.realm.RmmRealm.{RmmRealm}
 use Rattle.rmm_model.specs.declared.realm.RttWalk.{RttWalk}
