@@ -1,4 +1,5 @@
 """The files that tools and editors read: the toolchain's version, and which files are made or laid out how."""
+import collections
 import configparser
 import io
 import os
@@ -8,7 +9,9 @@ from typing import NamedTuple
 import pytest
 
 import progress
+from edits import FOLDERS
 from programs import SECONDS, TOP, module_of, ran, run
+from toolchain import Toolchain
 
 ANOTHER, NAMED = "rattle-kit-0 logic 0", (TOP / "rattle-toolchain").read_text().strip()
 # A toolchain of another version, which has no crates.
@@ -75,6 +78,23 @@ def test_editors():
     laid_out = [*TOP.glob("*.md"), *TOP.glob("docs/**/*.md"), *TOP.glob("tools/*"), *TOP.glob("tests/*.py"), *TOP.glob("crates/*/src/**/*.rt")]
     found = [path for path in laid_out if path.is_file() for text in [path.read_text()] if not text.endswith("\n") or " \n" in text or "\r" in text]
     assert found == []
+
+
+# ---- edits of bodies
+
+EDITS = [path for folder in FOLDERS for path in sorted(TOP.glob(f"crates/*/{folder}/*.edit"))]
+
+
+@pytest.mark.skipif(not shutil.which("rt"), reason="there is no rt")
+def test_each_edit_can_be_applied():
+    """Each old text is in its file once. Whether the edit compiles and is refused, `make mutants` finds."""
+    read_edit = Toolchain().rt.read_edit
+    assert {path: why for path in EDITS for _, why in [read_edit(path, path.parent.parent)] if why} == {}
+
+
+def test_no_edit_is_there_twice():
+    texts = collections.Counter((path.parent.parent.name, path.read_text()) for path in EDITS)
+    assert [it for it, count in texts.items() if count > 1] == []
 
 
 # ---- make quick, and how far the gate is

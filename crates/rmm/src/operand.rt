@@ -24,7 +24,7 @@ pub struct Rd {
 
 // ---- granules
 
-// The granule that an address conditions.
+// The granule that an address names.
 pub fn named<S: PageStore>(
     granules: &Granules<S>,
     address: u64,
@@ -44,7 +44,7 @@ pub fn named<S: PageStore>(
     Ok(granules.number_of(address))
 }
 
-// The granule of a page of the host that an address conditions.
+// The granule of a page of the host that an address names.
 pub fn host_page<S: PageStore>(
     granules: &Granules<S>,
     address: u64,
@@ -64,7 +64,7 @@ pub fn host_page<S: PageStore>(
     }
 }
 
-// The DELEGATED granule that an address conditions.
+// The DELEGATED granule that an address names.
 pub fn delegated<S: PageStore>(
     granules: &Granules<S>,
     address: u64,

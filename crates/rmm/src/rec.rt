@@ -29,7 +29,7 @@ pub fn error_rec(condition: Condition) -> FailedCondition
     }
 }
 
-// The REC that an address conditions.
+// The REC that an address names.
 pub fn rec_of<S: PageStore>(
     granules: &Granules<S>,
     address: u64,
