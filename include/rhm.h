@@ -16,9 +16,10 @@
  *
  * What a caller has to guarantee is at each function after `Required:`, and nothing checks it. There `handle` is:
  *   - a pointer to an rhm_handle, and not NULL;
- *   - all bytes of it are 0, or it came from rhm_open and was neither copied, moved nor written to since;
+ *   - it is RHM_CLOSED or all bytes of it are 0, or it came from rhm_open and was neither copied, moved nor written to;
  *   - no two pointers of the call lead into the same bytes;
  *   - one call with it at a time, and none from a signal handler, nor from the forked child of a process with threads.
+ * Readings and rhm_prepare write to the handle too, so a reader's lock is not enough.
  * Two handles have nothing in common: each may be in a thread of its own. Threads that share one need a lock.
  */
 #ifndef RHM_H
@@ -60,7 +61,7 @@ RHM_STATIC_ASSERT(sizeof(rhm_handle) == 16 && offsetof(rhm_handle, host) == 8, "
  * for the parameters of realms, one for those of RECs, and 64 for the exits of runs. */
 typedef struct rhm_settings {
     uint64_t pages;   /* granules for the builds, 1 to 4096 */
-    uint64_t vmids;   /* VMIDs from 1 on, 1 to 255 */
+    uint64_t vmids;   /* VMIDs from 1 on, 1 to 255, the host's alone: one handle in front of an RMM */
     uint64_t aux;     /* auxiliary granules of a REC, at most 16: what RMI_REC_AUX_COUNT says of a realm, made before */
     uint64_t builds;  /* 1 to 8 */
     uint64_t history; /* room for the events of each build, 16 to 16384. No undo gives any back */
@@ -84,7 +85,8 @@ enum { RHM_OPENED = 0, RHM_NO_HOST = 1, RHM_NO_MEMORY = 2, RHM_ALREADY_OPEN = 3 
  * Required: handle; `settings` is not NULL, and each of its fields is written. */
 uint64_t rhm_open(rhm_handle *handle, const rhm_settings *settings) RHM_NO_NULL;
 
-/* Closes a handle, and gives its memory back. A closed one stays closed.   Required: handle. */
+/* Closes a handle, and gives its memory back. A closed one stays closed. An RMM keeps what builds have open.
+ * Required: handle. */
 void rhm_close(rhm_handle *handle) RHM_NO_NULL;
 
 /* ---- statuses. An exported function that returns another one than RHM_DONE has changed nothing */
@@ -123,7 +125,7 @@ enum {
     RHM_DELEGATE = 3,  /* page */
     RHM_REALM = 4,     /* page: the RD; second: the first of the starting tables; width: 39 to 43. The value is the VMID */
     RHM_RTT = 5,       /* page, ipa, level */
-    RHM_RIPAS = 6,     /* ipa, count: of pages below one table, at most 512. More is refused after the call alone */
+    RHM_RIPAS = 6,     /* ipa, count: of pages below one table, at most 512. Of more an RMM may perform a part */
     RHM_DATA = 7,      /* page, ipa; second: the page with the bytes */
     RHM_UNKNOWN = 8,   /* page, ipa */
     RHM_REC = 9,       /* page, aux_count, aux. The value is the number of the REC */
@@ -164,7 +166,8 @@ uint64_t rhm_ask(rhm_handle *handle, uint64_t build, const rhm_command *command,
  * Required: handle; `value` is not NULL, and may be written to. */
 uint64_t rhm_undo(rhm_handle *handle, uint64_t build, uint64_t *value) RHM_NO_NULL;
 
-/* ---- in front of an RMM */
+/* ---- in front of an RMM. There rhm_ask, rhm_undo, rhm_abort and rhm_roll_back are not used, since the RMM would get no
+ * call. The way back to a mark is rhm_run_undo until as many are open as at the mark. */
 
 /* The kinds of operations that a hypervisor performs for a command. */
 enum {
@@ -204,7 +207,7 @@ typedef struct rhm_action {
 /* The operations for a command, in sequence. */
 typedef struct rhm_actions {
     uint64_t count;    /* at most 5 */
-    uint64_t expected; /* X0 of the model: 0 if it performs the call, or the word of its refusal */
+    uint64_t expected; /* X0 of the model: 0 if it performs the call, or the word of its refusal. rhm_commit compares */
     rhm_action actions[5];
 } rhm_actions;
 
@@ -235,13 +238,17 @@ uint64_t rhm_prepare(rhm_handle *handle, uint64_t build, const rhm_command *comm
  *
  * The RMM has performed a call if the status of X0 is RMI_SUCCESS: its bits 7:0 are 0. RMM 1.0 does not say what index is
  * beside it. After an entry X0 may also be 2^64 - 2, which the RMM of this repository answers while a guest runs on.
- * Words of refusals are compared whole. A call that the RMM refuses has changed nothing there. RHM_DIVERGED comes neither
- * of a command that makes no call, as RHM_EXIT, nor of an undo that the RMM performs.
+ * Words of refusals are compared whole. So an RMM that leaves an index beside RMI_ERROR_INPUT is RHM_DIVERGED, though
+ * both refuse. A call that the RMM refuses has changed nothing there. RHM_DIVERGED comes neither of a command that makes no
+ * call, as RHM_EXIT, nor of an undo that the RMM performs.
+ * If the host now refuses before the call, since something came between, that is the status, whatever the answer is.
+ * The RMM may have performed the call.
  *
  * What is recorded is what was performed if no other call came for the build since rhm_prepare; for a RHM_REALM, none that
  * creates or removes another realm; and for a RHM_REALM or a RHM_REC, no operation of another one, since they share the
- * page of their parameters. For a RHM_ENTER other commands of the build may have come, but no undo, and no entry of the
- * same REC.
+ * page of their parameters. For a RHM_ENTER other commands of the build may have come, but no undo, no abort and no way
+ * back, no entry of the same REC, and none with the same `run`, of any build. If they have left no room, the status is
+ * RHM_HISTORY_FULL: the guest has run, nothing is recorded, and no RHM_EXIT is due.
  * Required: handle; `command` and `answer` are not NULL, and each of their fields is written; `value` is not NULL, and may
  * be written to. */
 uint64_t rhm_commit(rhm_handle *handle, uint64_t build, const rhm_command *command, const rhm_answer *answer,
@@ -588,7 +595,7 @@ static inline void rhm_put(void *page, size_t offset, uint64_t value, size_t cou
 }
 
 /* Writes what the host decides of a parameter page of 4096 bytes: of RHM_REALM_PARAMS or RHM_REC_PARAMS. The other fields
- * are the hypervisor's: hash_algo and rpv of a realm, pc and gprs of a REC. */
+ * are the hypervisor's: hash_algo and rpv of a realm, pc and gprs of a REC. The page is zeros before. */
 static inline void rhm_write_params(void *page, const rhm_action *action)
 {
     if (action->kind == RHM_REALM_PARAMS) {
@@ -608,12 +615,14 @@ static inline void rhm_write_params(void *page, const rhm_action *action)
 
 /* ---- runs: prepare, perform, commit */
 
-/* Performs an operation on the RMM. For RHM_CALL and RHM_CALL_ENTER it writes X0 and X1 to `answer`. */
+/* Performs an operation on the RMM. For RHM_CALL and RHM_CALL_ENTER it writes X0 and X1 to `answer`. If no SMC was made,
+ * X0 stays 255. An error code that is negative is not safe: bits 7:0 of -512 are 0, and -2 after an entry says that a
+ * guest runs on. It does not throw nor jump away: what it has performed would not be recorded. */
 typedef void (*rhm_perform)(void *context, const rhm_action *action, rhm_answer *answer);
 
 static inline rhm_answer rhm_performed(const rhm_actions *actions, rhm_perform perform, void *context)
 {
-    rhm_answer answer = {0, 0};
+    rhm_answer answer = {255, 0};
     for (uint64_t k = 0; k < actions->count && k < 5; k++)
         perform(context, &actions->actions[k], &answer);
     return answer;

@@ -32,6 +32,8 @@ STATUSES = (
     "RHM_RMI", "RHM_HANDLE_CLOSED", "RHM_NO_COMMAND", "RHM_DIVERGED", "RHM_OTHER_OUTPUT",
 )
 DONE, ABORTING = 0, 2
+# X0 and X1 where no call was made.
+NOT_CALLED = 255, 0
 GRANULE_STATES = ("UNDELEGATED", "DELEGATED", "RD", "REC", "REC_AUX", "DATA", "RTT")
 ACTIONS = (
     "none", "store", "load", "realm_params", "rec_params", "call", "call_enter", "interrupt", "guest_write", "guest_spin",
@@ -390,7 +392,7 @@ class Host:
 
     @staticmethod
     def _performed(actions, perform):
-        answer = 0, 0
+        answer = NOT_CALLED
         for action in actions:
             got = perform(action)
             if action.is_call:

@@ -89,7 +89,7 @@ def statuses(_room):
 
 def differ(room):
     program = room.compiled("differ", [HERE / "differ.c", LIBRARY.static, STATIC])
-    last_line(ran([program]), r"23 checks passed")
+    last_line(ran([program]), r"25 checks passed")
 
 
 def history(room):

@@ -13,7 +13,7 @@
 #include <stdlib.h>
 #include <string.h>
 
-enum { BUILDS = 3, PAGES = 64, BUILD_PAGES = 16, AUX = 2, STEPS = 20, IPAS = 3, NO_BUILD = -1 };
+enum { BUILDS = 3, PAGES = 64, BUILD_PAGES = 16, AUX = 2, STEPS = 20, IPAS = 3, TRIES = 8, NO_BUILD = -1 };
 
 #define BASE UINT64_C(0x80000000)
 /* No call is refused. */
@@ -135,10 +135,10 @@ static void begin_abort(struct vmm *vmm, uint64_t build)
 }
 
 /* Undoes what a build has open, one operation after another, with calls of others between. An undo that the RMM refuses
- * is tried again. */
+ * is tried again, TRIES times in all. */
 static void abort_build(struct vmm *vmm, uint64_t build)
 {
-    uint64_t left = 0, status;
+    uint64_t left = 0, status, refused = 0;
     begin_abort(vmm, build);
     do {
         pthread_mutex_lock(&vmm->lock);
@@ -146,8 +146,9 @@ static void abort_build(struct vmm *vmm, uint64_t build)
         status = rhm_run_undo(&vmm->host, build, perform, vmm, &left);
         vmm->is_undoing = false;
         pthread_mutex_unlock(&vmm->lock);
+        refused += status == RHM_DIVERGED;
         sched_yield();
-    } while (status == RHM_DIVERGED || (status == RHM_DONE && left > 0));
+    } while ((status == RHM_DIVERGED && refused < TRIES) || (status == RHM_DONE && left > 0));
 }
 
 /* Builds a realm; if a step is not done, gives everything back. */

@@ -136,13 +136,15 @@ static bool try_diverged(void)
     return true;
 }
 
-/* A range beyond one table: the RMM has changed its first page, 511 of 512, and this one is committed. */
+/* A range beyond one table, which the model refuses: the RMM has changed its first page, 511 of 512, and this one is
+ * committed. */
 static bool try_part_of_ripas(void)
 {
     const rhm_command part = rhm_init_ripas(511, 1);
     rhm_event event;
     uint64_t value = 99;
-    CHECKED(boot() && run(rhm_init_ripas(511, 2)) == RHM_OTHER_OUTPUT && last_x1 == 512 * RHM_GRANULE_SIZE);
+    CHECKED(boot() && rhm_run(&host, 0, rhm_init_ripas(511, 2), perform, NULL, &value) == RHM_DIVERGED);
+    CHECKED(value == RMM_ERROR_INPUT && last_x1 == 512 * RHM_GRANULE_SIZE);
     const rhm_answer answer = {0, last_x1};
     CHECKED(rhm_commit(&host, 0, &part, &answer, &value) == RHM_DONE && value == 0);
     CHECKED(rhm_read_event(&host, rhm_event_count(&host) - 1, &event) && event.kind == RHM_EVENT_RIPAS);
