@@ -23,9 +23,9 @@ ripas_at m realm ipa = ripas_in (entry_at m (walk m realm ipa 3) ipa)
 abbrev pub IsBetween : ℕ → ℕ → ℕ → Type 0
 IsBetween base top ipa = (base ≤ ipa) × (ipa < top)
 
--- A call gives an address of the realm of an RD another RIPAS. RAM comes by RTT_INIT_RIPAS and DATA_CREATE of a NEW
--- realm, and DESTROYED by DATA_DESTROY and RTT_DESTROY. By RTT_SET_RIPAS comes what a REC of the realm asked for, within
--- the range that it asked for. It takes the place of DESTROYED only if the REC asked for that too.
+-- A call may give an address of the realm of an RD another RIPAS. RAM comes by RTT_INIT_RIPAS and DATA_CREATE of a NEW
+-- realm, and DESTROYED by DATA_DESTROY and RTT_DESTROY. By RTT_SET_RIPAS comes what a REC of the realm asks for, within
+-- the range that it asks for. It takes the place of DESTROYED only if the REC asks for that too.
 abbrev pub IsRipasGiven : Machine → Option Call → ℕ → ℕ → RmmRipas → RmmRipas → Type 0
 IsRipasGiven m (Some (RttInitRipas of base top)) rd ipa old Ram = (rd ≡ number_of m of) × IsRealmIn m rd New × IsBetween base top ipa
 IsRipasGiven m (Some (DataCreate of page at source flags)) rd ipa old Ram =

@@ -240,10 +240,11 @@ pub fn requests_are_the_guest_s()
     ensures left { (m : Machine) (g : ℕ) (exit : RecExit) (last : LastExit) → KeepsRequests m None (after_exit m g exit last) }
 {}
 
-/// RIPAS is the guest's. RMI_RTT_INIT_RIPAS and RMI_DATA_CREATE make it RAM while a realm is NEW. RMI_DATA_DESTROY and
-/// RMI_RTT_DESTROY make it DESTROYED, and a page that is destroyed leaves RIPAS that is not RAM. RMI_RTT_SET_RIPAS makes
-/// it what a REC of the realm asked for, within the range that it asked for. No other call changes the RIPAS of a
-/// protected address, and neither do stores and fills of the host, steps that guests are given, and interrupts.
+/// RIPAS is the guest's. RMI_RTT_INIT_RIPAS and RMI_DATA_CREATE alone can make it RAM while a realm is NEW.
+/// RMI_DATA_DESTROY and RMI_RTT_DESTROY can make it DESTROYED, and a page that is destroyed leaves RIPAS that is not RAM.
+/// RMI_RTT_SET_RIPAS can make it what a REC of the realm asks for, within the range that it asks for. No other call
+/// changes the RIPAS of a protected address, and neither do stores and fills of the host, steps that guests are given,
+/// and interrupts.
 pub fn ripas_is_the_guest_s()
     ensures calls { (r : Registers) (m : Machine) → IsProper m → KeepsRipas m (call_in r) (rmi r m).1 }
     ensures taken { (m : Machine) (rd ipa : ℕ) → IsProper m → (performed (DataDestroy rd ipa) m).0.word ≡ Success → is_ram (ripas_at (performed (DataDestroy rd ipa) m).1 (realm_at m rd) ipa) ≡ false }
@@ -271,9 +272,8 @@ pub fn fold_and_unfold()
 /// and DELEGATED ones. So it keeps the RDs, tables, pages and RECs of all other realms. UNDELEGATED ones stay as they
 /// were, but for one that is delegated, and for pages that a REC writes which is entered. Stores and fills of the host
 /// change UNDELEGATED granules alone, a step that a guest is given its REC, and an interrupt its REC and UNDELEGATED
-/// granules. A guest writes pages of its realm, and of the host
-/// outside the secure world. Settings and the number of granules stay. VMIDs are
-/// those before, but for calls that create or destroy a realm.
+/// granules. A write of a guest changes pages of its realm, and of the host outside the secure world. Settings and the
+/// number of granules stay. VMIDs are those before, but for calls that create or destroy a realm.
 pub fn other_realms_stay()
     ensures calls { (r : Registers) (m : Machine) (granule : ℕ) → IsProper m → IsOfAnother m (call_in r) granule → IsSameAt m (rmi r m).1 granule }
     ensures hosts { (r : Registers) (m : Machine) (granule : ℕ) → IsProper m → (granule_at m granule).state ≡ Undelegated → IsSameAt m (rmi r m).1 granule ⊎ IsHostChanged m (rmi r m).1 (call_in r) granule }

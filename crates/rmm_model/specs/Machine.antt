@@ -61,7 +61,7 @@ number_of m address = (address - m.settings.base) / 4096
 abbrev pub state_at : Machine → ℕ → RmmGranuleState
 state_at m address = (granule_at m (number_of m address)).state
 
--- the memory at an address is the host's or the RMM's, and not of the secure world
+-- the memory at an address is of the secure world
 unfoldable pub is_secure : Machine → ℕ → Bool
 is_secure m address = nat_le m.settings.secure_base address && nat_lt ((address - m.settings.secure_base) / 4096) m.settings.secure_count
 
