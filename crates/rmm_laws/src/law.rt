@@ -229,8 +229,8 @@ pub fn rims_are_measured()
 
 /// What RECs ask for of RIPAS is their guests'. A call keeps what each REC asks for, but RMI_REC_ENTER of the REC, and
 /// RMI_RTT_SET_RIPAS, after which the REC asks for the rest. So do steps that a guest is given, and interrupts. A REC that
-/// left with a request asks for nothing once it is entered. A step of its guest asks for a range of the protected half,
-/// or leaves what is asked for as it is, and so does the exit.
+/// left with a request asks for nothing once it is entered, and any other asks for what it asked for before. A step of
+/// its guest asks for a range of the protected half, or leaves what is asked for as it is, and so does the exit.
 pub fn requests_are_the_guest_s()
     ensures calls { (r : Registers) (m : Machine) → KeepsRequests m (call_in r) (rmi r m).1 }
     ensures steps { (m : Machine) (rec : ℕ) (w : StepWords) → KeepsRequests m None (queued m rec w).1 }
@@ -242,6 +242,7 @@ pub fn requests_are_the_guest_s()
 
 /// RIPAS is the guest's. RMI_RTT_INIT_RIPAS and RMI_DATA_CREATE alone can make it RAM while a realm is NEW.
 /// RMI_DATA_DESTROY and RMI_RTT_DESTROY can make it DESTROYED, and a page that is destroyed leaves RIPAS that is not RAM.
+    ensures kept { (m : Machine) (g address flags : ℕ) (rec : RmmRec) → (rec_in m g).exit ≢ RipasChange → (granule_at (after_entry m g address flags) g).state ≡ Rec rec → rec.ripas ≡ (rec_in m g).ripas }
 /// RMI_RTT_SET_RIPAS can make it what a REC of the realm asks for, within the range that it asks for. No other call
 /// changes the RIPAS of a protected address, and neither do stores and fills of the host, steps that guests are given,
 /// and interrupts.
