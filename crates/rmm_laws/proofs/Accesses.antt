@@ -72,7 +72,7 @@ same_side s a b to from =
     (λ (high : s ≤ a). le-leb s a high ∙ sym (le-leb s b (to high)))
     (cases_lt a s)
 
-secure_page : (m : Machine) (address : ℕ) → IsSound m → is_inside m address ≡ true → is_secure m (m.settings.base + number_of m address * 4096) ≡ is_secure m address
+pub secure_page : (m : Machine) (address : ℕ) → IsSound m → is_inside m address ≡ true → is_secure m (m.settings.base + number_of m address * 4096) ≡ is_secure m address
 unfolding is_secure is_inside number_of
 secure_page m address sound inside =
     let above : m.settings.base ≤ address = leb-true _ _ (and_parts (nat_le m.settings.base address) _ inside).0 in

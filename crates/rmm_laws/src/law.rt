@@ -42,12 +42,12 @@ ghost use Rattle.rmm_model.specs.Machine.{Machine, granule_at, is_inside, is_sec
 ghost use Rattle.rmm_model.specs.Table.{entry_in_page, has_live};
 ghost use Rattle.rmm_model.specs.Walk.{entry_at, table_below, walk, top};
 ghost use Rattle.rmm_model.specs.Command.RecEnter.{interrupted, step_outcome, after_step, after_entry, after_first_step, after_exit};
-ghost use Rattle.rmm_laws.specs.Apart.{rd_named, changes_vmids, IsHostChanged, IsOfRealm, IsOfAnother, IsSameAt};
+ghost use Rattle.rmm_laws.specs.Apart.{rd_named, changes_vmids, IsHostChanged, IsRunPage, IsOfRealm, IsOfAnother, IsSameAt};
 ghost use Rattle.rmm_laws.specs.Back.{ComesBack, RecComesBack, IsAssignedTo, IsReleased};
 ghost use Rattle.rmm_laws.specs.Fold.{CanReplaceTable, IsAlike};
 ghost use Rattle.rmm_laws.specs.Half.{IsOfHalf, IsPlaced};
 ghost use Rattle.rmm_laws.specs.Owner.{is_rec_in};
-ghost use Rattle.rmm_laws.specs.Proper.{IsProper};
+ghost use Rattle.rmm_laws.specs.Proper.{IsProper, IsProperRun};
 ghost use Rattle.rmm_laws.specs.Refusal.{IsRefused, is_refusal, IsOneOf, IsRecEnter, IsFault, IsNotGiven, IsNotQueued, IsNotRunning, IsAccess, IsNotDone};
 ghost use Rattle.rmm_laws.specs.Request.{KeepsRequests, IsAskedFor};
 ghost use Rattle.rmm_laws.specs.Ripas.{KeepsRipas, ripas_at};
@@ -85,7 +85,8 @@ pub fn allowed_is_refused()
 
 /// Granules have one role: each RTT, DATA and REC_AUX granule is used once, in the realm that owns it, and no other is.
 /// Owners are RDs, each RD counts its RECs, and DELEGATED granules are zero. The machine of a platform is so. Each call
-/// keeps it so, and so do the host's stores and fills, steps that guests are given, and interrupts.
+/// keeps it so, and so do the host's stores and fills, steps that guests are given, and interrupts. During a run, the
+/// entry of a REC keeps it so, each step of its guest, and the exit.
 pub fn granules_have_one_role()
     ensures opened { (s : RmmSettings) (pages : List (List ℕ)) → IsPlatform s → length pages ≤ 4096 → ((k : ℕ) → k < length pages → length (page_at pages k) ≡ 4096)
         → IsProper (platform_machine s pages) }
@@ -97,6 +98,9 @@ pub fn granules_have_one_role()
     ensures interrupts { (m : Machine) (rec : ℕ) → IsProper m → IsProper (interrupted m rec).1 }
     ensures used { (m : Machine) (proper : IsProper m) (user index part : ℕ) (u : Used) → uses m proper.linked.level user index part ≡ Some u → granule_at m u.number ≡ u.attributes }
     ensures once { (m : Machine) (proper : IsProper m) (x i k y j l : ℕ) (u v : Used) → uses m proper.linked.level x i k ≡ Some u → uses m proper.linked.level y j l ≡ Some v → u.number ≡ v.number
+    ensures entries { (m : Machine) (g address flags : ℕ) → IsProperRun m g → IsProperRun (after_entry m g address flags) g }
+    ensures guests { (m : Machine) (g flags : ℕ) → IsProperRun m g → IsProperRun (after_first_step m g flags) g }
+    ensures exits { (m : Machine) (g : ℕ) (exit : RecExit) (last : LastExit) → IsProperRun m g → IsProperRun (after_exit m g exit last) g }
         → (x ≡ y) × (i ≡ j) × (k ≡ l) }
 {}
 
@@ -271,9 +275,9 @@ pub fn fold_and_unfold()
 
 /// Other realms stay: a call leaves each granule as it was, but for those of the realm that it is on, and UNDELEGATED
 /// and DELEGATED ones. So it keeps the RDs, tables, pages and RECs of all other realms. UNDELEGATED ones stay as they
-/// were, but for one that is delegated, and for pages that a REC writes which is entered. Stores and fills of the host
-/// change UNDELEGATED granules alone, a step that a guest is given its REC, and an interrupt its REC and UNDELEGATED
-/// granules. A write of a guest changes pages of its realm, and of the host outside the secure world. Settings and the
+/// were, but for one that is delegated, and for pages that a REC writes which is entered. None of these is of the secure
+/// world. Stores and fills of the host change UNDELEGATED granules alone, a step that a guest is given its REC, and an
+/// interrupt its REC and its run page. A write of a guest changes pages of its realm, and of the host outside the secure world. Settings and the
 /// number of granules stay. VMIDs are those before, but for calls that create or destroy a realm.
 pub fn other_realms_stay()
     ensures calls { (r : Registers) (m : Machine) (granule : ℕ) → IsProper m → IsOfAnother m (call_in r) granule → IsSameAt m (rmi r m).1 granule }
@@ -304,5 +308,6 @@ pub fn mistakes_are_refused()
         → IsProper (with_blank (with_aux m g (of_no_realm Delegated) m.settings.aux) g Delegated) → ⊥ }
     ensures owner_removed { (m : Machine) (rd g : ℕ) (realm : RmmRealm) → IsProper m → (granule_at m rd).state ≡ Rd realm → (granule_at m g).owner ≡ Some rd
         → ((k : ℕ) → k < realm.table_count → g ≢ realm.first_table + k) → IsProper (with_blank (without_tables m realm realm.table_count) rd Delegated) → ⊥ }
+    ensures ended { (m : Machine) (rec granule : ℕ) → IsProper m → (granule_at m granule).state ≡ Undelegated → IsSameAt m (interrupted m rec).1 granule ⊎ IsRunPage m (interrupted m rec).1 rec granule }
     ensures wipe_left_out { (m : Machine) (g : ℕ) → IsProper m → (granule_at m g).state ≡ Delegated → page_in m g ≡ zero_page }
 {}

@@ -20,7 +20,7 @@ use Rattle.rmm_model.specs.Realm.{IsServed}
 use Rattle.rmm_laws.specs.Owner.{IsOrderly}
 use Rattle.rmm_laws.specs.Proper.{IsProper}
 use Rattle.rmm_laws.specs.Role.{Used, has_user, uses, IsSound}
-use Rattle.rmm_laws.proofs.Guests.{entered, completed, interrupt_kept, given_kept}
+use Rattle.rmm_laws.proofs.Guests.{entered, completed, entry_proper, step_proper, exit_proper, interrupt_kept, given_kept}
 use Rattle.rmm_laws.proofs.Mappings.{host_mapped, host_unmapped, ripas_inited, ripas_set, activated, data_made, unknown_made, data_gone}
 use Rattle.rmm_laws.proofs.Passed.{Passed, kept}
 use Rattle.rmm_laws.proofs.Plain.{delegated, undelegated, stored, filled}
@@ -142,6 +142,15 @@ returns-clause-steps c = given_kept
 
 pub returns-clause-interrupts : goal.returns-clause-interrupts
 returns-clause-interrupts c = interrupt_kept
+
+pub returns-clause-entries : goal.returns-clause-entries
+returns-clause-entries c = λ m g address flags run. entry_proper m g run address flags
+
+pub returns-clause-guests : goal.returns-clause-guests
+returns-clause-guests c = λ m g flags run. step_proper m g run flags
+
+pub returns-clause-exits : goal.returns-clause-exits
+returns-clause-exits c = λ m g exit last run. exit_proper m g run exit last
 
 pub returns-clause-used : goal.returns-clause-used
 returns-clause-used c = λ m proper user index part u gives. sym (ap (λ (v : Used). v.attributes) (right m proper.linked user index part u gives))

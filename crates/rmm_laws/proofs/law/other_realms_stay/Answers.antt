@@ -16,7 +16,7 @@ use Rattle.rmm_model.specs.Command.RecEnter.{after_step}
 use Rattle.rmm_model.specs.Machine.{Machine, granule_at, is_aligned, is_secure, number_of, with_page, with_word}
 use Rattle.rmm_laws.specs.Apart.{named_realm, IsHostChanged, IsSameAt, IsOfAnother}
 use Rattle.rmm_laws.specs.Proper.{IsProper}
-use Rattle.rmm_laws.proofs.LeftAlone.{touches_host, touches_of, host_left, left_alone}
+use Rattle.rmm_laws.proofs.LeftAlone.{touches_host, touches_of, host_left, interrupt_host, left_alone}
 use Rattle.rmm_laws.proofs.Passed.{kept}
 use Rattle.rmm_laws.proofs.Plain.{host_plain}
 use Rattle.rmm_laws.proofs.Aside.{given_apart, interrupt_apart, written_apart, plain_of}
@@ -55,6 +55,9 @@ returns-clause-steps c = given_apart
 
 pub returns-clause-interrupts : goal.returns-clause-interrupts
 returns-clause-interrupts c = interrupt_apart
+
+pub returns-clause-ended : goal.returns-clause-ended
+returns-clause-ended c = interrupt_host
 
 by_settings : (o : Option Call) (r : Registers) (m : Machine) → IsProper m → ((rmi_at o r m).1.settings ≡ m.settings) × (length (rmi_at o r m).1.granules ≡ length m.granules)
 unfolding performed
