@@ -160,7 +160,7 @@ can_in_range m changeable found base top j low high =
     fixed_from changeable (page_in m found.table) (entries_below found base top) (entry_index found.level base) j low (omega arith)
 
 -- they are below the top
-change_below : (m : Machine) (changeable : Changeable) (found : RttWalk) (base top : ℕ) → change_count m changeable found base top ≤ (top - base) / entry_size found.level
+pub change_below : (m : Machine) (changeable : Changeable) (found : RttWalk) (base top : ℕ) → change_count m changeable found base top ≤ (top - base) / entry_size found.level
 unfolding change_count entries_below
 change_below m changeable found base top =
     let first : ℕ = entry_index found.level base in

@@ -26,6 +26,8 @@ pub mod Mistakes
 pub mod Moves
 pub mod NewRealms
 pub mod OneMore
+pub mod NewRipas
+pub mod NoRam
 pub mod Ordering
 pub mod Orders
 pub mod Owning
@@ -50,6 +52,7 @@ pub mod SameTables
 pub mod Seats
 pub mod Serving
 pub mod Sides
+pub mod SetRipas
 pub mod StateCalls
 pub mod States
 pub mod Steps

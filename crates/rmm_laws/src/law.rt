@@ -7,22 +7,23 @@ ghost use Rattle.rmi_abi.specs.declared.registers.SmcResult.{SmcResult};
 ghost use Rattle.rmi_abi.specs.declared.rec_run.RecExit.{RecExit};
 ghost use Rattle.rmi_abi.specs.declared.settings.RmmSettings.{RmmSettings};
 ghost use Rattle.rmi_abi.specs.declared.call.Call.{Call};
-ghost use Rattle.rmi_abi.specs.declared.call.Call.TheVariants.{GranuleUndelegate, RealmActivate, RealmDestroy, RecDestroy, RecEnter, RttCreate, RttDestroy, RttFold, RttUnmapUnprotected, DataCreate, DataDestroy};
+ghost use Rattle.rmi_abi.specs.declared.call.Call.TheVariants.{GranuleUndelegate, RealmActivate, RealmCreate, RealmDestroy, RecDestroy, RecEnter, RttCreate, RttDestroy, RttFold, RttSetRipas, RttUnmapUnprotected, DataCreate, DataDestroy};
 ghost use Rattle.rmi_abi.specs.declared.word.Word.{Word};
 ghost use Rattle.rmi_abi.specs.declared.word.Word.TheVariants.{Success};
 ghost use Rattle.rmi_abi.specs.Call.{call_in};
 ghost use Rattle.rmi_abi.specs.Settings.{IsPlatform};
 ghost use Rattle.rmm_granules.specs.Inside.{platform_machine};
 ghost use Rattle.rmm_model.specs.declared.access.AccessSize.{AccessSize};
-ghost use Rattle.rmm_model.specs.declared.entry.RmmRttEntry.TheVariants.{Assigned, AssignedNs, Table};
+ghost use Rattle.rmm_model.specs.declared.entry.RmmRttEntry.TheVariants.{Unassigned, Assigned, AssignedNs, Table};
 ghost use Rattle.rmm_model.specs.declared.granule.RmmGranuleState.TheVariants.{Undelegated, Delegated, Data, Rd, Rec, Rtt};
 ghost use Rattle.rmm_model.specs.declared.step.GuestStep.{GuestStep};
-ghost use Rattle.rmm_model.specs.declared.step.GuestStep.TheVariants.{Write};
+ghost use Rattle.rmm_model.specs.declared.step.GuestStep.TheVariants.{Write, Read, Fetch};
 ghost use Rattle.rmm_model.specs.declared.step.StepOutcome.{StepOutcome};
 ghost use Rattle.rmm_model.specs.declared.step.StepWords.{StepWords};
 ghost use Rattle.rmm_model.specs.declared.realm.RmmRealm.{RmmRealm};
 ghost use Rattle.rmm_model.specs.declared.realm.RmmRealmState.TheVariants.{New, Active};
 ghost use Rattle.rmm_model.specs.declared.entry.RmmRipas.{RmmRipas};
+ghost use Rattle.rmm_model.specs.declared.entry.RmmRipas.TheVariants.{Empty};
 ghost use Rattle.rmm_model.specs.declared.rec.LastExit.{LastExit};
 ghost use Rattle.rmm_model.specs.declared.rec.LastExit.TheVariants.{RipasChange};
 ghost use Rattle.rmm_model.specs.declared.rec.RmmRec.{RmmRec};
@@ -50,7 +51,7 @@ ghost use Rattle.rmm_laws.specs.Owner.{is_rec_in};
 ghost use Rattle.rmm_laws.specs.Proper.{IsProper, IsProperRun};
 ghost use Rattle.rmm_laws.specs.Refusal.{IsRefused, is_refusal, IsOneOf, IsRecEnter, IsFault, IsNotGiven, IsNotQueued, IsNotRunning, IsAccess, IsNotDone};
 ghost use Rattle.rmm_laws.specs.Request.{KeepsRequests, IsAskedFor};
-ghost use Rattle.rmm_laws.specs.Ripas.{KeepsRipas, ripas_at};
+ghost use Rattle.rmm_laws.specs.Ripas.{KeepsRipas, ripas_at, IsRipasSet, IsWithoutRam, outcome_without_ram};
 ghost use Rattle.rmm_laws.specs.Role.{Used, page_count, uses, IsSound};
 ghost use Rattle.rmm_laws.specs.State.{IsRealmIn, KeepsStates, KeepsRealms, HasRim, IsMeasured, Measures, KeepsRims};
 ghost use Rattle.rmm_laws.specs.Step.{HasNextStep, HasRemoval, CanBeTornDown};
@@ -246,15 +247,26 @@ pub fn requests_are_the_guest_s()
 
 /// RIPAS is the guest's. RMI_RTT_INIT_RIPAS and RMI_DATA_CREATE alone can make it RAM while a realm is NEW.
 /// RMI_DATA_DESTROY and RMI_RTT_DESTROY can make it DESTROYED, and a page that is destroyed leaves RIPAS that is not RAM.
-    ensures kept { (m : Machine) (g address flags : ℕ) (rec : RmmRec) → (rec_in m g).exit ≢ RipasChange → (granule_at (after_entry m g address flags) g).state ≡ Rec rec → rec.ripas ≡ (rec_in m g).ripas }
-/// RMI_RTT_SET_RIPAS can make it what a REC of the realm asks for, within the range that it asks for. No other call
-/// changes the RIPAS of a protected address, and neither do stores and fills of the host, steps that guests are given,
-/// and interrupts.
+/// RMI_RTT_SET_RIPAS can make it what a REC of the realm asks for, within the range that it asks for. If it succeeds, it
+/// does so up to X1 and no further, and leaves the pages. No other call changes the RIPAS of a protected address, and
+/// neither do stores and fills of the host, steps that guests are given, and interrupts. A new realm is EMPTY and has no
+/// page at each protected address. An access of a guest where RIPAS is not RAM is answered an SEA or makes an exit, and
+/// reads and writes nothing.
 pub fn ripas_is_the_guest_s()
     ensures calls { (r : Registers) (m : Machine) → IsProper m → KeepsRipas m (call_in r) (rmi r m).1 }
     ensures taken { (m : Machine) (rd ipa : ℕ) → IsProper m → (performed (DataDestroy rd ipa) m).0.word ≡ Success → is_ram (ripas_at (performed (DataDestroy rd ipa) m).1 (realm_at m rd) ipa) ≡ false }
     ensures stores { (m : Machine) (address word : ℕ) → IsProper m → KeepsRipas m None (after_store m address word) }
     ensures fills { (m : Machine) (address value : ℕ) → IsProper m → KeepsRipas m None (after_fill m address value) }
+    ensures changed { (m : Machine) (rd rec base top : ℕ) → IsProper m → (performed (RttSetRipas rd rec base top) m).0.word ≡ Success
+        → IsRipasSet m (performed (RttSetRipas rd rec base top) m).1 (realm_at m rd) (rec_at m rec).ripas base (performed (RttSetRipas rd rec base top) m).0.x1 × ((performed (RttSetRipas rd rec base top) m).0.x1 ≤ top) }
+    ensures new { (m : Machine) (rd params ipa : ℕ) (realm : RmmRealm) → IsProper m → (performed (RealmCreate rd params) m).0.word ≡ Success
+        → (granule_at (performed (RealmCreate rd params) m).1 (number_of m rd)).state ≡ Rd realm → is_protected realm ipa ≡ true
+        → entry_at (performed (RealmCreate rd params) m).1 (walk (performed (RealmCreate rd params) m).1 realm ipa 3) ipa ≡ Unassigned Empty }
+    ensures reads { (m : Machine) (realm : RmmRealm) (rec flags ipa : ℕ) (size : AccessSize) → IsWithoutRam m realm ipa
+        → step_outcome m realm rec flags (Read ipa size) ≡ outcome_without_ram m realm 0x90000000 ipa }
+    ensures writes { (m : Machine) (realm : RmmRealm) (rec flags ipa value : ℕ) (size : AccessSize) (outcome : StepOutcome) → IsWithoutRam m realm ipa
+        → (step_outcome m realm rec flags (Write ipa value size) ≡ outcome_without_ram m realm 0x90000000 ipa) × (after_step m realm rec (Write ipa value size) outcome ≡ m) }
+    ensures fetches { (m : Machine) (realm : RmmRealm) (rec flags ipa : ℕ) → IsWithoutRam m realm ipa → step_outcome m realm rec flags (Fetch ipa) ≡ outcome_without_ram m realm 0x80000000 ipa }
     ensures steps { (m : Machine) (rec : ℕ) (w : StepWords) → IsProper m → KeepsRipas m None (queued m rec w).1 }
     ensures interrupts { (m : Machine) (rec : ℕ) → IsProper m → KeepsRipas m None (interrupted m rec).1 }
 {}
