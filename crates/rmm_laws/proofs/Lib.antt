@@ -10,6 +10,7 @@ pub mod Entries
 pub mod EntryRipas
 pub mod EntryWords
 pub mod Fold
+pub mod FoldMemory
 pub mod Freed
 pub mod Given
 pub mod Guests
@@ -25,9 +26,9 @@ pub mod Mappings
 pub mod Mistakes
 pub mod Moves
 pub mod NewRealms
-pub mod OneMore
 pub mod NewRipas
 pub mod NoRam
+pub mod OneMore
 pub mod Ordering
 pub mod Orders
 pub mod Owning
@@ -51,12 +52,13 @@ pub mod Running
 pub mod SameTables
 pub mod Seats
 pub mod Serving
-pub mod Sides
 pub mod SetRipas
+pub mod Sides
 pub mod StateCalls
 pub mod States
 pub mod Steps
-pub mod TableRipas
+pub mod TableEnds
+pub mod TableReads
 pub mod Tables
 pub mod Teardown
 pub mod Tops

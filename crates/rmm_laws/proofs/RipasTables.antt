@@ -1,35 +1,34 @@
 -- The RIPAS of protected addresses after calls that make or remove a table, and after each call.
-use Rattle.std.proofs.Common.{◌≡◌, ◌≢◌, ℕ, ◌+◌, ◌-◌, ◌/◌, ◌%◌, ◌^◌, ◌<◌, ◌≤◌, ◌⊎◌, ◌==◌, ◌&&◌, inl, inr, true, false, not, List, length, Option, Some, None, unwrap_or, refl, sym, ap, subst, ◌∙◌, ⊎_elim, arith}
+use Rattle.std.proofs.Common.{◌≡◌, ℕ, ◌+◌, ◌-◌, ◌/◌, ◌%◌, ◌^◌, ◌<◌, ◌≤◌, ◌⊎◌, ◌==◌, inl, inr, true, false, List, length, Option, Some, None, unwrap_or, refl, sym, ap, subst, ◌∙◌, ⊎_elim, arith}
 use Rattle.std.specs.Prelude.{nat_le}
-use Rattle.std.proofs.lemmas.Bool.{cond_both, and_parts, eqb-true, leb-true, ltb-true, ltb-false, not-true}
+use Rattle.std.proofs.lemmas.Bool.{cond_both, and_parts, eqb-true, leb-true, ltb-true, ltb-false}
 use Rattle.std.proofs.lemmas.List.{length-set}
 use Rattle.granule_addr.specs.Page.{page_of}
-use Rattle.page_arena.specs.Page.{page_at}
-use Rattle.page_arena.specs.Word.{word_of_page}
 use Rattle.rmi_abi.specs.declared.call.Call.{Call}
 use Rattle.rmi_abi.specs.declared.call.Call.TheVariants.{Version, Features, GranuleDelegate, GranuleUndelegate, RealmCreate, RealmActivate, RealmDestroy, RecAuxCount, RecCreate, RecDestroy, RecEnter, PsciComplete}
 use Rattle.rmi_abi.specs.declared.call.Call.TheVariants.{RttReadEntry, RttCreate, RttDestroy, RttFold, RttMapUnprotected, RttUnmapUnprotected, RttInitRipas, RttSetRipas, DataCreate, DataCreateUnknown, DataDestroy}
 use Rattle.rmi_abi.specs.declared.registers.Registers.{Registers}
 use Rattle.rmi_abi.specs.declared.registers.SmcResult.{SmcResult}
 use Rattle.rmi_abi.specs.declared.word.Word.TheVariants.{Success}
+use Rattle.rmm_model.specs.declared.entry.RmmRipas.{RmmRipas}
 use Rattle.rmm_model.specs.declared.entry.RmmRipas.TheVariants.{Destroyed}
 use Rattle.rmm_model.specs.declared.entry.RmmRttEntry.{RmmRttEntry}
 use Rattle.rmm_model.specs.declared.entry.RmmRttEntry.TheVariants.{Unassigned, Assigned, Table, UnassignedNs, AssignedNs}
 use Rattle.rmm_model.specs.declared.granule.RmmGranule.{RmmGranule}
-use Rattle.rmm_model.specs.declared.granule.RmmGranuleState.TheVariants.{Delegated, Rd, Rtt}
+use Rattle.rmm_model.specs.declared.granule.RmmGranuleState.TheVariants.{Delegated, Rd}
 use Rattle.rmm_model.specs.declared.realm.RmmRealm.{RmmRealm}
 use Rattle.rmm_model.specs.declared.realm.RttWalk.{RttWalk}
 use Rattle.rmm_model.specs.Call.{command_of, performed, rmi_at}
 use Rattle.rmm_model.specs.declared.step.StepWords.{StepWords}
-use Rattle.rmm_model.specs.Entry.{entry_of, entry_word, child_entry, descriptor_of, is_ram, is_table, ripas_in}
-use Rattle.rmm_model.specs.Granule.{of_no_realm, is_delegated}
+use Rattle.rmm_model.specs.Entry.{child_entry, descriptor_of, is_ram, is_table, ripas_in}
+use Rattle.rmm_model.specs.Granule.{of_no_realm}
 use Rattle.rmm_model.specs.Guest.{queued}
 use Rattle.rmm_model.specs.Host.{is_host_page, can_access, can_fill, after_store, after_fill}
 use Rattle.rmm_model.specs.Level.{entry_size, entry_index}
-use Rattle.rmm_model.specs.Machine.{Machine, granule_at, page_in, is_aligned, is_inside, number_of, state_at, with_blank, with_page, with_word}
+use Rattle.rmm_model.specs.Machine.{Machine, granule_at, page_in, is_aligned, is_inside, number_of, state_at, with_page, with_word}
 use Rattle.rmm_model.specs.Realm.{is_in_space, is_protected}
-use Rattle.rmm_model.specs.Table.{entry_in_page, children_page, has_live, has_parts}
-use Rattle.rmm_model.specs.Walk.{entry_at, table_below, walk, with_entry}
+use Rattle.rmm_model.specs.Table.{entry_in_page, has_live}
+use Rattle.rmm_model.specs.Walk.{entry_at, table_below, walk}
 use Rattle.rmm_model.specs.Command.DataDestroy.{data_destroy}
 use Rattle.rmm_model.specs.Command.Operand.{realm_at}
 use Rattle.rmm_model.specs.Command.RealmActivate.{realm_activate}
@@ -39,26 +38,23 @@ use Rattle.rmm_model.specs.Command.RecEnter.{interrupted}
 use Rattle.rmm_model.specs.Command.RttReadEntry.{rtt_read_entry}
 use Rattle.rmm_model.specs.Command.RttCreate.{rtt_create}
 use Rattle.rmm_model.specs.Command.RttDestroy.{rtt_destroy, left_entry}
-use Rattle.rmm_model.specs.Command.RttFold.{rtt_fold, is_homogeneous, is_aligned_above}
+use Rattle.rmm_model.specs.Command.RttFold.{rtt_fold}
 use Rattle.rmm_laws.specs.Apart.{named_realm}
 use Rattle.rmm_laws.specs.Proper.{IsProper}
 use Rattle.rmm_laws.specs.Ripas.{ripas_at, IsRipasGiven, KeepsRipas}
 use Rattle.rmm_laws.specs.State.{fixed, IsLasting, IsDestroyed}
-use Rattle.rmm_laws.proofs.Children.{is_free, children_word, length-children, part_word, unused_free}
-use Rattle.rmm_laws.proofs.Entries.{address_few, named_inside, number_inside}
+use Rattle.rmm_laws.proofs.Children.{is_free, unused_free}
+use Rattle.rmm_laws.proofs.Entries.{number_inside}
 use Rattle.rmm_laws.proofs.EntryRipas.{entry_between}
-use Rattle.rmm_laws.proofs.EntryWords.{descriptor-few, word_ripas}
+use Rattle.rmm_laws.proofs.EntryWords.{word_ripas}
 use Rattle.rmm_laws.proofs.Freed.{succeeded}
 use Rattle.rmm_laws.proofs.Guests.{entered_tables, completed_tables, given_then, interrupted_then}
-use Rattle.rmm_laws.proofs.Halves.{none_below, word_kind}
-use Rattle.rmm_laws.proofs.Halving.{child_kind}
 use Rattle.rmm_laws.proofs.KeptTables.{same_ripas, tables_of}
 use Rattle.rmm_laws.proofs.Lasting.{Lasts, lasts_all}
 use Rattle.rmm_laws.proofs.LastingCalls.{realms_after}
 use Rattle.rmm_laws.proofs.LeftAlone.{touches_host, touches_of}
-use Rattle.rmm_laws.proofs.Mapped.{content_now, entry_now, entry_beside, page_beside, entry_then, entry_other, page_other}
-use Rattle.rmm_laws.proofs.Mappings.{place_is, some_of}
-use Rattle.rmm_laws.proofs.Passed.{Passed, kept, yes_from, is_delegated-true, realm_of-some}
+use Rattle.rmm_laws.proofs.Mappings.{protected_within, some_of}
+use Rattle.rmm_laws.proofs.Passed.{Passed, kept, yes_from, realm_of-some}
 use Rattle.rmm_laws.proofs.Plain.{host_plain}
 use Rattle.rmm_laws.proofs.RipasCalls.{Keeps, by_none, by_rd, by_tables, own_map, own_unmap, own_data, own_unknown, own_destroy, left_not_ram, own_init, own_set}
 use Rattle.rmm_laws.proofs.RecLives.{rec_created_tables}
@@ -67,12 +63,11 @@ use Rattle.rmm_laws.proofs.RecsGone.{destroyed_tables}
 use Rattle.rmm_laws.proofs.SameTables.{KeepsTables, tables_all, tables_page}
 use Rattle.rmm_laws.proofs.Seats.{in_upper}
 use Rattle.rmm_laws.proofs.States.{same_realm}
-use Rattle.rmm_laws.proofs.TableRipas.{made_ripas, gone_ripas}
+use Rattle.rmm_laws.proofs.TableReads.{create_read, removed_read, fold_read}
 use Rattle.rmm_laws.proofs.Touching.{Touches}
-use Rattle.rmm_laws.proofs.Walks.{IsPlace, next}
-use Rattle.rmm_laws.proofs.Writes.{granule_at-same, inside-same, number-same, taken_inside}
+use Rattle.rmm_laws.proofs.Writes.{granule_at-same}
 
--- ---- children
+-- ---- tables that are made or removed
 
 child_ripas : (e : RmmRttEntry) (level k : ℕ) → ripas_in (child_entry e level k) ≡ ripas_in e
 child_ripas (Unassigned ripas) level k = refl
@@ -81,109 +76,19 @@ child_ripas UnassignedNs level k = refl
 child_ripas (AssignedNs desc) level k = refl
 child_ripas (Table address) level k = refl
 
--- an entry whose word is that of a child of another one
-child_read : (page : List ℕ) (e : RmmRttEntry) (level j : ℕ) → word_of_page page j ≡ entry_word (child_entry e level j) → ripas_in (entry_in_page page j) ≡ ripas_in e
-unfolding entry_in_page
-child_read page e level j is = ap (λ (w : ℕ). ripas_in (entry_of w)) is ∙ word_ripas (child_entry e level j) ∙ child_ripas e level j
-
-child_below : (m : Machine) (page : List ℕ) (e : RmmRttEntry) (level j : ℕ) → word_of_page page j ≡ entry_word (child_entry e level j) → is_table e ≡ false → table_below m (entry_in_page page j) ≡ None
-unfolding entry_in_page
-child_below m page e level j is leaf =
-    ap (λ (w : ℕ). table_below m (entry_of w)) is ∙ none_below m (entry_of (entry_word (child_entry e level j))) e (word_kind (child_entry e level j) ∙ child_kind e level j) leaf
-
--- ---- RMI_RTT_CREATE
-
 own_create : (rd rtt ipa level : ℕ) (m : Machine) → IsProper m → Passed (rtt_create rd rtt ipa level m).checks → length (rtt_create rd rtt ipa level m).machine.granules ≡ length m.granules
     → (x : ℕ) (after : RmmRealm) → Keeps (RttCreate rd rtt ipa level) m (rtt_create rd rtt ipa level m).machine (number_of m rd) x (realm_at m rd) after
-unfolding rtt_create
 own_create rd rtt ipa level m proper ok count x after = λ then start first protected.
     let realm : RmmRealm = realm_at m rd in
-    let r : ℕ = number_of m rd in
-    let g : ℕ = number_of m rtt in
-    let n : Machine = (rtt_create rd rtt ipa level m).machine in
-    let is = realm_of-some (state_at m rd) ok.1.1.1.1.1.0 in
-    let inside = yes_from (is_inside m rtt) ok.1.0 in
-    let free = is_delegated-true (state_at m rtt) (yes_from (is_delegated (state_at m rtt)) ok.1.1.0) in
-    let levels = and_parts (nat_le (realm.start_level + 1) level) (nat_le level 3) (yes_from _ ok.1.1.1.1.1.1.0) in
-    let least : realm.start_level + 1 ≤ level = leb-true _ _ levels.0 in
-    let most : level ≤ 3 = leb-true _ _ levels.1 in
-    let within : ipa < 2 ^ realm.s2sz = ltb-true _ _ (yes_from (is_in_space realm ipa) ok.1.1.1.1.1.1.1.1.0) in
-    let found : RttWalk = walk m realm ipa (level - 1) in
-    let there : found.level ≡ level - 1 = eqb-true _ _ (yes_from _ ok.1.1.1.1.1.1.1.1.1.0) in
-    let parent : RmmRttEntry = entry_at m found ipa in
-    let leaf : is_table parent ≡ false = not-true _ (yes_from _ ok.1.1.1.1.1.1.1.1.1.1.0) in
-    let end : IsPlace m proper.linked r ipa found = place_is m proper.linked r ipa (level - 1) realm is within (omega arith) in
-    let content : List ℕ = children_page parent level in
-    let whole = length-children parent level in
-    let lt = number_inside m rtt inside in
-    let fits = address_few m rtt proper.linked.sound inside in
-    let page : page_in n g ≡ content = content_now m proper.linked r ipa found end g lt free Rtt content whole (Table rtt) tt fits in
-    let not_g : (h : ℕ) → (granule_at m h).state ≡ Rtt → h ≢ g = λ h table same. (let states : (granule_at m h).state ≡ (granule_at m g).state = ap (λ (y : ℕ). (granule_at m y).state) same in cc) in
-    inl (made_ripas m n proper refl count r ipa (level - 1) realm is within g
-    (entry_beside m proper.linked r ipa found end g lt free Rtt content whole (Table rtt) tt fits) x leaf
-    (ap (λ (e : RmmRttEntry). table_below n e) (entry_now m proper.linked r ipa found end g lt free Rtt content whole (Table rtt) tt fits)
-    ∙ named_inside n rtt (inside-same m n refl count rtt ∙ inside)
-    ∙ ap (λ (h : ℕ). Some h) (number-same m n refl count rtt))
-    (λ h table other. page_beside m proper.linked r ipa found end g lt free Rtt content whole (Table rtt) tt fits h (not_g h (ap (λ (c : RmmGranule). c.state) table)) other)
-    (omega arith)
-    (λ j few. ap (λ (p : List ℕ). table_below n (entry_in_page p j)) page ∙ child_below n content parent level j (children_word parent level j few) leaf)
-    (λ j few. ap (λ (p : List ℕ). ripas_in (entry_in_page p j)) page ∙ child_read content parent level j (children_word parent level j few))
-    after start first protected)
-
--- ---- RMI_RTT_FOLD, and RMI_RTT_DESTROY
-
--- an entry takes the place of the table that it led to
-module _ (call : Call) (m n : Machine) (proper : IsProper m) (settings : n.settings ≡ m.settings) (count : length n.granules ≡ length m.granules) (rd ipa level g : ℕ)
-    (is : (granule_at m (number_of m rd)).state ≡ Rd (realm_at m rd)) (within : ipa < 2 ^ (realm_at m rd).s2sz) (least : (realm_at m rd).start_level ≤ level)
-    (named : table_below m (entry_at m (walk m (realm_at m rd) ipa level) ipa) ≡ Some g) (e : RmmRttEntry) (fits : descriptor_of e < 2 ^ 48) (leaf : is_table e ≡ false)
-    (pages : n.pages ≡ (with_blank (with_entry m (walk m (realm_at m rd) ipa level) ipa e) g Delegated).pages) where
-  removed : ((j : ℕ) → j < 512 → table_below m (entry_in_page (page_in m g) j) ≡ None)
-      → (x : ℕ) → ((j : ℕ) → j < 512 → x / entry_size (walk m (realm_at m rd) ipa level).level ≡ ipa / entry_size (walk m (realm_at m rd) ipa level).level
-      → (ripas_in e ≡ ripas_in (entry_in_page (page_in m g) j)) ⊎ IsRipasGiven m (Some call) (number_of m rd) x (ripas_in (entry_in_page (page_in m g) j)) (ripas_in e))
-      → (after : RmmRealm) → Keeps call m n (number_of m rd) x (realm_at m rd) after
-  removed flat x given after then start first protected =
-      let realm : RmmRealm = realm_at m rd in
-      let r : ℕ = number_of m rd in
-      let found : RttWalk = walk m realm ipa level in
-      let end : IsPlace m proper.linked r ipa found = place_is m proper.linked r ipa level realm is within least in
-      let below = next m proper.linked r ipa found g end named in
-      let apart : found.table ≢ g = λ same. (
-      let levels : proper.linked.level found.table ≡ proper.linked.level g = ap proper.linked.level same in
-      let here = end.level in
-      let deeper = below.level in
-      omega arith) in
-      let table : (granule_at m g).state ≡ Rtt = ap (λ (c : RmmGranule). c.state) below.table in
-      let lt = taken_inside m g (λ free. cc) in
-      let now = ap (λ (ps : List (List ℕ)). entry_in_page (page_at ps found.table) (entry_index found.level ipa)) pages ∙ entry_then m proper.linked r ipa found end g e lt apart fits in
-      gone_ripas m n proper settings count r ipa level realm is within g
-      (λ j few ne. ap (λ (ps : List (List ℕ)). entry_in_page (page_at ps found.table) j) pages ∙ entry_other m proper.linked r ipa found end g e lt apart fits j few ne) x named
-      (ap is_table now ∙ leaf)
-      (λ h here other not_g. ap (λ (ps : List (List ℕ)). page_at ps h) pages ∙ page_other m proper.linked r ipa found end g e lt apart fits h not_g other)
-      flat (λ old new. IsRipasGiven m (Some call) r x old new)
-      (λ j few covers. subst (λ (f : RmmRttEntry). (ripas_in f ≡ ripas_in (entry_in_page (page_in m g) j)) ⊎ IsRipasGiven m (Some call) r x (ripas_in (entry_in_page (page_in m g) j)) (ripas_in f)) (sym now) (given j few covers))
-      after start first protected
-
-first_few : (page : List ℕ) → descriptor_of (entry_in_page page 0) < 2 ^ 48
-unfolding entry_in_page
-first_few page = descriptor-few (word_of_page page 0)
+    let child : RmmRttEntry = child_entry (entry_at m (walk m realm ipa (level - 1)) ipa) level (entry_index level x) in
+    inl (create_read rd rtt ipa level m proper ok count x RmmRipas (λ e l. ripas_in e) (word_ripas child ∙ child_ripas (entry_at m (walk m realm ipa (level - 1)) ipa) level (entry_index level x)) after start first (protected_within realm x protected))
 
 own_fold : (rd ipa level : ℕ) (m : Machine) → IsProper m → Passed (rtt_fold rd ipa level m).checks → length (rtt_fold rd ipa level m).machine.granules ≡ length m.granules
     → (x : ℕ) (after : RmmRealm) → Keeps (RttFold rd ipa level) m (rtt_fold rd ipa level m).machine (number_of m rd) x (realm_at m rd) after
-unfolding rtt_fold is_homogeneous
-own_fold rd ipa level m proper ok count x after =
+own_fold rd ipa level m proper ok count x after = λ then start first protected.
     let realm : RmmRealm = realm_at m rd in
-    let is = realm_of-some (state_at m rd) ok.1.1.0 in
-    let least : realm.start_level + 1 ≤ level = leb-true _ _ (and_parts (nat_le (realm.start_level + 1) level) (nat_le level 3) (yes_from _ ok.1.1.1.0)).0 in
-    let within : ipa < 2 ^ realm.s2sz = ltb-true _ _ (yes_from (is_in_space realm ipa) ok.1.1.1.1.1.0) in
-    let below : Option ℕ = table_below m (entry_at m (walk m realm ipa (level - 1)) ipa) in
-    let g : ℕ = unwrap_or below 0 in
-    let first : RmmRttEntry = entry_in_page (page_in m g) 0 in
-    let both = and_parts (not (is_table first) && is_aligned_above first level) (has_parts (page_in m g) first level 512 0) (yes_from _ ok.1.1.1.1.1.1.1.1.0) in
-    let leaf : is_table first ≡ false = not-true _ (and_parts (not (is_table first)) (is_aligned_above first level) both.0).0 in
-    removed (RttFold rd ipa level) m (rtt_fold rd ipa level m).machine proper refl count rd ipa (level - 1) g is within (omega arith) (some_of below (yes_from _ ok.1.1.1.1.1.1.1.0)) first
-    (first_few (page_in m g)) leaf refl
-    (λ j lt. child_below m (page_in m g) first level j (part_word (page_in m g) first level 512 0 j both.1 (omega arith) (omega arith)) leaf)
-    x (λ j lt covers. inl (sym (child_read (page_in m g) first level j (part_word (page_in m g) first level 512 0 j both.1 (omega arith) (omega arith))))) after
+    let whole : RmmRttEntry = entry_in_page (page_in m (unwrap_or (table_below m (entry_at m (walk m realm ipa (level - 1)) ipa)) 0)) 0 in
+    inl (fold_read rd ipa level m proper ok count x RmmRipas (λ e l. ripas_in e) (word_ripas (child_entry whole level (entry_index level x)) ∙ child_ripas whole level (entry_index level x)) after start first (protected_within realm x protected))
 
 free_below : (m : Machine) (e : RmmRttEntry) → is_free e ≡ true → table_below m e ≡ None
 free_below m (Unassigned ripas) free = refl
@@ -212,10 +117,13 @@ own_table_destroy rd ipa level m proper ok count x after = λ then start first p
     let g : ℕ = unwrap_or below 0 in
     let unused : has_live (page_in m g) ≡ false = ok.1.1.1.1.1.1.1.1.0 in
     let left = left_is realm ipa in
-    removed (RttDestroy rd ipa level) m (rtt_destroy rd ipa level m).machine proper refl count rd ipa (level - 1) g is within (omega arith) (some_of below (yes_from _ ok.1.1.1.1.1.1.1.0)) (left_entry realm ipa)
+    let given : RmmRipas → RmmRipas → Type 0 = λ old new. IsRipasGiven m (Some (RttDestroy rd ipa level)) r x old new in
+    removed_read m (rtt_destroy rd ipa level m).machine proper refl count rd ipa (level - 1) g is within (omega arith) (some_of below (yes_from _ ok.1.1.1.1.1.1.1.0)) (left_entry realm ipa)
     left.0 left.1 refl
     (λ j lt. free_below m (entry_in_page (page_in m g) j) (unused_free (page_in m g) unused j lt))
-    x (λ j lt covers.
+    x RmmRipas (λ e l. ripas_in e) given
+    (λ covers.
+    let j : ℕ = entry_index (found.level + 1) x in
     cond_both (is_protected realm ipa) (Unassigned Destroyed) UnassignedNs
     (λ (e : RmmRttEntry). (ripas_in e ≡ ripas_in (entry_in_page (page_in m g) j)) ⊎ IsRipasGiven m (Some (RttDestroy rd ipa level)) r x (ripas_in (entry_in_page (page_in m g) j)) (ripas_in e))
     (λ sure. inr (refl, entry_between (level - 1) (omega arith) ipa x begins (subst (λ (l : ℕ). x / entry_size l ≡ ipa / entry_size l) depth covers)))
@@ -223,7 +131,7 @@ own_table_destroy rd ipa level m proper ok count x after = λ then start first p
     let high = in_upper m proper.linked proper.ordered.halves r ipa realm is within (level - 1) x covers (ltb-false _ _ never) in
     let low = ltb-true _ _ protected in
     absurd (omega arith)))
-    after then start first protected
+    after start first (protected_within realm x protected)
 
 -- ---- each call
 

@@ -2,6 +2,7 @@ pub mod Apart
 pub mod Back
 pub mod Fold
 pub mod Half
+pub mod Location
 pub mod Owner
 pub mod Proper
 pub mod Refusal

@@ -47,6 +47,7 @@ ghost use Rattle.rmm_laws.specs.Apart.{rd_named, changes_vmids, IsHostChanged, I
 ghost use Rattle.rmm_laws.specs.Back.{ComesBack, RecComesBack, IsAssignedTo, IsReleased};
 ghost use Rattle.rmm_laws.specs.Fold.{CanReplaceTable, IsAlike};
 ghost use Rattle.rmm_laws.specs.Half.{IsOfHalf, IsPlaced};
+ghost use Rattle.rmm_laws.specs.Location.{location_at};
 ghost use Rattle.rmm_laws.specs.Owner.{is_rec_in};
 ghost use Rattle.rmm_laws.specs.Proper.{IsProper, IsProperRun};
 ghost use Rattle.rmm_laws.specs.Refusal.{IsRefused, is_refusal, IsOneOf, IsRecEnter, IsFault, IsNotGiven, IsNotQueued, IsNotRunning, IsAccess, IsNotDone};
@@ -97,11 +98,11 @@ pub fn granules_have_one_role()
     ensures fills { (m : Machine) (address value : ℕ) → IsProper m → IsProper (after_fill m address value) }
     ensures steps { (m : Machine) (rec : ℕ) (w : StepWords) → IsProper m → IsProper (queued m rec w).1 }
     ensures interrupts { (m : Machine) (rec : ℕ) → IsProper m → IsProper (interrupted m rec).1 }
-    ensures used { (m : Machine) (proper : IsProper m) (user index part : ℕ) (u : Used) → uses m proper.linked.level user index part ≡ Some u → granule_at m u.number ≡ u.attributes }
-    ensures once { (m : Machine) (proper : IsProper m) (x i k y j l : ℕ) (u v : Used) → uses m proper.linked.level x i k ≡ Some u → uses m proper.linked.level y j l ≡ Some v → u.number ≡ v.number
     ensures entries { (m : Machine) (g address flags : ℕ) → IsProperRun m g → IsProperRun (after_entry m g address flags) g }
     ensures guests { (m : Machine) (g flags : ℕ) → IsProperRun m g → IsProperRun (after_first_step m g flags) g }
     ensures exits { (m : Machine) (g : ℕ) (exit : RecExit) (last : LastExit) → IsProperRun m g → IsProperRun (after_exit m g exit last) g }
+    ensures used { (m : Machine) (proper : IsProper m) (user index part : ℕ) (u : Used) → uses m proper.linked.level user index part ≡ Some u → granule_at m u.number ≡ u.attributes }
+    ensures once { (m : Machine) (proper : IsProper m) (x i k y j l : ℕ) (u v : Used) → uses m proper.linked.level x i k ≡ Some u → uses m proper.linked.level y j l ≡ Some v → u.number ≡ v.number
         → (x ≡ y) × (i ≡ j) × (k ≡ l) }
 {}
 
@@ -241,6 +242,7 @@ pub fn requests_are_the_guest_s()
     ensures steps { (m : Machine) (rec : ℕ) (w : StepWords) → KeepsRequests m None (queued m rec w).1 }
     ensures interrupts { (m : Machine) (rec : ℕ) → KeepsRequests m None (interrupted m rec).1 }
     ensures entered { (m : Machine) (g address flags : ℕ) (rec : RmmRec) → (rec_in m g).exit ≡ RipasChange → (granule_at (after_entry m g address flags) g).state ≡ Rec rec → rec.ripas ≡ no_request }
+    ensures kept { (m : Machine) (g address flags : ℕ) (rec : RmmRec) → (rec_in m g).exit ≢ RipasChange → (granule_at (after_entry m g address flags) g).state ≡ Rec rec → rec.ripas ≡ (rec_in m g).ripas }
     ensures asked { (m : Machine) (g flags : ℕ) (rec : RmmRec) → (granule_at (after_first_step m g flags) g).state ≡ Rec rec → (rec.ripas ≡ (rec_in m g).ripas) ⊎ IsAskedFor m g rec.ripas }
     ensures left { (m : Machine) (g : ℕ) (exit : RecExit) (last : LastExit) → KeepsRequests m None (after_exit m g exit last) }
 {}
@@ -255,8 +257,6 @@ pub fn requests_are_the_guest_s()
 pub fn ripas_is_the_guest_s()
     ensures calls { (r : Registers) (m : Machine) → IsProper m → KeepsRipas m (call_in r) (rmi r m).1 }
     ensures taken { (m : Machine) (rd ipa : ℕ) → IsProper m → (performed (DataDestroy rd ipa) m).0.word ≡ Success → is_ram (ripas_at (performed (DataDestroy rd ipa) m).1 (realm_at m rd) ipa) ≡ false }
-    ensures stores { (m : Machine) (address word : ℕ) → IsProper m → KeepsRipas m None (after_store m address word) }
-    ensures fills { (m : Machine) (address value : ℕ) → IsProper m → KeepsRipas m None (after_fill m address value) }
     ensures changed { (m : Machine) (rd rec base top : ℕ) → IsProper m → (performed (RttSetRipas rd rec base top) m).0.word ≡ Success
         → IsRipasSet m (performed (RttSetRipas rd rec base top) m).1 (realm_at m rd) (rec_at m rec).ripas base (performed (RttSetRipas rd rec base top) m).0.x1 × ((performed (RttSetRipas rd rec base top) m).0.x1 ≤ top) }
     ensures new { (m : Machine) (rd params ipa : ℕ) (realm : RmmRealm) → IsProper m → (performed (RealmCreate rd params) m).0.word ≡ Success
@@ -267,13 +267,16 @@ pub fn ripas_is_the_guest_s()
     ensures writes { (m : Machine) (realm : RmmRealm) (rec flags ipa value : ℕ) (size : AccessSize) (outcome : StepOutcome) → IsWithoutRam m realm ipa
         → (step_outcome m realm rec flags (Write ipa value size) ≡ outcome_without_ram m realm 0x90000000 ipa) × (after_step m realm rec (Write ipa value size) outcome ≡ m) }
     ensures fetches { (m : Machine) (realm : RmmRealm) (rec flags ipa : ℕ) → IsWithoutRam m realm ipa → step_outcome m realm rec flags (Fetch ipa) ≡ outcome_without_ram m realm 0x80000000 ipa }
+    ensures stores { (m : Machine) (address word : ℕ) → IsProper m → KeepsRipas m None (after_store m address word) }
+    ensures fills { (m : Machine) (address value : ℕ) → IsProper m → KeepsRipas m None (after_fill m address value) }
     ensures steps { (m : Machine) (rec : ℕ) (w : StepWords) → IsProper m → KeepsRipas m None (queued m rec w).1 }
     ensures interrupts { (m : Machine) (rec : ℕ) → IsProper m → KeepsRipas m None (interrupted m rec).1 }
 {}
 
 /// RMI_RTT_FOLD undoes RMI_RTT_CREATE: it succeeds right after it, with its operands. And RMI_RTT_CREATE undoes
 /// RMI_RTT_FOLD, with the granule that comes back. Then each granule has the attributes that it had before both, and each
-/// entry of each table is as it was. A table is folded only if the entry can replace it.
+/// entry of each table is as it was. A table is folded only if the entry can replace it. After each of both calls an
+/// address leads to the same memory as before.
 pub fn fold_and_unfold()
     ensures created { (m : Machine) (rd rtt ipa level : ℕ) → IsProper m → (performed (RttCreate rd rtt ipa level) m).0.word ≡ Success
         → ((performed (RttFold rd ipa level) (performed (RttCreate rd rtt ipa level) m).1).0.word ≡ Success)
@@ -283,6 +286,10 @@ pub fn fold_and_unfold()
         × IsAlike m (performed (RttCreate rd (performed (RttFold rd ipa level) m).0.x1 ipa level) (performed (RttFold rd ipa level) m).1).1 }
     ensures only { (m : Machine) (rd ipa level : ℕ) → IsProper m → (performed (RttFold rd ipa level) m).0.word ≡ Success
         → CanReplaceTable m (entry_at (performed (RttFold rd ipa level) m).1 (walk m (realm_at m rd) ipa (level - 1)) ipa) level }
+    ensures memory_created { (m : Machine) (rd rtt ipa level x : ℕ) → IsProper m → (performed (RttCreate rd rtt ipa level) m).0.word ≡ Success → x < 2 ^ (realm_at m rd).s2sz
+        → location_at (performed (RttCreate rd rtt ipa level) m).1 (realm_at m rd) x ≡ location_at m (realm_at m rd) x }
+    ensures memory_folded { (m : Machine) (rd ipa level x : ℕ) → IsProper m → (performed (RttFold rd ipa level) m).0.word ≡ Success → x < 2 ^ (realm_at m rd).s2sz
+        → location_at (performed (RttFold rd ipa level) m).1 (realm_at m rd) x ≡ location_at m (realm_at m rd) x }
 {}
 
 /// Other realms stay: a call leaves each granule as it was, but for those of the realm that it is on, and UNDELEGATED
@@ -301,6 +308,7 @@ pub fn other_realms_stay()
     ensures filled { (m : Machine) (address value : ℕ) → (after_fill m address value).granules ≡ m.granules }
     ensures steps { (m : Machine) (rec granule : ℕ) (w : StepWords) → granule ≢ number_of m rec → IsSameAt m (queued m rec w).1 granule }
     ensures interrupts { (m : Machine) (rec granule : ℕ) → granule ≢ number_of m rec → (granule_at m granule).state ≢ Undelegated → IsSameAt m (interrupted m rec).1 granule }
+    ensures ended { (m : Machine) (rec granule : ℕ) → IsProper m → (granule_at m granule).state ≡ Undelegated → IsSameAt m (interrupted m rec).1 granule ⊎ IsRunPage m (interrupted m rec).1 rec granule }
     ensures writes { (m : Machine) (rd rec ipa value granule : ℕ) (size : AccessSize) (outcome : StepOutcome) (realm : RmmRealm) → IsProper m → (granule_at m rd).state ≡ Rd realm
         → granule_at m granule ≢ of_realm rd Data → (granule_at m granule).state ≢ Undelegated → IsSameAt m (after_step m realm rec (Write ipa value size) outcome) granule }
     ensures secure { (m : Machine) (rd rec ipa value granule : ℕ) (size : AccessSize) (outcome : StepOutcome) (realm : RmmRealm) → IsProper m → (granule_at m rd).state ≡ Rd realm
@@ -320,6 +328,5 @@ pub fn mistakes_are_refused()
         → IsProper (with_blank (with_aux m g (of_no_realm Delegated) m.settings.aux) g Delegated) → ⊥ }
     ensures owner_removed { (m : Machine) (rd g : ℕ) (realm : RmmRealm) → IsProper m → (granule_at m rd).state ≡ Rd realm → (granule_at m g).owner ≡ Some rd
         → ((k : ℕ) → k < realm.table_count → g ≢ realm.first_table + k) → IsProper (with_blank (without_tables m realm realm.table_count) rd Delegated) → ⊥ }
-    ensures ended { (m : Machine) (rec granule : ℕ) → IsProper m → (granule_at m granule).state ≡ Undelegated → IsSameAt m (interrupted m rec).1 granule ⊎ IsRunPage m (interrupted m rec).1 rec granule }
     ensures wipe_left_out { (m : Machine) (g : ℕ) → IsProper m → (granule_at m g).state ≡ Delegated → page_in m g ≡ zero_page }
 {}
