@@ -81,10 +81,11 @@ entry_few page i = descriptor-few (word_of_page page i)
 
 -- ---- the commands
 
-made_memory : (rd rtt ipa level x : ℕ) (m : Machine) → IsProper m → Passed (rtt_create rd rtt ipa level m).checks → x < 2 ^ (realm_at m rd).s2sz
-    → location_at (rtt_create rd rtt ipa level m).machine (realm_at m rd) x ≡ location_at m (realm_at m rd) x
+pub made_memory : (rd rtt ipa level x : ℕ) (m : Machine) → IsProper m → Passed (rtt_create rd rtt ipa level m).checks → x < 2 ^ (realm_at m rd).s2sz
+    → (after : RmmRealm) → after.start_level ≡ (realm_at m rd).start_level → after.first_table ≡ (realm_at m rd).first_table
+    → location_at (rtt_create rd rtt ipa level m).machine after x ≡ location_at m (realm_at m rd) x
 unfolding rtt_create entry_at
-made_memory rd rtt ipa level x m proper ok inside =
+made_memory rd rtt ipa level x m proper ok inside after start first =
     let realm : RmmRealm = realm_at m rd in
     let is = realm_of-some (state_at m rd) ok.1.1.1.1.1.0 in
     let levels = and_parts (nat_le (realm.start_level + 1) level) (nat_le level 3) (yes_from _ ok.1.1.1.1.1.1.0) in
@@ -99,12 +100,13 @@ made_memory rd rtt ipa level x m proper ok inside =
       entry_few (page_in m found.table) (entry_index found.level ipa),
       λ mapped. subst (λ (l : ℕ). descriptor_of parent / 4096 * 4096 % entry_size l ≡ 0) there (placed mapped).1,
     ) in
-    create_read rd rtt ipa level m proper ok (touches_of (RttCreate rd rtt ipa level) m proper ok).count x (Option Location) (λ e l. location_of e (x % entry_size l)) (child_memory parent level x (omega arith) most whole) realm refl refl inside
+    create_read rd rtt ipa level m proper ok (touches_of (RttCreate rd rtt ipa level) m proper ok).count x (Option Location) (λ e l. location_of e (x % entry_size l)) (child_memory parent level x (omega arith) most whole) after start first inside
 
-folded_memory : (rd ipa level x : ℕ) (m : Machine) → IsProper m → Passed (rtt_fold rd ipa level m).checks → x < 2 ^ (realm_at m rd).s2sz
-    → location_at (rtt_fold rd ipa level m).machine (realm_at m rd) x ≡ location_at m (realm_at m rd) x
+pub folded_memory : (rd ipa level x : ℕ) (m : Machine) → IsProper m → Passed (rtt_fold rd ipa level m).checks → x < 2 ^ (realm_at m rd).s2sz
+    → (after : RmmRealm) → after.start_level ≡ (realm_at m rd).start_level → after.first_table ≡ (realm_at m rd).first_table
+    → location_at (rtt_fold rd ipa level m).machine after x ≡ location_at m (realm_at m rd) x
 unfolding rtt_fold is_homogeneous
-folded_memory rd ipa level x m proper ok inside =
+folded_memory rd ipa level x m proper ok inside after start first_table =
     let realm : RmmRealm = realm_at m rd in
     let levels = and_parts (nat_le (realm.start_level + 1) level) (nat_le level 3) (yes_from _ ok.1.1.1.0) in
     let least : realm.start_level + 1 ≤ level = leb-true _ _ levels.0 in
@@ -114,7 +116,7 @@ folded_memory rd ipa level x m proper ok inside =
     let both = and_parts (not (is_table first) && is_aligned_above first level) (has_parts (page_in m g) first level 512 0) (yes_from _ ok.1.1.1.1.1.1.1.1.0) in
     let aligned = (and_parts (not (is_table first)) (is_aligned_above first level) both.0).1 in
     let whole : IsWhole first level = (entry_few (page_in m g) 0, λ mapped. eqb-true _ _ (second_holds (not (is_mapping first)) _ (ap not mapped) aligned)) in
-    fold_read rd ipa level m proper ok (touches_of (RttFold rd ipa level) m proper ok).count x (Option Location) (λ e l. location_of e (x % entry_size l)) (child_memory first level x (omega arith) most whole) realm refl refl inside
+    fold_read rd ipa level m proper ok (touches_of (RttFold rd ipa level) m proper ok).count x (Option Location) (λ e l. location_of e (x % entry_size l)) (child_memory first level x (omega arith) most whole) after start first_table inside
 
 -- each address leads to the memory that it led to before RMI_RTT_CREATE
 pub memory_created : (m : Machine) (rd rtt ipa level x : ℕ) → IsProper m → (performed (RttCreate rd rtt ipa level) m).0.word ≡ Success → x < 2 ^ (realm_at m rd).s2sz
@@ -122,7 +124,7 @@ pub memory_created : (m : Machine) (rd rtt ipa level x : ℕ) → IsProper m →
 unfolding rtt_create
 memory_created m rd rtt ipa level x proper success inside =
     succeeded (location_at (performed (RttCreate rd rtt ipa level) m).1 (realm_at m rd) x ≡ location_at m (realm_at m rd) x) (RttCreate rd rtt ipa level) m refl success
-    (λ ok now. subst (λ (p : SmcResult × Machine). location_at p.1 (realm_at m rd) x ≡ location_at m (realm_at m rd) x) (sym now) (made_memory rd rtt ipa level x m proper ok inside))
+    (λ ok now. subst (λ (p : SmcResult × Machine). location_at p.1 (realm_at m rd) x ≡ location_at m (realm_at m rd) x) (sym now) (made_memory rd rtt ipa level x m proper ok inside (realm_at m rd) refl refl))
 
 -- each address leads to the memory that it led to before RMI_RTT_FOLD
 pub memory_folded : (m : Machine) (rd ipa level x : ℕ) → IsProper m → (performed (RttFold rd ipa level) m).0.word ≡ Success → x < 2 ^ (realm_at m rd).s2sz
@@ -130,4 +132,4 @@ pub memory_folded : (m : Machine) (rd ipa level x : ℕ) → IsProper m → (per
 unfolding rtt_fold
 memory_folded m rd ipa level x proper success inside =
     succeeded (location_at (performed (RttFold rd ipa level) m).1 (realm_at m rd) x ≡ location_at m (realm_at m rd) x) (RttFold rd ipa level) m refl success
-    (λ ok now. subst (λ (p : SmcResult × Machine). location_at p.1 (realm_at m rd) x ≡ location_at m (realm_at m rd) x) (sym now) (folded_memory rd ipa level x m proper ok inside))
+    (λ ok now. subst (λ (p : SmcResult × Machine). location_at p.1 (realm_at m rd) x ≡ location_at m (realm_at m rd) x) (sym now) (folded_memory rd ipa level x m proper ok inside (realm_at m rd) refl refl))

@@ -7,7 +7,7 @@ pub mod Blocks
 pub mod Children
 pub mod Effects
 pub mod Entries
-pub mod EntryRipas
+pub mod EntryReads
 pub mod EntryWords
 pub mod Fold
 pub mod FoldMemory
@@ -21,6 +21,8 @@ pub mod KeptTables
 pub mod Lasting
 pub mod LastingCalls
 pub mod LeftAlone
+pub mod LocationCalls
+pub mod LocationTables
 pub mod Mapped
 pub mod Mappings
 pub mod Mistakes
@@ -37,6 +39,7 @@ pub mod Passed
 pub mod Placing
 pub mod Plain
 pub mod Reaching
+pub mod ReadCalls
 pub mod RealmOrders
 pub mod Realms
 pub mod RecLives

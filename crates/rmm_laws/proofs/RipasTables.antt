@@ -45,11 +45,11 @@ use Rattle.rmm_laws.specs.Ripas.{ripas_at, IsRipasGiven, KeepsRipas}
 use Rattle.rmm_laws.specs.State.{fixed, IsLasting, IsDestroyed}
 use Rattle.rmm_laws.proofs.Children.{is_free, unused_free}
 use Rattle.rmm_laws.proofs.Entries.{number_inside}
-use Rattle.rmm_laws.proofs.EntryRipas.{entry_between}
+use Rattle.rmm_laws.proofs.EntryReads.{entry_between}
 use Rattle.rmm_laws.proofs.EntryWords.{word_ripas}
 use Rattle.rmm_laws.proofs.Freed.{succeeded}
 use Rattle.rmm_laws.proofs.Guests.{entered_tables, completed_tables, given_then, interrupted_then}
-use Rattle.rmm_laws.proofs.KeptTables.{same_ripas, tables_of}
+use Rattle.rmm_laws.proofs.KeptTables.{same_read, tables_of}
 use Rattle.rmm_laws.proofs.Lasting.{Lasts, lasts_all}
 use Rattle.rmm_laws.proofs.LastingCalls.{realms_after}
 use Rattle.rmm_laws.proofs.LeftAlone.{touches_host, touches_of}
@@ -90,13 +90,13 @@ own_fold rd ipa level m proper ok count x after = λ then start first protected.
     let whole : RmmRttEntry = entry_in_page (page_in m (unwrap_or (table_below m (entry_at m (walk m realm ipa (level - 1)) ipa)) 0)) 0 in
     inl (fold_read rd ipa level m proper ok count x RmmRipas (λ e l. ripas_in e) (word_ripas (child_entry whole level (entry_index level x)) ∙ child_ripas whole level (entry_index level x)) after start first (protected_within realm x protected))
 
-free_below : (m : Machine) (e : RmmRttEntry) → is_free e ≡ true → table_below m e ≡ None
+pub free_below : (m : Machine) (e : RmmRttEntry) → is_free e ≡ true → table_below m e ≡ None
 free_below m (Unassigned ripas) free = refl
 free_below m UnassignedNs free = refl
 free_below m (AssignedNs desc) free = refl
 free_below m _ free = absurd (cc)
 
-left_is : (realm : RmmRealm) (ipa : ℕ) → (descriptor_of (left_entry realm ipa) < 2 ^ 48) × (is_table (left_entry realm ipa) ≡ false)
+pub left_is : (realm : RmmRealm) (ipa : ℕ) → (descriptor_of (left_entry realm ipa) < 2 ^ 48) × (is_table (left_entry realm ipa) ≡ false)
 left_is realm ipa = cond_both (is_protected realm ipa) (Unassigned Destroyed) UnassignedNs (λ (e : RmmRttEntry). (descriptor_of e < 2 ^ 48) × (is_table e ≡ false)) (λ sure. (omega arith, refl)) (λ never. (omega arith, refl))
 
 own_table_destroy : (rd ipa level : ℕ) (m : Machine) → IsProper m → Passed (rtt_destroy rd ipa level m).checks → length (rtt_destroy rd ipa level m).machine.granules ≡ length m.granules
@@ -136,7 +136,7 @@ own_table_destroy rd ipa level m proper ok count x after = λ then start first p
 -- ---- each call
 
 -- the RD of a realm that is destroyed is no RD any more
-no_rd_left : (of : ℕ) (m : Machine) (after : RmmRealm) → length (realm_destroy of m).machine.granules ≡ length m.granules → Passed (realm_destroy of m).checks
+pub no_rd_left : (of : ℕ) (m : Machine) (after : RmmRealm) → length (realm_destroy of m).machine.granules ≡ length m.granules → Passed (realm_destroy of m).checks
     → (granule_at (realm_destroy of m).machine (number_of m of)).state ≡ Rd after → ⊥
 unfolding realm_destroy
 no_rd_left of m after count ok is =
@@ -186,7 +186,7 @@ passed_ripas (DataDestroy of ipa) m proper ok touches rd x before after is = by_
 passed_ripas (RttInitRipas of base top) m proper ok touches rd x before after is = by_rd (RttInitRipas of base top) m _ of proper touches (own_init of base top m proper ok touches.count) rd x before after is
 passed_ripas (RttSetRipas of rec base top) m proper ok touches rd x before after is = by_rd (RttSetRipas of rec base top) m _ of proper touches (own_set of rec base top m proper ok touches.count) rd x before after is
 
-destroyed_no_rd : (call : Call) (m : Machine) (rd : ℕ) (after : RmmRealm) → length (command_of call m).machine.granules ≡ length m.granules → Passed (command_of call m).checks → IsDestroyed m (Some call) rd
+pub destroyed_no_rd : (call : Call) (m : Machine) (rd : ℕ) (after : RmmRealm) → length (command_of call m).machine.granules ≡ length m.granules → Passed (command_of call m).checks → IsDestroyed m (Some call) rd
     → (granule_at (command_of call m).machine rd).state ≡ Rd after → ⊥
 destroyed_no_rd (RealmDestroy of) m rd after count ok gone is = no_rd_left of m after count ok (subst (λ (g : ℕ). (granule_at (realm_destroy of m).machine g).state ≡ Rd after) gone is)
 destroyed_no_rd _ m rd after count ok gone is = gone
@@ -230,7 +230,7 @@ none_ripas : (m n : Machine) → IsProper m → n.settings ≡ m.settings → le
 none_ripas m n proper settings count kept lasts rd x before after is then protected =
     let lasting = lasts rd before is in
     let same : fixed after ≡ fixed before = ap fixed (same_realm (sym then ∙ lasting.1)) ∙ lasting.2 in
-    inl (same_ripas m n proper settings count rd x before after (ap (λ (r : RmmRealm). r.start_level) same) (ap (λ (r : RmmRealm). r.first_table) same) is protected (tables_of m n rd kept))
+    inl (same_read m n proper settings count rd x before RmmRipas (λ f l. ripas_in f) after (ap (λ (r : RmmRealm). r.start_level) same) (ap (λ (r : RmmRealm). r.first_table) same) is protected (tables_of m n rd kept))
 
 same_machine : (m : Machine) → IsProper m → KeepsRipas m None m
 same_machine m proper = none_ripas m m proper refl refl (tables_all m) (lasts_all m)

@@ -24,7 +24,7 @@ use Rattle.rmm_model.specs.Command.RipasRange.{entries_below, change_count, with
 use Rattle.rmm_model.specs.Command.RttSetRipas.{rtt_set_ripas, ripas_request_checks, set_changeable, is_rec_of}
 use Rattle.rmm_laws.specs.Proper.{IsProper}
 use Rattle.rmm_laws.specs.Ripas.{IsBetween, IsRipasSet}
-use Rattle.rmm_laws.proofs.EntryRipas.{IsChanged, changed, can_in_range, change_below, changed_to, covered}
+use Rattle.rmm_laws.proofs.EntryReads.{IsChanged, changed, can_in_range, change_below, changed_to, covered}
 use Rattle.rmm_laws.proofs.Freed.{succeeded}
 use Rattle.rmm_laws.proofs.Halves.{none_below}
 use Rattle.rmm_laws.proofs.LeftAlone.{touches_of}
@@ -187,9 +187,6 @@ module _ (rd rec base top : ℕ) (m : Machine) (proper : IsProper m) (ok : Passe
   kept_there : (j : ℕ) → j < 512 → (j < at) ⊎ (at + k ≤ j) → entry_in_page (page_in n found.table) j ≡ entry_in_page (page_in m found.table) j
   kept_there j lt beside = ap (λ (p : List ℕ). entry_in_page p j) page ∙ entry_kept m found.table at k asked.ripas proper.linked table few j lt beside
 
-  abbrev Any : ℕ → RmmRipas → RmmRipas → Type 0
-  Any x old new = Unit {0}
-
   settings : n.settings ≡ m.settings
   unfolding rtt_set_ripas with_ripas_from
   settings = refl
@@ -197,19 +194,19 @@ module _ (rd rec base top : ℕ) (m : Machine) (proper : IsProper m) (ok : Passe
   count : length n.granules ≡ length m.granules
   count = (touches_of (RttSetRipas rd rec base top) m proper ok).count
 
-  each : (j : ℕ) → j < 512 → IsChanged m n proper settings count r base 3 realm is within Any j
-  each j lt =
+  each : (x j : ℕ) → j < 512 → IsChanged m n proper settings count r base 3 realm is within x RmmRipas (λ e l. ripas_in e) (λ was now. Unit {0}) j
+  each x j lt =
       let old : RmmRttEntry = entry_in_page (page_in m found.table) j in
       ⊎_elim
       (λ (it : (at ≤ j) × (j < at + k)).
       let to = changed_to (set_changeable asked) asked.ripas old (can_in_range m (set_changeable asked) found base top j it.0 it.1) in
-      inr (to.0, ap is_table (set_there j it.0 it.1) ∙ to.1, λ x covers. inr tt))
+      inr (to.0, ap is_table (set_there j it.0 it.1) ∙ to.1, λ covers. inr tt))
       (λ (kept : (j < at) ⊎ (at + k ≤ j)). inl (kept_there j lt kept))
       (changed_or_kept m found.table at k asked.ripas proper.linked table few j)
 
   -- walks end where they did
   same_walk : (x : ℕ) → is_protected realm x ≡ true → walk n realm x 3 ≡ walk m realm x 3
-  same_walk x protected = (changed m n proper settings count r base 3 realm is within Any x each (λ h here other. others h other) realm refl refl protected).0
+  same_walk x protected = (changed m n proper settings count r base 3 realm is within x RmmRipas (λ e l. ripas_in e) (λ was now. Unit {0}) (each x) (λ h here other. others h other) realm refl refl (protected_within realm x protected)).0
 
   -- an address of the range
   module _ (x : ℕ) (between : IsBetween base (base + change_count m (set_changeable (rec_at m rec).ripas) (walk m (realm_at m rd) base 3) base top * entry_size (walk m (realm_at m rd) base 3).level) x) (protected : is_protected (realm_at m rd) x ≡ true) where

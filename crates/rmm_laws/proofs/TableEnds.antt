@@ -17,7 +17,7 @@ use Rattle.rmm_laws.specs.Proper.{IsProper}
 use Rattle.rmm_laws.specs.Role.{used, state_uses, uses}
 use Rattle.rmm_laws.specs.Walk.{IsTableOf}
 use Rattle.rmm_laws.proofs.Along.{IsMet, along, stops, goes}
-use Rattle.rmm_laws.proofs.EntryRipas.{covered}
+use Rattle.rmm_laws.proofs.EntryReads.{covered}
 use Rattle.rmm_laws.proofs.Halves.{no_rtt, none_below}
 use Rattle.rmm_laws.proofs.KeptTables.{on_same}
 use Rattle.rmm_laws.proofs.Mappings.{served}

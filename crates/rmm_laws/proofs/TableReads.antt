@@ -26,6 +26,7 @@ use Rattle.rmm_laws.proofs.Entries.{address_few, named_inside, number_inside}
 use Rattle.rmm_laws.proofs.EntryWords.{descriptor-few}
 use Rattle.rmm_laws.proofs.Halves.{none_below, word_kind}
 use Rattle.rmm_laws.proofs.Halving.{child_kind}
+use Rattle.rmm_laws.proofs.KeptTables.{IsRead}
 use Rattle.rmm_laws.proofs.Mapped.{content_now, entry_now, entry_beside, page_beside, entry_then, entry_other, page_other}
 use Rattle.rmm_laws.proofs.Mappings.{place_is, some_of}
 use Rattle.rmm_laws.proofs.Passed.{Passed, yes_from, is_delegated-true, realm_of-some}
@@ -37,10 +38,6 @@ child_below : (m : Machine) (page : List ℕ) (e : RmmRttEntry) (level j : ℕ) 
 unfolding entry_in_page
 child_below m page e level j is leaf =
     ap (λ (w : ℕ). table_below m (entry_of w)) is ∙ none_below m (entry_of (entry_word (child_entry e level j))) e (word_kind (child_entry e level j) ∙ child_kind e level j) leaf
-
--- what an address of an entry and its level reads is the same, from one machine to another
-abbrev pub IsRead : (A : Type 0) → (RmmRttEntry → ℕ → A) → Machine → Machine → RmmRealm → RmmRealm → ℕ → Type 0
-IsRead A F m n before after x = F (entry_at n (walk n after x 3) x) (walk n after x 3).level ≡ F (entry_at m (walk m before x 3) x) (walk m before x 3).level
 
 -- ---- RMI_RTT_CREATE
 

@@ -1,11 +1,18 @@
 -- Where addresses of a realm lead to. RMM 1.0, RTT entry.
-use Rattle.std.specs.Prelude.{ℕ, ◌+◌, ◌*◌, ◌/◌, ◌%◌, Option, Some, None}
+use Rattle.std.specs.Prelude.{◌≡◌, ℕ, ◌+◌, ◌*◌, ◌/◌, ◌%◌, ◌⊎◌, true, Option, Some, None}
+use Rattle.rmi_abi.specs.declared.call.Call.{Call}
+use Rattle.rmi_abi.specs.declared.call.Call.TheVariants.{DataCreate, DataCreateUnknown, DataDestroy}
 use Rattle.rmm_model.specs.declared.entry.RmmRttEntry.{RmmRttEntry}
 use Rattle.rmm_model.specs.declared.entry.RmmRttEntry.TheVariants.{Assigned, AssignedNs}
+use Rattle.rmm_model.specs.declared.granule.RmmGranuleState.TheVariants.{Rd}
 use Rattle.rmm_model.specs.declared.realm.RmmRealm.{RmmRealm}
+use Rattle.rmm_model.specs.declared.realm.RmmRealmState.TheVariants.{New}
 use Rattle.rmm_model.specs.Level.{entry_size}
-use Rattle.rmm_model.specs.Machine.{Machine}
+use Rattle.rmm_model.specs.Machine.{Machine, granule_at, number_of}
+use Rattle.rmm_model.specs.Realm.{is_protected}
 use Rattle.rmm_model.specs.Walk.{entry_at, walk}
+use Rattle.rmm_laws.specs.Ripas.{IsBetween}
+use Rattle.rmm_laws.specs.State.{IsRealmIn}
 
 -- An address of memory, and the attributes with which it is mapped. Memory of a realm has none.
 pub record Location : Type 0 where
@@ -24,3 +31,20 @@ location_of _ offset = None
 -- the location that an address of a realm leads to, by the entry at which its walk ends
 abbrev pub location_at : Machine → RmmRealm → ℕ → Option Location
 location_at m realm ipa = let found = walk m realm ipa 3 in location_of (entry_at m found ipa) (ipa % entry_size found.level)
+
+-- A call may take an address of the realm of an RD to another location. It gives the page at an address, where there was
+-- none: DATA_CREATE of a NEW realm, or DATA_CREATE_UNKNOWN. Or it takes the page, and leaves none: DATA_DESTROY.
+abbrev pub IsLocationGiven : Machine → Option Call → ℕ → ℕ → Option Location → Option Location → Type 0
+IsLocationGiven m (Some (DataCreate of page at source flags)) rd ipa old new =
+    (rd ≡ number_of m of) × IsRealmIn m rd New × IsBetween at (at + 4096) ipa × (old ≡ None) × (new ≡ location (page + ipa % 4096) 0)
+IsLocationGiven m (Some (DataCreateUnknown of page at)) rd ipa old new =
+    (rd ≡ number_of m of) × IsBetween at (at + 4096) ipa × (old ≡ None) × (new ≡ location (page + ipa % 4096) 0)
+IsLocationGiven m (Some (DataDestroy of at)) rd ipa old new = (rd ≡ number_of m of) × IsBetween at (at + 4096) ipa × (new ≡ None)
+IsLocationGiven m call rd ipa old new = ⊥
+
+-- Each protected address of a realm that is there before and after a call leads to the location that it led to, or the
+-- call gives it another one.
+abbrev pub KeepsLocations : Machine → Option Call → Machine → Type 0
+KeepsLocations m call n =
+    (rd ipa : ℕ) (before after : RmmRealm) → (granule_at m rd).state ≡ Rd before → (granule_at n rd).state ≡ Rd after → is_protected before ipa ≡ true
+    → (location_at n after ipa ≡ location_at m before ipa) ⊎ IsLocationGiven m call rd ipa (location_at m before ipa) (location_at n after ipa)

@@ -47,7 +47,7 @@ ghost use Rattle.rmm_laws.specs.Apart.{rd_named, changes_vmids, IsHostChanged, I
 ghost use Rattle.rmm_laws.specs.Back.{ComesBack, RecComesBack, IsAssignedTo, IsReleased};
 ghost use Rattle.rmm_laws.specs.Fold.{CanReplaceTable, IsAlike};
 ghost use Rattle.rmm_laws.specs.Half.{IsOfHalf, IsPlaced};
-ghost use Rattle.rmm_laws.specs.Location.{location_at};
+ghost use Rattle.rmm_laws.specs.Location.{location_at, KeepsLocations};
 ghost use Rattle.rmm_laws.specs.Owner.{is_rec_in};
 ghost use Rattle.rmm_laws.specs.Proper.{IsProper, IsProperRun};
 ghost use Rattle.rmm_laws.specs.Refusal.{IsRefused, is_refusal, IsOneOf, IsRecEnter, IsFault, IsNotGiven, IsNotQueued, IsNotRunning, IsAccess, IsNotDone};
@@ -271,6 +271,18 @@ pub fn ripas_is_the_guest_s()
     ensures fills { (m : Machine) (address value : ℕ) → IsProper m → KeepsRipas m None (after_fill m address value) }
     ensures steps { (m : Machine) (rec : ℕ) (w : StepWords) → IsProper m → KeepsRipas m None (queued m rec w).1 }
     ensures interrupts { (m : Machine) (rec : ℕ) → IsProper m → KeepsRipas m None (interrupted m rec).1 }
+{}
+
+/// Memory stays where it is. RMI_DATA_CREATE and RMI_DATA_CREATE_UNKNOWN alone give a protected address a page, where there
+/// was none, and RMI_DATA_DESTROY alone takes it. So a page takes the place of another one only after that was destroyed.
+/// No other call changes where a protected address leads to, and neither do stores and fills of the host, steps that
+/// guests are given, and interrupts.
+pub fn memory_stays()
+    ensures calls { (r : Registers) (m : Machine) → IsProper m → KeepsLocations m (call_in r) (rmi r m).1 }
+    ensures stores { (m : Machine) (address word : ℕ) → IsProper m → KeepsLocations m None (after_store m address word) }
+    ensures fills { (m : Machine) (address value : ℕ) → IsProper m → KeepsLocations m None (after_fill m address value) }
+    ensures steps { (m : Machine) (rec : ℕ) (w : StepWords) → IsProper m → KeepsLocations m None (queued m rec w).1 }
+    ensures interrupts { (m : Machine) (rec : ℕ) → IsProper m → KeepsLocations m None (interrupted m rec).1 }
 {}
 
 /// RMI_RTT_FOLD undoes RMI_RTT_CREATE: it succeeds right after it, with its operands. And RMI_RTT_CREATE undoes
