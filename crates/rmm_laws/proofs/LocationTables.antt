@@ -1,5 +1,5 @@
 -- The locations that protected addresses lead to after each call.
-use Rattle.std.proofs.Common.{◌≡◌, ℕ, ◌/◌, ◌%◌, ◌⊎◌, ◌==◌, inl, true, false, Bool, List, length, Option, Some, None, refl, sym, ap, ◌∙◌, ⊎_elim, arith}
+use Rattle.std.proofs.Common.{◌≡◌, ℕ, ◌/◌, ◌%◌, ◌⊎◌, ◌==◌, inl, true, false, Bool, List, length, Option, Some, None, refl, sym, ap, ◌∙◌, ⊎_elim}
 use Rattle.std.proofs.lemmas.Bool.{cond_both, and_parts}
 use Rattle.granule_addr.specs.Page.{page_of}
 use Rattle.rmi_abi.specs.declared.call.Call.{Call}
