@@ -283,7 +283,7 @@ module _ (o : Machine) (w : ℕ) where
 -- ---- commands
 
 -- the RD of a REC's realm
-rd_of_rec_is : (m : Machine) (g : ℕ) (rec : RmmRec) → IsProper m → (granule_at m g).state ≡ IsRec rec → (rd : ℕ) × ((granule_at m g).owner ≡ Some rd) × (is_rd (granule_at m rd).state ≡ true)
+pub rd_of_rec_is : (m : Machine) (g : ℕ) (rec : RmmRec) → IsProper m → (granule_at m g).state ≡ IsRec rec → (rd : ℕ) × ((granule_at m g).owner ≡ Some rd) × (is_rd (granule_at m rd).state ≡ true)
 rd_of_rec_is m g rec proper is = owner_is m (granule_at m g).owner (rd_of m g proper.ordered (IsRec rec) is refl)
 
 -- a REC that a call names, and what the call touches

@@ -6,7 +6,7 @@ use Rattle.granule_addr.specs.Page.{zero_page}
 use Rattle.rmi_abi.specs.declared.call.Call.{Call}
 use Rattle.rmi_abi.specs.declared.call.Call.TheVariants.{Version, GranuleDelegate, GranuleUndelegate, DataCreateUnknown, DataDestroy, RealmActivate, RealmCreate, RealmDestroy, RecCreate, RecDestroy, RecEnter, PsciComplete, RttCreate, RttDestroy, RttMapUnprotected, RttReadEntry, RttUnmapUnprotected, Features, RttFold, RecAuxCount, DataCreate, RttInitRipas, RttSetRipas}
 use Rattle.rmm_model.specs.declared.granule.RmmGranuleState.{RmmGranuleState}
-use Rattle.rmm_model.specs.declared.granule.RmmGranuleState.TheVariants.{Undelegated, Delegated, Rd}
+use Rattle.rmm_model.specs.declared.granule.RmmGranuleState.TheVariants.{Undelegated, Delegated, Rd, Rec as IsRec}
 use Rattle.rmm_model.specs.declared.rec.PsciRequest.{PsciRequest}
 use Rattle.rmm_model.specs.declared.rec.PsciRequest.TheVariants.{CpuOn}
 use Rattle.rmm_model.specs.declared.rec.RmmRec.{RmmRec}
@@ -155,13 +155,14 @@ target_same m k g t rec (CpuOn target entry_point context) true other same =
     same_page m g first t _ other (same_page m g on t _ other (same_granule m g k t _ other same))
 target_same m k g t rec request begins other same = same
 
-completed_same : (calling target status : ℕ) (m : Machine) (g : ℕ) → Passed (psci_complete calling target status m).checks → (granule_at m g).state ≡ Undelegated → IsSameAt m (psci_complete calling target status m).machine g
+-- a granule that is no REC
+pub completed_beside : (calling target status : ℕ) (m : Machine) (g : ℕ) → Passed (psci_complete calling target status m).checks → ((rec : RmmRec) → (granule_at m g).state ≡ IsRec rec → ⊥) → IsSameAt m (psci_complete calling target status m).machine g
 unfolding psci_complete
-completed_same calling target status m g ok free =
+completed_beside calling target status m g ok plain =
     let caller = rec_of-some (state_at m calling) ok.1.1.1.0 in
     let also = rec_of-some (state_at m target) ok.1.1.1.1.1.1.0 in
-    let not_caller : g ≢ number_of m calling = λ same. (let states : (granule_at m g).state ≡ state_at m calling = ap (λ (x : ℕ). (granule_at m x).state) same in cc) in
-    let not_target : g ≢ number_of m target = λ same. (let states : (granule_at m g).state ≡ state_at m target = ap (λ (x : ℕ). (granule_at m x).state) same in cc) in
+    let not_caller : g ≢ number_of m calling = λ same. plain (rec_at m calling) (ap (λ (x : ℕ). (granule_at m x).state) same ∙ caller) in
+    let not_target : g ≢ number_of m target = λ same. plain (rec_at m target) (ap (λ (x : ℕ). (granule_at m x).state) same ∙ also) in
     target_same m _ g (number_of m target) (rec_at m target) (rec_at m calling).psci _ not_target (same_granule m g m (number_of m calling) _ not_caller (refl, refl))
 
 delegated_same : (address : ℕ) (m : Machine) (g : ℕ) → g ≢ number_of m address → IsSameAt m (granule_delegate address m).machine g
@@ -203,7 +204,7 @@ host_after : (call : Call) (m : Machine) (g : ℕ) → IsProper m → (granule_a
 host_after (GranuleDelegate address) m g proper free ok touches =
     ⊎_elim (λ (here : g ≡ number_of m address). inr (delegated_now address m g proper ok here)) (λ (other : g ≢ number_of m address). inl (delegated_same address m g other)) (cases_eq g (number_of m address))
 host_after (RecEnter rec run) m g proper free ok touches = entered_page rec run m g proper ok free
-host_after (PsciComplete calling target status) m g proper free ok touches = inl (completed_same calling target status m g ok free)
+host_after (PsciComplete calling target status) m g proper free ok touches = inl (completed_beside calling target status m g ok (λ rec is. cc))
 host_after call m g proper free ok touches = inl (quiet call m g proper ok free touches)
 
 -- a call leaves pages of the host as they were, but for those that it is said to change

@@ -5,6 +5,7 @@ pub mod Along
 pub mod Aside
 pub mod Blocks
 pub mod Children
+pub mod Contents
 pub mod Effects
 pub mod Entries
 pub mod EntryReads
@@ -17,6 +18,7 @@ pub mod Guests
 pub mod Halves
 pub mod Halving
 pub mod Keeping
+pub mod KeptData
 pub mod KeptTables
 pub mod Lasting
 pub mod LastingCalls
@@ -39,6 +41,7 @@ pub mod Passed
 pub mod Placing
 pub mod Plain
 pub mod Reaching
+pub mod ProperCalls
 pub mod ReadCalls
 pub mod RealmOrders
 pub mod Realms

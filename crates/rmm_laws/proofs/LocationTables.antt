@@ -104,7 +104,7 @@ lasting_locations call m n rd x before after then lasting protected keeps =
     let same : fixed after ≡ fixed before = ap fixed (sym it) ∙ lasting.2 in
     keeps then (ap (λ (r : RmmRealm). r.start_level) same) (ap (λ (r : RmmRealm). r.first_table) same) protected
 
-ok_locations : (call : Call) (m : Machine) → IsProper m → Passed (command_of call m).checks → KeepsLocations m (Some call) (command_of call m).machine
+pub ok_locations : (call : Call) (m : Machine) → IsProper m → Passed (command_of call m).checks → KeepsLocations m (Some call) (command_of call m).machine
 ok_locations call m proper ok rd x before after is then protected =
     let n : Machine = (command_of call m).machine in
     let touches = touches_of call m proper ok in

@@ -47,7 +47,7 @@ ghost use Rattle.rmm_laws.specs.Apart.{rd_named, changes_vmids, IsHostChanged, I
 ghost use Rattle.rmm_laws.specs.Back.{ComesBack, RecComesBack, IsAssignedTo, IsReleased};
 ghost use Rattle.rmm_laws.specs.Fold.{CanReplaceTable, IsAlike};
 ghost use Rattle.rmm_laws.specs.Half.{IsOfHalf, IsPlaced};
-ghost use Rattle.rmm_laws.specs.Location.{location_at, KeepsLocations};
+ghost use Rattle.rmm_laws.specs.Location.{location_at, KeepsLocations, KeepsContents};
 ghost use Rattle.rmm_laws.specs.Owner.{is_rec_in};
 ghost use Rattle.rmm_laws.specs.Proper.{IsProper, IsProperRun};
 ghost use Rattle.rmm_laws.specs.Refusal.{IsRefused, is_refusal, IsOneOf, IsRecEnter, IsFault, IsNotGiven, IsNotQueued, IsNotRunning, IsAccess, IsNotDone};
@@ -279,6 +279,7 @@ pub fn ripas_is_the_guest_s()
 /// guests are given, and interrupts.
 pub fn memory_stays()
     ensures calls { (r : Registers) (m : Machine) → IsProper m → KeepsLocations m (call_in r) (rmi r m).1 }
+    ensures contents { (r : Registers) (m : Machine) → IsProper m → KeepsContents m (call_in r) (rmi r m).1 }
     ensures stores { (m : Machine) (address word : ℕ) → IsProper m → KeepsLocations m None (after_store m address word) }
     ensures fills { (m : Machine) (address value : ℕ) → IsProper m → KeepsLocations m None (after_fill m address value) }
     ensures steps { (m : Machine) (rec : ℕ) (w : StepWords) → IsProper m → KeepsLocations m None (queued m rec w).1 }
