@@ -1,7 +1,30 @@
 -- The bytes that protected addresses lead to after each call.
-use Rattle.std.proofs.Common.{◌≡◌, ◌≢◌, ℕ, ◌+◌, ◌*◌, ◌/◌, ◌%◌, ◌<◌, ◌⊎◌, inl, inr, true, List, length, Option, Some, None, option_map, refl, sym, ap, subst, ◌∙◌, ⊎_elim, arith}
-use Rattle.std.proofs.lemmas.Bool.{both_ways, cases_eq, cond-true, eqb-true, lt-ltb, ltb-true}
+use Rattle.std.proofs.Common.{◌≡◌, ◌≢◌, ℕ, ◌+◌, ◌-◌, ◌*◌, ◌/◌, ◌%◌, ◌^◌, ◌<◌, ◌≤◌, ◌⊎◌, ◌==◌, ◌&&◌, inl, inr, Bool, true, false, List, length, Option, Some, None, Ok, option_map, refl, sym, ap, subst, ◌∙◌, ⊎_elim, arith}
+use Rattle.std.proofs.lemmas.Bool.{and_from, and_left, and_parts, and_right, both_ways, cases_eq, cond-false, cond-true, cond_both, eqb-true, le-leb, lt-ltb, ltb-true}
 use Rattle.std.proofs.lemmas.Nat.{mod_below}
+use Rattle.std.specs.Prelude.{is_some, not}
+use Rattle.granule_addr.specs.Page.{page_of}
+use Rattle.rmi_abi.specs.declared.word.Word.{Word as Answer}
+use Rattle.rmm_model.specs.declared.access.AccessSize.{AccessSize}
+use Rattle.rmm_model.specs.declared.entry.RmmRipas.{RmmRipas}
+use Rattle.rmm_model.specs.declared.entry.RmmRipas.TheVariants.{Ram}
+use Rattle.rmm_model.specs.declared.granule.RmmGranuleState.{RmmGranuleState}
+use Rattle.rmm_model.specs.declared.step.GuestStep.TheVariants.{Read}
+use Rattle.rmm_model.specs.declared.step.Queued.{Queued}
+use Rattle.rmm_model.specs.declared.step.StepOutcome.TheVariants.{Result as IsResult}
+use Rattle.rmm_model.specs.declared.step.StepResult.TheVariants.{Read as IsRead}
+use Rattle.rmm_model.specs.declared.step.StepWords.{StepWords}
+use Rattle.rmm_model.specs.Access.{value_in}
+use Rattle.rmm_model.specs.Entry.{descriptor_of, is_ram, ripas_in}
+use Rattle.rmm_model.specs.Granule.{rec_of}
+use Rattle.rmm_model.specs.Guest.{is_rec_named, queued}
+use Rattle.rmm_model.specs.Host.{is_host_page, can_access, can_fill, after_store, after_fill}
+use Rattle.rmm_model.specs.Rec.{is_running}
+use Rattle.rmm_model.specs.Step.{access, found_or_sea, is_memory, read_outcome}
+use Rattle.rmm_laws.specs.Ripas.{ripas_at}
+use Rattle.rmm_laws.proofs.Aside.{given_apart, interrupt_apart}
+use Rattle.rmm_laws.proofs.Lasting.{Lasts, lasts_all}
+use Rattle.rmm_laws.proofs.Plain.{host_plain}
 use Rattle.granule_addr.specs.Page.{zero_page}
 use Rattle.rmi_abi.specs.declared.call.Call.{Call}
 use Rattle.rmi_abi.specs.declared.call.Call.TheVariants.{RecEnter}
@@ -16,28 +39,28 @@ use Rattle.rmm_model.specs.declared.realm.RttWalk.{RttWalk}
 use Rattle.rmm_model.specs.Call.{command_of, performed, rmi_at}
 use Rattle.rmm_model.specs.Granule.{is_delegated, of_realm}
 use Rattle.rmm_model.specs.Level.{entry_size, entry_index}
-use Rattle.rmm_model.specs.Machine.{Machine, granule_at, page_in, is_aligned, is_inside, number_of, state_at}
-use Rattle.rmm_model.specs.Realm.{is_protected}
+use Rattle.rmm_model.specs.Machine.{Machine, granule_at, page_in, is_aligned, is_inside, number_of, state_at, with_page, with_word}
+use Rattle.rmm_model.specs.Realm.{is_in_space, is_protected}
 use Rattle.rmm_model.specs.Table.{entry_in_page}
-use Rattle.rmm_model.specs.Walk.{entry_at, walk}
+use Rattle.rmm_model.specs.Walk.{entry_at, granule_named, walk}
 use Rattle.rmm_model.specs.Command.DataCreate.{data_create, source_checks, target_checks}
 use Rattle.rmm_model.specs.Command.DataCreateUnknown.{data_create_unknown}
 use Rattle.rmm_model.specs.Command.Operand.{realm_at, rec_at}
-use Rattle.rmm_model.specs.Command.RecEnter.{rec_enter}
+use Rattle.rmm_model.specs.Command.RecEnter.{rec_enter, interrupted, runs_at, step_outcome}
 use Rattle.rmm_laws.specs.Apart.{named_realm, IsOfRealm, IsSameAt}
 use Rattle.rmm_laws.specs.Half.{IsOfHalf}
-use Rattle.rmm_laws.specs.Location.{Location, location, location_of, location_at, content_of, content_at, IsContentGiven, IsLocationGiven, KeepsContents}
+use Rattle.rmm_laws.specs.Location.{Location, location, location_of, location_at, content_of, content_at, IsContentGiven, IsLocationGiven, KeepsLocations, KeepsContents}
 use Rattle.rmm_laws.specs.Owner.{is_rd}
 use Rattle.rmm_laws.specs.Proper.{IsProper}
 use Rattle.rmm_laws.specs.Role.{Used, used, page_count, entry_uses, uses, LeadsInside}
 use Rattle.rmm_laws.specs.State.{fixed, IsLasting, IsDestroyed}
 use Rattle.rmm_laws.proofs.Accesses.{page_below, number_on}
 use Rattle.rmm_laws.proofs.Entries.{begins, named_inside}
-use Rattle.rmm_laws.proofs.Guests.{rd_of_rec_is}
+use Rattle.rmm_laws.proofs.Guests.{rd_of_rec_is, given_kept, given_then, interrupt_kept, interrupted_then}
 use Rattle.rmm_laws.proofs.KeptData.{data_after, page_content, spare_apart}
 use Rattle.rmm_laws.proofs.LastingCalls.{realms_after}
 use Rattle.rmm_laws.proofs.LeftAlone.{touches_host, touches_of}
-use Rattle.rmm_laws.proofs.LocationTables.{ok_locations}
+use Rattle.rmm_laws.proofs.LocationTables.{ok_locations, stored_locations, filled_locations, given_locations, interrupted_locations}
 use Rattle.rmm_laws.proofs.Mappings.{served, place_is, place_table, protected_within}
 use Rattle.rmm_laws.proofs.Passed.{Passed, kept, yes_from, is_delegated-true, realm_of-some, rec_of-some, rec_named-is}
 use Rattle.rmm_laws.proofs.RipasTables.{destroyed_no_rd}
@@ -45,48 +68,124 @@ use Rattle.rmm_laws.proofs.Seats.{walk_half}
 use Rattle.rmm_laws.proofs.States.{same_realm}
 use Rattle.rmm_laws.proofs.Touching.{Touches, IsMine, IsFree, free_spare}
 use Rattle.rmm_laws.proofs.Walks.{IsPlace, right, uses-entry, entry_index-few, entry_size-positive}
-use Rattle.rmm_laws.proofs.Writes.{number-same}
+use Rattle.rmm_laws.proofs.Writes.{number-same, page_in-other, taken_inside}
 
 -- ---- pages that addresses lead to
 
 some_location : {a b : Location} → Some a ≡ Some b → a ≡ b
 some_location is = cc
 
+same_page : {a b : List ℕ} → Some a ≡ Some b → a ≡ b
+same_page is = cc
+
+inside_by : (m : Machine) (a : ℕ) → m.settings.base ≤ a → number_of m a < length m.granules → is_inside m a ≡ true
+unfolding is_inside number_of
+inside_by m a low few = and_from _ _ (le-leb m.settings.base a low) (lt-ltb ((a - m.settings.base) / 4096) (length m.granules) few)
+
+-- an entry of a table uses the granule at a location, as a page of the realm of an RD
+pub record IsUsedAt (m : Machine) (proper : IsProper m) (rd g table i k : ℕ) : Type 0 where
+  pub number : ℕ
+  pub at : g ≡ number
+  pub gives : uses m proper.linked.level table i k ≡ Some (used Data (Some rd) 0 number)
+
 module _ (m : Machine) (proper : IsProper m) (rd : ℕ) (realm : RmmRealm) (is : (granule_at m rd).state ≡ Rd realm) (x : ℕ) (protected : is_protected realm x ≡ true) (at : Location) where
-  -- an entry of the protected half leads to a page of the realm
+  -- an entry of the protected half that leads to a page of the realm
+  pub record IsMapping (place : RttWalk) (i offset : ℕ) (e : RmmRttEntry) : Type 0 where
+    pub ripas : RmmRipas
+    pub address : ℕ
+    pub entry : e ≡ Assigned ripas address
+    pub sum : at.address ≡ address + offset
+    pub first : ℕ
+    pub begins : address ≡ m.settings.base + first * 4096
+    pub used : IsUsedAt m proper rd (number_of m at.address) place.table i (offset / 4096)
+
   by_entry : (place : RttWalk) (i offset : ℕ) (e : RmmRttEntry) → IsPlace m proper.linked rd x place → i < 512 → entry_in_page (page_in m place.table) i ≡ e → LeadsInside m e → IsOfHalf realm x e
-      → offset < entry_size place.level → location_of e offset ≡ Some at → granule_at m (number_of m at.address) ≡ of_realm rd Data
+      → offset < entry_size place.level → location_of e offset ≡ Some at → IsMapping place i offset e
   by_entry place i offset (Assigned ripas address) end lt entry leads half within there =
       let first : ℕ = number_of m address in
       let k : ℕ = offset / 4096 in
       let base = proper.linked.sound.platform.base_aligned in
       let begin = leads.1 in
       let whole : address / 4096 * 4096 + offset ≡ address + offset = omega arith in
-      let is_at : address + offset ≡ at.address = sym whole ∙ ap (λ (l : Location). l.address) (some_location there) in
-      let number : number_of m at.address ≡ first + k = ap (number_of m) (sym is_at) ∙ number_on m address first offset leads.1 in
-      let gives : uses m proper.linked.level place.table i k ≡ Some (used Data (Some rd) 0 (first + k)) =
-      uses-entry m proper.linked rd x place i k end lt
-      ∙ ap (λ (f : RmmRttEntry). entry_uses m (Some rd) place.level f k) entry
-      ∙ cond-true _ _ _ (lt-ltb k (page_count place.level) (page_below place.level offset within))
-      ∙ ap (option_map (λ f. used Data (Some rd) 0 (f + k))) (named_inside m address leads.0) in
-      ap (granule_at m) number ∙ sym (ap (λ (u : Used). u.attributes) (right m proper.linked place.table i k (used Data (Some rd) 0 (first + k)) gives))
+      let is_at : at.address ≡ address + offset = sym (ap (λ (l : Location). l.address) (some_location there)) ∙ whole in
+      record {
+        ripas = ripas;
+        address = address;
+        entry = refl;
+        sum = is_at;
+        first = first;
+        begins = leads.1;
+        used = record {
+          number = first + k;
+          at = ap (number_of m) is_at ∙ number_on m address first offset leads.1;
+          gives = uses-entry m proper.linked rd x place i k end lt
+              ∙ ap (λ (f : RmmRttEntry). entry_uses m (Some rd) place.level f k) entry
+              ∙ cond-true _ _ _ (lt-ltb k (page_count place.level) (page_below place.level offset within))
+              ∙ ap (option_map (λ f. used Data (Some rd) 0 (f + k))) (named_inside m address leads.0);
+        };
+      }
   by_entry place i offset (AssignedNs desc) end lt entry leads half within there = (let low = ltb-true _ _ protected in let high = half.0 in absurd (omega arith))
   by_entry place i offset (Unassigned ripas) end lt entry leads half within there = absurd (cc)
   by_entry place i offset UnassignedNs end lt entry leads half within there = absurd (cc)
   by_entry place i offset (Table address) end lt entry leads half within there = absurd (cc)
 
-  pub leads_to_data : location_at m realm x ≡ Some at → granule_at m (number_of m at.address) ≡ of_realm rd Data
+  within : x < 2 ^ realm.s2sz
+  within = protected_within realm x protected
+
+  pub mapping : location_at m realm x ≡ Some at → IsMapping (walk m realm x 3) (entry_index (walk m realm x 3).level x) (x % entry_size (walk m realm x 3).level) (entry_at m (walk m realm x 3) x)
   unfolding entry_at
-  leads_to_data there =
+  mapping there =
       let found : RttWalk = walk m realm x 3 in
       let i : ℕ = entry_index found.level x in
-      let within = protected_within realm x protected in
       let end = place_is m proper.linked rd x 3 realm is within (served m rd realm proper.linked is).level in
       let positive = entry_size-positive found.level in
       let lt = entry_index-few found.level x in
       by_entry found i (x % entry_size found.level) (entry_in_page (page_in m found.table) i) end lt refl
       (proper.linked.inside found.table i (ap (λ (r : RmmGranule). r.state) end.table) lt) (walk_half m proper.linked proper.ordered.halves rd x realm is within 3)
       (mod_below x (entry_size found.level) positive) there
+
+  pub leads_to_data : location_at m realm x ≡ Some at → granule_at m (number_of m at.address) ≡ of_realm rd Data
+  leads_to_data there =
+      let it = mapping there in
+      let found : RttWalk = walk m realm x 3 in
+      ap (granule_at m) it.used.at
+      ∙ sym (ap (λ (u : Used). u.attributes) (right m proper.linked found.table (entry_index found.level x) (x % entry_size found.level / 4096) (used Data (Some rd) 0 it.used.number) it.used.gives))
+
+  -- a guest reaches that page if RIPAS is RAM
+  pub reaches_data : location_at m realm x ≡ Some at → ripas_at m realm x ≡ Ram → (writes : Bool) (size : AccessSize) (value : ℕ) → access m realm x writes size value ≡ Ok (number_of m at.address)
+  unfolding access
+  reaches_data there ram writes size value =
+      let it = mapping there in
+      let found : RttWalk = walk m realm x 3 in
+      let e : RmmRttEntry = entry_at m found x in
+      let offset : ℕ = x % entry_size found.level in
+      let inside_space : not (is_in_space realm x) ≡ false = ap not (lt-ltb x (2 ^ realm.s2sz) within) in
+      let memory : is_memory e ≡ true = ap is_memory it.entry ∙ ap is_ram (sym (ap ripas_in it.entry) ∙ ram) in
+      let data_is = leads_to_data there in
+      let few = taken_inside m (number_of m at.address) (λ free. (let state : (granule_at m (number_of m at.address)).state ≡ Data = ap (λ (r : RmmGranule). r.state) data_is in cc)) in
+      let begin = it.begins in
+      let sum = it.sum in
+      let inside : is_inside m at.address ≡ true = inside_by m at.address (omega arith) few in
+      let address : descriptor_of e + offset ≡ at.address = ap (λ (f : RmmRttEntry). descriptor_of f + offset) it.entry ∙ sym it.sum in
+      cond-false (not (is_in_space realm x)) _ _ inside_space
+      ∙ cond-true (is_protected realm x) _ _ protected
+      ∙ cond-true (is_memory e) _ _ memory
+      ∙ ap (λ (a : ℕ). found_or_sea (granule_named m a)) address
+      ∙ ap found_or_sea (named_inside m at.address inside)
+
+-- ---- reads
+
+content_place : (m : Machine) (o : Option Location) (page : List ℕ) → content_of m o ≡ Some page → (at : Location) × (o ≡ Some at) × (page_in m (number_of m at.address) ≡ page)
+content_place m (Some at) page is = (at, refl, same_page is)
+content_place m None page is = absurd (cc)
+
+-- a guest reads the bytes of the page that its address leads to
+pub read_content : (m : Machine) (rd g flags ipa : ℕ) (size : AccessSize) (realm : RmmRealm) (page : List ℕ) → IsProper m → (granule_at m rd).state ≡ Rd realm → is_protected realm ipa ≡ true
+    → content_at m realm ipa ≡ Some page → ripas_at m realm ipa ≡ Ram → step_outcome m realm g flags (Read ipa size) ≡ IsResult (IsRead (value_in page size ipa))
+unfolding step_outcome
+read_content m rd g flags ipa size realm page proper is protected content ram =
+    let place = content_place m (location_at m realm ipa) page content in
+    ap (read_outcome m ipa size) (reaches_data m proper rd realm is ipa protected place.0 place.1 ram false size 0) ∙ ap (λ (p : List ℕ). IsResult (IsRead (value_in p size ipa))) place.2
 
 -- ---- addresses that lead to the location that they led to
 
@@ -249,3 +348,75 @@ call_contents None r m proper keeps = λ rd x before after is then protected. in
 call_contents (Some call) r m proper keeps =
     kept (KeepsContents m (Some call)) (command_of call m) m (λ rd x before after is then protected. inl (ap (λ (realm : RmmRealm). content_at m realm x) (same_realm (sym then ∙ is))))
     (λ ok. ok_contents call m proper (keeps call ok) ok)
+
+-- ---- stores, fills, steps and interrupts
+
+none_contents : (m n : Machine) → IsProper m → IsProper n → n.settings ≡ m.settings → length n.granules ≡ length m.granules → Lasts m n → KeepsLocations m None n → ((g : ℕ) → (granule_at m g).state ≡ Data → IsSameAt m n g) → KeepsContents m None n
+none_contents m n proper proper_then settings count lasts locations pages rd x before after is then protected =
+    ⊎_elim
+    (λ (same : location_at n after x ≡ location_at m before x).
+    inl (same_content m n proper proper_then settings count rd x before after is then protected (lasting_space n rd x before after then (lasts rd before is) protected) same
+    (λ g data_is. inl (pages g (ap (λ (r : RmmGranule). r.state) data_is)))))
+    (λ (never : IsLocationGiven m None rd x (location_at m before x) (location_at n after x)). absurd never)
+    (locations rd x before after is then protected)
+
+no_change : (m : Machine) → IsProper m → KeepsContents m None m
+no_change m proper = λ rd x before after is then protected. inl (ap (λ (realm : RmmRealm). content_at m realm x) (same_realm (sym then ∙ is)))
+
+-- a page of the host is written
+host_contents : (m : Machine) (address : ℕ) (page : List ℕ) → IsProper m → IsProper (with_page m (number_of m address) page) → is_host_page m address ≡ true → KeepsLocations m None (with_page m (number_of m address) page)
+    → KeepsContents m None (with_page m (number_of m address) page)
+host_contents m address page proper proper_then host locations =
+    none_contents m (with_page m (number_of m address) page) proper proper_then refl refl (lasts_all m) locations
+    (λ g is. (refl, page_in-other m (number_of m address) g page (λ same. (let free = host_plain m address host in let states : (granule_at m g).state ≡ state_at m address = ap (λ (y : ℕ). (granule_at m y).state) same in cc))))
+
+pub stored_contents : (m : Machine) (address word : ℕ) → IsProper m → IsProper (after_store m address word) → KeepsContents m None (after_store m address word)
+stored_contents m address word proper proper_then =
+    let written : Machine = with_word m (number_of m address) (address % 4096 / 8) word in
+    cond_both (can_access m address) written m (λ (n : Machine). IsProper n → KeepsLocations m None n → KeepsContents m None n)
+    (λ can proper_now locations. host_contents m address _ proper proper_now (and_parts (address % 8 == 0) (is_host_page m address) can).1 locations)
+    (λ cannot proper_now locations. no_change m proper)
+    proper_then (stored_locations m address word proper)
+
+pub filled_contents : (m : Machine) (address value : ℕ) → IsProper m → IsProper (after_fill m address value) → KeepsContents m None (after_fill m address value)
+filled_contents m address value proper proper_then =
+    cond_both (can_fill m address) (with_page m (number_of m address) (page_of value)) m (λ (n : Machine). IsProper n → KeepsLocations m None n → KeepsContents m None n)
+    (λ can proper_now locations. host_contents m address _ proper proper_now (and_parts (is_aligned address) (is_host_page m address) can).1 locations)
+    (λ cannot proper_now locations. no_change m proper)
+    proper_then (filled_locations m address value proper)
+
+-- a granule that is no REC, at an address
+no_rec_named : (m : Machine) (rec g : ℕ) → (granule_at m g).state ≡ Data → g ≡ number_of m rec → is_rec_named m rec ≡ false
+no_rec_named m rec g is here =
+    let state : state_at m rec ≡ Data = sym (ap (λ (y : ℕ). (granule_at m y).state) here) ∙ is in
+    and_right (is_aligned rec && is_inside m rec) (is_some (rec_of (state_at m rec))) (ap (λ (s : RmmGranuleState). is_some (rec_of s)) state)
+
+given_pages : (m : Machine) (rec : ℕ) (w : StepWords) (g : ℕ) → (granule_at m g).state ≡ Data → IsSameAt m (queued m rec w).1 g
+given_pages m rec w g is =
+    ⊎_elim
+    (λ (here : g ≡ number_of m rec). subst (λ (p : Queued × Machine). IsSameAt m p.1 g) (sym (cond-false (is_rec_named m rec) _ _ (no_rec_named m rec g is here))) (refl, refl))
+    (λ (other : g ≢ number_of m rec). given_apart m rec g w other)
+    (cases_eq g (number_of m rec))
+
+interrupted_pages : (m : Machine) (rec g : ℕ) → (granule_at m g).state ≡ Data → IsSameAt m (interrupted m rec).1 g
+unfolding interrupted
+interrupted_pages m rec g is =
+    ⊎_elim
+    (λ (here : g ≡ number_of m rec).
+    subst (λ (p : Option Answer × Machine). IsSameAt m p.1 g) (sym (cond-false (runs_at m rec) _ _ (and_left (is_rec_named m rec) (is_running (rec_at m rec).state) (no_rec_named m rec g is here)))) (refl, refl))
+    (λ (other : g ≢ number_of m rec). interrupt_apart m rec g other (λ free. cc))
+    (cases_eq g (number_of m rec))
+
+pub given_contents : (m : Machine) (rec : ℕ) (w : StepWords) → IsProper m → KeepsContents m None (queued m rec w).1
+given_contents m rec w proper =
+    given_then (λ (n : Machine). IsProper n → KeepsLocations m None n → ((g : ℕ) → (granule_at m g).state ≡ Data → IsSameAt m n g) → KeepsContents m None n) m rec w proper
+    (λ proper_now locations pages. no_change m proper)
+    (λ v g n going proper_now locations pages. none_contents m n proper proper_now going.touches.settings going.touches.count going.lasts locations pages)
+    (given_kept m rec w proper) (given_locations m rec w proper) (given_pages m rec w)
+
+pub interrupted_contents : (m : Machine) (rec : ℕ) → IsProper m → KeepsContents m None (interrupted m rec).1
+interrupted_contents m rec proper =
+    interrupted_then (λ (n : Machine). IsProper n → KeepsLocations m None n → ((g : ℕ) → (granule_at m g).state ≡ Data → IsSameAt m n g) → KeepsContents m None n) m rec proper
+    (λ proper_now locations pages. no_change m proper)
+    (λ v g n going proper_now locations pages. none_contents m n proper proper_now going.touches.settings going.touches.count going.lasts locations pages)
+    (interrupt_kept m rec proper) (interrupted_locations m rec proper) (interrupted_pages m rec)

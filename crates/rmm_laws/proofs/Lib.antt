@@ -15,6 +15,7 @@ pub mod FoldMemory
 pub mod Freed
 pub mod Given
 pub mod Guests
+pub mod GuestWrites
 pub mod Halves
 pub mod Halving
 pub mod Keeping

@@ -122,13 +122,13 @@ call_locations (Some call) r m proper =
 
 -- ---- stores, fills, steps and interrupts
 
-none_locations : (m n : Machine) → IsProper m → n.settings ≡ m.settings → length n.granules ≡ length m.granules → KeepsTables m n → Lasts m n → KeepsLocations m None n
+pub none_locations : (m n : Machine) → IsProper m → n.settings ≡ m.settings → length n.granules ≡ length m.granules → KeepsTables m n → Lasts m n → KeepsLocations m None n
 none_locations m n proper settings count kept lasts rd x before after is then protected =
     let lasting = lasts rd before is in
     let same : fixed after ≡ fixed before = ap fixed (same_realm (sym then ∙ lasting.1)) ∙ lasting.2 in
     inl (same_read m n proper settings count rd x before (Option Location) (leading x) after (ap (λ (r : RmmRealm). r.start_level) same) (ap (λ (r : RmmRealm). r.first_table) same) is protected (tables_of m n rd kept))
 
-same_machine : (m : Machine) → IsProper m → KeepsLocations m None m
+pub same_machine : (m : Machine) → IsProper m → KeepsLocations m None m
 same_machine m proper = none_locations m m proper refl refl (tables_all m) (lasts_all m)
 
 host_locations : (m : Machine) (address : ℕ) (page : List ℕ) → IsProper m → is_host_page m address ≡ true → KeepsLocations m None (with_page m (number_of m address) page)

@@ -1,5 +1,5 @@
 //! Theorems of all calls by registers, of the host's stores, and of guests.
-ghost use Rattle.std.specs.Prelude.{◌≡◌, ◌≢◌, ℕ, ◌+◌, ◌-◌, ◌*◌, ◌%◌, ◌^◌, ◌<◌, ◌≤◌, ◌⊎◌, true, false, List, [], ◌∷◌, length, Some, None};
+ghost use Rattle.std.specs.Prelude.{◌≡◌, ◌≢◌, ℕ, ◌+◌, ◌-◌, ◌*◌, ◌/◌, ◌%◌, ◌^◌, ◌<◌, ◌≤◌, ◌⊎◌, true, false, List, [], ◌∷◌, length, Some, None};
 ghost use Rattle.granule_addr.specs.Page.{zero_page};
 ghost use Rattle.page_arena.specs.Page.{page_at};
 ghost use Rattle.rmi_abi.specs.declared.registers.Registers.{Registers};
@@ -19,14 +19,17 @@ ghost use Rattle.rmm_model.specs.declared.granule.RmmGranuleState.TheVariants.{U
 ghost use Rattle.rmm_model.specs.declared.step.GuestStep.{GuestStep};
 ghost use Rattle.rmm_model.specs.declared.step.GuestStep.TheVariants.{Write, Read, Fetch};
 ghost use Rattle.rmm_model.specs.declared.step.StepOutcome.{StepOutcome};
+ghost use Rattle.rmm_model.specs.declared.step.StepOutcome.TheVariants.{Result as IsResult};
+ghost use Rattle.rmm_model.specs.declared.step.StepResult.TheVariants.{Read as IsRead};
 ghost use Rattle.rmm_model.specs.declared.step.StepWords.{StepWords};
 ghost use Rattle.rmm_model.specs.declared.realm.RmmRealm.{RmmRealm};
 ghost use Rattle.rmm_model.specs.declared.realm.RmmRealmState.TheVariants.{New, Active};
 ghost use Rattle.rmm_model.specs.declared.entry.RmmRipas.{RmmRipas};
-ghost use Rattle.rmm_model.specs.declared.entry.RmmRipas.TheVariants.{Empty};
+ghost use Rattle.rmm_model.specs.declared.entry.RmmRipas.TheVariants.{Empty, Ram};
 ghost use Rattle.rmm_model.specs.declared.rec.LastExit.{LastExit};
 ghost use Rattle.rmm_model.specs.declared.rec.LastExit.TheVariants.{RipasChange};
 ghost use Rattle.rmm_model.specs.declared.rec.RmmRec.{RmmRec};
+ghost use Rattle.rmm_model.specs.Access.{value_in};
 ghost use Rattle.rmm_model.specs.Allowed.{allowed_words};
 ghost use Rattle.rmm_model.specs.Call.{command_of, performed, rmi};
 ghost use Rattle.rmm_model.specs.Entry.{is_live, is_ram};
@@ -47,7 +50,7 @@ ghost use Rattle.rmm_laws.specs.Apart.{rd_named, changes_vmids, IsHostChanged, I
 ghost use Rattle.rmm_laws.specs.Back.{ComesBack, RecComesBack, IsAssignedTo, IsReleased};
 ghost use Rattle.rmm_laws.specs.Fold.{CanReplaceTable, IsAlike};
 ghost use Rattle.rmm_laws.specs.Half.{IsOfHalf, IsPlaced};
-ghost use Rattle.rmm_laws.specs.Location.{location_at, KeepsLocations, KeepsContents};
+ghost use Rattle.rmm_laws.specs.Location.{location_at, content_at, KeepsLocations, KeepsContents};
 ghost use Rattle.rmm_laws.specs.Owner.{is_rec_in};
 ghost use Rattle.rmm_laws.specs.Proper.{IsProper, IsProperRun};
 ghost use Rattle.rmm_laws.specs.Refusal.{IsRefused, is_refusal, IsOneOf, IsRecEnter, IsFault, IsNotGiven, IsNotQueued, IsNotRunning, IsAccess, IsNotDone};
@@ -273,17 +276,27 @@ pub fn ripas_is_the_guest_s()
     ensures interrupts { (m : Machine) (rec : ℕ) → IsProper m → KeepsRipas m None (interrupted m rec).1 }
 {}
 
-/// Memory stays where it is. RMI_DATA_CREATE and RMI_DATA_CREATE_UNKNOWN alone give a protected address a page, where there
-/// was none, and RMI_DATA_DESTROY alone takes it. So a page takes the place of another one only after that was destroyed.
-/// No other call changes where a protected address leads to, and neither do stores and fills of the host, steps that
-/// guests are given, and interrupts.
-pub fn memory_stays()
+/// Memory is the guest's. RMI_DATA_CREATE and RMI_DATA_CREATE_UNKNOWN alone give a protected address a page, where there was
+/// none, and RMI_DATA_DESTROY alone takes it. So a page takes the place of another one only after that was destroyed. The
+/// first gives the bytes of a page of the host while the realm is NEW, the second gives zeros. Then the bytes stay, but
+/// while RECs of the realm are entered. Stores and fills of the host, steps that guests are given, and interrupts change
+/// neither. A guest reads the bytes of the page that its address leads to, if RIPAS is RAM. What it writes at a protected
+/// address changes those at no protected address of another page or realm.
+pub fn memory_is_the_guest_s()
     ensures calls { (r : Registers) (m : Machine) → IsProper m → KeepsLocations m (call_in r) (rmi r m).1 }
-    ensures contents { (r : Registers) (m : Machine) → IsProper m → KeepsContents m (call_in r) (rmi r m).1 }
     ensures stores { (m : Machine) (address word : ℕ) → IsProper m → KeepsLocations m None (after_store m address word) }
     ensures fills { (m : Machine) (address value : ℕ) → IsProper m → KeepsLocations m None (after_fill m address value) }
     ensures steps { (m : Machine) (rec : ℕ) (w : StepWords) → IsProper m → KeepsLocations m None (queued m rec w).1 }
     ensures interrupts { (m : Machine) (rec : ℕ) → IsProper m → KeepsLocations m None (interrupted m rec).1 }
+    ensures called { (r : Registers) (m : Machine) → IsProper m → KeepsContents m (call_in r) (rmi r m).1 }
+    ensures stored { (m : Machine) (address word : ℕ) → IsProper m → KeepsContents m None (after_store m address word) }
+    ensures filled { (m : Machine) (address value : ℕ) → IsProper m → KeepsContents m None (after_fill m address value) }
+    ensures given { (m : Machine) (rec : ℕ) (w : StepWords) → IsProper m → KeepsContents m None (queued m rec w).1 }
+    ensures ended { (m : Machine) (rec : ℕ) → IsProper m → KeepsContents m None (interrupted m rec).1 }
+    ensures reads { (m : Machine) (rd rec flags ipa : ℕ) (size : AccessSize) (realm : RmmRealm) (page : List ℕ) → IsProper m → (granule_at m rd).state ≡ Rd realm → is_protected realm ipa ≡ true
+        → content_at m realm ipa ≡ Some page → ripas_at m realm ipa ≡ Ram → step_outcome m realm rec flags (Read ipa size) ≡ IsResult (IsRead (value_in page size ipa)) }
+    ensures writes { (m : Machine) (rd other rec ipa value x : ℕ) (size : AccessSize) (realm its : RmmRealm) (outcome : StepOutcome) → IsProper m → (granule_at m rd).state ≡ Rd realm → (granule_at m other).state ≡ Rd its
+        → is_protected realm ipa ≡ true → is_protected its x ≡ true → (other ≢ rd) ⊎ (x / 4096 ≢ ipa / 4096) → content_at (after_step m realm rec (Write ipa value size) outcome) its x ≡ content_at m its x }
 {}
 
 /// RMI_RTT_FOLD undoes RMI_RTT_CREATE: it succeeds right after it, with its operands. And RMI_RTT_CREATE undoes

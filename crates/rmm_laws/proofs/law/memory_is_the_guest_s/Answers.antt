@@ -1,0 +1,48 @@
+use Rattle.rmi_abi.specs.Call.{call_in}
+use Rattle.rmm_model.specs.Call.{rmi}
+use Rattle.rmm_laws.proofs.Contents.{call_contents, stored_contents, filled_contents, given_contents, interrupted_contents, read_content}
+use Rattle.rmm_laws.proofs.GuestWrites.{written_content}
+use Rattle.rmm_laws.proofs.LocationTables.{call_locations, stored_locations, filled_locations, given_locations, interrupted_locations}
+use Rattle.rmm_laws.proofs.Ordering.{store_ordered, fill_ordered}
+use Rattle.rmm_laws.proofs.Plain.{stored, filled}
+use Rattle.rmm_laws.proofs.ProperCalls.{after}
+use Rattle.rmm_laws.proofs.law.memory_is_the_guest_s.Goals as goal
+
+pub returns-clause-calls : goal.returns-clause-calls
+unfolding rmi
+returns-clause-calls c = λ r m proper. call_locations (call_in r) r m proper
+
+pub returns-clause-stores : goal.returns-clause-stores
+returns-clause-stores c = stored_locations
+
+pub returns-clause-fills : goal.returns-clause-fills
+returns-clause-fills c = filled_locations
+
+pub returns-clause-steps : goal.returns-clause-steps
+returns-clause-steps c = given_locations
+
+pub returns-clause-interrupts : goal.returns-clause-interrupts
+returns-clause-interrupts c = interrupted_locations
+
+pub returns-clause-called : goal.returns-clause-called
+unfolding rmi
+returns-clause-called c = λ r m proper. call_contents (call_in r) r m proper (λ call ok. after call m proper ok)
+
+pub returns-clause-stored : goal.returns-clause-stored
+returns-clause-stored c = λ m address word proper. stored_contents m address word proper (record { linked = stored m address word proper.linked; ordered = store_ordered m address word proper.ordered })
+
+pub returns-clause-filled : goal.returns-clause-filled
+returns-clause-filled c = λ m address value proper. filled_contents m address value proper (record { linked = filled m address value proper.linked; ordered = fill_ordered m address value proper.ordered })
+
+pub returns-clause-given : goal.returns-clause-given
+returns-clause-given c = given_contents
+
+pub returns-clause-ended : goal.returns-clause-ended
+returns-clause-ended c = interrupted_contents
+
+pub returns-clause-reads : goal.returns-clause-reads
+returns-clause-reads c = λ m rd rec flags ipa size realm page proper is protected content ram. read_content m rd rec flags ipa size realm page proper is protected content ram
+
+pub returns-clause-writes : goal.returns-clause-writes
+returns-clause-writes c = λ m rd other rec ipa value x size realm its outcome proper is also protected protected_too apart.
+    written_content m proper rd other ipa value x size realm its is also protected protected_too apart rec outcome
