@@ -108,11 +108,11 @@ module _ (x : ℕ) (A : Type 0) (F : RmmRttEntry → ℕ → A) (G : ℕ → A �
 
       -- the walk ends where it did
       pub leaf_walk : (x / entry_size (walk m realm ipa level).level ≡ ipa / entry_size (walk m realm ipa level).level → IsReadAs A F (G rd) (entry_at m (walk m realm ipa level) ipa) (entry_of (entry_word e)) (walk m realm ipa level).level)
-          → is_protected realm x ≡ true → walk n realm x 3 ≡ walk m realm x 3
-      leaf_walk given protected =
+          → x < 2 ^ realm.s2sz → walk n realm x 3 ≡ walk m realm x 3
+      leaf_walk given inside =
           (changed m n proper settings count rd ipa level realm is within x A F (G rd)
           (one_changed m n proper settings count rd ipa level realm is within x A F (G rd) (entry_of (entry_word e)) now beside before (word_table e leaf) given)
-          others realm refl refl (protected_within realm x protected)).0
+          others realm refl refl inside).0
 
     -- entries of a range get another RIPAS
     module _ (changeable : Changeable) (ripas : RmmRipas) (top : ℕ) (begins : ipa % entry_size (walk m realm ipa level).level ≡ 0)

@@ -21,7 +21,8 @@ use Rattle.rmm_model.specs.Granule.{of_no_realm, of_realm, is_delegated}
 use Rattle.rmm_model.specs.Level.{entry_size, entry_index}
 use Rattle.rmm_model.specs.Machine.{Machine, granule_at, page_in, number_of, state_at, with_granule, with_page}
 use Rattle.rmm_model.specs.Realm.{is_protected, is_new}
-use Rattle.rmm_model.specs.Walk.{entry_at, with_entry, memory_below, walk}
+use Rattle.rmm_model.specs.Table.{entry_in_page}
+use Rattle.rmm_model.specs.Walk.{entry_at, with_entry, memory_below, walk, table_below}
 use Rattle.rmm_model.specs.Command.DataCreate.{data_create, source_checks, target_checks}
 use Rattle.rmm_model.specs.Command.DataCreateUnknown.{data_create_unknown}
 use Rattle.rmm_model.specs.Command.DataDestroy.{data_destroy, left_ripas}
@@ -38,12 +39,15 @@ use Rattle.rmm_laws.specs.Walk.{IsTableOf}
 use Rattle.rmm_laws.proofs.EntryReads.{changed_to, destroyed_too}
 use Rattle.rmm_laws.proofs.EntryWords.{word_ripas}
 use Rattle.rmm_laws.proofs.Guests.{same_owner}
+use Rattle.rmm_laws.proofs.Halves.{none_below}
 use Rattle.rmm_laws.proofs.KeptTables.{KeepsTablesOf}
 use Rattle.rmm_laws.proofs.Mappings.{served, place_table, protected_within, some_of, owned_protected}
 use Rattle.rmm_laws.proofs.Ordering.{memory_is}
 use Rattle.rmm_laws.proofs.Passed.{Passed, yes_from, is_delegated-true, realm_of-some}
 use Rattle.rmm_laws.proofs.ReadCalls.{leaf_read, leaf_walk, now, range_read, map_read, unmap_read, page_read, tables_read, none_read, rd_read}
+use Rattle.rmm_laws.proofs.Seats.{in_space}
 use Rattle.rmm_laws.proofs.StateCalls.{new_if}
+use Rattle.rmm_laws.proofs.Tops.{same_end}
 use Rattle.rmm_laws.proofs.Touching.{Touches}
 use Rattle.rmm_laws.proofs.Writes.{page_in-same, page_in-other, taken_inside}
 
@@ -70,14 +74,19 @@ module _ (call : Call) (m n : Machine) (proper : IsProper m) (settings : n.setti
         (λ protected covers. subst (λ (r : RmmRipas). (r ≡ old) ⊎ IsRipasGiven m (Some call) rd x old r) (sym (word_ripas e)) (given x covers))
         after
 
-    -- the RIPAS at the address of the entry, if its walk ends there
-    leaf_ripas : level ≡ 3 → is_protected realm ipa ≡ true → ripas_at n realm ipa ≡ ripas_in e
-    unfolding entry_at
-    leaf_ripas three protected =
-        let there : walk m realm ipa 3 ≡ walk m realm ipa level = ap (walk m realm ipa) (sym three) in
-        let same = leaf_walk ipa RmmRipas (λ f l. ripas_in f) (λ r was now. Unit {0}) m n proper settings count rd ipa level realm is within least others e page before leaf (λ covers. inr tt) protected in
-        let entry = now ipa RmmRipas (λ f l. ripas_in f) (λ r was now. Unit {0}) m n proper settings count rd ipa level realm is within least others e page before leaf in
-        ap (λ (q : RttWalk). ripas_in (entry_at n q ipa)) (same ∙ there) ∙ ap ripas_in entry ∙ word_ripas e
+    -- the RIPAS at an address of the entry, if its walk ends there
+    leaf_ripas : level ≡ 3 → (x : ℕ) → x / entry_size (walk m realm ipa level).level ≡ ipa / entry_size (walk m realm ipa level).level → ripas_at n realm x ≡ ripas_in e
+    unfolding entry_at entry_index
+    leaf_ripas three x covers =
+        let found : RttWalk = walk m realm ipa level in
+        let index : entry_index found.level x ≡ entry_index found.level ipa = ap (λ (q : ℕ). q % 512) covers in
+        let old : RmmRttEntry = entry_in_page (page_in m found.table) (entry_index found.level ipa) in
+        let none : table_below m (entry_at m found x) ≡ None = ap (λ (j : ℕ). table_below m (entry_in_page (page_in m found.table) j)) index ∙ none_below m old old refl before in
+        let there = same_end m proper.linked rd ipa level realm is within least (omega arith) x (ap (λ (q : ℕ). q / 512) covers) none in
+        let inside = in_space m proper.linked proper.ordered.halves rd ipa realm is within level x covers in
+        let same = leaf_walk x RmmRipas (λ f l. ripas_in f) (λ r was now. Unit {0}) m n proper settings count rd ipa level realm is within least others e page before leaf (λ covered. inr tt) inside in
+        let entry = now x RmmRipas (λ f l. ripas_in f) (λ r was now. Unit {0}) m n proper settings count rd ipa level realm is within least others e page before leaf in
+        ap (λ (q : RttWalk). ripas_in (entry_at n q x)) (same ∙ there) ∙ ap (λ (j : ℕ). ripas_in (entry_in_page (page_in n found.table) j)) index ∙ ap ripas_in entry ∙ word_ripas e
 
   -- entries of a range get another RIPAS
   module _ (changeable : Changeable) (ripas : RmmRipas) (top : ℕ) (begins : ipa % entry_size (walk m realm ipa level).level ≡ 0)
@@ -167,6 +176,11 @@ own_unknown rd page ipa m proper ok count x after =
     page_written (DataCreateUnknown rd page ipa) m (data_create_unknown rd page ipa m).machine proper refl count rd page ipa is protected free vacant
     (of_realm (number_of m rd) Data) zero_page (ripas_in (entry_at m (walk m realm ipa 3) ipa)) refl (λ y covers. inl refl) x after
 
+-- the addresses of a page
+page_covers : (l ipa x : ℕ) → l ≡ 3 → ipa % 4096 ≡ 0 → IsBetween ipa (ipa + 4096) x → x / entry_size l ≡ ipa / entry_size l
+unfolding entry_size
+page_covers l ipa x three begins between = (let low = between.0 in let high = between.1 in subst (λ (k : ℕ). x / entry_size k ≡ ipa / entry_size k) (sym three) (omega arith))
+
 pub memory_leaf : (m : Machine) (e : RmmRttEntry) (g : ℕ) → memory_below m e ≡ Some g → is_table e ≡ false
 memory_leaf m (Assigned ripas address) g named = refl
 memory_leaf m _ g named = absurd (cc)
@@ -255,11 +269,14 @@ module _ (rd ipa : ℕ) (m : Machine) (proper : IsProper m) (ok : Passed (data_d
       leaf_written (DataDestroy rd ipa) m (data_destroy rd ipa m).machine proper refl count r ipa 3 realm is within least others e page (memory_leaf m old g named) refl
       (λ y covers. left_given m rd ipa r y (ripas_in old) refl (page_between end.level ipa y reaches begins covers)) x after
 
-  -- what is left there is not RAM
-  pub left_not_ram : is_ram (ripas_at (data_destroy rd ipa m).machine (realm_at m rd) ipa) ≡ false
+  -- what is left at each address of the page is not RAM
+  pub left_not_ram : (x : ℕ) → IsBetween ipa (ipa + 4096) x → is_ram (ripas_at (data_destroy rd ipa m).machine (realm_at m rd) x) ≡ false
   unfolding data_destroy
-  left_not_ram =
-      ap is_ram (leaf_ripas (DataDestroy rd ipa) m (data_destroy rd ipa m).machine proper refl count r ipa 3 realm is within least others e page (memory_leaf m old g named) refl refl protected) ∙ none_ram (ripas_in old)
+  left_not_ram x between =
+      let begins : ipa % 4096 ≡ 0 = eqb-true _ _ (yes_from _ ok.1.1.1.0) in
+      ap is_ram
+      (leaf_ripas (DataDestroy rd ipa) m (data_destroy rd ipa m).machine proper refl count r ipa 3 realm is within least others e page (memory_leaf m old g named) refl refl x (page_covers end.level ipa x reaches begins between))
+      ∙ none_ram (ripas_in old)
 
 -- ---- ranges
 

@@ -41,7 +41,7 @@ use Rattle.rmm_model.specs.Command.RttDestroy.{rtt_destroy, left_entry}
 use Rattle.rmm_model.specs.Command.RttFold.{rtt_fold}
 use Rattle.rmm_laws.specs.Apart.{named_realm}
 use Rattle.rmm_laws.specs.Proper.{IsProper}
-use Rattle.rmm_laws.specs.Ripas.{ripas_at, IsRipasGiven, KeepsRipas}
+use Rattle.rmm_laws.specs.Ripas.{ripas_at, IsBetween, IsRipasGiven, KeepsRipas}
 use Rattle.rmm_laws.specs.State.{fixed, IsLasting, IsDestroyed}
 use Rattle.rmm_laws.proofs.Children.{is_free, unused_free}
 use Rattle.rmm_laws.proofs.Entries.{number_inside}
@@ -216,13 +216,14 @@ call_ripas (Some call) r m proper =
     kept (KeepsRipas m (Some call)) (command_of call m) m (λ rd x before after is then protected. inl (ap (λ (realm : RmmRealm). ripas_at m realm x) (same_realm (sym then ∙ is)))) (ok_ripas call m proper)
 
 -- a page that is destroyed leaves RIPAS that is not RAM
-pub taken_ripas : (m : Machine) (rd ipa : ℕ) → IsProper m → (performed (DataDestroy rd ipa) m).0.word ≡ Success → is_ram (ripas_at (performed (DataDestroy rd ipa) m).1 (realm_at m rd) ipa) ≡ false
+pub taken_ripas : (m : Machine) (rd ipa x : ℕ) → IsProper m → (performed (DataDestroy rd ipa) m).0.word ≡ Success → IsBetween ipa (ipa + 4096) x
+    → is_ram (ripas_at (performed (DataDestroy rd ipa) m).1 (realm_at m rd) x) ≡ false
 unfolding data_destroy
-taken_ripas m rd ipa proper success =
-    succeeded (is_ram (ripas_at (performed (DataDestroy rd ipa) m).1 (realm_at m rd) ipa) ≡ false) (DataDestroy rd ipa) m refl success
+taken_ripas m rd ipa x proper success between =
+    succeeded (is_ram (ripas_at (performed (DataDestroy rd ipa) m).1 (realm_at m rd) x) ≡ false) (DataDestroy rd ipa) m refl success
     (λ ok now.
-    subst (λ (p : SmcResult × Machine). is_ram (ripas_at p.1 (realm_at m rd) ipa) ≡ false) (sym now)
-    (left_not_ram rd ipa m proper ok (touches_of (DataDestroy rd ipa) m proper ok).count))
+    subst (λ (p : SmcResult × Machine). is_ram (ripas_at p.1 (realm_at m rd) x) ≡ false) (sym now)
+    (left_not_ram rd ipa m proper ok (touches_of (DataDestroy rd ipa) m proper ok).count x between))
 
 -- ---- stores, fills, steps and interrupts
 
