@@ -267,8 +267,7 @@ data_bytes rd page ipa source flags m proper ok =
     let free = is_delegated-true (state_at m page) (yes_from (is_delegated (state_at m page)) ok.1.1.1.1.1.1.0) in
     let within = protected_within realm ipa (yes_from _ ok.1.1.1.1.1.1.1.1.1.1.1.0) in
     let t : ℕ = (walk m realm ipa 3).table in
-    let table = place_table m proper.linked r ipa 3 realm is within (served m r realm proper.linked is).level in
-    (
+    let table = place_table m proper.linked r ipa 3 realm is within (served m r realm proper.linked is).level in (
       yes_from (is_inside m page) ok.1.1.1.1.1.0,
       eqb-true _ _ (yes_from (is_aligned page) ok.1.1.1.1.0),
       page_content m t (number_of m page) (of_realm r Data) (page_in m (number_of m source)) _ proper table free,
@@ -284,8 +283,7 @@ unknown_bytes rd page ipa m proper ok =
     let free = is_delegated-true (state_at m page) (yes_from (is_delegated (state_at m page)) ok.1.1.0) in
     let within = protected_within realm ipa (yes_from _ ok.1.1.1.1.1.1.1.0) in
     let t : ℕ = (walk m realm ipa 3).table in
-    let table = place_table m proper.linked r ipa 3 realm is within (served m r realm proper.linked is).level in
-    (
+    let table = place_table m proper.linked r ipa 3 realm is within (served m r realm proper.linked is).level in (
       yes_from (is_inside m page) ok.1.0,
       eqb-true _ _ (yes_from (is_aligned page) ok.0),
       page_content m t (number_of m page) (of_realm r Data) zero_page _ proper table free,
@@ -295,8 +293,7 @@ unknown_bytes rd page ipa m proper ok =
 moved_content : (call : Call) (m : Machine) → IsProper m → Passed (command_of call m).checks → Touches (touches_host call) m (command_of call m).machine (named_realm m call) → (rd x : ℕ) (old new : Option Location) → IsLocationGiven m (Some call) rd x old new
     → IsContentGiven m (Some call) rd x (content_of m old) (content_of (command_of call m).machine new)
 moved_content (DataCreate of page at source flags) m proper ok touches rd x old new given =
-    let bytes = data_bytes of page at source flags m proper ok in
-    (
+    let bytes = data_bytes of page at source flags m proper ok in (
       given.0,
       given.1,
       given.2,

@@ -180,8 +180,7 @@ delegated_now address m g proper ok here =
     let pages = sound.pages in
     let inside : is_inside m address ≡ true = yes_from (is_inside m address) ok.1.0 in
     let lt = number_inside m address inside in
-    let marked : Machine = with_granule m x (of_no_realm Delegated) in
-    (
+    let marked : Machine = with_granule m x (of_no_realm Delegated) in (
       begins m address sound inside (eqb-true _ _ (yes_from (is_aligned address) ok.0)),
       here,
       ap (λ (y : ℕ). is_secure m (m.settings.base + y * 4096)) here ∙ secure_page m address sound inside ∙ ok.1.1.1.0,
