@@ -1,4 +1,4 @@
--- Where addresses of a realm lead to. RMM 1.0, RTT entry.
+-- Locations and bytes that addresses of a realm lead to. RMM 1.0, RTT entry.
 use Rattle.std.specs.Prelude.{◌≡◌, ℕ, ◌+◌, ◌*◌, ◌/◌, ◌%◌, ◌⊎◌, true, List, Option, Some, None}
 use Rattle.granule_addr.specs.Page.{zero_page}
 use Rattle.rmi_abi.specs.declared.call.Call.{Call}
