@@ -32,7 +32,7 @@ pub mod Mistakes
 pub mod Moves
 pub mod NewRealms
 pub mod NewRipas
-pub mod NoRam
+pub mod NoMemory
 pub mod OneMore
 pub mod Ordering
 pub mod Orders

@@ -14,7 +14,7 @@ use Rattle.rmm_model.specs.declared.rec.RipasRequest.{RipasRequest}
 use Rattle.rmm_model.specs.declared.step.StepOutcome.{StepOutcome}
 use Rattle.rmm_model.specs.declared.step.StepOutcome.TheVariants.{Result as IsResult, Exit as IsExit}
 use Rattle.rmm_model.specs.declared.step.StepResult.TheVariants.{Sea}
-use Rattle.rmm_model.specs.Entry.{entry_with_ripas, is_ram, ripas_in}
+use Rattle.rmm_model.specs.Entry.{entry_with_ripas, is_live, is_ram, ripas_in}
 use Rattle.rmm_model.specs.Level.{entry_size}
 use Rattle.rmm_model.specs.Machine.{Machine, granule_at, number_of}
 use Rattle.rmm_model.specs.Realm.{is_protected}
@@ -27,14 +27,15 @@ use Rattle.rmm_laws.specs.State.{IsRealmIn}
 abbrev pub ripas_at : Machine → RmmRealm → ℕ → RmmRipas
 ripas_at m realm ipa = ripas_in (entry_at m (walk m realm ipa 3) ipa)
 
--- a protected address has RIPAS EMPTY or DESTROYED
-abbrev pub IsWithoutRam : Machine → RmmRealm → ℕ → Type 0
-IsWithoutRam m realm ipa = (is_protected realm ipa ≡ true) × (is_ram (ripas_at m realm ipa) ≡ false)
+-- a protected address has RIPAS EMPTY or DESTROYED, or its walk ends at an entry that is not live
+abbrev pub IsWithoutMemory : Machine → RmmRealm → ℕ → Type 0
+IsWithoutMemory m realm ipa =
+    (is_protected realm ipa ≡ true) × ((is_ram (ripas_at m realm ipa) ≡ false) ⊎ (is_live (entry_at m (walk m realm ipa 3) ipa) ≡ false))
 
 -- What comes of an access to such an address, by its exception class. It is an SEA if RIPAS is EMPTY. If not, an exit
 -- shows the host the page of the address, and nothing else.
-abbrev pub outcome_without_ram : Machine → RmmRealm → ℕ → ℕ → StepOutcome
-outcome_without_ram m realm class ipa =
+abbrev pub outcome_without_memory : Machine → RmmRealm → ℕ → ℕ → StepOutcome
+outcome_without_memory m realm class ipa =
     if is_empty (ripas_at m realm ipa) then IsResult Sea else
     IsExit (record (only_reason Sync) { esr = class + 4 + (walk m realm ipa 3).level; hpfar = ipa / 4096 * 16 }) Other
 

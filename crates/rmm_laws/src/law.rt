@@ -55,7 +55,7 @@ ghost use Rattle.rmm_laws.specs.Owner.{is_rec_in};
 ghost use Rattle.rmm_laws.specs.Proper.{IsProper, IsProperRun};
 ghost use Rattle.rmm_laws.specs.Refusal.{IsRefused, is_refusal, IsOneOf, IsRecEnter, IsFault, IsNotGiven, IsNotQueued, IsNotRunning, IsAccess, IsNotDone};
 ghost use Rattle.rmm_laws.specs.Request.{KeepsRequests, IsAskedFor};
-ghost use Rattle.rmm_laws.specs.Ripas.{KeepsRipas, ripas_at, IsBetween, IsRipasSet, IsWithoutRam, outcome_without_ram};
+ghost use Rattle.rmm_laws.specs.Ripas.{KeepsRipas, ripas_at, IsBetween, IsRipasSet, IsWithoutMemory, outcome_without_memory};
 ghost use Rattle.rmm_laws.specs.Role.{Used, page_count, uses, IsSound};
 ghost use Rattle.rmm_laws.specs.State.{IsRealmIn, KeepsStates, KeepsRealms, HasRim, IsMeasured, Measures, KeepsRims};
 ghost use Rattle.rmm_laws.specs.Step.{HasNextStep, HasRemoval, CanBeTornDown};
@@ -255,8 +255,8 @@ pub fn requests_are_the_guest_s()
 /// RMI_RTT_SET_RIPAS can make it what a REC of the realm asks for, within the range that it asks for. If it succeeds, it
 /// does so up to X1 and no further, and leaves the pages. No other call changes the RIPAS of a protected address, and
 /// neither do stores and fills of the host, steps that guests are given, and interrupts. A new realm is EMPTY and has no
-/// page at each protected address. An access of a guest where RIPAS is not RAM is answered an SEA or makes an exit, and
-/// reads and writes nothing.
+/// page at each protected address. An access of a guest where RIPAS is not RAM, or where there is no page, is answered an
+/// SEA or makes an exit, and reads and writes nothing.
 pub fn ripas_is_the_guest_s()
     ensures calls { (r : Registers) (m : Machine) → IsProper m → KeepsRipas m (call_in r) (rmi r m).1 }
     ensures taken { (m : Machine) (rd ipa x : ℕ) → IsProper m → (performed (DataDestroy rd ipa) m).0.word ≡ Success → IsBetween ipa (ipa + 4096) x
@@ -266,11 +266,11 @@ pub fn ripas_is_the_guest_s()
     ensures new { (m : Machine) (rd params ipa : ℕ) (realm : RmmRealm) → IsProper m → (performed (RealmCreate rd params) m).0.word ≡ Success
         → (granule_at (performed (RealmCreate rd params) m).1 (number_of m rd)).state ≡ Rd realm → is_protected realm ipa ≡ true
         → entry_at (performed (RealmCreate rd params) m).1 (walk (performed (RealmCreate rd params) m).1 realm ipa 3) ipa ≡ Unassigned Empty }
-    ensures reads { (m : Machine) (realm : RmmRealm) (rec flags ipa : ℕ) (size : AccessSize) → IsWithoutRam m realm ipa
-        → step_outcome m realm rec flags (Read ipa size) ≡ outcome_without_ram m realm 0x90000000 ipa }
-    ensures writes { (m : Machine) (realm : RmmRealm) (rec flags ipa value : ℕ) (size : AccessSize) (outcome : StepOutcome) → IsWithoutRam m realm ipa
-        → (step_outcome m realm rec flags (Write ipa value size) ≡ outcome_without_ram m realm 0x90000000 ipa) × (after_step m realm rec (Write ipa value size) outcome ≡ m) }
-    ensures fetches { (m : Machine) (realm : RmmRealm) (rec flags ipa : ℕ) → IsWithoutRam m realm ipa → step_outcome m realm rec flags (Fetch ipa) ≡ outcome_without_ram m realm 0x80000000 ipa }
+    ensures reads { (m : Machine) (realm : RmmRealm) (rec flags ipa : ℕ) (size : AccessSize) → IsWithoutMemory m realm ipa
+        → step_outcome m realm rec flags (Read ipa size) ≡ outcome_without_memory m realm 0x90000000 ipa }
+    ensures writes { (m : Machine) (realm : RmmRealm) (rec flags ipa value : ℕ) (size : AccessSize) (outcome : StepOutcome) → IsWithoutMemory m realm ipa
+        → (step_outcome m realm rec flags (Write ipa value size) ≡ outcome_without_memory m realm 0x90000000 ipa) × (after_step m realm rec (Write ipa value size) outcome ≡ m) }
+    ensures fetches { (m : Machine) (realm : RmmRealm) (rec flags ipa : ℕ) → IsWithoutMemory m realm ipa → step_outcome m realm rec flags (Fetch ipa) ≡ outcome_without_memory m realm 0x80000000 ipa }
     ensures stores { (m : Machine) (address word : ℕ) → IsProper m → KeepsRipas m None (after_store m address word) }
     ensures fills { (m : Machine) (address value : ℕ) → IsProper m → KeepsRipas m None (after_fill m address value) }
     ensures steps { (m : Machine) (rec : ℕ) (w : StepWords) → IsProper m → KeepsRipas m None (queued m rec w).1 }

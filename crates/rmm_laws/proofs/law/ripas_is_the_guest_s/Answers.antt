@@ -1,7 +1,7 @@
 use Rattle.rmi_abi.specs.Call.{call_in}
 use Rattle.rmm_model.specs.Call.{rmi}
 use Rattle.rmm_laws.proofs.NewRipas.{new_empty}
-use Rattle.rmm_laws.proofs.NoRam.{read_without_ram, write_without_ram, fetch_without_ram}
+use Rattle.rmm_laws.proofs.NoMemory.{read_without_memory, write_without_memory, fetch_without_memory}
 use Rattle.rmm_laws.proofs.RipasTables.{call_ripas, taken_ripas, stored_ripas, filled_ripas, given_ripas, interrupted_ripas}
 use Rattle.rmm_laws.proofs.SetRipas.{range_after}
 use Rattle.rmm_laws.proofs.law.ripas_is_the_guest_s.Goals as goal
@@ -20,13 +20,13 @@ pub returns-clause-new : goal.returns-clause-new
 returns-clause-new c = new_empty
 
 pub returns-clause-reads : goal.returns-clause-reads
-returns-clause-reads c = λ m realm rec flags ipa size none. read_without_ram m realm ipa none rec flags size
+returns-clause-reads c = λ m realm rec flags ipa size none. read_without_memory m realm ipa none rec flags size
 
 pub returns-clause-writes : goal.returns-clause-writes
-returns-clause-writes c = λ m realm rec flags ipa value size outcome none. write_without_ram m realm ipa none rec flags value size outcome
+returns-clause-writes c = λ m realm rec flags ipa value size outcome none. write_without_memory m realm ipa none rec flags value size outcome
 
 pub returns-clause-fetches : goal.returns-clause-fetches
-returns-clause-fetches c = λ m realm rec flags ipa none. fetch_without_ram m realm ipa none rec flags
+returns-clause-fetches c = λ m realm rec flags ipa none. fetch_without_memory m realm ipa none rec flags
 
 pub returns-clause-stores : goal.returns-clause-stores
 returns-clause-stores c = stored_ripas
