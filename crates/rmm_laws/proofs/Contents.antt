@@ -63,7 +63,7 @@ use Rattle.rmm_laws.proofs.LeftAlone.{touches_host, touches_of}
 use Rattle.rmm_laws.proofs.LocationTables.{ok_locations, stored_locations, filled_locations, given_locations, interrupted_locations}
 use Rattle.rmm_laws.proofs.Mappings.{served, place_is, place_table, protected_within}
 use Rattle.rmm_laws.proofs.Passed.{Passed, kept, yes_from, is_delegated-true, realm_of-some, rec_of-some, rec_named-is}
-use Rattle.rmm_laws.proofs.RipasTables.{destroyed_no_rd}
+use Rattle.rmm_laws.proofs.EachRead.{destroyed_no_rd}
 use Rattle.rmm_laws.proofs.Seats.{walk_half}
 use Rattle.rmm_laws.proofs.States.{same_realm}
 use Rattle.rmm_laws.proofs.Touching.{Touches, IsMine, IsFree, free_spare}

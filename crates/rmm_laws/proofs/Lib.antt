@@ -6,6 +6,7 @@ pub mod Aside
 pub mod Blocks
 pub mod Children
 pub mod Contents
+pub mod EachRead
 pub mod Effects
 pub mod Entries
 pub mod EntryReads

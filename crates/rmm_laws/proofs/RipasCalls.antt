@@ -1,5 +1,5 @@
 -- The RIPAS of protected addresses after each call.
-use Rattle.std.proofs.Common.{◌≡◌, ◌≢◌, ℕ, ◌+◌, ◌/◌, ◌%◌, ◌^◌, ◌<◌, ◌≤◌, ◌⊎◌, inl, inr, Bool, true, false, List, length, Some, None, unwrap_or, refl, sym, ap, subst, ◌∙◌, arith}
+use Rattle.std.proofs.Common.{◌≡◌, ◌≢◌, ℕ, ◌+◌, ◌/◌, ◌%◌, ◌^◌, ◌<◌, ◌≤◌, ◌⊎◌, inl, inr, true, false, List, length, Some, None, unwrap_or, refl, sym, ap, subst, ◌∙◌, arith}
 use Rattle.std.specs.Prelude.{nat_le}
 use Rattle.std.proofs.lemmas.Bool.{and_parts, eqb-true, leb-true}
 use Rattle.granule_addr.specs.Page.{zero_page}
@@ -32,7 +32,6 @@ use Rattle.rmm_model.specs.Command.RttInitRipas.{rtt_init_ripas, range_checks, i
 use Rattle.rmm_model.specs.Command.RttMapUnprotected.{rtt_map_unprotected}
 use Rattle.rmm_model.specs.Command.RttSetRipas.{rtt_set_ripas, ripas_request_checks, set_changeable, is_rec_of}
 use Rattle.rmm_model.specs.Command.RttUnmapUnprotected.{rtt_unmap_unprotected}
-use Rattle.rmm_laws.specs.Apart.{rd_named}
 use Rattle.rmm_laws.specs.Proper.{IsProper}
 use Rattle.rmm_laws.specs.Ripas.{ripas_at, IsBetween, IsRipasGiven}
 use Rattle.rmm_laws.specs.Walk.{IsTableOf}
@@ -40,15 +39,13 @@ use Rattle.rmm_laws.proofs.EntryReads.{changed_to, destroyed_too}
 use Rattle.rmm_laws.proofs.EntryWords.{word_ripas}
 use Rattle.rmm_laws.proofs.Guests.{same_owner}
 use Rattle.rmm_laws.proofs.Halves.{none_below}
-use Rattle.rmm_laws.proofs.KeptTables.{KeepsTablesOf}
 use Rattle.rmm_laws.proofs.Mappings.{served, place_table, protected_within, some_of, owned_protected}
 use Rattle.rmm_laws.proofs.Ordering.{memory_is}
 use Rattle.rmm_laws.proofs.Passed.{Passed, yes_from, is_delegated-true, realm_of-some}
-use Rattle.rmm_laws.proofs.ReadCalls.{leaf_read, leaf_walk, now, range_read, map_read, unmap_read, page_read, tables_read, none_read, rd_read}
+use Rattle.rmm_laws.proofs.ReadCalls.{leaf_read, leaf_walk, now, range_read, map_read, unmap_read, page_read}
 use Rattle.rmm_laws.proofs.Seats.{in_space}
 use Rattle.rmm_laws.proofs.StateCalls.{new_if}
 use Rattle.rmm_laws.proofs.Tops.{same_end}
-use Rattle.rmm_laws.proofs.Touching.{Touches}
 use Rattle.rmm_laws.proofs.Writes.{page_in-same, page_in-other, taken_inside}
 
 -- the address of a realm in another machine has the RIPAS that it had, or a call gives it another one
@@ -97,21 +94,6 @@ module _ (call : Call) (m n : Machine) (proper : IsProper m) (settings : n.setti
         range_read x RmmRipas (λ f l. ripas_in f) (λ r was now. IsRipasGiven m (Some call) r x was now) m n proper settings count rd ipa level realm is within least others changeable ripas top begins page
         (λ e between can. inr (subst (λ (r : RmmRipas). IsRipasGiven m (Some call) rd x (ripas_in e) r) (sym (changed_to changeable ripas e can).2) (given x e between can)))
         after
-
--- ---- realms that a call names
-
-pub by_tables : (call : Call) (m n : Machine) (rd x : ℕ) (before after : RmmRealm) → IsProper m → n.settings ≡ m.settings → length n.granules ≡ length m.granules → (granule_at m rd).state ≡ Rd before → KeepsTablesOf m n rd
-    → Keeps call m n rd x before after
-by_tables call m n rd x before after = tables_read x RmmRipas (λ f l. ripas_in f) (λ r was now. IsRipasGiven m (Some call) r x was now) m n rd before after
-
--- a call on no realm
-pub by_none : (host : Bool) (call : Call) (m n : Machine) (rd x : ℕ) (before after : RmmRealm) → IsProper m → Touches host m n None → (granule_at m rd).state ≡ Rd before → Keeps call m n rd x before after
-by_none host call m n rd x before after = none_read x RmmRipas (λ f l. ripas_in f) (λ r was now. IsRipasGiven m (Some call) r x was now) host m n rd before after
-
--- a call on the RD at an address
-pub by_rd : (call : Call) (m n : Machine) (of : ℕ) → IsProper m → Touches false m n (rd_named m of) → ((x : ℕ) (after : RmmRealm) → Keeps call m n (number_of m of) x (realm_at m of) after)
-    → (rd x : ℕ) (before after : RmmRealm) → (granule_at m rd).state ≡ Rd before → Keeps call m n rd x before after
-by_rd call m n of proper touches own rd x before after = rd_read x RmmRipas (λ f l. ripas_in f) (λ r was now. IsRipasGiven m (Some call) r x was now) m n of proper touches (own x) rd before after
 
 -- ---- memory of the host
 
