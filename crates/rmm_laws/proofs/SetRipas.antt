@@ -1,40 +1,46 @@
--- A range of addresses after RMI_RTT_SET_RIPAS: what it gets, and what stays.
-use Rattle.std.proofs.Common.{◌≡◌, ◌≢◌, ℕ, zero, suc, ◌+◌, ◌-◌, ◌*◌, ◌/◌, ◌%◌, ◌^◌, ◌<◌, ◌≤◌, ◌⊎◌, inl, inr, true, false, List, length, refl, sym, ap, subst, ◌∙◌, ⊎_elim, arith}
+-- A range of addresses after RMI_RTT_INIT_RIPAS and RMI_RTT_SET_RIPAS: what it gets, and what stays.
+use Rattle.std.proofs.Common.{◌≡◌, ◌≢◌, ℕ, zero, suc, ◌+◌, ◌-◌, ◌*◌, ◌/◌, ◌%◌, ◌^◌, ◌<◌, ◌≤◌, ◌⊎◌, inl, inr, true, false, List, length, unwrap_or, refl, sym, ap, subst, ◌∙◌, ⊎_elim, arith}
 use Rattle.std.specs.Prelude.{nat_le}
 use Rattle.std.proofs.lemmas.Bool.{cases_eq, cond_both, cond-true, eqb-true, leb-true}
-use Rattle.rmi_abi.specs.declared.call.Call.TheVariants.{RttSetRipas}
+use Rattle.rmi_abi.specs.declared.call.Call.TheVariants.{RttInitRipas, RttSetRipas}
 use Rattle.rmi_abi.specs.declared.registers.SmcResult.{SmcResult}
 use Rattle.rmi_abi.specs.declared.word.Word.TheVariants.{Success}
 use Rattle.rmm_model.specs.declared.entry.Changeable.{Changeable}
 use Rattle.rmm_model.specs.declared.entry.RmmRipas.{RmmRipas}
+use Rattle.rmm_model.specs.declared.entry.RmmRipas.TheVariants.{Ram}
 use Rattle.rmm_model.specs.declared.entry.RmmRttEntry.{RmmRttEntry}
+use Rattle.rmm_model.specs.declared.granule.RmmGranule.{RmmGranule}
 use Rattle.rmm_model.specs.declared.granule.RmmGranuleState.TheVariants.{Rd, Rtt}
 use Rattle.rmm_model.specs.declared.realm.RmmRealm.{RmmRealm}
 use Rattle.rmm_model.specs.declared.realm.RttWalk.{RttWalk}
 use Rattle.rmm_model.specs.declared.rec.RipasRequest.{RipasRequest}
 use Rattle.rmm_model.specs.Call.{performed}
 use Rattle.rmm_model.specs.Entry.{can_change, entry_with_ripas, entry_word, is_table, ripas_in}
+use Rattle.rmm_model.specs.Granule.{rec_of}
 use Rattle.rmm_model.specs.Level.{entry_size, entry_index}
 use Rattle.rmm_model.specs.Machine.{Machine, granule_at, page_in, number_of, state_at}
 use Rattle.rmm_model.specs.Realm.{is_protected}
+use Rattle.rmm_model.specs.Rec.{no_rec}
 use Rattle.rmm_model.specs.Table.{entry_in_page, first_fixed, with_words_from}
 use Rattle.rmm_model.specs.Walk.{entry_at, walk}
 use Rattle.rmm_model.specs.Command.Operand.{realm_at, rec_at}
 use Rattle.rmm_model.specs.Command.RipasRange.{entries_below, change_count, with_ripas_from}
+use Rattle.rmm_model.specs.Command.RttInitRipas.{rtt_init_ripas, range_checks, init_changeable}
 use Rattle.rmm_model.specs.Command.RttSetRipas.{rtt_set_ripas, ripas_request_checks, set_changeable, is_rec_of}
 use Rattle.rmm_laws.specs.Proper.{IsProper}
+use Rattle.rmm_laws.specs.Request.{IsRestFrom}
 use Rattle.rmm_laws.specs.Ripas.{IsBetween, IsRipasSet}
 use Rattle.rmm_laws.proofs.EntryReads.{IsChanged, changed, can_in_range, change_below, changed_to, covered}
 use Rattle.rmm_laws.proofs.Freed.{succeeded}
 use Rattle.rmm_laws.proofs.Halves.{none_below}
 use Rattle.rmm_laws.proofs.LeftAlone.{touches_of}
 use Rattle.rmm_laws.proofs.Mappings.{served, place_table, protected_within, owned_protected, change_count-few, entry_changed, entry_kept, changed_or_kept}
-use Rattle.rmm_laws.proofs.Passed.{Passed, yes_from, realm_of-some}
+use Rattle.rmm_laws.proofs.Passed.{Passed, yes_from, realm_of-some, rec_of-some}
 use Rattle.rmm_laws.proofs.Seats.{found_few, walk_seat}
 use Rattle.rmm_laws.proofs.Serving.{level_cases}
 use Rattle.rmm_laws.proofs.Tops.{same_end}
 use Rattle.rmm_laws.proofs.Walks.{entry_index-few, entry_size-positive}
-use Rattle.rmm_laws.proofs.Writes.{page_in-same, page_in-other, taken_inside}
+use Rattle.rmm_laws.proofs.Writes.{granule_at-same, page_in-same, page_in-other, taken_inside}
 
 -- ---- addresses of entries
 
@@ -111,23 +117,19 @@ some_changed m changeable found base top some can =
     let later = fixed_later changeable (page_in m found.table) (entries_below found base top) (entry_index found.level base) (some_below found base top some) can in
     omega arith
 
--- ---- the command
+-- ---- ranges
 
-module _ (rd rec base top : ℕ) (m : Machine) (proper : IsProper m) (ok : Passed (rtt_set_ripas rd rec base top m).checks) where
-  abbrev realm : RmmRealm
-  realm = realm_at m rd
-
-  abbrev r : ℕ
-  r = number_of m rd
-
-  abbrev asked : RipasRequest
-  asked = (rec_at m rec).ripas
-
+module _ (m n : Machine) (proper : IsProper m) (settings : n.settings ≡ m.settings) (count : length n.granules ≡ length m.granules) (r base top : ℕ) (realm : RmmRealm) (is : (granule_at m r).state ≡ Rd realm)
+    (within : base < 2 ^ realm.s2sz) (changeable : Changeable) (ripas : RmmRipas) (begins : base % entry_size (walk m realm base 3).level ≡ 0) (can : can_change changeable (entry_at m (walk m realm base 3) base) ≡ true)
+    (fits : base + entry_size (walk m realm base 3).level ≤ top)
+    (page : page_in n (walk m realm base 3).table
+    ≡ page_in (with_ripas_from m (walk m realm base 3).table (entry_index (walk m realm base 3).level base) ripas (change_count m changeable (walk m realm base 3) base top)) (walk m realm base 3).table)
+    (others : (h : ℕ) → h ≢ (walk m realm base 3).table → page_in n h ≡ page_in m h) where
   abbrev found : RttWalk
-  found = walk m (realm_at m rd) base 3
+  found = walk m realm base 3
 
   abbrev k : ℕ
-  k = change_count m (set_changeable (rec_at m rec).ripas) (walk m (realm_at m rd) base 3) base top
+  k = change_count m changeable (walk m realm base 3) base top
 
   abbrev at : ℕ
   at = entry_index found.level base
@@ -135,37 +137,14 @@ module _ (rd rec base top : ℕ) (m : Machine) (proper : IsProper m) (ok : Passe
   abbrev stop : ℕ
   stop = base + k * entry_size found.level
 
-  abbrev n : Machine
-  n = (rtt_set_ripas rd rec base top m).machine
-
-  is : (granule_at m r).state ≡ Rd realm
-  unfolding rtt_set_ripas
-  is = realm_of-some (state_at m rd) ok.1.1.1.0
-
-  within : base < 2 ^ realm.s2sz
-  unfolding rtt_set_ripas ripas_request_checks
-  within = protected_within realm base (owned_protected realm (is_rec_of m rd rec) _ (nat_le top base) base ok.1.1.1.1.1.1.1.1.1.0 ok.0 (yes_from _ ok.1.1.1.1.1.1.1.1.1.1.1.0))
-
   start_few : realm.start_level ≤ 3
   start_few = (served m r realm proper.linked is).level
-
-  begins : base % entry_size found.level ≡ 0
-  unfolding rtt_set_ripas ripas_request_checks
-  begins = eqb-true _ _ (yes_from _ ok.1.1.1.1.1.1.1.1.1.1.1.1.0)
-
-  can : can_change (set_changeable asked) (entry_at m found base) ≡ true
-  unfolding rtt_set_ripas ripas_request_checks
-  can = yes_from _ ok.1.1.1.1.1.1.1.1.1.1.1.1.1.0
-
-  fits : base + entry_size found.level ≤ top
-  unfolding rtt_set_ripas ripas_request_checks
-  fits = leb-true _ _ (yes_from _ ok.1.1.1.1.1.1.1.1.1.1.1.1.1.1.0)
 
   level_few : found.level ≤ 3
   level_few = found_few m proper.linked proper.ordered.halves r base realm is within 3
 
   few : at + k ≤ 512
-  few = change_count-few m (set_changeable asked) found base top
+  few = change_count-few m changeable found base top
 
   table : (granule_at m found.table).state ≡ Rtt
   table = place_table m proper.linked r base 3 realm is within start_few
@@ -173,60 +152,49 @@ module _ (rd rec base top : ℕ) (m : Machine) (proper : IsProper m) (ok : Passe
   in_pages : found.table < length m.pages
   in_pages = let t = table in let pages = proper.linked.sound.pages in let lt = taken_inside m found.table (λ free. cc) in omega arith
 
-  page : page_in n found.table ≡ with_words_from at k (λ (j : ℕ). entry_word (entry_with_ripas asked.ripas (entry_in_page (page_in m found.table) j))) (page_in m found.table)
-  unfolding rtt_set_ripas with_ripas_from
-  page = page_in-same m found.table _ in_pages
+  page_there : page_in n found.table ≡ with_words_from at k (λ (j : ℕ). entry_word (entry_with_ripas ripas (entry_in_page (page_in m found.table) j))) (page_in m found.table)
+  unfolding with_ripas_from
+  page_there = page ∙ page_in-same m found.table _ in_pages
 
-  others : (h : ℕ) → h ≢ found.table → page_in n h ≡ page_in m h
-  unfolding rtt_set_ripas with_ripas_from
-  others h other = page_in-other m found.table h _ other
-
-  set_there : (j : ℕ) → at ≤ j → j < at + k → entry_in_page (page_in n found.table) j ≡ entry_with_ripas asked.ripas (entry_in_page (page_in m found.table) j)
-  set_there j low high = ap (λ (p : List ℕ). entry_in_page p j) page ∙ entry_changed m found.table at k asked.ripas proper.linked table few j low high
+  set_there : (j : ℕ) → at ≤ j → j < at + k → entry_in_page (page_in n found.table) j ≡ entry_with_ripas ripas (entry_in_page (page_in m found.table) j)
+  set_there j low high = ap (λ (p : List ℕ). entry_in_page p j) page_there ∙ entry_changed m found.table at k ripas proper.linked table few j low high
 
   kept_there : (j : ℕ) → j < 512 → (j < at) ⊎ (at + k ≤ j) → entry_in_page (page_in n found.table) j ≡ entry_in_page (page_in m found.table) j
-  kept_there j lt beside = ap (λ (p : List ℕ). entry_in_page p j) page ∙ entry_kept m found.table at k asked.ripas proper.linked table few j lt beside
-
-  settings : n.settings ≡ m.settings
-  unfolding rtt_set_ripas with_ripas_from
-  settings = refl
-
-  count : length n.granules ≡ length m.granules
-  count = (touches_of (RttSetRipas rd rec base top) m proper ok).count
+  kept_there j lt beside = ap (λ (p : List ℕ). entry_in_page p j) page_there ∙ entry_kept m found.table at k ripas proper.linked table few j lt beside
 
   each : (x j : ℕ) → j < 512 → IsChanged m n proper settings count r base 3 realm is within x RmmRipas (λ e l. ripas_in e) (λ was now. Unit {0}) j
   each x j lt =
       let old : RmmRttEntry = entry_in_page (page_in m found.table) j in
       ⊎_elim
       (λ (it : (at ≤ j) × (j < at + k)).
-      let to = changed_to (set_changeable asked) asked.ripas old (can_in_range m (set_changeable asked) found base top j it.0 it.1) in
+      let to = changed_to changeable ripas old (can_in_range m changeable found base top j it.0 it.1) in
       inr (to.0, ap is_table (set_there j it.0 it.1) ∙ to.1, λ covers. inr tt))
       (λ (kept : (j < at) ⊎ (at + k ≤ j)). inl (kept_there j lt kept))
-      (changed_or_kept m found.table at k asked.ripas proper.linked table few j)
+      (changed_or_kept m found.table at k ripas proper.linked table few j)
 
   -- walks end where they did
   same_walk : (x : ℕ) → is_protected realm x ≡ true → walk n realm x 3 ≡ walk m realm x 3
   same_walk x protected = (changed m n proper settings count r base 3 realm is within x RmmRipas (λ e l. ripas_in e) (λ was now. Unit {0}) (each x) (λ h here other. others h other) realm refl refl (protected_within realm x protected)).0
 
   -- an address of the range
-  module _ (x : ℕ) (between : IsBetween base (base + change_count m (set_changeable (rec_at m rec).ripas) (walk m (realm_at m rd) base 3) base top * entry_size (walk m (realm_at m rd) base 3).level) x) (protected : is_protected (realm_at m rd) x ≡ true) where
+  module _ (x : ℕ) (between : IsBetween base (base + change_count m changeable (walk m realm base 3) base top * entry_size (walk m realm base 3).level) x) (protected : is_protected realm x ≡ true) where
     abbrev j : ℕ
-    j = entry_index (walk m (realm_at m rd) base 3).level x
+    j = entry_index (walk m realm base 3).level x
 
     abbrev old : RmmRttEntry
-    old = entry_in_page (page_in m (walk m (realm_at m rd) base 3).table) (entry_index (walk m (realm_at m rd) base 3).level x)
+    old = entry_in_page (page_in m (walk m realm base 3).table) (entry_index (walk m realm base 3).level x)
 
     place : (at ≤ j) × (j < at + k) × (x / entry_size found.level / 512 ≡ base / entry_size found.level / 512)
     place = in_entries found.level level_few base x k begins between.0 between.1 few
 
-    to : (is_table old ≡ false) × (is_table (entry_with_ripas asked.ripas old) ≡ false) × (ripas_in (entry_with_ripas asked.ripas old) ≡ asked.ripas)
-    to = changed_to (set_changeable asked) asked.ripas old (can_in_range m (set_changeable asked) found base top j place.0 place.1)
+    to : (is_table old ≡ false) × (is_table (entry_with_ripas ripas old) ≡ false) × (ripas_in (entry_with_ripas ripas old) ≡ ripas)
+    to = changed_to changeable ripas old (can_in_range m changeable found base top j place.0 place.1)
 
     walk_before : walk m realm x 3 ≡ found
     unfolding entry_at
     walk_before = same_end m proper.linked r base 3 realm is within start_few (omega arith) x place.2 (none_below m old old refl to.0)
 
-    entry_then : entry_at n (walk n realm x 3) x ≡ entry_with_ripas asked.ripas old
+    entry_then : entry_at n (walk n realm x 3) x ≡ entry_with_ripas ripas old
     unfolding entry_at
     entry_then = ap (λ (q : RttWalk). entry_at n q x) (same_walk x protected ∙ walk_before) ∙ set_there j place.0 place.1
 
@@ -248,34 +216,98 @@ module _ (rd rec base top : ℕ) (m : Machine) (proper : IsProper m) (ok : Passe
       ⊎_elim
       (λ (it : (at ≤ i) × (i < at + k)). absurd (out (of_entries found.level level_few base x k i begins covers it.0 it.1)))
       (λ (beside : (i < at) ⊎ (at + k ≤ i)). kept_there i (entry_index-few p.level x) beside)
-      (changed_or_kept m found.table at k asked.ripas proper.linked table few i) in
+      (changed_or_kept m found.table at k ripas proper.linked table few i) in
       subst (λ (t : ℕ). entry_in_page (page_in n t) i ≡ entry_in_page (page_in m t) i) (sym here) kept)
       (λ (other : p.table ≢ found.table). ap (λ (q : List ℕ). entry_in_page q i) (others p.table other))
       (cases_eq p.table found.table)
 
-  range_set : IsRipasSet m n realm asked base stop
+  pub range_set : IsRipasSet m n realm ripas base stop
   range_set = record {
-    further = more_than found.level level_few base k (some_changed m (set_changeable asked) found base top (one_below found.level level_few base top fits) can);
+    further = more_than found.level level_few base k (some_changed m changeable found base top (one_below found.level level_few base top fits) can);
     walks = same_walk;
     set = λ x between protected. ap ripas_in (entry_then x between protected) ∙ (to x between protected).2;
-    kept = λ x between protected. entry_then x between protected ∙ ap (entry_with_ripas asked.ripas) (sym (entry_before x between protected));
+    kept = λ x between protected. entry_then x between protected ∙ ap (entry_with_ripas ripas) (sym (entry_before x between protected));
     beside = λ x out protected. ap (λ (q : RttWalk). entry_at n q x) (same_walk x protected) ∙ entry_beside x protected out;
   }
 
-  stop_most : stop ≤ top
+  pub stop_most : stop ≤ top
   stop_most =
       let size = entry_size-positive found.level in
       let fit = fits in
-      ends_below found.level level_few base top k (omega arith) (change_below m (set_changeable asked) found base top)
+      ends_below found.level level_few base top k (omega arith) (change_below m changeable found base top)
+
+-- ---- the commands
+
+set_after : (rd rec base top : ℕ) (m : Machine) → IsProper m → Passed (rtt_set_ripas rd rec base top m).checks
+    → IsRipasSet m (rtt_set_ripas rd rec base top m).machine (realm_at m rd) (rec_at m rec).ripas.ripas base (rtt_set_ripas rd rec base top m).answer.x1 × ((rtt_set_ripas rd rec base top m).answer.x1 ≤ top)
+unfolding rtt_set_ripas ripas_request_checks with_ripas_from
+set_after rd rec base top m proper ok =
+    let realm : RmmRealm = realm_at m rd in
+    let r : ℕ = number_of m rd in
+    let n : Machine = (rtt_set_ripas rd rec base top m).machine in
+    let asked : RipasRequest = (rec_at m rec).ripas in
+    let changeable : Changeable = set_changeable asked in
+    let found : RttWalk = walk m realm base 3 in
+    let count = (touches_of (RttSetRipas rd rec base top) m proper ok).count in
+    let is = realm_of-some (state_at m rd) ok.1.1.1.0 in
+    let within = protected_within realm base (owned_protected realm (is_rec_of m rd rec) _ (nat_le top base) base ok.1.1.1.1.1.1.1.1.1.0 ok.0 (yes_from _ ok.1.1.1.1.1.1.1.1.1.1.1.0)) in
+    let begins : base % entry_size found.level ≡ 0 = eqb-true _ _ (yes_from _ ok.1.1.1.1.1.1.1.1.1.1.1.1.0) in
+    let can = yes_from _ ok.1.1.1.1.1.1.1.1.1.1.1.1.1.0 in
+    let fits : base + entry_size found.level ≤ top = leb-true _ _ (yes_from _ ok.1.1.1.1.1.1.1.1.1.1.1.1.1.1.0) in
+    let others : (h : ℕ) → h ≢ found.table → page_in n h ≡ page_in m h = λ h other. page_in-other m found.table h _ other in (
+      range_set m n proper refl count r base top realm is within changeable asked.ripas begins can fits refl others,
+      stop_most m n proper refl count r base top realm is within changeable asked.ripas begins can fits refl others,
+    )
+
+init_after : (rd base top : ℕ) (m : Machine) → IsProper m → Passed (rtt_init_ripas rd base top m).checks
+    → IsRipasSet m (rtt_init_ripas rd base top m).machine (realm_at m rd) Ram base (rtt_init_ripas rd base top m).answer.x1 × ((rtt_init_ripas rd base top m).answer.x1 ≤ top)
+unfolding rtt_init_ripas range_checks with_ripas_from
+init_after rd base top m proper ok =
+    let realm : RmmRealm = realm_at m rd in
+    let r : ℕ = number_of m rd in
+    let n : Machine = (rtt_init_ripas rd base top m).machine in
+    let changeable : Changeable = init_changeable m.settings in
+    let found : RttWalk = walk m realm base 3 in
+    let count = (touches_of (RttInitRipas rd base top) m proper ok).count in
+    let is = realm_of-some (state_at m rd) ok.1.1.1.0 in
+    let within = protected_within realm base (yes_from _ ok.1.1.1.1.1.1.0) in
+    let begins : base % entry_size found.level ≡ 0 = eqb-true _ _ (yes_from _ ok.1.1.1.1.1.1.1.1.1.0) in
+    let can = yes_from _ ok.1.1.1.1.1.1.1.1.1.1.0 in
+    let fits : base + entry_size found.level ≤ top = leb-true _ _ (yes_from _ ok.1.1.1.1.1.1.1.1.1.1.1.0) in
+    let others : (h : ℕ) → h ≢ found.table → page_in n h ≡ page_in m h = λ h other. page_in-other m found.table h _ other in (
+      range_set m n proper refl count r base top realm is within changeable Ram begins can fits refl others,
+      stop_most m n proper refl count r base top realm is within changeable Ram begins can fits refl others,
+    )
 
 -- RMI_RTT_SET_RIPAS gives a range up to X1 what was asked for, and leaves all other addresses
 pub range_after : (m : Machine) (rd rec base top : ℕ) → IsProper m → (performed (RttSetRipas rd rec base top) m).0.word ≡ Success
-    → IsRipasSet m (performed (RttSetRipas rd rec base top) m).1 (realm_at m rd) (rec_at m rec).ripas base (performed (RttSetRipas rd rec base top) m).0.x1 × ((performed (RttSetRipas rd rec base top) m).0.x1 ≤ top)
+    → IsRipasSet m (performed (RttSetRipas rd rec base top) m).1 (realm_at m rd) (rec_at m rec).ripas.ripas base (performed (RttSetRipas rd rec base top) m).0.x1 × ((performed (RttSetRipas rd rec base top) m).0.x1 ≤ top)
 unfolding rtt_set_ripas ripas_request_checks
 range_after m rd rec base top proper success =
     succeeded
-    (IsRipasSet m (performed (RttSetRipas rd rec base top) m).1 (realm_at m rd) (rec_at m rec).ripas base (performed (RttSetRipas rd rec base top) m).0.x1 × ((performed (RttSetRipas rd rec base top) m).0.x1 ≤ top))
+    (IsRipasSet m (performed (RttSetRipas rd rec base top) m).1 (realm_at m rd) (rec_at m rec).ripas.ripas base (performed (RttSetRipas rd rec base top) m).0.x1 × ((performed (RttSetRipas rd rec base top) m).0.x1 ≤ top))
     (RttSetRipas rd rec base top) m refl success
+    (λ ok now. subst (λ (p : SmcResult × Machine). IsRipasSet m p.1 (realm_at m rd) (rec_at m rec).ripas.ripas base p.0.x1 × (p.0.x1 ≤ top)) (sym now) (set_after rd rec base top m proper ok))
+
+-- RMI_RTT_INIT_RIPAS gives a range up to X1 RAM, and leaves all other addresses
+pub range_inited : (m : Machine) (rd base top : ℕ) → IsProper m → (performed (RttInitRipas rd base top) m).0.word ≡ Success
+    → IsRipasSet m (performed (RttInitRipas rd base top) m).1 (realm_at m rd) Ram base (performed (RttInitRipas rd base top) m).0.x1 × ((performed (RttInitRipas rd base top) m).0.x1 ≤ top)
+unfolding rtt_init_ripas range_checks
+range_inited m rd base top proper success =
+    succeeded
+    (IsRipasSet m (performed (RttInitRipas rd base top) m).1 (realm_at m rd) Ram base (performed (RttInitRipas rd base top) m).0.x1 × ((performed (RttInitRipas rd base top) m).0.x1 ≤ top)) (RttInitRipas rd base top) m refl
+    success
+    (λ ok now. subst (λ (p : SmcResult × Machine). IsRipasSet m p.1 (realm_at m rd) Ram base p.0.x1 × (p.0.x1 ≤ top)) (sym now) (init_after rd base top m proper ok))
+
+-- ---- the rest of a request
+
+-- a range begins where a REC asks, and the REC asks for the rest from X1 on
+pub rest_after : (m : Machine) (rd rec base top : ℕ) → (performed (RttSetRipas rd rec base top) m).0.word ≡ Success → IsRestFrom m (performed (RttSetRipas rd rec base top) m).1 rec base (performed (RttSetRipas rd rec base top) m).0.x1
+unfolding rtt_set_ripas ripas_request_checks with_ripas_from
+rest_after m rd rec base top success =
+    succeeded (IsRestFrom m (performed (RttSetRipas rd rec base top) m).1 rec base (performed (RttSetRipas rd rec base top) m).0.x1) (RttSetRipas rd rec base top) m refl success
     (λ ok now.
-    subst (λ (p : SmcResult × Machine). IsRipasSet m p.1 (realm_at m rd) (rec_at m rec).ripas base p.0.x1 × (p.0.x1 ≤ top)) (sym now)
-    (range_set rd rec base top m proper ok, stop_most rd rec base top m proper ok))
+    let asking = rec_of-some (state_at m rec) ok.1.1.1.1.1.1.0 in
+    let inside : number_of m rec < length m.granules = taken_inside m (number_of m rec) (λ free. cc) in
+    subst (λ (p : SmcResult × Machine). IsRestFrom m p.1 rec base p.0.x1) (sym now)
+    (eqb-true base (rec_at m rec).ripas.base (yes_from _ ok.1.1.1.1.1.1.1.1.1.1.0), ap (λ (c : RmmGranule). (unwrap_or (rec_of c.state) no_rec).ripas) (granule_at-same m (number_of m rec) _ inside)))

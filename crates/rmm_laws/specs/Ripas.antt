@@ -10,7 +10,6 @@ use Rattle.rmm_model.specs.declared.granule.RmmGranuleState.TheVariants.{Rd}
 use Rattle.rmm_model.specs.declared.realm.RmmRealm.{RmmRealm}
 use Rattle.rmm_model.specs.declared.realm.RmmRealmState.TheVariants.{New}
 use Rattle.rmm_model.specs.declared.rec.LastExit.TheVariants.{Other}
-use Rattle.rmm_model.specs.declared.rec.RipasRequest.{RipasRequest}
 use Rattle.rmm_model.specs.declared.step.StepOutcome.{StepOutcome}
 use Rattle.rmm_model.specs.declared.step.StepOutcome.TheVariants.{Result as IsResult, Exit as IsExit}
 use Rattle.rmm_model.specs.declared.step.StepResult.TheVariants.{Sea}
@@ -65,11 +64,11 @@ KeepsRipas m call n =
     (rd ipa : ℕ) (before after : RmmRealm) → (granule_at m rd).state ≡ Rd before → (granule_at n rd).state ≡ Rd after → is_protected before ipa ≡ true
     → (ripas_at n after ipa ≡ ripas_at m before ipa) ⊎ IsRipasGiven m call rd ipa (ripas_at m before ipa) (ripas_at n after ipa)
 
--- From an address on up to another one, each protected address has the RIPAS that a REC asked for. Its entry is the one
--- before, but for RIPAS, so it leads to the same page. Beside them each entry is as it was. Walks end where they did.
-pub record IsRipasSet (m n : Machine) (realm : RmmRealm) (asked : RipasRequest) (base stop : ℕ) : Type 0 where
+-- From an address on up to another one, each protected address has a RIPAS. Its entry is the one before, but for RIPAS, so
+-- it leads to the same page. Beside them each entry is as it was. Walks end where they did.
+pub record IsRipasSet (m n : Machine) (realm : RmmRealm) (ripas : RmmRipas) (base stop : ℕ) : Type 0 where
   pub further : base < stop
   pub walks : (ipa : ℕ) → is_protected realm ipa ≡ true → walk n realm ipa 3 ≡ walk m realm ipa 3
-  pub set : (ipa : ℕ) → IsBetween base stop ipa → is_protected realm ipa ≡ true → ripas_at n realm ipa ≡ asked.ripas
-  pub kept : (ipa : ℕ) → IsBetween base stop ipa → is_protected realm ipa ≡ true → entry_at n (walk n realm ipa 3) ipa ≡ entry_with_ripas asked.ripas (entry_at m (walk m realm ipa 3) ipa)
+  pub set : (ipa : ℕ) → IsBetween base stop ipa → is_protected realm ipa ≡ true → ripas_at n realm ipa ≡ ripas
+  pub kept : (ipa : ℕ) → IsBetween base stop ipa → is_protected realm ipa ≡ true → entry_at n (walk n realm ipa 3) ipa ≡ entry_with_ripas ripas (entry_at m (walk m realm ipa 3) ipa)
   pub beside : (ipa : ℕ) → (IsBetween base stop ipa → ⊥) → is_protected realm ipa ≡ true → entry_at n (walk n realm ipa 3) ipa ≡ entry_at m (walk m realm ipa 3) ipa

@@ -3,7 +3,7 @@ use Rattle.rmm_model.specs.Call.{rmi}
 use Rattle.rmm_laws.proofs.NewRipas.{new_empty}
 use Rattle.rmm_laws.proofs.NoMemory.{read_without_memory, write_without_memory, fetch_without_memory}
 use Rattle.rmm_laws.proofs.RipasTables.{call_ripas, taken_ripas, stored_ripas, filled_ripas, given_ripas, interrupted_ripas}
-use Rattle.rmm_laws.proofs.SetRipas.{range_after}
+use Rattle.rmm_laws.proofs.SetRipas.{range_after, range_inited}
 use Rattle.rmm_laws.proofs.law.ripas_is_the_guest_s.Goals as goal
 
 pub returns-clause-calls : goal.returns-clause-calls
@@ -15,6 +15,9 @@ returns-clause-taken c = taken_ripas
 
 pub returns-clause-changed : goal.returns-clause-changed
 returns-clause-changed c = range_after
+
+pub returns-clause-inited : goal.returns-clause-inited
+returns-clause-inited c = range_inited
 
 pub returns-clause-new : goal.returns-clause-new
 returns-clause-new c = new_empty
