@@ -248,7 +248,7 @@ MISTAKES = {
     "exit_runs_on": Mistake(patch.object(guest, "leave", exit_runs_on), ("effects",)),
     "fold_destroys": Mistake(patch.object(tables.RttFold, "effect", fold_destroys), ("folds", "ripas")),
     "refusal_counts": Mistake(patch.object(Command, "refused", refusal_counts), ("refusals",)),
-    "page_is_replaced": Mistake(patch.object(tables.DataCreateUnknown, "checks", page_is_replaced), ("pages",)),
+    "page_is_replaced": Mistake(patch.object(tables.DataCreateUnknown, "checks", page_is_replaced), ("pages", "places")),
     "destroyed_page_stays_ram": Mistake(patch.object(tables.DataDestroy, "effect", destroyed_page_stays_ram), ("guests",)),
     "destroyed_is_changed": Mistake(patch.object(tables.RttSetRipas, "is_right", destroyed_is_changed), ("asked", "ripas")),
     "request_is_exceeded": Mistake(patch.object(tables.RttSetRipas, "checks", request_is_exceeded), ("ripas",)),

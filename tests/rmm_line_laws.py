@@ -8,6 +8,8 @@
     ripas     RIPAS becomes RAM by INIT_RIPAS and DATA_CREATE in a NEW realm, DESTROYED by a destroyed page or table, and what a
               REC asked for by SET_RIPAS; each time in the call's range alone, and by SET_RIPAS in all of it; a new realm is
               EMPTY
+    places    a protected address leads to the page that it led to; DATA_CREATE and DATA_CREATE_UNKNOWN give one where none was,
+              and DATA_DESTROY takes it
     states    a realm is NEW, ACTIVE and SYSTEM_OFF in turn; from REALM_ACTIVATE on its RIM is the same
     wiped     a granule that is delegated or given back is zero
     effects   a realm that is activated was NEW; a page of data has the bytes that are measured; a REC that leaves is READY
@@ -156,6 +158,7 @@ class Watch:
             yield from of_hosts(line, before, after)
             yield from of_memory(line, before, after, written)
             yield from of_ripas(line, before, after, asked)
+            yield from of_places(line, before, after)
             yield from of_new(before, after)
             yield from of_range(line, self.bench.outcome, after, asked)
             yield from of_states(line, before, after)
@@ -279,6 +282,36 @@ def of_range(line: Line, outcome: Outcome | None, after: Seen, asked: Asked | No
     within = [it for begin, end, it in leaves_of(after, after.realms[line.values["rd"]]) if begin < top and base < end]
     if top <= base or set(within) != {asked.ripas}:
         yield f"ripas: from {base:#x} to {top:#x} it is not what was asked for"
+
+
+def places_of(it: Seen, realm: Realm) -> dict[int, int]:
+    """The page that each protected address leads to, if it leads to one."""
+    places: dict[int, int] = {}
+    spans = [(realm.level, ENTRIES * size(realm.level) * k, table) for k, table in enumerate(realm.tables)]
+    while spans:
+        level, at, table = spans.pop()
+        for k, entry in enumerate(it.granules[(table - it.base) // PAGE][2]):  # type: ignore[arg-type]
+            begin = at + size(level) * k
+            if entry.kind == "TABLE":
+                spans.append((level + 1, begin, entry.address))
+            elif entry.kind == "ASSIGNED":
+                places |= {begin + part: entry.address + part for part in range(0, size(level), PAGE)}
+    return places
+
+
+def of_places(line: Line, before: Seen, after: Seen) -> Iterator[str]:
+    for rd, realm in before.realms.items():
+        if rd not in after.realms or not are_tables_other(rd, before, after):
+            continue
+        one, other = places_of(before, realm), places_of(after, after.realms[rd])
+        is_data = line.kind in ("rmi_data_create", "rmi_data_create_unknown")
+        for at in one.keys() | other.keys():
+            was, now = one.get(at), other.get(at)
+            is_named = rd == line.values.get("rd") and at == line.values.get("ipa")
+            is_given = is_data and was is None and now == line.values["data"]
+            is_taken = line.kind == "rmi_data_destroy" and now is None
+            if was != now and not (is_named and (is_given or is_taken)):
+                yield f"places: {at:#x} leads to another page"
 
 
 def of_states(line: Line, before: Seen, after: Seen) -> Iterator[str]:
