@@ -62,6 +62,7 @@ pub mod Seats
 pub mod Serving
 pub mod SetRipas
 pub mod Sides
+pub mod Sources
 pub mod StateCalls
 pub mod States
 pub mod Steps

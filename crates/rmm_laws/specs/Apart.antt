@@ -63,6 +63,18 @@ IsSameAt m n g = (granule_at n g ≡ granule_at m g) × (page_in n g ≡ page_in
 abbrev pub IsNormal : Machine → ℕ → Type 0
 IsNormal m g = is_secure m (m.settings.base + g * 4096) ≡ false
 
+-- a page of the host begins at an address, outside the secure world
+abbrev pub IsHostPage : Machine → ℕ → Type 0
+IsHostPage m address = IsBegin m address × (state_at m address ≡ Undelegated) × IsNormal m (number_of m address)
+
+-- The page that a call reads is one of the host outside the secure world: the source of DATA_CREATE, and the parameters of
+-- a realm or a REC that is created.
+abbrev pub IsFromHost : Machine → Call → Type 0
+IsFromHost m (DataCreate rd page ipa source flags) = IsHostPage m source
+IsFromHost m (RealmCreate rd params) = IsHostPage m params
+IsFromHost m (RecCreate rd rec params) = IsHostPage m params
+IsFromHost m call = Unit {0}
+
 -- A call changes a page of the host outside the secure world. It delegates the granule at an address at which one begins,
 -- which is DELEGATED and zero then. Or it enters a REC, whose guest and exit write pages of the host. Then the granule
 -- keeps its attributes.

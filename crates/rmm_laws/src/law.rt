@@ -46,7 +46,7 @@ ghost use Rattle.rmm_model.specs.Machine.{Machine, granule_at, is_inside, is_sec
 ghost use Rattle.rmm_model.specs.Table.{entry_in_page, has_live};
 ghost use Rattle.rmm_model.specs.Walk.{entry_at, table_below, walk, top};
 ghost use Rattle.rmm_model.specs.Command.RecEnter.{interrupted, step_outcome, after_step, after_entry, after_first_step, after_exit};
-ghost use Rattle.rmm_laws.specs.Apart.{rd_named, changes_vmids, IsHostChanged, IsRunPage, IsOfRealm, IsOfAnother, IsSameAt};
+ghost use Rattle.rmm_laws.specs.Apart.{rd_named, changes_vmids, IsFromHost, IsHostChanged, IsRunPage, IsOfRealm, IsOfAnother, IsSameAt};
 ghost use Rattle.rmm_laws.specs.Back.{ComesBack, RecComesBack, IsAssignedTo, IsReleased};
 ghost use Rattle.rmm_laws.specs.Fold.{CanReplaceTable, IsAlike};
 ghost use Rattle.rmm_laws.specs.Half.{IsOfHalf, IsPlaced};
@@ -226,7 +226,8 @@ pub fn activated_once()
 
 /// RIMs are measured: RMI_REALM_CREATE gives a realm its first RIM. RMI_DATA_CREATE, RMI_RTT_INIT_RIPAS and RMI_REC_CREATE
 /// of a REC that is measured extend it while the realm is NEW. No other call changes it, and neither do steps that
-/// guests are given, and interrupts. A page of data has the bytes that are measured.
+/// guests are given, and interrupts. A page of data has the bytes that are measured. What is measured is read from a page of
+/// the host outside the secure world, and so are parameters.
 pub fn rims_are_measured()
     ensures calls { (r : Registers) (m : Machine) → IsProper m → KeepsRims m (call_in r) (rmi r m).1 }
     ensures steps { (m : Machine) (rec : ℕ) (w : StepWords) → KeepsRims m None (queued m rec w).1 }
@@ -234,6 +235,7 @@ pub fn rims_are_measured()
     ensures measured { (m : Machine) (call : Call) (rd : ℕ) → Measures m call rd → (performed call m).0.word ≡ Success → (rim : List ℕ) × HasRim (performed call m).1 rd rim × IsMeasured m (Some call) rd rim }
     ensures content { (m : Machine) (rd page ipa source flags : ℕ) → IsProper m → (performed (DataCreate rd page ipa source flags) m).0.word ≡ Success
         → page_in (performed (DataCreate rd page ipa source flags) m).1 (number_of m page) ≡ page_in m (number_of m source) }
+    ensures sources { (m : Machine) (call : Call) → IsProper m → (performed call m).0.word ≡ Success → IsFromHost m call }
 {}
 
 /// What RECs ask for of RIPAS is their guests'. A call keeps what each REC asks for, but RMI_REC_ENTER of the REC, and
