@@ -91,7 +91,8 @@ memory_leads (Table address) offset is = absurd (cc)
 ok_same : (r : Result ℕ StepOutcome) (a b : ℕ) → r ≡ Ok a → r ≡ Ok b → a ≡ b
 ok_same r a b one two = cc
 
-reached : (m : Machine) (proper : IsProper m) (rd : ℕ) (realm : RmmRealm) → (granule_at m rd).state ≡ Rd realm → (ipa : ℕ) → is_protected realm ipa ≡ true → (writes : Bool) (size : AccessSize) (value h : ℕ)
+-- the page that an access at a protected address reaches is the one that the address leads to
+pub reached : (m : Machine) (proper : IsProper m) (rd : ℕ) (realm : RmmRealm) → (granule_at m rd).state ≡ Rd realm → (ipa : ℕ) → is_protected realm ipa ≡ true → (writes : Bool) (size : AccessSize) (value h : ℕ)
     → access m realm ipa writes size value ≡ Ok h → (a : Location) × (location_at m realm ipa ≡ Some a) × (h ≡ number_of m a.address)
 unfolding access
 reached m proper rd realm is ipa protected writes size value h came =
@@ -121,7 +122,8 @@ write_like m ipa value size (Ok h) = value_like m h ipa value size
 write_like m ipa value size (Err outcome) = (refl, refl)
 
 module _ (m : Machine) (proper : IsProper m) (rd other ipa value x : ℕ) (size : AccessSize) (realm its : RmmRealm) (is : (granule_at m rd).state ≡ Rd realm) (also : (granule_at m other).state ≡ Rd its)
-    (protected : is_protected realm ipa ≡ true) (protected_too : is_protected its x ≡ true) (apart : (other ≢ rd) ⊎ (x / 4096 ≢ ipa / 4096)) where
+    (protected_too : is_protected its x ≡ true)
+    (beside : (b : Location) → location_at m its x ≡ Some b → (h : ℕ) → access m realm ipa true size (low_bytes size value) ≡ Ok h → number_of m b.address ≢ h) where
   abbrev came : Result ℕ StepOutcome
   came = access m realm ipa true size (low_bytes size value)
 
@@ -147,12 +149,20 @@ module _ (m : Machine) (proper : IsProper m) (rd other ipa value x : ℕ) (size 
   same_by (Some b) there =
       let g : ℕ = number_of m b.address in
       let kept : page_in n g ≡ page_in m g =
-      (written_apart m ipa value g size came (λ h reaches here.
-      let at = reached m proper rd realm is ipa protected true size (low_bytes size value) h reaches in
-      let one = in_one_page m proper rd other realm its is also ipa x protected protected_too at.0 b at.1 there (sym at.2 ∙ sym here) in
-      ⊎_elim (λ (not_ours : other ≢ rd). not_ours (sym one.0)) (λ (far : x / 4096 ≢ ipa / 4096). far (sym one.1)) apart)).1 in
+      (written_apart m ipa value g size came (beside b there)).1 in
       ap (λ (k : ℕ). Some (page_in n k)) (number-same m n like.0 (ap (length {A = RmmGranule}) like.1) b.address) ∙ ap (λ (p : List ℕ). Some p) kept
 
-  pub written_content : (g : ℕ) (outcome : StepOutcome) → content_at (after_step m realm g (Write ipa value size) outcome) its x ≡ content_at m its x
+  -- the bytes at a protected address that leads to another page than the one that is written
+  pub written_beside : (g : ℕ) (outcome : StepOutcome) → content_at (after_step m realm g (Write ipa value size) outcome) its x ≡ content_at m its x
   unfolding after_step
-  written_content g outcome = ap (content_of n) same_place ∙ same_by (location_at m its x) refl
+  written_beside g outcome = ap (content_of n) same_place ∙ same_by (location_at m its x) refl
+
+pub written_content : (m : Machine) (proper : IsProper m) (rd other ipa value x : ℕ) (size : AccessSize) (realm its : RmmRealm) (is : (granule_at m rd).state ≡ Rd realm) (also : (granule_at m other).state ≡ Rd its)
+    (protected : is_protected realm ipa ≡ true) (protected_too : is_protected its x ≡ true) (apart : (other ≢ rd) ⊎ (x / 4096 ≢ ipa / 4096)) (g : ℕ) (outcome : StepOutcome)
+    → content_at (after_step m realm g (Write ipa value size) outcome) its x ≡ content_at m its x
+written_content m proper rd other ipa value x size realm its is also protected protected_too apart =
+    written_beside m proper rd other ipa value x size realm its is also protected_too
+    (λ b there h reaches here.
+    let at = reached m proper rd realm is ipa protected true size (low_bytes size value) h reaches in
+    let one = in_one_page m proper rd other realm its is also ipa x protected protected_too at.0 b at.1 there (sym at.2 ∙ sym here) in
+    ⊎_elim (λ (not_ours : other ≢ rd). not_ours (sym one.0)) (λ (far : x / 4096 ≢ ipa / 4096). far (sym one.1)) apart)

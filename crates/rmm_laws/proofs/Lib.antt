@@ -19,6 +19,7 @@ pub mod Guests
 pub mod GuestWrites
 pub mod Halves
 pub mod Halving
+pub mod HostAccesses
 pub mod Keeping
 pub mod KeptData
 pub mod KeptTables
@@ -40,6 +41,7 @@ pub mod Orders
 pub mod Owning
 pub mod PageWords
 pub mod Passed
+pub mod Performing
 pub mod Placing
 pub mod Plain
 pub mod Reaching
@@ -77,6 +79,7 @@ pub mod TouchingCalls
 pub mod Unfold
 pub mod Unfolding
 pub mod Uses
+pub mod Vmids
 pub mod Walks
 pub mod Weights
 pub mod Wiping

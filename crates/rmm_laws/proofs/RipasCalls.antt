@@ -174,8 +174,8 @@ none_ram Destroyed = refl
 
 left_given : (m : Machine) (of ipa rd x : ℕ) (ripas : RmmRipas) → rd ≡ number_of m of → IsBetween ipa (ipa + 4096) x → (left_ripas ripas ≡ ripas) ⊎ IsRipasGiven m (Some (DataDestroy of ipa)) rd x ripas (left_ripas ripas)
 left_given m of ipa rd x Empty named between = inl refl
-left_given m of ipa rd x Ram named between = inr (named, between)
-left_given m of ipa rd x Destroyed named between = inr (named, between)
+left_given m of ipa rd x Ram named between = inr (named, between, refl)
+left_given m of ipa rd x Destroyed named between = inl refl
 
 -- the page at an address is destroyed
 module _ (rd ipa : ℕ) (m : Machine) (proper : IsProper m) (ok : Passed (data_destroy rd ipa m).checks) (count : length (data_destroy rd ipa m).machine.granules ≡ length m.granules) where

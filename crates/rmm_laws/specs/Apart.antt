@@ -1,5 +1,5 @@
 -- Realms apart: the granules that a call leaves as they are. RMM 1.0, RMI commands.
-use Rattle.std.specs.Prelude.{◌≡◌, ℕ, ◌+◌, ◌*◌, ◌⊎◌, ◌&&◌, Bool, true, false, Option, Some, None, is_some, if◌then◌else◌}
+use Rattle.std.specs.Prelude.{◌≡◌, ◌≢◌, ℕ, ◌+◌, ◌*◌, ◌⊎◌, ◌&&◌, Bool, true, false, Option, Some, None, is_some, if◌then◌else◌}
 use Rattle.granule_addr.specs.Page.{zero_page}
 use Rattle.rmi_abi.specs.declared.call.Call.{Call}
 use Rattle.rmi_abi.specs.declared.call.Call.TheVariants.{GranuleDelegate, RealmActivate, RealmCreate, RealmDestroy, RecAuxCount, RecCreate, RecDestroy, RecEnter, PsciComplete, DataCreate, DataCreateUnknown, DataDestroy}
@@ -8,6 +8,8 @@ use Rattle.rmm_model.specs.declared.granule.RmmGranuleState.TheVariants.{Undeleg
 use Rattle.rmm_model.specs.Granule.{of_no_realm, realm_of}
 use Rattle.rmm_model.specs.Guest.{rec_in, is_rec_named}
 use Rattle.rmm_model.specs.Machine.{Machine, granule_at, page_in, is_aligned, is_inside, is_secure, number_of, state_at}
+use Rattle.rmm_model.specs.Command.Operand.{realm_at}
+use Rattle.rmm_model.specs.Command.RealmCreate.{params_at}
 use Rattle.rmm_laws.specs.Role.{IsBegin}
 
 -- the RD at an address, if one begins there
@@ -45,6 +47,12 @@ abbrev pub changes_vmids : Option Call → Bool
 changes_vmids (Some (RealmCreate rd params)) = true
 changes_vmids (Some (RealmDestroy rd)) = true
 changes_vmids call = false
+
+-- a VMID is not that of the realm that a call creates or destroys
+abbrev pub IsOtherVmid : Machine → Option Call → ℕ → Type 0
+IsOtherVmid m (Some (RealmCreate rd params)) vmid = vmid ≢ (params_at m params).vmid
+IsOtherVmid m (Some (RealmDestroy rd)) vmid = vmid ≢ (realm_at m rd).vmid
+IsOtherVmid m call vmid = Unit {0}
 
 -- a granule is the RD of a realm, or one that the realm owns
 abbrev pub IsOfRealm : Machine → Option ℕ → ℕ → Type 0

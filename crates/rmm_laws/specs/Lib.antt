@@ -1,6 +1,7 @@
 pub mod Apart
 pub mod Back
 pub mod Fold
+pub mod Guest
 pub mod Half
 pub mod Location
 pub mod Owner

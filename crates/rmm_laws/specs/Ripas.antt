@@ -43,13 +43,13 @@ abbrev pub IsBetween : ℕ → ℕ → ℕ → Type 0
 IsBetween base top ipa = (base ≤ ipa) × (ipa < top)
 
 -- A call may give an address of the realm of an RD another RIPAS. RAM comes by RTT_INIT_RIPAS and DATA_CREATE of a NEW
--- realm, and DESTROYED by DATA_DESTROY and RTT_DESTROY. By RTT_SET_RIPAS comes what a REC of the realm asks for, within
+-- realm, and DESTROYED by DATA_DESTROY, where it was RAM, and RTT_DESTROY. By RTT_SET_RIPAS comes what a REC of the realm asks for, within
 -- the range that it asks for. It takes the place of DESTROYED only if the REC asks for that too.
 abbrev pub IsRipasGiven : Machine → Option Call → ℕ → ℕ → RmmRipas → RmmRipas → Type 0
 IsRipasGiven m (Some (RttInitRipas of base top)) rd ipa old Ram = (rd ≡ number_of m of) × IsRealmIn m rd New × IsBetween base top ipa
 IsRipasGiven m (Some (DataCreate of page at source flags)) rd ipa old Ram =
     (rd ≡ number_of m of) × IsRealmIn m rd New × IsBetween at (at + 4096) ipa
-IsRipasGiven m (Some (DataDestroy of at)) rd ipa old Destroyed = (rd ≡ number_of m of) × IsBetween at (at + 4096) ipa
+IsRipasGiven m (Some (DataDestroy of at)) rd ipa old Destroyed = (rd ≡ number_of m of) × IsBetween at (at + 4096) ipa × (old ≡ Ram)
 IsRipasGiven m (Some (RttDestroy of at level)) rd ipa old Destroyed = (rd ≡ number_of m of) × IsBetween at (at + entry_size (level - 1)) ipa
 IsRipasGiven m (Some (RttSetRipas of rec base top)) rd ipa old ripas =
     (rd ≡ number_of m of) × ((granule_at m (number_of m rec)).owner ≡ Some rd)

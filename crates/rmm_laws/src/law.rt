@@ -42,13 +42,14 @@ ghost use Rattle.rmm_model.specs.Command.Auxiliary.{with_aux};
 ghost use Rattle.rmm_model.specs.Command.Operand.{realm_at, rec_at};
 ghost use Rattle.rmm_model.specs.Command.RealmDestroy.{has_live_table, without_tables};
 ghost use Rattle.rmm_model.specs.Host.{after_store, after_fill};
-ghost use Rattle.rmm_model.specs.Machine.{Machine, granule_at, is_inside, is_secure, number_of, page_in, with_blank};
+ghost use Rattle.rmm_model.specs.Machine.{Machine, granule_at, is_inside, is_secure, number_of, page_in, with_blank, is_vmid_used};
 ghost use Rattle.rmm_model.specs.Table.{entry_in_page, has_live};
 ghost use Rattle.rmm_model.specs.Walk.{entry_at, table_below, walk, top};
 ghost use Rattle.rmm_model.specs.Command.RecEnter.{interrupted, step_outcome, after_step, after_entry, after_first_step, after_exit};
-ghost use Rattle.rmm_laws.specs.Apart.{rd_named, changes_vmids, IsFromHost, IsHostChanged, IsRunPage, IsOfRealm, IsOfAnother, IsSameAt};
+ghost use Rattle.rmm_laws.specs.Apart.{rd_named, changes_vmids, IsFromHost, IsHostChanged, IsRunPage, IsOfRealm, IsOfAnother, IsOtherVmid, IsSameAt};
 ghost use Rattle.rmm_laws.specs.Back.{ComesBack, RecComesBack, IsAssignedTo, IsReleased};
 ghost use Rattle.rmm_laws.specs.Fold.{CanReplaceTable, IsAlike};
+ghost use Rattle.rmm_laws.specs.Guest.{IsHostValue, IsStepFor};
 ghost use Rattle.rmm_laws.specs.Half.{IsOfHalf, IsPlaced};
 ghost use Rattle.rmm_laws.specs.Location.{location_at, content_at, KeepsLocations, KeepsContents};
 ghost use Rattle.rmm_laws.specs.Owner.{is_rec_in};
@@ -303,6 +304,11 @@ pub fn memory_is_the_guest_s()
     ensures ended { (m : Machine) (rec : ℕ) → IsProper m → KeepsContents m None (interrupted m rec).1 }
     ensures reads { (m : Machine) (rd rec flags ipa : ℕ) (size : AccessSize) (realm : RmmRealm) (page : List ℕ) → IsProper m → (granule_at m rd).state ≡ Rd realm → is_protected realm ipa ≡ true
         → content_at m realm ipa ≡ Some page → ripas_at m realm ipa ≡ Ram → step_outcome m realm rec flags (Read ipa size) ≡ IsResult (IsRead (value_in page size ipa)) }
+    ensures upper_reads { (m : Machine) (realm : RmmRealm) (rec flags ipa value : ℕ) (size : AccessSize) → IsProper m → is_protected realm ipa ≡ false
+        → step_outcome m realm rec flags (Read ipa size) ≡ IsResult (IsRead value) → IsHostValue m size ipa value }
+    ensures performed { (m : Machine) (rd g flags : ℕ) (realm : RmmRealm) → (granule_at m g).owner ≡ Some rd → (granule_at m rd).state ≡ Rd realm → (rec_in m g).step_count ≢ 0 → IsStepFor m realm g flags }
+    ensures upper_writes { (m : Machine) (rd other rec ipa value x : ℕ) (size : AccessSize) (realm its : RmmRealm) (outcome : StepOutcome) → IsProper m → (granule_at m rd).state ≡ Rd realm → (granule_at m other).state ≡ Rd its
+        → is_protected realm ipa ≡ false → is_protected its x ≡ true → content_at (after_step m realm rec (Write ipa value size) outcome) its x ≡ content_at m its x }
     ensures writes { (m : Machine) (rd other rec ipa value x : ℕ) (size : AccessSize) (realm its : RmmRealm) (outcome : StepOutcome) → IsProper m → (granule_at m rd).state ≡ Rd realm → (granule_at m other).state ≡ Rd its
         → is_protected realm ipa ≡ true → is_protected its x ≡ true → (other ≢ rd) ⊎ (x / 4096 ≢ ipa / 4096) → content_at (after_step m realm rec (Write ipa value size) outcome) its x ≡ content_at m its x }
 {}
@@ -347,6 +353,11 @@ pub fn other_realms_stay()
         → granule_at m granule ≢ of_realm rd Data → (granule_at m granule).state ≢ Undelegated → IsSameAt m (after_step m realm rec (Write ipa value size) outcome) granule }
     ensures secure { (m : Machine) (rd rec ipa value granule : ℕ) (size : AccessSize) (outcome : StepOutcome) (realm : RmmRealm) → IsProper m → (granule_at m rd).state ≡ Rd realm
         → (granule_at m granule).state ≡ Undelegated → is_secure m (m.settings.base + granule * 4096) ≡ true → IsSameAt m (after_step m realm rec (Write ipa value size) outcome) granule }
+    ensures lower { (m : Machine) (rd rec ipa value granule : ℕ) (size : AccessSize) (outcome : StepOutcome) (realm : RmmRealm) → IsProper m → (granule_at m rd).state ≡ Rd realm → is_protected realm ipa ≡ true
+        → (granule_at m granule).state ≡ Undelegated → IsSameAt m (after_step m realm rec (Write ipa value size) outcome) granule }
+    ensures store_beside { (m : Machine) (address word granule : ℕ) → granule ≢ number_of m address → IsSameAt m (after_store m address word) granule }
+    ensures fill_beside { (m : Machine) (address value granule : ℕ) → granule ≢ number_of m address → IsSameAt m (after_fill m address value) granule }
+    ensures vmid { (r : Registers) (m : Machine) (vmid : ℕ) → IsProper m → IsOtherVmid m (call_in r) vmid → is_vmid_used (rmi r m).1 vmid ≡ is_vmid_used m vmid }
     ensures settings { (r : Registers) (m : Machine) → IsProper m → ((rmi r m).1.settings ≡ m.settings) × (length (rmi r m).1.granules ≡ length m.granules) }
 {}
 

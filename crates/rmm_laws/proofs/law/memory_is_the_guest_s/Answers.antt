@@ -2,8 +2,10 @@ use Rattle.rmi_abi.specs.Call.{call_in}
 use Rattle.rmm_model.specs.Call.{rmi}
 use Rattle.rmm_laws.proofs.Contents.{call_contents, stored_contents, filled_contents, given_contents, interrupted_contents, read_content}
 use Rattle.rmm_laws.proofs.GuestWrites.{written_content}
+use Rattle.rmm_laws.proofs.HostAccesses.{host_read, upper_written}
 use Rattle.rmm_laws.proofs.LocationTables.{call_locations, stored_locations, filled_locations, given_locations, interrupted_locations}
 use Rattle.rmm_laws.proofs.Ordering.{store_ordered, fill_ordered}
+use Rattle.rmm_laws.proofs.Performing.{performed_for}
 use Rattle.rmm_laws.proofs.Plain.{stored, filled}
 use Rattle.rmm_laws.proofs.ProperCalls.{after}
 use Rattle.rmm_laws.proofs.law.memory_is_the_guest_s.Goals as goal
@@ -46,3 +48,12 @@ returns-clause-reads c = λ m rd rec flags ipa size realm page proper is protect
 pub returns-clause-writes : goal.returns-clause-writes
 returns-clause-writes c = λ m rd other rec ipa value x size realm its outcome proper is also protected protected_too apart.
     written_content m proper rd other ipa value x size realm its is also protected protected_too apart rec outcome
+
+pub returns-clause-upper_reads : goal.returns-clause-upper_reads
+returns-clause-upper_reads c = λ m realm rec flags ipa value size proper upper is. host_read m realm rec flags ipa value size proper upper is
+
+pub returns-clause-performed : goal.returns-clause-performed
+returns-clause-performed c = performed_for
+
+pub returns-clause-upper_writes : goal.returns-clause-upper_writes
+returns-clause-upper_writes c = λ m rd other rec ipa value x size realm its outcome proper is also upper lower. upper_written m rd other rec ipa value x size realm its outcome proper is also upper lower
