@@ -105,7 +105,7 @@ given_apart m rec g w other =
     (λ full. (refl, refl)))
     (λ never. (refl, refl))
 
-exit_at : (m : Machine) (h g : ℕ) (exit : RecExit) (last : LastExit) → g ≢ h → (granule_at m g).state ≢ Undelegated → IsSameAt m (after_exit m h exit last) g
+pub exit_at : (m : Machine) (h g : ℕ) (exit : RecExit) (last : LastExit) → g ≢ h → (granule_at m g).state ≢ Undelegated → IsSameAt m (after_exit m h exit last) g
 unfolding after_exit
 exit_at m h g exit last other taken =
     let rec : RmmRec = rec_in m h in

@@ -348,7 +348,7 @@ call_contents (Some call) r m proper keeps =
 
 -- ---- stores, fills, steps and interrupts
 
-none_contents : (m n : Machine) → IsProper m → IsProper n → n.settings ≡ m.settings → length n.granules ≡ length m.granules → Lasts m n → KeepsLocations m None n → ((g : ℕ) → (granule_at m g).state ≡ Data → IsSameAt m n g) → KeepsContents m None n
+pub none_contents : (m n : Machine) → IsProper m → IsProper n → n.settings ≡ m.settings → length n.granules ≡ length m.granules → Lasts m n → KeepsLocations m None n → ((g : ℕ) → (granule_at m g).state ≡ Data → IsSameAt m n g) → KeepsContents m None n
 none_contents m n proper proper_then settings count lasts locations pages rd x before after is then protected =
     ⊎_elim
     (λ (same : location_at n after x ≡ location_at m before x).

@@ -183,7 +183,7 @@ module _ (x : ℕ) (A : Type 0) (F : RmmRttEntry → ℕ → A) (G : Machine →
       (λ can. host_read m address _ proper (and_parts (is_aligned address) (is_host_page m address) can).1)
       (λ cannot. same_read_so m None)
 
-  going_read : (m : Machine) → IsProper m → (w g : ℕ) (n : Machine) → IsGoing m w g n → KeepsRead m None n
+  pub going_read : (m : Machine) → IsProper m → (w g : ℕ) (n : Machine) → IsGoing m w g n → KeepsRead m None n
   going_read m proper w g n going = kept_read m n proper going.touches.settings going.touches.count going.tables going.lasts
 
   pub given_read : (m : Machine) (rec : ℕ) (w : StepWords) → IsProper m → KeepsRead m None (queued m rec w).1

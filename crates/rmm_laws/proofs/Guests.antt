@@ -421,6 +421,16 @@ module _ (m : Machine) (g : ℕ) (run : IsProperRun m g) where
   pub exit_proper : (exit : RecExit) (last : LastExit) → IsProperRun (after_exit m g exit last) g
   exit_proper exit last = still_runs (after_exit m g exit last) (going_exit m of_run.0 g m exit last run_first)
 
+  -- what holds after writes of the REC holds after its entry, its steps and its exit
+  pub entry_then : (P : Machine → Type 0) → ((w : ℕ) (n : Machine) → IsGoing m w g n → P n) → (address flags : ℕ) → P (after_entry m g address flags)
+  entry_then P goes address flags = goes of_run.0 (after_entry m g address flags) (going_entry m of_run.0 g address flags m run_first)
+
+  pub step_then : (P : Machine → Type 0) → ((w : ℕ) (n : Machine) → IsGoing m w g n → P n) → (flags : ℕ) → P (after_first_step m g flags)
+  step_then P goes flags = goes of_run.0 (after_first_step m g flags) (going_first_step m of_run.0 g flags m run_first)
+
+  pub exit_then : (P : Machine → Type 0) → ((w : ℕ) (n : Machine) → IsGoing m w g n → P n) → (exit : RecExit) (last : LastExit) → P (after_exit m g exit last)
+  exit_then P goes exit last = goes of_run.0 (after_exit m g exit last) (going_exit m of_run.0 g m exit last run_first)
+
 -- ---- interrupts, and steps that guests are given
 
 module _ (m : Machine) (address : ℕ) (proper : IsProper m) (is : is_rec_named m address ≡ true) where

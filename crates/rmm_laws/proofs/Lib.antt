@@ -15,6 +15,7 @@ pub mod Fold
 pub mod FoldMemory
 pub mod Freed
 pub mod Given
+pub mod GivenPages
 pub mod Guests
 pub mod GuestWrites
 pub mod Halves
@@ -58,6 +59,7 @@ pub mod ReleasingCalls
 pub mod Requests
 pub mod RipasCalls
 pub mod RipasTables
+pub mod RunContents
 pub mod Running
 pub mod SameTables
 pub mod Seats

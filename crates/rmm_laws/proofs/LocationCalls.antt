@@ -86,7 +86,7 @@ left_none : (realm : RmmRealm) (ipa offset : ℕ) → location_of (left_entry re
 left_none realm ipa offset = cond_both (is_protected realm ipa) (Unassigned Destroyed) UnassignedNs (λ (e : RmmRttEntry). location_of e offset ≡ None) (λ sure. refl) (λ never. refl)
 
 -- an address of a page is at its place in the page
-page_location : (ripas : RmmRipas) (address l x : ℕ) → l ≡ 3 → address % 4096 ≡ 0 → address < 2 ^ 48 → location_of (entry_of (entry_word (Assigned ripas address))) (x % entry_size l) ≡ location (address + x % 4096) 0
+pub page_location : (ripas : RmmRipas) (address l x : ℕ) → l ≡ 3 → address % 4096 ≡ 0 → address < 2 ^ 48 → location_of (entry_of (entry_word (Assigned ripas address))) (x % entry_size l) ≡ location (address + x % 4096) 0
 unfolding entry_size
 page_location ripas address l x three begins fits =
     let place : address / 4096 * 4096 + x % 4096 ≡ address + x % 4096 = omega arith in

@@ -13,9 +13,10 @@ use Rattle.rmm_model.specs.Command.Operand.{realm_at}
 use Rattle.rmm_model.specs.Command.RecEnter.{interrupted}
 use Rattle.rmm_laws.specs.Proper.{IsProper}
 use Rattle.rmm_laws.specs.Location.{Location, IsLocationGiven, KeepsLocations}
+use Rattle.rmm_laws.proofs.Recs.{IsGoing}
 use Rattle.rmm_laws.proofs.Passed.{Passed}
 use Rattle.rmm_laws.proofs.LocationCalls.{Leads, leading, lead_map, lead_unmap, lead_data, lead_unknown, lead_destroy, lead_init, lead_set, lead_create, lead_fold, lead_table_destroy}
-use Rattle.rmm_laws.proofs.EachRead.{is_acting, target_of, ok_read, call_read, stored_read, filled_read, given_read, interrupted_read}
+use Rattle.rmm_laws.proofs.EachRead.{is_acting, target_of, ok_read, call_read, stored_read, filled_read, going_read, given_read, interrupted_read}
 
 -- the location that a call gives an address
 abbrev given_to : ℕ → Machine → Option Call → ℕ → Option Location → Option Location → Type 0
@@ -48,6 +49,9 @@ stored_locations m address word proper = λ rd x before after is then protected.
 
 pub filled_locations : (m : Machine) (address value : ℕ) → IsProper m → KeepsLocations m None (after_fill m address value)
 filled_locations m address value proper = λ rd x before after is then protected. filled_read x (Option Location) (leading x) (given_to x) m address value proper rd before after is then protected
+
+pub going_locations : (m : Machine) → IsProper m → (w g : ℕ) (n : Machine) → IsGoing m w g n → KeepsLocations m None n
+going_locations m proper w g n going = λ rd x before after is then protected. going_read x (Option Location) (leading x) (given_to x) m proper w g n going rd before after is then protected
 
 pub given_locations : (m : Machine) (rec : ℕ) (w : StepWords) → IsProper m → KeepsLocations m None (queued m rec w).1
 given_locations m rec w proper = λ rd x before after is then protected. given_read x (Option Location) (leading x) (given_to x) m rec w proper rd before after is then protected

@@ -54,7 +54,7 @@ mapped_leaf : (e : RmmRttEntry) → is_assigned_ns e ≡ true → is_table e ≡
 mapped_leaf (AssignedNs desc) is = refl
 mapped_leaf _ is = absurd (cc)
 
-unassigned_leaf : (e : RmmRttEntry) → is_unassigned e ≡ true → is_table e ≡ false
+pub unassigned_leaf : (e : RmmRttEntry) → is_unassigned e ≡ true → is_table e ≡ false
 unassigned_leaf (Unassigned ripas) is = refl
 unassigned_leaf _ is = absurd (cc)
 

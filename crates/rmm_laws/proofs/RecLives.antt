@@ -27,6 +27,7 @@ use Rattle.rmm_laws.specs.Apart.{rd_named}
 use Rattle.rmm_laws.specs.Half.{HasHalves}
 use Rattle.rmm_laws.specs.Owner.{is_rd, is_owner, IsOrderly, IsOrderlyAt, is_rec_in, IsOrdered}
 use Rattle.rmm_laws.specs.Proper.{IsProper}
+use Rattle.rmm_laws.specs.Guest.{IsRecMadeOf}
 use Rattle.rmm_laws.specs.Role.{Used, used, used_at, has_user, level_in, state_uses, uses, IsSound, IsLinked, IsBegin, LeadsInside}
 use Rattle.rmm_laws.proofs.Entries.{number_inside, address_few, begins, named_inside}
 use Rattle.rmm_laws.proofs.Halves.{SameSpace, has_space, kept_or_plain, same_space}
@@ -456,6 +457,17 @@ module _ (m : Machine) (proper : IsLinked m) (owner rec : ℕ) (realm : RmmRealm
       (λ i h lt is it. no_free (subst P (ap (λ (x : ℕ). (granule_at m x).state) (some_same (sym is ∙ aux_named i lt)) ∙ free i lt) it)))
       (λ x other. (granule_at-other all owner x (of_no_realm (Rd next)) other, refl))
 
+  -- the REC itself
+  pub created_rec : (next : RmmRealm)
+      → (granule_at (with_granule (with_aux (with_created_rec m owner (number_of m rec) page) (number_of m rec) (of_realm owner RecAux) m.settings.aux) owner (of_no_realm (Rd next))) (number_of m rec)
+      ≡ of_realm owner (IsRec (new_rec (is_runnable_in page) (mpidr_in page))))
+      × (page_in (with_aux (with_created_rec m owner (number_of m rec) page) (number_of m rec) (of_realm owner RecAux) m.settings.aux) (number_of m rec) ≡ rec_page page)
+  created_rec next =
+      let beside : g ≢ owner = λ same. (let states : (granule_at m g).state ≡ (granule_at m owner).state = ap (λ (x : ℕ). (granule_at m x).state) same in cc) in (
+        granule_at-other all owner g (of_no_realm (Rd next)) beside ∙ (wiped.other g not_g).0 ∙ granule_at-same m g (of_realm owner (IsRec new)) g_in,
+        (wiped.other g not_g).1 ∙ one_page,
+      )
+
   pub created_touches : (next : RmmRealm) → Touches false m (with_granule (with_aux (with_created_rec m owner (number_of m rec) page) (number_of m rec) (of_realm owner RecAux) m.settings.aux) owner (of_no_realm (Rd next))) (Some owner)
   created_touches next =
       touch_granule false m all (Some owner) owner (of_no_realm (Rd next))
@@ -536,6 +548,10 @@ module _ (rd rec params : ℕ) (m : Machine) (proper : IsProper m) (ok : Passed 
   unfolding rec_create
   rec_created_some P no_rd no_free =
       created_some m proper.linked (number_of m rd) rec (realm_at m rd) rd_there rec_begins.1 rec_begins.0 rec_begins.2 params_page aux_aligned aux_inside aux_free aux_other aux_distinct P no_rd no_free _
+
+  pub rec_created_made : IsRecMadeOf m (rec_create rd rec params m).machine rd rec params
+  unfolding rec_create
+  rec_created_made = created_rec m proper.linked (number_of m rd) rec (realm_at m rd) rd_there rec_begins.1 rec_begins.0 rec_begins.2 params_page aux_aligned aux_inside aux_free aux_other aux_distinct _
 
   pub rec_created_tables : KeepsTables m (rec_create rd rec params m).machine
   rec_created_tables = rec_created_some (λ s. s ≡ Rtt) (λ r is. cc) (λ is. cc)

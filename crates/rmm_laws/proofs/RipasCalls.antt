@@ -159,7 +159,7 @@ own_unknown rd page ipa m proper ok count x after =
     (of_realm (number_of m rd) Data) zero_page (ripas_in (entry_at m (walk m realm ipa 3) ipa)) refl (λ y covers. inl refl) x after
 
 -- the addresses of a page
-page_covers : (l ipa x : ℕ) → l ≡ 3 → ipa % 4096 ≡ 0 → IsBetween ipa (ipa + 4096) x → x / entry_size l ≡ ipa / entry_size l
+pub page_covers : (l ipa x : ℕ) → l ≡ 3 → ipa % 4096 ≡ 0 → IsBetween ipa (ipa + 4096) x → x / entry_size l ≡ ipa / entry_size l
 unfolding entry_size
 page_covers l ipa x three begins between = (let low = between.0 in let high = between.1 in subst (λ (k : ℕ). x / entry_size k ≡ ipa / entry_size k) (sym three) (omega arith))
 

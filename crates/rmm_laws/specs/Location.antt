@@ -5,6 +5,7 @@ use Rattle.rmi_abi.specs.declared.call.Call.{Call}
 use Rattle.rmi_abi.specs.declared.call.Call.TheVariants.{DataCreate, DataCreateUnknown, DataDestroy, RecEnter}
 use Rattle.rmm_model.specs.declared.entry.RmmRttEntry.{RmmRttEntry}
 use Rattle.rmm_model.specs.declared.entry.RmmRttEntry.TheVariants.{Assigned, AssignedNs}
+use Rattle.rmm_model.specs.declared.entry.RmmRipas.{RmmRipas}
 use Rattle.rmm_model.specs.declared.granule.RmmGranuleState.TheVariants.{Rd}
 use Rattle.rmm_model.specs.declared.realm.RmmRealm.{RmmRealm}
 use Rattle.rmm_model.specs.declared.realm.RmmRealmState.TheVariants.{New}
@@ -12,7 +13,7 @@ use Rattle.rmm_model.specs.Level.{entry_size}
 use Rattle.rmm_model.specs.Machine.{Machine, granule_at, page_in, number_of}
 use Rattle.rmm_model.specs.Realm.{is_protected}
 use Rattle.rmm_model.specs.Walk.{entry_at, walk}
-use Rattle.rmm_laws.specs.Ripas.{IsBetween}
+use Rattle.rmm_laws.specs.Ripas.{ripas_at, IsBetween}
 use Rattle.rmm_laws.specs.State.{IsRealmIn}
 
 -- An address of memory, and the attributes with which it is mapped. Memory of a realm has none.
@@ -49,6 +50,10 @@ abbrev pub KeepsLocations : Machine → Option Call → Machine → Type 0
 KeepsLocations m call n =
     (rd ipa : ℕ) (before after : RmmRealm) → (granule_at m rd).state ≡ Rd before → (granule_at n rd).state ≡ Rd after → is_protected before ipa ≡ true
     → (location_at n after ipa ≡ location_at m before ipa) ⊎ IsLocationGiven m call rd ipa (location_at m before ipa) (location_at n after ipa)
+
+-- each address of a page of a realm leads into a page of memory, and has a RIPAS
+abbrev pub IsPageAt : Machine → RmmRealm → ℕ → ℕ → RmmRipas → Type 0
+IsPageAt m realm at page ripas = (ipa : ℕ) → IsBetween at (at + 4096) ipa → (location_at m realm ipa ≡ location (page + ipa % 4096) 0) × (ripas_at m realm ipa ≡ ripas)
 
 -- ---- bytes
 

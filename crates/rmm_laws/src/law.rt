@@ -7,7 +7,7 @@ ghost use Rattle.rmi_abi.specs.declared.registers.SmcResult.{SmcResult};
 ghost use Rattle.rmi_abi.specs.declared.rec_run.RecExit.{RecExit};
 ghost use Rattle.rmi_abi.specs.declared.settings.RmmSettings.{RmmSettings};
 ghost use Rattle.rmi_abi.specs.declared.call.Call.{Call};
-ghost use Rattle.rmi_abi.specs.declared.call.Call.TheVariants.{GranuleUndelegate, RealmActivate, RealmCreate, RealmDestroy, RecDestroy, RecEnter, RttCreate, RttDestroy, RttFold, RttInitRipas, RttSetRipas, RttUnmapUnprotected, DataCreate, DataDestroy};
+ghost use Rattle.rmi_abi.specs.declared.call.Call.TheVariants.{GranuleUndelegate, RealmActivate, RealmCreate, RealmDestroy, RecCreate, RecDestroy, RecEnter, RttCreate, RttDestroy, RttFold, RttInitRipas, RttSetRipas, RttUnmapUnprotected, DataCreate, DataCreateUnknown, DataDestroy};
 ghost use Rattle.rmi_abi.specs.declared.word.Word.{Word};
 ghost use Rattle.rmi_abi.specs.declared.word.Word.TheVariants.{Success};
 ghost use Rattle.rmi_abi.specs.Call.{call_in};
@@ -34,7 +34,7 @@ ghost use Rattle.rmm_model.specs.Allowed.{allowed_words};
 ghost use Rattle.rmm_model.specs.Call.{command_of, performed, rmi};
 ghost use Rattle.rmm_model.specs.Entry.{is_live, is_ram};
 ghost use Rattle.rmm_model.specs.Granule.{of_no_realm, of_realm};
-ghost use Rattle.rmm_model.specs.Guest.{rec_in, is_rec_named, queued};
+ghost use Rattle.rmm_model.specs.Guest.{rec_in, is_rec_named, first_step, queued};
 ghost use Rattle.rmm_model.specs.Level.{entry_size};
 ghost use Rattle.rmm_model.specs.Realm.{is_protected, is_unprotected};
 ghost use Rattle.rmm_model.specs.Rec.{is_running, no_request};
@@ -49,9 +49,9 @@ ghost use Rattle.rmm_model.specs.Command.RecEnter.{interrupted, step_outcome, af
 ghost use Rattle.rmm_laws.specs.Apart.{rd_named, changes_vmids, IsFromHost, IsHostChanged, IsRunPage, IsOfRealm, IsOfAnother, IsOtherVmid, IsSameAt};
 ghost use Rattle.rmm_laws.specs.Back.{ComesBack, RecComesBack, IsAssignedTo, IsReleased};
 ghost use Rattle.rmm_laws.specs.Fold.{CanReplaceTable, IsAlike};
-ghost use Rattle.rmm_laws.specs.Guest.{IsHostValue, IsStepFor};
+ghost use Rattle.rmm_laws.specs.Guest.{IsHostValue, IsRecMadeOf, IsStepFor, is_write};
 ghost use Rattle.rmm_laws.specs.Half.{IsOfHalf, IsPlaced};
-ghost use Rattle.rmm_laws.specs.Location.{location_at, content_at, KeepsLocations, KeepsContents};
+ghost use Rattle.rmm_laws.specs.Location.{location_at, content_at, IsPageAt, KeepsLocations, KeepsContents};
 ghost use Rattle.rmm_laws.specs.Owner.{is_rec_in};
 ghost use Rattle.rmm_laws.specs.Proper.{IsProper, IsProperRun};
 ghost use Rattle.rmm_laws.specs.Refusal.{IsRefused, is_refusal, IsOneOf, IsRecEnter, IsFault, IsNotGiven, IsNotQueued, IsNotRunning, IsAccess, IsNotDone};
@@ -236,6 +236,7 @@ pub fn rims_are_measured()
     ensures measured { (m : Machine) (call : Call) (rd : ℕ) → Measures m call rd → (performed call m).0.word ≡ Success → (rim : List ℕ) × HasRim (performed call m).1 rd rim × IsMeasured m (Some call) rd rim }
     ensures content { (m : Machine) (rd page ipa source flags : ℕ) → IsProper m → (performed (DataCreate rd page ipa source flags) m).0.word ≡ Success
         → page_in (performed (DataCreate rd page ipa source flags) m).1 (number_of m page) ≡ page_in m (number_of m source) }
+    ensures rec { (m : Machine) (rd rec params : ℕ) → IsProper m → (performed (RecCreate rd rec params) m).0.word ≡ Success → IsRecMadeOf m (performed (RecCreate rd rec params) m).1 rd rec params }
     ensures sources { (m : Machine) (call : Call) → IsProper m → (performed call m).0.word ≡ Success → IsFromHost m call }
 {}
 
@@ -297,6 +298,10 @@ pub fn memory_is_the_guest_s()
     ensures fills { (m : Machine) (address value : ℕ) → IsProper m → KeepsLocations m None (after_fill m address value) }
     ensures steps { (m : Machine) (rec : ℕ) (w : StepWords) → IsProper m → KeepsLocations m None (queued m rec w).1 }
     ensures interrupts { (m : Machine) (rec : ℕ) → IsProper m → KeepsLocations m None (interrupted m rec).1 }
+    ensures created { (m : Machine) (rd page ipa source flags : ℕ) → IsProper m → (performed (DataCreate rd page ipa source flags) m).0.word ≡ Success
+        → IsPageAt (performed (DataCreate rd page ipa source flags) m).1 (realm_at m rd) ipa page Ram }
+    ensures created_unknown { (m : Machine) (rd page ipa : ℕ) → IsProper m → (performed (DataCreateUnknown rd page ipa) m).0.word ≡ Success
+        → IsPageAt (performed (DataCreateUnknown rd page ipa) m).1 (realm_at m rd) ipa page (ripas_at m (realm_at m rd) ipa) }
     ensures called { (r : Registers) (m : Machine) → IsProper m → KeepsContents m (call_in r) (rmi r m).1 }
     ensures stored { (m : Machine) (address word : ℕ) → IsProper m → KeepsContents m None (after_store m address word) }
     ensures filled { (m : Machine) (address value : ℕ) → IsProper m → KeepsContents m None (after_fill m address value) }
@@ -304,6 +309,9 @@ pub fn memory_is_the_guest_s()
     ensures ended { (m : Machine) (rec : ℕ) → IsProper m → KeepsContents m None (interrupted m rec).1 }
     ensures reads { (m : Machine) (rd rec flags ipa : ℕ) (size : AccessSize) (realm : RmmRealm) (page : List ℕ) → IsProper m → (granule_at m rd).state ≡ Rd realm → is_protected realm ipa ≡ true
         → content_at m realm ipa ≡ Some page → ripas_at m realm ipa ≡ Ram → step_outcome m realm rec flags (Read ipa size) ≡ IsResult (IsRead (value_in page size ipa)) }
+    ensures entered { (m : Machine) (g address flags : ℕ) → IsProperRun m g → KeepsContents m None (after_entry m g address flags) }
+    ensures stepped { (m : Machine) (g flags : ℕ) → IsProperRun m g → is_write (first_step m g) ≡ false → KeepsContents m None (after_first_step m g flags) }
+    ensures left { (m : Machine) (g : ℕ) (exit : RecExit) (last : LastExit) → IsProperRun m g → KeepsContents m None (after_exit m g exit last) }
     ensures upper_reads { (m : Machine) (realm : RmmRealm) (rec flags ipa value : ℕ) (size : AccessSize) → IsProper m → is_protected realm ipa ≡ false
         → step_outcome m realm rec flags (Read ipa size) ≡ IsResult (IsRead value) → IsHostValue m size ipa value }
     ensures performed { (m : Machine) (rd g flags : ℕ) (realm : RmmRealm) → (granule_at m g).owner ≡ Some rd → (granule_at m rd).state ≡ Rd realm → (rec_in m g).step_count ≢ 0 → IsStepFor m realm g flags }

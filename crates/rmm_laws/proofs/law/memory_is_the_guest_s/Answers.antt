@@ -1,6 +1,7 @@
 use Rattle.rmi_abi.specs.Call.{call_in}
 use Rattle.rmm_model.specs.Call.{rmi}
 use Rattle.rmm_laws.proofs.Contents.{call_contents, stored_contents, filled_contents, given_contents, interrupted_contents, read_content}
+use Rattle.rmm_laws.proofs.GivenPages.{data_there, unknown_there}
 use Rattle.rmm_laws.proofs.GuestWrites.{written_content}
 use Rattle.rmm_laws.proofs.HostAccesses.{host_read, upper_written}
 use Rattle.rmm_laws.proofs.LocationTables.{call_locations, stored_locations, filled_locations, given_locations, interrupted_locations}
@@ -8,6 +9,7 @@ use Rattle.rmm_laws.proofs.Ordering.{store_ordered, fill_ordered}
 use Rattle.rmm_laws.proofs.Performing.{performed_for}
 use Rattle.rmm_laws.proofs.Plain.{stored, filled}
 use Rattle.rmm_laws.proofs.ProperCalls.{after}
+use Rattle.rmm_laws.proofs.RunContents.{entered_contents, stepped_contents, left_contents}
 use Rattle.rmm_laws.proofs.law.memory_is_the_guest_s.Goals as goal
 
 pub returns-clause-calls : goal.returns-clause-calls
@@ -57,3 +59,18 @@ returns-clause-performed c = performed_for
 
 pub returns-clause-upper_writes : goal.returns-clause-upper_writes
 returns-clause-upper_writes c = λ m rd other rec ipa value x size realm its outcome proper is also upper lower. upper_written m rd other rec ipa value x size realm its outcome proper is also upper lower
+
+pub returns-clause-entered : goal.returns-clause-entered
+returns-clause-entered c = λ m g address flags run. entered_contents m g run address flags
+
+pub returns-clause-stepped : goal.returns-clause-stepped
+returns-clause-stepped c = λ m g flags run none. stepped_contents m g run flags none
+
+pub returns-clause-left : goal.returns-clause-left
+returns-clause-left c = λ m g exit last run. left_contents m g run exit last
+
+pub returns-clause-created : goal.returns-clause-created
+returns-clause-created c = data_there
+
+pub returns-clause-created_unknown : goal.returns-clause-created_unknown
+returns-clause-created_unknown c = unknown_there
