@@ -76,6 +76,26 @@ def realm_begins_active(self: realms.RealmCreate) -> Outcome:
     return outcome
 
 
+def realm_begins_as_ram(self: realms.RealmCreate) -> Outcome:
+    outcome = made(self)
+    for table in self.tables():
+        granule = self.machine.granule(table)
+        granule.table = [it._replace(ripas=RAM) if it.kind == "UNASSIGNED" else it for it in granule.table]
+    return outcome
+
+
+of_delegate = realms.GranuleDelegate.checks
+
+
+def secure_is_delegated(self: realms.GranuleDelegate) -> Checks:
+    yield from (it for it in of_delegate(self) if it.name != "gran_gpt")
+
+
+def range_is_passed(self: tables.RttSetRipas) -> Outcome:
+    self.asking.asked.base = self.top
+    return done(top=self.top)
+
+
 def data_is_not_measured(self: tables.DataCreate) -> Outcome:
     self.map(RAM, self.machine.granule(self.src).page)
     return done()
@@ -216,6 +236,9 @@ MISTAKES = {
     "activate_switches_off": Mistake(patch.object(realms.RealmActivate, "effect", activate_switches_off), ("states",)),
     "activate_does_nothing": Mistake(patch.object(realms.RealmActivate, "effect", activate_does_nothing), ("effects",)),
     "realm_begins_active": Mistake(patch.object(realms.RealmCreate, "effect", realm_begins_active), ("states",)),
+    "realm_begins_as_ram": Mistake(patch.object(realms.RealmCreate, "effect", realm_begins_as_ram), ("ripas",)),
+    "secure_is_delegated": Mistake(patch.object(realms.GranuleDelegate, "checks", secure_is_delegated), ("hosts",)),
+    "range_is_passed": Mistake(patch.object(tables.RttSetRipas, "effect", range_is_passed), ("ripas",)),
     "rec_stays_counted": Mistake(patch.object(recs.RecDestroy, "effect", rec_stays_counted), ("teardowns",)),
     "aux_is_kept": Mistake(patch.object(recs.RecDestroy, "effect", aux_is_kept), ("roles", "teardowns")),
     "data_is_not_measured": Mistake(patch.object(tables.DataCreate, "effect", data_is_not_measured), ("effects",)),
@@ -225,7 +248,7 @@ MISTAKES = {
     "exit_runs_on": Mistake(patch.object(guest, "leave", exit_runs_on), ("effects",)),
     "fold_destroys": Mistake(patch.object(tables.RttFold, "effect", fold_destroys), ("folds", "ripas")),
     "refusal_counts": Mistake(patch.object(Command, "refused", refusal_counts), ("refusals",)),
-    "page_is_replaced": Mistake(patch.object(tables.DataCreateUnknown, "checks", page_is_replaced), ("pages",)),
+    "page_is_replaced": Mistake(patch.object(tables.DataCreateUnknown, "checks", page_is_replaced), ("pages", "places")),
     "destroyed_page_stays_ram": Mistake(patch.object(tables.DataDestroy, "effect", destroyed_page_stays_ram), ("guests",)),
     "destroyed_is_changed": Mistake(patch.object(tables.RttSetRipas, "is_right", destroyed_is_changed), ("asked", "ripas")),
     "request_is_exceeded": Mistake(patch.object(tables.RttSetRipas, "checks", request_is_exceeded), ("ripas",)),

@@ -2,10 +2,14 @@
 
     refusals  a refused call leaves the machine as it was; no other word is allowed beside RMI_SUCCESS
     realms    a line changes nothing of a realm that it does not name
-    hosts     a call changes a page of the host if it delegates it, and the bytes of one if a REC is entered
+    hosts     a call changes a page of the host if it delegates it, and the bytes of one if a REC is entered; an interrupt
+              changes the bytes of one; none of these is of the secure world
     memory    a page of data changes by steps of its realm's own guests alone, and by no more bytes than they write
     ripas     RIPAS becomes RAM by INIT_RIPAS and DATA_CREATE in a NEW realm, DESTROYED by a destroyed page or table, and what a
-              REC asked for by SET_RIPAS; each time in the call's range alone
+              REC asked for by SET_RIPAS; each time in the call's range alone, and by SET_RIPAS in all of it; a new realm is
+              EMPTY
+    places    a protected address leads to the page that it led to; DATA_CREATE and DATA_CREATE_UNKNOWN give one where none was,
+              and DATA_DESTROY takes it
     states    a realm is NEW, ACTIVE and SYSTEM_OFF in turn; from REALM_ACTIVATE on its RIM is the same
     wiped     a granule that is delegated or given back is zero
     effects   a realm that is activated was NEW; a page of data has the bytes that are measured; a REC that leaves is READY
@@ -26,7 +30,7 @@ from typing import NamedTuple
 from rmm_laws import entries_of, named_by
 from second_rmm.bench import Bench
 from second_rmm.command import COMMANDS, Command, Outcome
-from second_rmm.facts import DATA, DELEGATED, DESTROYED, ENTRIES, PAGE, RAM, RUNNING, SUCCESS, UNDELEGATED, size
+from second_rmm.facts import DATA, DELEGATED, DESTROYED, EMPTY, ENTRIES, PAGE, RAM, RUNNING, SUCCESS, UNDELEGATED, size
 from second_rmm.machine import LIVE, ZEROS, Asked, Granule, Machine, Realm
 from second_rmm.reading import number, step_of
 
@@ -50,12 +54,13 @@ def kept(it: Granule) -> Kept:
 
 
 class Seen(NamedTuple):
-    """A machine at one time: its granules, which realm has each of them, and its realms."""
+    """A machine at one time: its granules, which realm has each of them, its realms, and the granules that are secure."""
 
     granules: list[Kept]
     owners: dict[int, int]
     realms: dict[int, Realm]
     base: int
+    secure: range
 
 
 def seen(machine: Machine, before: Seen | None) -> Seen:
@@ -69,7 +74,8 @@ def seen(machine: Machine, before: Seen | None) -> Seen:
     else:
         owners = {index(it): realm.rd for realm in machine.realms() for it, _ in named_by(machine, realm)}
     realms = {realm.rd: replace(realm) for realm in machine.realms()}
-    return Seen(granules, owners, realms, machine.base)
+    first, count = machine.settings.secure
+    return Seen(granules, owners, realms, machine.base, range(index(first), index(first) + count))
 
 
 Leaf = tuple[int, int, int]
@@ -131,7 +137,7 @@ class Watch:
     """A trace that is answered line by line, with what is wrong with each."""
 
     def __init__(self) -> None:
-        self.bench, self.before = Bench(), Seen([], {}, {}, 0)
+        self.bench, self.before = Bench(), Seen([], {}, {}, 0, range(0))
         self.count = 0
 
     def ask(self, question: str) -> Iterator[str]:
@@ -152,6 +158,9 @@ class Watch:
             yield from of_hosts(line, before, after)
             yield from of_memory(line, before, after, written)
             yield from of_ripas(line, before, after, asked)
+            yield from of_places(line, before, after)
+            yield from of_new(before, after)
+            yield from of_range(line, self.bench.outcome, after, asked)
             yield from of_states(line, before, after)
             yield from of_wiped(before, after)
 
@@ -205,12 +214,14 @@ def of_realms(line: Line, before: Seen, after: Seen) -> Iterator[str]:
 
 
 def of_hosts(line: Line, before: Seen, after: Seen) -> Iterator[str]:
-    if line.kind not in COMMANDS:
+    if line.kind not in (*COMMANDS, "interrupt"):
         return
     for k, (one, other) in enumerate(zip(before.granules, after.granules)):
-        is_delegated = line.kind == "rmi_granule_delegate" and (line.values["addr"] - before.base) // PAGE == k
-        is_written = line.kind == "rmi_rec_enter" and other[0] == UNDELEGATED
-        if one[0] == UNDELEGATED and one != other and not is_delegated and not is_written:
+        is_named = line.kind == "rmi_granule_delegate" and line.values["addr"] == before.base + PAGE * k
+        is_delegated = is_named and other[0] == DELEGATED
+        is_written = line.kind in ("rmi_rec_enter", "interrupt") and other[0] == UNDELEGATED
+        is_allowed = (is_delegated or is_written) and k not in before.secure
+        if one[0] == UNDELEGATED and one != other and not is_allowed:
             yield f"hosts: the page {k} of the host is changed"
 
 
@@ -255,6 +266,52 @@ def of_ripas(line: Line, before: Seen, after: Seen, asked: Asked | None) -> Iter
             was, now = ripas_at(one, at), ripas_at(other, at)
             if was != now and not (rd == line.values.get("rd") and gives_ripas(line, realm.state, at, was, now, asked)):
                 yield f"ripas: at {at:#x} it is {now}"
+
+
+def of_new(before: Seen, after: Seen) -> Iterator[str]:
+    for rd, realm in after.realms.items():
+        if rd not in before.realms and any(ripas != EMPTY for _, _, ripas in leaves_of(after, realm)):
+            yield "ripas: a new realm is not EMPTY"
+
+
+def of_range(line: Line, outcome: Outcome | None, after: Seen, asked: Asked | None) -> Iterator[str]:
+    """What the range has up to which RMI_RTT_SET_RIPAS has come."""
+    if asked is None or outcome is None or outcome.word != SUCCESS:
+        return
+    base, top = line.values["base"], outcome.outputs["top"]
+    within = [it for begin, end, it in leaves_of(after, after.realms[line.values["rd"]]) if begin < top and base < end]
+    if top <= base or set(within) != {asked.ripas}:
+        yield f"ripas: from {base:#x} to {top:#x} it is not what was asked for"
+
+
+def places_of(it: Seen, realm: Realm) -> dict[int, int]:
+    """The page that each protected address leads to, if it leads to one."""
+    places: dict[int, int] = {}
+    spans = [(realm.level, ENTRIES * size(realm.level) * k, table) for k, table in enumerate(realm.tables)]
+    while spans:
+        level, at, table = spans.pop()
+        for k, entry in enumerate(it.granules[(table - it.base) // PAGE][2]):  # type: ignore[arg-type]
+            begin = at + size(level) * k
+            if entry.kind == "TABLE":
+                spans.append((level + 1, begin, entry.address))
+            elif entry.kind == "ASSIGNED":
+                places |= {begin + part: entry.address + part for part in range(0, size(level), PAGE)}
+    return places
+
+
+def of_places(line: Line, before: Seen, after: Seen) -> Iterator[str]:
+    for rd, realm in before.realms.items():
+        if rd not in after.realms or not are_tables_other(rd, before, after):
+            continue
+        one, other = places_of(before, realm), places_of(after, after.realms[rd])
+        is_data = line.kind in ("rmi_data_create", "rmi_data_create_unknown")
+        for at in one.keys() | other.keys():
+            was, now = one.get(at), other.get(at)
+            is_named = rd == line.values.get("rd") and at == line.values.get("ipa")
+            is_given = is_data and was is None and now == line.values["data"]
+            is_taken = line.kind == "rmi_data_destroy" and now is None
+            if was != now and not (is_named and (is_given or is_taken)):
+                yield f"places: {at:#x} leads to another page"
 
 
 def of_states(line: Line, before: Seen, after: Seen) -> Iterator[str]:

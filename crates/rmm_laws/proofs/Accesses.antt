@@ -44,7 +44,7 @@ abbrev pub IsReached : Machine → ℕ → ℕ → Type 0
 IsReached m rd h = IsPlainAt m rd h × ((granule_at m h ≡ of_realm rd Data) ⊎ IsHostAt m h)
 
 -- the page of an offset is one of an entry
-page_below : (level offset : ℕ) → offset < entry_size level → offset / 4096 < page_count level
+pub page_below : (level offset : ℕ) → offset < entry_size level → offset / 4096 < page_count level
 unfolding entry_size
 page_below level offset =
     cond_both (level == 3) (2 ^ 12) (if level == 2 then 2 ^ 21 else (if level == 1 then 2 ^ 30 else 2 ^ 39)) (λ (s : ℕ). offset < s → offset / 4096 < s / 4096) (λ sure lt. omega arith) (λ never.
@@ -52,7 +52,7 @@ page_below level offset =
     cond_both (level == 1) (2 ^ 30) (2 ^ 39) (λ (s : ℕ). offset < s → offset / 4096 < s / 4096) (λ sure lt. omega arith) (λ never lt. omega arith)))
 
 -- an address within a granule's address and an offset
-number_on : (m : Machine) (address first offset : ℕ) → address ≡ m.settings.base + first * 4096 → number_of m (address + offset) ≡ first + offset / 4096
+pub number_on : (m : Machine) (address first offset : ℕ) → address ≡ m.settings.base + first * 4096 → number_of m (address + offset) ≡ first + offset / 4096
 unfolding number_of
 number_on m address first offset is = omega arith
 
@@ -72,7 +72,7 @@ same_side s a b to from =
     (λ (high : s ≤ a). le-leb s a high ∙ sym (le-leb s b (to high)))
     (cases_lt a s)
 
-secure_page : (m : Machine) (address : ℕ) → IsSound m → is_inside m address ≡ true → is_secure m (m.settings.base + number_of m address * 4096) ≡ is_secure m address
+pub secure_page : (m : Machine) (address : ℕ) → IsSound m → is_inside m address ≡ true → is_secure m (m.settings.base + number_of m address * 4096) ≡ is_secure m address
 unfolding is_secure is_inside number_of
 secure_page m address sound inside =
     let above : m.settings.base ≤ address = leb-true _ _ (and_parts (nat_le m.settings.base address) _ inside).0 in

@@ -1,7 +1,7 @@
 -- Granules beside those that steps, interrupts and writes of guests change.
-use Rattle.std.proofs.Common.{◌≡◌, ◌≢◌, ℕ, ◌+◌, ◌*◌, ◌/◌, ◌%◌, ◌^◌, ◌⊎◌, List, Option, Result, Ok, Err, refl, sym, ap, subst, ◌∙◌}
+use Rattle.std.proofs.Common.{◌≡◌, ◌≢◌, ℕ, ◌+◌, ◌*◌, ◌/◌, ◌%◌, ◌^◌, ◌⊎◌, inl, inr, List, Option, Result, Ok, Err, unwrap_or, refl, sym, ap, subst, ◌∙◌, ⊎_elim}
 use Rattle.std.specs.Prelude.{nat_lt}
-use Rattle.std.proofs.lemmas.Bool.{cond_both}
+use Rattle.std.proofs.lemmas.Bool.{and_parts, both_ways, cases_eq, cond_both}
 use Rattle.rmi_abi.specs.declared.rec_run.RecExit.{RecExit}
 use Rattle.rmi_abi.specs.declared.rec_run.ExitReason.TheVariants.{Irq}
 use Rattle.rmi_abi.specs.declared.word.Word.{Word as Answer}
@@ -9,6 +9,7 @@ use Rattle.rmi_abi.specs.RecRun.{only_reason}
 use Rattle.rmm_model.specs.declared.access.AccessSize.{AccessSize}
 use Rattle.rmm_model.specs.declared.access.AccessSize.TheVariants.{Byte, Halfword, Word, Doubleword}
 use Rattle.rmm_model.specs.declared.granule.RmmGranule.{RmmGranule}
+use Rattle.rmm_model.specs.declared.granule.RmmGranuleState.{RmmGranuleState}
 use Rattle.rmm_model.specs.declared.granule.RmmGranuleState.TheVariants.{Undelegated, Rd, Data}
 use Rattle.rmm_model.specs.declared.realm.RmmRealm.{RmmRealm}
 use Rattle.rmm_model.specs.declared.rec.LastExit.{LastExit}
@@ -19,11 +20,13 @@ use Rattle.rmm_model.specs.declared.step.Queued.{Queued}
 use Rattle.rmm_model.specs.declared.step.StepOutcome.{StepOutcome}
 use Rattle.rmm_model.specs.declared.step.StepWords.{StepWords}
 use Rattle.rmm_model.specs.Access.{with_byte, with_two_bytes, with_four_bytes, with_value}
-use Rattle.rmm_model.specs.Granule.{of_realm}
+use Rattle.rmm_model.specs.Granule.{of_realm, rec_of}
 use Rattle.rmm_model.specs.Guest.{rec_in, is_rec_named, with_step, queued}
 use Rattle.rmm_model.specs.Host.{is_host_page}
-use Rattle.rmm_model.specs.Machine.{Machine, granule_at, number_of, with_granule, with_page, with_word}
+use Rattle.rmm_model.specs.Machine.{Machine, granule_at, number_of, state_at, with_granule, with_page, with_word}
+use Rattle.rmm_model.specs.Rec.{is_running, no_rec}
 use Rattle.rmm_model.specs.Step.{after_write}
+use Rattle.rmm_model.specs.Command.Operand.{rec_at}
 use Rattle.rmm_model.specs.Command.PsciComplete.{with_rec}
 use Rattle.rmm_model.specs.Command.RecEnter.{with_copied, with_exit_gic, with_exit_words, after_exit, runs_at, interrupted}
 use Rattle.rmm_laws.specs.Apart.{IsSameAt}
@@ -102,7 +105,7 @@ given_apart m rec g w other =
     (λ full. (refl, refl)))
     (λ never. (refl, refl))
 
-exit_at : (m : Machine) (h g : ℕ) (exit : RecExit) (last : LastExit) → g ≢ h → (granule_at m g).state ≢ Undelegated → IsSameAt m (after_exit m h exit last) g
+pub exit_at : (m : Machine) (h g : ℕ) (exit : RecExit) (last : LastExit) → g ≢ h → (granule_at m g).state ≢ Undelegated → IsSameAt m (after_exit m h exit last) g
 unfolding after_exit
 exit_at m h g exit last other taken =
     let rec : RmmRec = rec_in m h in
@@ -120,3 +123,30 @@ interrupt_apart m rec g other taken =
     cond_both (runs_at m rec) _ _ (λ (p : Option Answer × Machine). IsSameAt m p.1 g)
     (λ runs. exit_at m (number_of m rec) g (only_reason Irq) Other other taken)
     (λ never. (refl, refl))
+
+-- ---- the run page
+
+ended_at : (m : Machine) (h g : ℕ) (exit : RecExit) (last : LastExit) → g ≢ h → IsSameAt m (after_exit m h exit last) g ⊎ (g ≡ number_of m (rec_in m h).run)
+unfolding after_exit number_of
+ended_at m h g exit last other =
+    let rec : RmmRec = rec_in m h in
+    let n : Machine = with_rec m h (record rec { state = Ready; exit = last }) in
+    let same : IsSameAt m n g = same_granule m g m h _ other (refl, refl) in
+    ⊎_elim
+    (λ (here : g ≡ number_of m rec.run). inr here)
+    (λ (apart : g ≢ number_of m rec.run).
+    inl (cond_both (is_host_page n rec.run) _ n (λ (k : Machine). IsSameAt m k g)
+    (λ host. same_exit_gic m g _ h (number_of n rec.run) apart (same_exit_words m g n (number_of n rec.run) exit apart same))
+    (λ never. same)))
+    (cases_eq g (number_of m rec.run))
+
+-- an interrupt leaves each page of the host but the run page
+pub interrupt_beside : (m : Machine) (rec g : ℕ) → (granule_at m g).state ≡ Undelegated → IsSameAt m (interrupted m rec).1 g ⊎ (g ≡ number_of m (rec_in m (number_of m rec)).run)
+unfolding interrupted
+interrupt_beside m rec g free =
+    cond_both (runs_at m rec) _ _ (λ (p : Option Answer × Machine). IsSameAt m p.1 g ⊎ (g ≡ number_of m (rec_in m (number_of m rec)).run))
+    (λ runs. ended_at m (number_of m rec) g (only_reason Irq) Other (λ here.
+    let running = (and_parts (is_rec_named m rec) (is_running (rec_at m rec).state) runs).1 in
+    let host : state_at m rec ≡ Undelegated = sym (ap (λ (x : ℕ). (granule_at m x).state) here) ∙ free in
+    both_ways (is_running (rec_at m rec).state) (ap (λ (s : RmmGranuleState). is_running (unwrap_or (rec_of s) no_rec).state) host) running))
+    (λ never. inl (refl, refl))

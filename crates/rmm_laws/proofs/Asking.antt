@@ -1,14 +1,19 @@
 -- What the REC that is entered asks for of RIPAS: nothing at first, and then what a step of its guest says.
-use Rattle.std.proofs.Common.{◌≡◌, ◌≢◌, ℕ, ◌+◌, ◌-◌, ◌*◌, ◌%◌, ◌<◌, ◌==◌, ◌⊎◌, inl, inr, Bool, true, false, length, Option, Some, None, Result, Ok, Err, unwrap_or, refl, sym, ap, subst, ◌∙◌}
-use Rattle.std.proofs.lemmas.Bool.{cond_both}
+use Rattle.std.proofs.Common.{◌≡◌, ◌≢◌, ℕ, ◌+◌, ◌-◌, ◌*◌, ◌%◌, ◌<◌, ◌≤◌, ◌==◌, ◌⊎◌, inl, inr, Bool, true, false, length, Option, Some, None, Result, Ok, Err, unwrap_or, refl, sym, ap, subst, ◌∙◌, ⊎_elim}
+use Rattle.std.specs.Prelude.{if◌then◌else◌}
+use Rattle.std.proofs.lemmas.Bool.{cases_lt, cond_both}
+use Rattle.std.proofs.lemmas.List.{length-set, get_or_past}
+use Rattle.rmi_abi.specs.RecRun.{entry_gpr_in, injects_sea, emulates_mmio}
 use Rattle.rmm_model.specs.declared.access.AccessSize.{AccessSize}
 use Rattle.rmm_model.specs.declared.access.AccessSize.TheVariants.{Byte, Halfword, Word, Doubleword}
 use Rattle.rmm_model.specs.declared.granule.RmmGranule.{RmmGranule}
 use Rattle.rmm_model.specs.declared.granule.RmmGranuleState.{RmmGranuleState}
-use Rattle.rmm_model.specs.declared.granule.RmmGranuleState.TheVariants.{Rec as IsRec}
+use Rattle.rmm_model.specs.declared.granule.RmmGranuleState.TheVariants.{Undelegated, Rec as IsRec}
 use Rattle.rmm_model.specs.declared.realm.RmmRealm.{RmmRealm}
 use Rattle.rmm_model.specs.declared.rec.LastExit.{LastExit}
-use Rattle.rmm_model.specs.declared.rec.LastExit.TheVariants.{RipasChange}
+use Rattle.rmm_model.specs.declared.rec.LastExit.TheVariants.{Other, HostCall, RipasChange, EmulatableAbort, UnprotectedAbort, SystemRegister}
+use Rattle.rmm_model.specs.declared.rec.PsciRequest.{PsciRequest}
+use Rattle.rmm_model.specs.declared.rec.PsciRequest.TheVariants.{None as NoRequest, Complete}
 use Rattle.rmm_model.specs.declared.rec.RipasRequest.{RipasRequest}
 use Rattle.rmm_model.specs.declared.rec.RmmRec.{RmmRec}
 use Rattle.rmm_model.specs.declared.step.GuestStep.{GuestStep}
@@ -16,15 +21,15 @@ use Rattle.rmm_model.specs.declared.step.GuestStep.TheVariants.{Write, Read, Fet
 use Rattle.rmm_model.specs.declared.step.StepOutcome.{StepOutcome}
 use Rattle.rmm_model.specs.declared.step.StepOutcome.TheVariants.{Result as IsResult, Exit as IsExit, Spin as Spins}
 use Rattle.rmm_model.specs.declared.step.StepResult.{StepResult}
-use Rattle.rmm_model.specs.declared.step.StepResult.TheVariants.{RsiErrorInput}
+use Rattle.rmm_model.specs.declared.step.StepResult.TheVariants.{Done, Sea, Psci, RsiErrorInput, Returned}
 use Rattle.rmm_model.specs.Access.{low_bytes, with_two_bytes, with_four_bytes, with_value}
-use Rattle.rmm_model.specs.Granule.{realm_of, rec_of}
+use Rattle.rmm_model.specs.Granule.{of_no_realm, realm_of, rec_of}
 use Rattle.rmm_model.specs.Guest.{rec_in, first_step, past_step, result_code, result_value, with_result}
-use Rattle.rmm_model.specs.Machine.{Machine, granule_at, number_of, with_word}
+use Rattle.rmm_model.specs.Machine.{Machine, granule_at, page_in, number_of, with_word}
 use Rattle.rmm_model.specs.Rec.{no_rec, no_request}
 use Rattle.rmm_model.specs.Step.{access, after_write, is_exit, is_ripas_range, ripas_exit, rec_after_exit}
 use Rattle.rmm_model.specs.Command.PsciComplete.{with_rec}
-use Rattle.rmm_model.specs.Command.RecEnter.{owner_realm, with_realm_off, with_system_off, with_copied, with_gic, with_step_ended, ripas_result, with_host_answer, running_at, after_entry, step_outcome, with_exit_of, after_step, with_step_passed, after_step_in, after_first_step}
+use Rattle.rmm_model.specs.Command.RecEnter.{owner_realm, with_realm_off, with_system_off, with_copied, with_gprs, with_gic, with_step_ended, with_psci_result, ripas_result, emulated, with_host_answer, running_at, after_entry, step_outcome, with_exit_of, after_step, with_step_passed, after_step_in, after_first_step}
 use Rattle.rmm_laws.specs.Request.{IsAskedFor}
 use Rattle.rmm_laws.proofs.Passed.{realm_of-is}
 use Rattle.rmm_laws.proofs.Requests.{same_rec}
@@ -131,6 +136,75 @@ nothing_asked m g address flags rec left is =
     asks_result g IsNone (with_rec k g cleared) (ripas_result (rec_in k g).ripas flags) (asks_rec g IsNone k cleared (asks_inside g Any k runs) refl) in
     holds_of g IsNone (with_host_answer k g (rec_in m g).exit page flags) rec
     (subst (λ (last : LastExit). Asks g IsNone (with_host_answer k g last page flags)) (sym left) answered) is
+
+-- an entry that answers another exit leaves what a REC asks for, whether there is a REC or not
+module _ (g : ℕ) (asked : RipasRequest) where
+  abbrev Tells : Machine → Type 0
+  Tells m = (rec_in m g).ripas ≡ asked
+
+  tells_rec : (m : Machine) (rec : RmmRec) → Tells m → rec.ripas ≡ asked → Tells (with_rec m g rec)
+  tells_rec m rec tells same =
+      let kept : RmmGranule = record (granule_at m g) { state = IsRec rec } in
+      ⊎_elim
+      (λ (inside : g < length m.granules). ap (λ (c : RmmGranule). (unwrap_or (rec_of c.state) no_rec).ripas) (granule_at-same m g kept inside) ∙ same)
+      (λ (past : length m.granules ≤ g).
+      let after : length (with_rec m g rec).granules ≤ g = subst (λ (n : ℕ). n ≤ g) (sym (length-set m.granules g kept)) past in
+      ap (λ (c : RmmGranule). (unwrap_or (rec_of c.state) no_rec).ripas)
+      (get_or_past (with_rec m g rec).granules g (of_no_realm Undelegated) after ∙ sym (get_or_past m.granules g (of_no_realm Undelegated) past))
+      ∙ tells)
+      (cases_lt g (length m.granules))
+
+  tells_result : (m : Machine) (r : StepResult) → Tells m → Tells (with_result m g r)
+  unfolding with_result
+  tells_result m r tells =
+      let rec : RmmRec = rec_in m g in
+      let place : ℕ = rec.result_count % 32 in
+      let a : Machine = with_word m g (128 + 2 * place) (result_code r) in
+      let b : Machine = with_word a g (128 + 2 * place + 1) (result_value r) in
+      tells_rec b (record rec { result_count = (place + 1) % 32 }) tells tells
+
+  tells_past : (m : Machine) → Tells m → Tells (past_step m g)
+  unfolding past_step
+  tells_past m tells = (let rec : RmmRec = rec_in m g in tells_rec m (record rec { first_step = (rec.first_step % 16 + 1) % 16; step_count = rec.step_count - 1 }) tells tells)
+
+  tells_ended : (m : Machine) (r : StepResult) → Tells m → Tells (with_step_ended m g r)
+  tells_ended m r tells = tells_result (past_step m g) r (tells_past m tells)
+
+  tells_psci : (m : Machine) (request : PsciRequest) → Tells m → Tells (with_psci_result m g request)
+  tells_psci m (Complete value) tells =
+      let rec : RmmRec = record (rec_in m g) { psci = NoRequest } in
+      tells_result (with_rec m g rec) (Psci value) (tells_rec m rec tells tells)
+  tells_psci m _ tells = tells
+
+  tells_gprs : (m : Machine) (page : ℕ) → Tells m → Tells (with_gprs m g page)
+  unfolding with_copied
+  tells_gprs m page tells = tells
+
+  tells_gic : (m : Machine) (page : ℕ) → Tells m → Tells (with_gic m g page)
+  unfolding with_gic with_copied
+  tells_gic m page tells = cond_both m.settings.checks_gic _ m Tells (λ sure. tells) (λ never. tells)
+
+  tells_answer : (m : Machine) (page flags : ℕ) (last : LastExit) → last ≢ RipasChange → Tells m → Tells (with_host_answer m g last page flags)
+  tells_answer m page flags RipasChange other tells = absurd (other refl)
+  tells_answer m page flags HostCall other tells = tells_result (with_gprs m g page) (Returned (entry_gpr_in (page_in m page) 0)) (tells_gprs m page tells)
+  tells_answer m page flags SystemRegister other tells = tells_result m Done tells
+  tells_answer m page flags UnprotectedAbort other tells = cond_both (injects_sea flags) (with_step_ended m g Sea) m Tells (λ sure. tells_ended m Sea tells) (λ never. tells)
+  tells_answer m page flags EmulatableAbort other tells =
+      let answer : StepResult = emulated (first_step m g) (entry_gpr_in (page_in m page) 0) in
+      cond_both (injects_sea flags) (with_step_ended m g Sea) (if emulates_mmio flags then with_step_ended m g answer else m) Tells (λ sure. tells_ended m Sea tells)
+      (λ never. cond_both (emulates_mmio flags) (with_step_ended m g answer) m Tells (λ also. tells_ended m answer tells) (λ neither. tells))
+  tells_answer m page flags Other other tells = tells_psci m (rec_in m g).psci tells
+
+pub request_kept : (m : Machine) (g address flags : ℕ) (rec : RmmRec) → (rec_in m g).exit ≢ RipasChange → (granule_at (after_entry m g address flags) g).state ≡ IsRec rec → rec.ripas ≡ (rec_in m g).ripas
+unfolding after_entry
+request_kept m g address flags rec other is =
+    let page : ℕ = number_of m address in
+    let asked : RipasRequest = (rec_in m g).ripas in
+    let runs : Machine = with_rec m g (running_at (rec_in m g) address) in
+    let k : Machine = with_gic runs g page in
+    let tells : Tells g asked k = tells_gic g asked runs page (tells_rec g asked m (running_at (rec_in m g) address) refl refl) in
+    let answered : Tells g asked (with_host_answer k g (rec_in m g).exit page flags) = tells_answer g asked k page flags (rec_in m g).exit other tells in
+    sym (ap (λ (s : RmmGranuleState). (unwrap_or (rec_of s) no_rec).ripas) is) ∙ answered
 
 -- ---- the first step
 

@@ -143,11 +143,14 @@ dead_free (AssignedNs desc) dead = refl
 dead_free (Table address) dead = absurd (cc)
 dead_free (Assigned ripas address) dead = absurd (cc)
 
-pub unused_free : (page : List ℕ) → has_live page ≡ false → (j : ℕ) → j < 512 → is_free (entry_in_page page j) ≡ true
+pub unused_dead : (page : List ℕ) → has_live page ≡ false → (j : ℕ) → j < 512 → is_live (entry_in_page page j) ≡ false
 unfolding has_live
-unused_free page unused j lt =
+unused_dead page unused j lt =
     let end : first_live page 512 0 ≡ 512 = eqb-true (first_live page 512 0) 512 (not-false (first_live page 512 0 == 512) unused) in
-    dead_free (entry_in_page page j) (dead_from page 512 0 j end (omega arith) lt)
+    dead_from page 512 0 j end (omega arith) lt
+
+pub unused_free : (page : List ℕ) → has_live page ≡ false → (j : ℕ) → j < 512 → is_free (entry_in_page page j) ≡ true
+unused_free page unused j lt = dead_free (entry_in_page page j) (unused_dead page unused j lt)
 
 -- ---- tables that mean the same as one entry
 

@@ -1,10 +1,11 @@
 -- Guests and their RECs keep the roles of granules: steps, entries, exits and interrupts.
-use Rattle.std.proofs.Common.{◌≡◌, ◌≢◌, ℕ, zero, suc, ◌+◌, ◌*◌, ◌/◌, ◌%◌, ◌^◌, ◌<◌, ◌==◌, inl, inr, ◌&&◌, Bool, true, false, length, Option, Some, None, Result, Ok, Err, refl, sym, ap, subst, ◌∙◌, ⊎_elim, arith, ◌⊎◌}
-use Rattle.std.specs.Prelude.{IfSome, not, is_none, nat_lt, if◌then◌else◌}
-use Rattle.std.proofs.lemmas.Bool.{cases_eq, eqb-true, cond_both, and_parts}
+use Rattle.std.proofs.Common.{◌≡◌, ◌≢◌, ℕ, zero, suc, ◌+◌, ◌-◌, ◌*◌, ◌/◌, ◌%◌, ◌^◌, ◌<◌, ◌==◌, inl, inr, ◌&&◌, Bool, true, false, length, Option, Some, None, Result, Ok, Err, refl, sym, ap, subst, ◌∙◌, ⊎_elim, arith, ◌⊎◌}
+use Rattle.std.specs.Prelude.{IfSome, not, is_none, nat_le, nat_lt, if◌then◌else◌}
+use Rattle.std.proofs.lemmas.Bool.{cases_eq, eqb-true, cond_both, and_parts, both_ways}
 use Rattle.std.proofs.lemmas.List.{length-set}
 use Rattle.page_arena.specs.Word.{page_with_word}
 use Rattle.rmi_abi.specs.declared.rec_run.RecExit.{RecExit}
+use Rattle.rmi_abi.specs.declared.settings.RmmSettings.{RmmSettings}
 use Rattle.rmi_abi.specs.declared.word.Word.{Word as Answer}
 use Rattle.rmi_abi.specs.RecRun.{flags_in, entry_gpr_in, injects_sea, emulates_mmio, exit_word, only_reason}
 use Rattle.rmi_abi.specs.declared.rec_run.ExitReason.TheVariants.{Irq}
@@ -33,7 +34,7 @@ use Rattle.rmm_model.specs.Access.{low_bytes, with_byte, with_two_bytes, with_fo
 use Rattle.rmm_model.specs.Granule.{of_realm, realm_of, rec_of}
 use Rattle.rmm_model.specs.Guest.{rec_in, is_rec_named, first_step, past_step, with_result, with_step, queued}
 use Rattle.rmm_model.specs.Host.{is_host_page}
-use Rattle.rmm_model.specs.Machine.{Machine, granule_at, page_in, is_aligned, is_inside, number_of, state_at, with_word}
+use Rattle.rmm_model.specs.Machine.{Machine, granule_at, page_in, is_aligned, is_inside, is_secure, number_of, state_at, with_word}
 use Rattle.rmm_model.specs.Realm.{IsServed, is_new}
 use Rattle.rmm_model.specs.Step.{access, after_write, is_exit}
 use Rattle.rmm_model.specs.Command.Operand.{rec_at}
@@ -41,15 +42,15 @@ use Rattle.rmm_model.specs.Command.PsciComplete.{is_same_owner, request_checks, 
 use Rattle.rmm_model.specs.Command.RecEnter.{rec_enter, enter_checks, owner_realm, realm_by, state_of, is_system_off, with_realm_off, with_system_off, with_copied, with_gprs, with_gic, with_exit_gic, with_exit_words, with_exit, after_exit, with_step_ended, with_psci_result, emulated, with_host_answer, after_entry, step_outcome, with_exit_of, after_step, with_step_passed, after_step_in, after_first_step, first_step_outcome, continued, after_steps, runs_at, interrupted}
 use Rattle.rmm_laws.specs.Apart.{realm_of_rec}
 use Rattle.rmm_laws.specs.Owner.{is_rd}
-use Rattle.rmm_laws.specs.Proper.{IsProper}
+use Rattle.rmm_laws.specs.Proper.{IsProper, IsProperRun}
 use Rattle.rmm_laws.specs.Role.{IsLinked}
 use Rattle.rmm_laws.specs.State.{IsRealmIn, HasRim}
-use Rattle.rmm_laws.proofs.Accesses.{IsPlainAt, IsPlainIfOk, accessed}
+use Rattle.rmm_laws.proofs.Accesses.{IsHostAt, IsPlainAt, IsPlainIfOk, accessed, reached_normal}
 use Rattle.rmm_laws.proofs.PageWords.{length-page_with_word, length-with_words_from}
 use Rattle.rmm_laws.proofs.Orders.{is_memory_state, owner_is, rd_is, rd_of}
 use Rattle.rmm_laws.proofs.Passed.{Passed, yes_from, some_same, realm_of-is, rec_of-some, rec_of-there, rec_named-is}
 use Rattle.rmm_laws.proofs.Plain.{host_inside, host_plain}
-use Rattle.rmm_laws.proofs.Recs.{IsGoing, going_first, going_rec, going_word, going_words, going_plain, going_realm}
+use Rattle.rmm_laws.proofs.Recs.{IsSecureHost, IsGoing, going_first, going_rec, going_word, going_words, going_plain, going_realm}
 use Rattle.rmm_laws.proofs.Lasting.{Lasts}
 use Rattle.rmm_laws.proofs.Releasing.{Held}
 use Rattle.rmm_laws.proofs.States.{IsAsBefore}
@@ -105,22 +106,36 @@ module _ (o : Machine) (w : ℕ) where
 
   -- ---- exits
 
-  going_exit_gic : (g h : ℕ) (m : Machine) → IsGoing o w g m → h < length m.granules → is_memory_state (granule_at m h).state ≡ true → IsMine true m (Some w) h → IsGoing o w g (with_exit_gic m g h)
+  -- the settings say which addresses are of the secure world
+  secure_before : (m : Machine) (a : ℕ) → m.settings ≡ o.settings → is_secure m (m.settings.base + a) ≡ is_secure o (o.settings.base + a)
+  unfolding is_secure
+  secure_before m a same = ap (λ (s : RmmSettings). nat_le s.secure_base (s.base + a) && nat_lt ((s.base + a - s.secure_base) / 4096) s.secure_count) same
+
+  -- a page that a guest or an exit writes is none of the secure world
+  normal : (g h rd : ℕ) (m : Machine) → IsGoing o w g m → (granule_at m h ≡ of_realm rd Data) ⊎ IsHostAt m h → IsSecureHost o h → ⊥
+  normal g h rd m going (inl own) it = (let states : (granule_at m h).state ≡ Undelegated = ap (λ (r : RmmGranule). r.state) (going.hosts h it.0) ∙ it.0 in let ours = ap (λ (r : RmmGranule). r.state) own in cc)
+  normal g h rd m going (inr at) it =
+      both_ways (is_secure m (m.settings.base + h * 4096)) (reached_normal m h going.proper.sound at) (secure_before m (h * 4096) going.touches.settings ∙ it.1)
+
+  going_exit_gic : (g h : ℕ) (m : Machine) → IsGoing o w g m → h < length m.granules → is_memory_state (granule_at m h).state ≡ true → IsMine true m (Some w) h → (IsSecureHost o h → ⊥)
+      → IsGoing o w g (with_exit_gic m g h)
   unfolding with_exit_gic with_copied
-  going_exit_gic g h m going inside plain mine =
+  going_exit_gic g h m going inside plain mine apart =
       cond_both m.settings.checks_gic _ m (IsGoing o w g)
-      (λ sure. going_plain o w g h m _ going inside (length-with_words_from 352 _ (page_in m h) (going.proper.sound.whole h inside) 17 (omega arith)) plain mine)
+      (λ sure. going_plain o w g h m _ going inside (length-with_words_from 352 _ (page_in m h) (going.proper.sound.whole h inside) 17 (omega arith)) plain mine apart)
       (λ never. going)
 
-  going_exit_words : (g h : ℕ) (m : Machine) (exit : RecExit) → IsGoing o w g m → h < length m.granules → is_memory_state (granule_at m h).state ≡ true → IsMine true m (Some w) h → IsGoing o w g (with_exit_gic (with_exit_words m h exit) g h)
+  going_exit_words : (g h : ℕ) (m : Machine) (exit : RecExit) → IsGoing o w g m → h < length m.granules → is_memory_state (granule_at m h).state ≡ true → IsMine true m (Some w) h → (IsSecureHost o h → ⊥)
+      → IsGoing o w g (with_exit_gic (with_exit_words m h exit) g h)
   unfolding with_exit_words
-  going_exit_words g h m exit going inside plain mine =
-      going_exit_gic g h _ (going_plain o w g h m _ going inside (length-with_words_from 256 (exit_word exit) (page_in m h) (going.proper.sound.whole h inside) 256 (omega arith)) plain mine) inside plain mine
+  going_exit_words g h m exit going inside plain mine apart =
+      going_exit_gic g h _ (going_plain o w g h m _ going inside (length-with_words_from 256 (exit_word exit) (page_in m h) (going.proper.sound.whole h inside) 256 (omega arith)) plain mine apart) inside plain mine apart
 
   going_with_exit : (g address : ℕ) (m : Machine) (exit : RecExit) → IsGoing o w g m → IsGoing o w g (with_exit m g address exit)
   going_with_exit g address m exit going =
       cond_both (is_host_page m address) _ m (IsGoing o w g)
-      (λ host. going_exit_words g (number_of m address) m exit going (host_inside m address host) (ap is_memory_state (host_plain m address host)) (inr (inl (host_plain m address host))))
+      (λ host. going_exit_words g (number_of m address) m exit going (host_inside m address host) (ap is_memory_state (host_plain m address host)) (inr (inl (host_plain m address host)))
+      (normal g (number_of m address) w m going (inr (address, host, refl))))
       (λ never. going)
 
   going_exit : (g : ℕ) (m : Machine) (exit : RecExit) (last : LastExit) → IsGoing o w g m → IsGoing o w g (after_exit m g exit last)
@@ -135,32 +150,32 @@ module _ (o : Machine) (w : ℕ) where
   plain_mine m rd h named (inr free) = inr (inl free)
 
   module _ (rd : ℕ) (named : rd ≡ w) where
-    going_byte : (g h offset value : ℕ) (m : Machine) → IsGoing o w g m → IsPlainAt m rd h → IsGoing o w g (with_byte m h offset value)
-    going_byte g h offset value m going plain =
-        going_plain o w g h m _ going plain.0 (length-set (page_in m h) offset (value % 2 ^ 8) ∙ going.proper.sound.whole h plain.0) plain.1 (plain_mine m rd h named plain.2)
+    going_byte : (g h offset value : ℕ) (m : Machine) → IsGoing o w g m → IsPlainAt m rd h → (IsSecureHost o h → ⊥) → IsGoing o w g (with_byte m h offset value)
+    going_byte g h offset value m going plain apart =
+        going_plain o w g h m _ going plain.0 (length-set (page_in m h) offset (value % 2 ^ 8) ∙ going.proper.sound.whole h plain.0) plain.1 (plain_mine m rd h named plain.2) apart
 
-    going_two : (g h offset value : ℕ) (m : Machine) → IsGoing o w g m → IsPlainAt m rd h → IsGoing o w g (with_two_bytes m h offset value)
+    going_two : (g h offset value : ℕ) (m : Machine) → IsGoing o w g m → IsPlainAt m rd h → (IsSecureHost o h → ⊥) → IsGoing o w g (with_two_bytes m h offset value)
     unfolding with_two_bytes
-    going_two g h offset value m going plain = going_byte g h (offset + 1) (value / 2 ^ 8) (with_byte m h offset value) (going_byte g h offset value m going plain) plain
+    going_two g h offset value m going plain apart = going_byte g h (offset + 1) (value / 2 ^ 8) (with_byte m h offset value) (going_byte g h offset value m going plain apart) plain apart
 
-    going_four : (g h offset value : ℕ) (m : Machine) → IsGoing o w g m → IsPlainAt m rd h → IsGoing o w g (with_four_bytes m h offset value)
+    going_four : (g h offset value : ℕ) (m : Machine) → IsGoing o w g m → IsPlainAt m rd h → (IsSecureHost o h → ⊥) → IsGoing o w g (with_four_bytes m h offset value)
     unfolding with_four_bytes with_two_bytes
-    going_four g h offset value m going plain = going_two g h (offset + 2) (value / 2 ^ 16) (with_two_bytes m h offset value) (going_two g h offset value m going plain) plain
+    going_four g h offset value m going plain apart = going_two g h (offset + 2) (value / 2 ^ 16) (with_two_bytes m h offset value) (going_two g h offset value m going plain apart) plain apart
 
-    going_word_of : (g h i word : ℕ) (m : Machine) → IsGoing o w g m → IsPlainAt m rd h → i < 512 → IsGoing o w g (with_word m h i word)
-    going_word_of g h i word m going plain index =
-        going_plain o w g h m (page_with_word (page_in m h) i word) going plain.0 (length-page_with_word (page_in m h) i word (going.proper.sound.whole h plain.0) index) plain.1 (plain_mine m rd h named plain.2)
+    going_word_of : (g h i word : ℕ) (m : Machine) → IsGoing o w g m → IsPlainAt m rd h → (IsSecureHost o h → ⊥) → i < 512 → IsGoing o w g (with_word m h i word)
+    going_word_of g h i word m going plain apart index =
+        going_plain o w g h m (page_with_word (page_in m h) i word) going plain.0 (length-page_with_word (page_in m h) i word (going.proper.sound.whole h plain.0) index) plain.1 (plain_mine m rd h named plain.2) apart
 
-    going_value : (g h ipa value : ℕ) (size : AccessSize) (m : Machine) → IsGoing o w g m → IsPlainAt m rd h → IsGoing o w g (with_value m h size ipa value)
+    going_value : (g h ipa value : ℕ) (size : AccessSize) (m : Machine) → IsGoing o w g m → IsPlainAt m rd h → (IsSecureHost o h → ⊥) → IsGoing o w g (with_value m h size ipa value)
     unfolding with_value
-    going_value g h ipa value Byte m going plain = going_byte g h (ipa % 4096) value m going plain
-    going_value g h ipa value Halfword m going plain = going_two g h (ipa % 4096 / 2 * 2) value m going plain
-    going_value g h ipa value Word m going plain = going_four g h (ipa % 4096 / 4 * 4) value m going plain
-    going_value g h ipa value Doubleword m going plain = going_word_of g h (ipa % 4096 / 8) value m going plain (omega arith)
+    going_value g h ipa value Byte m going plain apart = going_byte g h (ipa % 4096) value m going plain apart
+    going_value g h ipa value Halfword m going plain apart = going_two g h (ipa % 4096 / 2 * 2) value m going plain apart
+    going_value g h ipa value Word m going plain apart = going_four g h (ipa % 4096 / 4 * 4) value m going plain apart
+    going_value g h ipa value Doubleword m going plain apart = going_word_of g h (ipa % 4096 / 8) value m going plain apart (omega arith)
 
     going_write : (g : ℕ) (m : Machine) (realm : RmmRealm) (is : (granule_at m rd).state ≡ Rd realm) (ipa value : ℕ) (size : AccessSize) (going : IsGoing o w g m) (came : Result ℕ StepOutcome)
         → IsPlainIfOk m going.proper rd realm is ipa came → IsGoing o w g (after_write m ipa size value came)
-    going_write g m realm is ipa value size going (Ok h) plain = going_value g h ipa value size m going plain.0
+    going_write g m realm is ipa value size going (Ok h) plain = going_value g h ipa value size m going plain.0 (normal g h rd m going plain.1)
     going_write g m realm is ipa value size going (Err outcome) plain = going
 
   -- ---- steps
@@ -247,6 +262,7 @@ module _ (o : Machine) (w : ℕ) where
         lasts = (going_rec o w g m rec going).lasts;
         tables = (going_rec o w g m rec going).tables;
         hosts = (going_rec o w g m rec going).hosts;
+        secure = (going_rec o w g m rec going).secure;
         states = (going_rec o w g m rec going).states;
       })
       (cases_eq h g)
@@ -267,7 +283,7 @@ module _ (o : Machine) (w : ℕ) where
 -- ---- commands
 
 -- the RD of a REC's realm
-rd_of_rec_is : (m : Machine) (g : ℕ) (rec : RmmRec) → IsProper m → (granule_at m g).state ≡ IsRec rec → (rd : ℕ) × ((granule_at m g).owner ≡ Some rd) × (is_rd (granule_at m rd).state ≡ true)
+pub rd_of_rec_is : (m : Machine) (g : ℕ) (rec : RmmRec) → IsProper m → (granule_at m g).state ≡ IsRec rec → (rd : ℕ) × ((granule_at m g).owner ≡ Some rd) × (is_rd (granule_at m rd).state ≡ true)
 rd_of_rec_is m g rec proper is = owner_is m (granule_at m g).owner (rd_of m g proper.ordered (IsRec rec) is refl)
 
 -- a REC that a call names, and what the call touches
@@ -327,6 +343,9 @@ module _ (rec address : ℕ) (m : Machine) (proper : IsProper m) (ok : Passed (r
   pub entered_hosts : (h : ℕ) → (granule_at m h).state ≡ Undelegated → granule_at (rec_enter rec address m).machine h ≡ granule_at m h
   entered_hosts h free = entry_going.hosts h free
 
+  pub entered_secure : (h : ℕ) → IsSecureHost m h → page_in (rec_enter rec address m).machine h ≡ page_in m h
+  entered_secure = entry_going.secure
+
   pub entered_tables : KeepsTables m (rec_enter rec address m).machine
   entered_tables = entry_going.tables
 
@@ -379,6 +398,38 @@ module _ (calling target status : ℕ) (m : Machine) (proper : IsProper m) (ok :
   unfolding psci_complete
   completed_touches =
       rec_there m (psci_complete calling target status m).machine calling of_caller.0 ok.1.0 ok.1.1.0 ok.1.1.1.0 of_caller.1 target_going.touches
+
+-- ---- machines during a run
+
+-- writes of a REC that runs, from a machine during its run on
+module _ (m : Machine) (g : ℕ) (run : IsProperRun m g) where
+  abbrev of_run : (rd : ℕ) × ((granule_at m g).owner ≡ Some rd) × (is_rd (granule_at m rd).state ≡ true)
+  of_run = rd_of_rec_is m g run.1 run.0 run.2
+
+  run_first : IsGoing m of_run.0 g m
+  run_first = going_first g of_run.0 m run.1 run.0 run.2 of_run.1
+
+  still_runs : (n : Machine) → IsGoing m of_run.0 g n → IsProperRun n g
+  still_runs n going = (record { linked = going.proper; ordered = going.ordered }, going.rec, going.is)
+
+  pub entry_proper : (address flags : ℕ) → IsProperRun (after_entry m g address flags) g
+  entry_proper address flags = still_runs (after_entry m g address flags) (going_entry m of_run.0 g address flags m run_first)
+
+  pub step_proper : (flags : ℕ) → IsProperRun (after_first_step m g flags) g
+  step_proper flags = still_runs (after_first_step m g flags) (going_first_step m of_run.0 g flags m run_first)
+
+  pub exit_proper : (exit : RecExit) (last : LastExit) → IsProperRun (after_exit m g exit last) g
+  exit_proper exit last = still_runs (after_exit m g exit last) (going_exit m of_run.0 g m exit last run_first)
+
+  -- what holds after writes of the REC holds after its entry, its steps and its exit
+  pub entry_then : (P : Machine → Type 0) → ((w : ℕ) (n : Machine) → IsGoing m w g n → P n) → (address flags : ℕ) → P (after_entry m g address flags)
+  entry_then P goes address flags = goes of_run.0 (after_entry m g address flags) (going_entry m of_run.0 g address flags m run_first)
+
+  pub step_then : (P : Machine → Type 0) → ((w : ℕ) (n : Machine) → IsGoing m w g n → P n) → (flags : ℕ) → P (after_first_step m g flags)
+  step_then P goes flags = goes of_run.0 (after_first_step m g flags) (going_first_step m of_run.0 g flags m run_first)
+
+  pub exit_then : (P : Machine → Type 0) → ((w : ℕ) (n : Machine) → IsGoing m w g n → P n) → (exit : RecExit) (last : LastExit) → P (after_exit m g exit last)
+  exit_then P goes exit last = goes of_run.0 (after_exit m g exit last) (going_exit m of_run.0 g m exit last run_first)
 
 -- ---- interrupts, and steps that guests are given
 

@@ -1,21 +1,19 @@
--- Tables that stay as they are, and the RIPAS of addresses then.
-use Rattle.std.proofs.Common.{◌≡◌, ℕ, inl, inr, true, List, length, Option, Some, None, refl, sym, ap, ◌∙◌, ⊎_elim, Bool}
+-- Tables that stay as they are, and what is read at addresses then.
+use Rattle.std.proofs.Common.{◌≡◌, ◌⊎◌, ℕ, inl, inr, true, List, length, Option, Some, None, refl, sym, ap, ◌∙◌, ⊎_elim, Bool}
 use Rattle.std.proofs.lemmas.Bool.{both_ways}
 use Rattle.rmm_model.specs.declared.entry.RmmRttEntry.{RmmRttEntry}
 use Rattle.rmm_model.specs.declared.granule.RmmGranule.{RmmGranule}
 use Rattle.rmm_model.specs.declared.granule.RmmGranuleState.TheVariants.{Rd}
 use Rattle.rmm_model.specs.declared.realm.RmmRealm.{RmmRealm}
 use Rattle.rmm_model.specs.declared.realm.RttWalk.{RttWalk}
-use Rattle.rmm_model.specs.Entry.{ripas_in}
 use Rattle.rmm_model.specs.Level.{entry_index}
 use Rattle.rmm_model.specs.Machine.{Machine, granule_at, page_in}
 use Rattle.rmm_model.specs.Realm.{is_protected}
 use Rattle.rmm_model.specs.Table.{entry_in_page}
-use Rattle.rmm_model.specs.Walk.{entry_at, table_below}
+use Rattle.rmm_model.specs.Walk.{entry_at, table_below, walk}
 use Rattle.rmm_laws.specs.Apart.{IsSameAt, IsOfRealm}
 use Rattle.rmm_laws.specs.Owner.{is_rd}
 use Rattle.rmm_laws.specs.Proper.{IsProper}
-use Rattle.rmm_laws.specs.Ripas.{ripas_at}
 use Rattle.rmm_laws.specs.Walk.{IsTableOf}
 use Rattle.rmm_laws.proofs.Along.{IsOn, along}
 use Rattle.rmm_laws.proofs.Halves.{below_same}
@@ -49,7 +47,19 @@ tables_apart host m n named rd touches apart rds g is =
     mine))
     (touches.each g)
 
--- ---- RIPAS
+-- ---- what is read
+
+-- what an address of a realm reads, by the entry at which its walk ends, and the level of that
+abbrev pub read_at : (A : Type 0) → (RmmRttEntry → ℕ → A) → Machine → RmmRealm → ℕ → A
+read_at A F m realm x = F (entry_at m (walk m realm x 3) x) (walk m realm x 3).level
+
+-- two entries at a level read alike, or as is allowed
+abbrev pub IsReadAs : (A : Type 0) → (RmmRttEntry → ℕ → A) → (A → A → Type 0) → RmmRttEntry → RmmRttEntry → ℕ → Type 0
+IsReadAs A F G old new l = (F new l ≡ F old l) ⊎ G (F old l) (F new l)
+
+-- an address reads the same in two machines
+abbrev pub IsRead : (A : Type 0) → (RmmRttEntry → ℕ → A) → Machine → Machine → RmmRealm → RmmRealm → ℕ → Type 0
+IsRead A F m n before after x = read_at A F n after x ≡ read_at A F m before x
 
 module _ (m n : Machine) (proper : IsProper m) (settings : n.settings ≡ m.settings) (count : length n.granules ≡ length m.granules) (rd x : ℕ) (realm : RmmRealm) where
   -- a place of a walk whose entry is as it was
@@ -57,15 +67,16 @@ module _ (m n : Machine) (proper : IsProper m) (settings : n.settings ≡ m.sett
       → IsOn m n proper.linked proper.ordered.halves rd x realm Good Q p
   on_same Good Q p entry good end = record { leads = below_same m n settings count (entry_at n p x) ∙ ap (λ (e : RmmRttEntry). table_below m e) entry; good = good; end = end }
 
-  abbrev SameRipas : RttWalk → RttWalk → Type 0
-  SameRipas p q = ripas_in (entry_at n q x) ≡ ripas_in (entry_at m p x)
+  -- what is read at an address of a realm whose tables are as they were
+  module _ (A : Type 0) (F : RmmRttEntry → ℕ → A) where
+    abbrev SameRead : RttWalk → RttWalk → Type 0
+    SameRead p q = F (entry_at n q x) q.level ≡ F (entry_at m p x) p.level
 
-  -- the RIPAS of an address of a realm whose tables are as they were
-  pub same_ripas : (after : RmmRealm) → after.start_level ≡ realm.start_level → after.first_table ≡ realm.first_table → (granule_at m rd).state ≡ Rd realm → is_protected realm x ≡ true → KeepsTablesOf m n rd
-      → ripas_at n after x ≡ ripas_at m realm x
-  unfolding entry_at
-  same_ripas after level first is protected kept =
-      along m n proper.linked proper.ordered.halves rd x realm (λ table. Unit {0}) SameRipas after level first is (protected_within realm x protected) tt
-      (λ p seat good.
-      let entry : entry_at n p x ≡ entry_at m p x = ap (λ (q : List ℕ). entry_in_page q (entry_index p.level x)) (kept p.table seat.is.table) in
-      inl (on_same (λ table. Unit {0}) SameRipas p entry (λ table leads. tt) (ap ripas_in entry)))
+    pub same_read : (after : RmmRealm) → after.start_level ≡ realm.start_level → after.first_table ≡ realm.first_table → (granule_at m rd).state ≡ Rd realm → is_protected realm x ≡ true → KeepsTablesOf m n rd
+        → IsRead A F m n realm after x
+    unfolding entry_at
+    same_read after level first is protected kept =
+        along m n proper.linked proper.ordered.halves rd x realm (λ table. Unit {0}) SameRead after level first is (protected_within realm x protected) tt
+        (λ p seat good.
+        let entry : entry_at n p x ≡ entry_at m p x = ap (λ (q : List ℕ). entry_in_page q (entry_index p.level x)) (kept p.table seat.is.table) in
+        inl (on_same (λ table. Unit {0}) SameRead p entry (λ table leads. tt) (ap (λ (e : RmmRttEntry). F e p.level) entry)))

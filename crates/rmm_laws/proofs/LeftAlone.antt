@@ -1,37 +1,41 @@
 -- What each call touches, and granules that it leaves as they were.
-use Rattle.std.proofs.Common.{◌≡◌, ◌≢◌, ℕ, ◌&&◌, ◌⊎◌, inl, inr, Bool, true, false, Option, Some, None, refl, sym, ap, subst, ◌∙◌, ⊎_elim}
+use Rattle.std.proofs.Common.{◌≡◌, ◌≢◌, ℕ, ◌+◌, ◌*◌, ◌&&◌, ◌⊎◌, inl, inr, Bool, true, false, Option, Some, None, refl, sym, ap, subst, ◌∙◌, ⊎_elim, arith}
 use Rattle.std.specs.Prelude.{is_some}
-use Rattle.std.proofs.lemmas.Bool.{cases_Bool, cases_eq, and_parts, both_ways, cond-true, cond-false}
+use Rattle.std.proofs.lemmas.Bool.{cases_Bool, cases_eq, and_parts, both_ways, cond-true, cond-false, eqb-true}
 use Rattle.granule_addr.specs.Page.{zero_page}
 use Rattle.rmi_abi.specs.declared.call.Call.{Call}
 use Rattle.rmi_abi.specs.declared.call.Call.TheVariants.{Version, GranuleDelegate, GranuleUndelegate, DataCreateUnknown, DataDestroy, RealmActivate, RealmCreate, RealmDestroy, RecCreate, RecDestroy, RecEnter, PsciComplete, RttCreate, RttDestroy, RttMapUnprotected, RttReadEntry, RttUnmapUnprotected, Features, RttFold, RecAuxCount, DataCreate, RttInitRipas, RttSetRipas}
 use Rattle.rmm_model.specs.declared.granule.RmmGranuleState.{RmmGranuleState}
-use Rattle.rmm_model.specs.declared.granule.RmmGranuleState.TheVariants.{Undelegated, Delegated, Rd}
+use Rattle.rmm_model.specs.declared.granule.RmmGranuleState.TheVariants.{Undelegated, Delegated, Rd, Rec as IsRec}
 use Rattle.rmm_model.specs.declared.rec.PsciRequest.{PsciRequest}
 use Rattle.rmm_model.specs.declared.rec.PsciRequest.TheVariants.{CpuOn}
 use Rattle.rmm_model.specs.declared.rec.RmmRec.{RmmRec}
 use Rattle.rmm_model.specs.Call.{command_of, performed}
 use Rattle.rmm_model.specs.Granule.{of_no_realm, realm_of, rec_of}
-use Rattle.rmm_model.specs.Guest.{is_rec_named}
-use Rattle.rmm_model.specs.Machine.{Machine, granule_at, page_in, is_aligned, is_inside, number_of, state_at, with_granule, with_word}
+use Rattle.rmm_model.specs.Guest.{rec_in, is_rec_named}
+use Rattle.rmm_model.specs.Machine.{Machine, granule_at, page_in, is_aligned, is_inside, is_secure, number_of, state_at, with_granule, with_page, with_word}
 use Rattle.rmm_model.specs.Command.GranuleDelegate.{granule_delegate}
 use Rattle.rmm_model.specs.Command.Operand.{rec_at}
 use Rattle.rmm_model.specs.Command.PsciComplete.{psci_complete, with_rec, with_target}
 use Rattle.rmm_model.specs.Command.Features.{features}
 use Rattle.rmm_model.specs.Command.RecAuxCount.{rec_aux_count}
 use Rattle.rmm_model.specs.Command.RttReadEntry.{rtt_read_entry}
+use Rattle.rmm_model.specs.Command.RecEnter.{rec_enter, interrupted}
 use Rattle.rmm_model.specs.Command.Version.{version}
-use Rattle.rmm_laws.specs.Apart.{rd_named, realm_of_rec, named_realm, IsHostChanged, IsOfRealm, IsSpare, IsSameAt}
+use Rattle.rmm_laws.specs.Apart.{rd_named, realm_of_rec, named_realm, IsHostChanged, IsRunPage, IsOfRealm, IsSpare, IsSameAt}
 use Rattle.rmm_laws.specs.Owner.{is_rd, IsOrderly, IsOwner}
 use Rattle.rmm_laws.specs.Proper.{IsProper}
-use Rattle.rmm_laws.proofs.Aside.{same_granule, same_page}
-use Rattle.rmm_laws.proofs.Guests.{entered_hosts, entered_touches, completed_touches}
-use Rattle.rmm_laws.proofs.Passed.{Passed, kept, rec_of-some, rec_of-there, some_same}
+use Rattle.rmm_laws.proofs.Accesses.{secure_page}
+use Rattle.rmm_laws.proofs.Aside.{same_granule, same_page, interrupt_beside}
+use Rattle.rmm_laws.proofs.Entries.{begins, number_inside}
+use Rattle.rmm_laws.proofs.Guests.{entered_hosts, entered_secure, entered_touches, completed_touches, interrupted_then}
+use Rattle.rmm_laws.proofs.Passed.{Passed, kept, yes_from, rec_of-some, rec_of-there, some_same}
 use Rattle.rmm_laws.proofs.RecLives.{rec_created_touches}
+use Rattle.rmm_laws.proofs.Recs.{IsSecureHost}
 use Rattle.rmm_laws.proofs.RecsGone.{destroyed_touches}
 use Rattle.rmm_laws.proofs.Touching.{Touches, IsMine, free_spare, untouched}
 use Rattle.rmm_laws.proofs.TouchingCalls.{delegate_touches, undelegate_touches, activate_touches, realm_create_touches, realm_destroy_touches, rtt_create_touches, rtt_destroy_touches, rtt_fold_touches, map_touches, unmap_touches, init_ripas_touches, set_ripas_touches, data_create_touches, data_create_unknown_touches, data_destroy_touches}
-use Rattle.rmm_laws.proofs.Writes.{granule_at-other, page_in-other}
+use Rattle.rmm_laws.proofs.Writes.{granule_at-same, granule_at-other, page_in-same, page_in-other}
 
 -- a call can change pages of the host
 abbrev pub touches_host : Call → Bool
@@ -151,13 +155,14 @@ target_same m k g t rec (CpuOn target entry_point context) true other same =
     same_page m g first t _ other (same_page m g on t _ other (same_granule m g k t _ other same))
 target_same m k g t rec request begins other same = same
 
-completed_same : (calling target status : ℕ) (m : Machine) (g : ℕ) → Passed (psci_complete calling target status m).checks → (granule_at m g).state ≡ Undelegated → IsSameAt m (psci_complete calling target status m).machine g
+-- a granule that is no REC
+pub completed_beside : (calling target status : ℕ) (m : Machine) (g : ℕ) → Passed (psci_complete calling target status m).checks → ((rec : RmmRec) → (granule_at m g).state ≡ IsRec rec → ⊥) → IsSameAt m (psci_complete calling target status m).machine g
 unfolding psci_complete
-completed_same calling target status m g ok free =
+completed_beside calling target status m g ok plain =
     let caller = rec_of-some (state_at m calling) ok.1.1.1.0 in
     let also = rec_of-some (state_at m target) ok.1.1.1.1.1.1.0 in
-    let not_caller : g ≢ number_of m calling = λ same. (let states : (granule_at m g).state ≡ state_at m calling = ap (λ (x : ℕ). (granule_at m x).state) same in cc) in
-    let not_target : g ≢ number_of m target = λ same. (let states : (granule_at m g).state ≡ state_at m target = ap (λ (x : ℕ). (granule_at m x).state) same in cc) in
+    let not_caller : g ≢ number_of m calling = λ same. plain (rec_at m calling) (ap (λ (x : ℕ). (granule_at m x).state) same ∙ caller) in
+    let not_target : g ≢ number_of m target = λ same. plain (rec_at m target) (ap (λ (x : ℕ). (granule_at m x).state) same ∙ also) in
     target_same m _ g (number_of m target) (rec_at m target) (rec_at m calling).psci _ not_target (same_granule m g m (number_of m calling) _ not_caller (refl, refl))
 
 delegated_same : (address : ℕ) (m : Machine) (g : ℕ) → g ≢ number_of m address → IsSameAt m (granule_delegate address m).machine g
@@ -166,12 +171,39 @@ delegated_same address m g other =
     let x : ℕ = number_of m address in
     (granule_at-other m x g (of_no_realm Delegated) other, page_in-other (with_granule m x (of_no_realm Delegated)) x g zero_page other)
 
+-- the granule that is delegated
+delegated_now : (address : ℕ) (m : Machine) (g : ℕ) → IsProper m → Passed (granule_delegate address m).checks → g ≡ number_of m address → IsHostChanged m (granule_delegate address m).machine (Some (GranuleDelegate address)) g
+unfolding granule_delegate
+delegated_now address m g proper ok here =
+    let x : ℕ = number_of m address in
+    let sound = proper.linked.sound in
+    let pages = sound.pages in
+    let inside : is_inside m address ≡ true = yes_from (is_inside m address) ok.1.0 in
+    let lt = number_inside m address inside in
+    let marked : Machine = with_granule m x (of_no_realm Delegated) in (
+      begins m address sound inside (eqb-true _ _ (yes_from (is_aligned address) ok.0)),
+      here,
+      ap (λ (y : ℕ). is_secure m (m.settings.base + y * 4096)) here ∙ secure_page m address sound inside ∙ ok.1.1.1.0,
+      ap (granule_at marked) here ∙ granule_at-same m x (of_no_realm Delegated) lt,
+      ap (page_in (with_page marked x zero_page)) here ∙ page_in-same marked x zero_page (omega arith),
+    )
+
+-- a page of the host after a REC was entered
+entered_page : (rec run : ℕ) (m : Machine) (g : ℕ) → IsProper m → Passed (rec_enter rec run m).checks → (granule_at m g).state ≡ Undelegated
+    → IsSameAt m (rec_enter rec run m).machine g ⊎ IsHostChanged m (rec_enter rec run m).machine (Some (RecEnter rec run)) g
+entered_page rec run m g proper ok free =
+    let attributes = entered_hosts rec run m proper ok g free in
+    ⊎_elim
+    (λ (secure : is_secure m (m.settings.base + g * 4096) ≡ true). inl (attributes, entered_secure rec run m proper ok g (free, secure)))
+    (λ (normal : is_secure m (m.settings.base + g * 4096) ≡ false). inr (normal, attributes))
+    (cases_Bool (is_secure m (m.settings.base + g * 4096)))
+
 host_after : (call : Call) (m : Machine) (g : ℕ) → IsProper m → (granule_at m g).state ≡ Undelegated → (ok : Passed (command_of call m).checks) → Touches (touches_host call) m (command_of call m).machine (named_realm m call)
     → IsSameAt m (command_of call m).machine g ⊎ IsHostChanged m (command_of call m).machine (Some call) g
 host_after (GranuleDelegate address) m g proper free ok touches =
-    ⊎_elim (λ (here : g ≡ number_of m address). inr here) (λ (other : g ≢ number_of m address). inl (delegated_same address m g other)) (cases_eq g (number_of m address))
-host_after (RecEnter rec run) m g proper free ok touches = inr (entered_hosts rec run m proper ok g free)
-host_after (PsciComplete calling target status) m g proper free ok touches = inl (completed_same calling target status m g ok free)
+    ⊎_elim (λ (here : g ≡ number_of m address). inr (delegated_now address m g proper ok here)) (λ (other : g ≢ number_of m address). inl (delegated_same address m g other)) (cases_eq g (number_of m address))
+host_after (RecEnter rec run) m g proper free ok touches = entered_page rec run m g proper ok free
+host_after (PsciComplete calling target status) m g proper free ok touches = inl (completed_beside calling target status m g ok (λ rec is. cc))
 host_after call m g proper free ok touches = inl (quiet call m g proper ok free touches)
 
 -- a call leaves pages of the host as they were, but for those that it is said to change
@@ -179,3 +211,16 @@ pub host_left : (call : Call) (m : Machine) (g : ℕ) → IsProper m → (granul
 unfolding performed
 host_left call m g proper free =
     kept (λ (n : Machine). IsSameAt m n g ⊎ IsHostChanged m n (Some call) g) (command_of call m) m (inl (refl, refl)) (λ ok. host_after call m g proper free ok (touches_of call m proper ok))
+
+-- an interrupt leaves pages of the host as they were, but for the run page outside the secure world
+pub interrupt_host : (m : Machine) (rec g : ℕ) → IsProper m → (granule_at m g).state ≡ Undelegated → IsSameAt m (interrupted m rec).1 g ⊎ IsRunPage m (interrupted m rec).1 rec g
+interrupt_host m rec g proper free =
+    let kept = interrupted_then (λ (k : Machine). (granule_at k g ≡ granule_at m g) × (IsSecureHost m g → page_in k g ≡ page_in m g)) m rec proper (refl, λ it. refl) (λ w h k going. (going.hosts g free, going.secure g)) in
+    ⊎_elim
+    (λ (same : IsSameAt m (interrupted m rec).1 g). inl same)
+    (λ (here : g ≡ number_of m (rec_in m (number_of m rec)).run).
+    ⊎_elim
+    (λ (secure : is_secure m (m.settings.base + g * 4096) ≡ true). inl (kept.0, kept.1 (free, secure)))
+    (λ (normal : is_secure m (m.settings.base + g * 4096) ≡ false). inr (here, normal, kept.0))
+    (cases_Bool (is_secure m (m.settings.base + g * 4096))))
+    (interrupt_beside m rec g free)

@@ -39,7 +39,7 @@ start_placed s level realm n =
     (λ sure. placed_word s level (Unassigned Empty) (omega arith) (placed_none s level (Unassigned Empty) refl))
     (λ never. placed_word s level UnassignedNs (omega arith) (placed_none s level UnassignedNs refl))
 
-start_entry_is : (realm : RmmRealm) (k j : ℕ) → j < 512 → entry_in_page (start_page realm k) j ≡ entry_of (entry_word (start_entry realm (k * 512 + j)))
+pub start_entry_is : (realm : RmmRealm) (k j : ℕ) → j < 512 → entry_in_page (start_page realm k) j ≡ entry_of (entry_word (start_entry realm (k * 512 + j)))
 unfolding start_page entry_in_page
 start_entry_is realm k j lt =
     ap entry_of (word_of_page-with_words (λ (i : ℕ). entry_word (start_entry realm (k * 512 + i))) zero_page (length-page_of 0) 512 j (lit≤ tt) lt (entry_word-fits (start_entry realm (k * 512 + j))))

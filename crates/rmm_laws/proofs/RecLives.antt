@@ -27,6 +27,7 @@ use Rattle.rmm_laws.specs.Apart.{rd_named}
 use Rattle.rmm_laws.specs.Half.{HasHalves}
 use Rattle.rmm_laws.specs.Owner.{is_rd, is_owner, IsOrderly, IsOrderlyAt, is_rec_in, IsOrdered}
 use Rattle.rmm_laws.specs.Proper.{IsProper}
+use Rattle.rmm_laws.specs.Guest.{IsRecMadeOf}
 use Rattle.rmm_laws.specs.Role.{Used, used, used_at, has_user, level_in, state_uses, uses, IsSound, IsLinked, IsBegin, LeadsInside}
 use Rattle.rmm_laws.proofs.Entries.{number_inside, address_few, begins, named_inside}
 use Rattle.rmm_laws.proofs.Halves.{SameSpace, has_space, kept_or_plain, same_space}
@@ -34,7 +35,7 @@ use Rattle.rmm_laws.proofs.Orders.{is_counter, counted, plain_in, total-set, tot
 use Rattle.rmm_laws.proofs.PageWords.{length-with_words, word_of_page-with_words}
 use Rattle.rmm_laws.proofs.Passed.{Passed, yes_from, some_same, is_delegated-true, realm_of-some, rd_named-is}
 use Rattle.rmm_laws.proofs.Recs.{keep_realm}
-use Rattle.rmm_laws.proofs.SameTables.{KeepsTables, tables_all, tables_old, tables_both, tables_wiped}
+use Rattle.rmm_laws.proofs.SameTables.{KeepsSome, KeepsTables, some_old, some_both, some_wiped}
 use Rattle.rmm_laws.proofs.Touching.{Touches, touch_page, touch_granule, untouched}
 use Rattle.rmm_laws.proofs.Uses.{IsMore, added, removed}
 use Rattle.rmm_laws.proofs.Wiping.{some_of, none_of, either_same, first_named, IsWiped, all_wiped, all_total, touch_wiped}
@@ -445,14 +446,27 @@ module _ (m : Machine) (proper : IsLinked m) (owner rec : ℕ) (realm : RmmRealm
       keep_realm all owner realm next (rec_made m all proper (Some owner) g is_made wiped.sound) (ap (λ (r : RmmGranule). r.state) owner_still ∙ rd_is) tables first level
       (subst (λ (n : ℕ). IsServed n next) (sym (wiped.count ∙ one_count)) served)
 
-  pub created_tables : (next : RmmRealm) → KeepsTables m (with_granule (with_aux (with_created_rec m owner (number_of m rec) page) (number_of m rec) (of_realm owner RecAux) m.settings.aux) owner (of_no_realm (Rd next)))
-  created_tables next =
-      tables_old m all (with_granule all owner (of_no_realm (Rd next))) owner (λ table. (let state = rd_is in cc))
-      (tables_wiped m one g (of_realm owner RecAux) (λ n. tt) m.settings.aux all
-      (tables_both m m g (of_realm owner (IsRec new)) (rec_page page) (λ table. (let state = rec_free in cc)) (tables_all m))
+  -- granules of a state that is neither an RD's nor DELEGATED
+  pub created_some : (P : RmmGranuleState → Type 0) → ((r : RmmRealm) → P (Rd r) → ⊥) → (P Delegated → ⊥) → (next : RmmRealm)
+      → KeepsSome P m (with_granule (with_aux (with_created_rec m owner (number_of m rec) page) (number_of m rec) (of_realm owner RecAux) m.settings.aux) owner (of_no_realm (Rd next)))
+  created_some P no_rd no_free next =
+      some_old P m all (with_granule all owner (of_no_realm (Rd next))) owner (λ it. no_rd realm (subst P rd_is it))
+      (some_wiped P m one g (of_realm owner RecAux) (λ n. tt) m.settings.aux all
+      (some_both P m m g (of_realm owner (IsRec new)) (rec_page page) (λ it. no_free (subst P rec_free it)) (λ x it. (refl, refl)))
       wiped
-      (λ i h lt is table. (let state : (granule_at m h).state ≡ Delegated = ap (λ (x : ℕ). (granule_at m x).state) (some_same (sym is ∙ aux_named i lt)) ∙ free i lt in cc)))
+      (λ i h lt is it. no_free (subst P (ap (λ (x : ℕ). (granule_at m x).state) (some_same (sym is ∙ aux_named i lt)) ∙ free i lt) it)))
       (λ x other. (granule_at-other all owner x (of_no_realm (Rd next)) other, refl))
+
+  -- the REC itself
+  pub created_rec : (next : RmmRealm)
+      → (granule_at (with_granule (with_aux (with_created_rec m owner (number_of m rec) page) (number_of m rec) (of_realm owner RecAux) m.settings.aux) owner (of_no_realm (Rd next))) (number_of m rec)
+      ≡ of_realm owner (IsRec (new_rec (is_runnable_in page) (mpidr_in page))))
+      × (page_in (with_aux (with_created_rec m owner (number_of m rec) page) (number_of m rec) (of_realm owner RecAux) m.settings.aux) (number_of m rec) ≡ rec_page page)
+  created_rec next =
+      let beside : g ≢ owner = λ same. (let states : (granule_at m g).state ≡ (granule_at m owner).state = ap (λ (x : ℕ). (granule_at m x).state) same in cc) in (
+        granule_at-other all owner g (of_no_realm (Rd next)) beside ∙ (wiped.other g not_g).0 ∙ granule_at-same m g (of_realm owner (IsRec new)) g_in,
+        (wiped.other g not_g).1 ∙ one_page,
+      )
 
   pub created_touches : (next : RmmRealm) → Touches false m (with_granule (with_aux (with_created_rec m owner (number_of m rec) page) (number_of m rec) (of_realm owner RecAux) m.settings.aux) owner (of_no_realm (Rd next))) (Some owner)
   created_touches next =
@@ -530,10 +544,17 @@ module _ (rd rec params : ℕ) (m : Machine) (proper : IsProper m) (ok : Passed 
         proper.ordered _ refl (refl, refl, refl, refl);
   }
 
-  pub rec_created_tables : KeepsTables m (rec_create rd rec params m).machine
+  pub rec_created_some : (P : RmmGranuleState → Type 0) → ((r : RmmRealm) → P (Rd r) → ⊥) → (P Delegated → ⊥) → KeepsSome P m (rec_create rd rec params m).machine
   unfolding rec_create
-  rec_created_tables =
-      created_tables m proper.linked (number_of m rd) rec (realm_at m rd) rd_there rec_begins.1 rec_begins.0 rec_begins.2 params_page aux_aligned aux_inside aux_free aux_other aux_distinct _
+  rec_created_some P no_rd no_free =
+      created_some m proper.linked (number_of m rd) rec (realm_at m rd) rd_there rec_begins.1 rec_begins.0 rec_begins.2 params_page aux_aligned aux_inside aux_free aux_other aux_distinct P no_rd no_free _
+
+  pub rec_created_made : IsRecMadeOf m (rec_create rd rec params m).machine rd rec params
+  unfolding rec_create
+  rec_created_made = created_rec m proper.linked (number_of m rd) rec (realm_at m rd) rd_there rec_begins.1 rec_begins.0 rec_begins.2 params_page aux_aligned aux_inside aux_free aux_other aux_distinct _
+
+  pub rec_created_tables : KeepsTables m (rec_create rd rec params m).machine
+  rec_created_tables = rec_created_some (λ s. s ≡ Rtt) (λ r is. cc) (λ is. cc)
 
   pub rec_created_touches : Touches false m (rec_create rd rec params m).machine (rd_named m rd)
   unfolding rec_create

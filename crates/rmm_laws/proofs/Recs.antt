@@ -1,5 +1,5 @@
 -- Writes of RECs that keep their auxiliary granules.
-use Rattle.std.proofs.Common.{true, ◌≡◌, ◌≢◌, ℕ, ◌+◌, ◌<◌, ◌≤◌, ◌⊎◌, inl, inr, ◌==◌, ◌&&◌, false, List, length, Option, Some, None, option_map, refl, sym, ap, ◌∙◌, ⊎_elim, arith}
+use Rattle.std.proofs.Common.{true, ◌≡◌, ◌≢◌, ℕ, ◌+◌, ◌*◌, ◌<◌, ◌≤◌, ◌⊎◌, inl, inr, ◌==◌, ◌&&◌, false, List, length, Option, Some, None, option_map, refl, sym, ap, subst, ◌∙◌, ⊎_elim, arith}
 use Rattle.std.specs.Prelude.{nat_lt, if◌then◌else◌}
 use Rattle.std.proofs.lemmas.Bool.{cases_lt, and_left, le-ltb, cond-false}
 use Rattle.page_arena.specs.Word.{page_with_word}
@@ -11,7 +11,7 @@ use Rattle.rmm_model.specs.declared.realm.RmmRealm.{RmmRealm}
 use Rattle.rmm_model.specs.declared.realm.RmmRealmState.TheVariants.{SystemOff as IsSystemOff}
 use Rattle.rmm_model.specs.declared.rec.RmmRec.{RmmRec}
 use Rattle.rmm_model.specs.Granule.{of_no_realm}
-use Rattle.rmm_model.specs.Machine.{Machine, granule_at, page_in, with_granule, with_page, with_word}
+use Rattle.rmm_model.specs.Machine.{Machine, granule_at, page_in, is_secure, with_granule, with_page, with_word}
 use Rattle.rmm_model.specs.Realm.{IsServed}
 use Rattle.rmm_model.specs.Rec.{aux_of}
 use Rattle.rmm_model.specs.Table.{with_words_from}
@@ -30,7 +30,7 @@ use Rattle.rmm_laws.proofs.Releasing.{Held, held_all, held_granule}
 use Rattle.rmm_laws.proofs.States.{IsAsBefore, same_realm, write_back}
 use Rattle.rmm_laws.proofs.SameTables.{KeepsTables, tables_all, tables_granule, tables_page}
 use Rattle.rmm_laws.proofs.Touching.{Touches, IsMine, untouched, mine_before, touch_granule, touch_page}
-use Rattle.rmm_laws.proofs.Writes.{is_user, granule_at-same, granule_at-other, taken_inside}
+use Rattle.rmm_laws.proofs.Writes.{is_user, granule_at-same, granule_at-other, page_in-other, taken_inside}
 
 -- memory uses nothing
 pub memory_plain : (s : RmmGranuleState) → is_memory_state s ≡ true → is_user s ≡ false
@@ -96,6 +96,10 @@ host_beside o m x kept h free plain same =
 
 -- ---- machines in which a granule is a REC
 
+-- a granule is UNDELEGATED, and of the secure world
+abbrev pub IsSecureHost : Machine → ℕ → Type 0
+IsSecureHost m h = ((granule_at m h).state ≡ Undelegated) × (is_secure m (m.settings.base + h * 4096) ≡ true)
+
 -- A granule is a REC of the realm of an RD, after writes that touched granules of that realm or of none.
 pub record IsGoing (o : Machine) (w : ℕ) (g : ℕ) (m : Machine) : Type 0 where
   pub proper : IsLinked m
@@ -110,11 +114,12 @@ pub record IsGoing (o : Machine) (w : ℕ) (g : ℕ) (m : Machine) : Type 0 wher
   pub lasts : Lasts o m
   pub tables : KeepsTables o m
   pub hosts : (h : ℕ) → (granule_at o h).state ≡ Undelegated → granule_at m h ≡ granule_at o h
+  pub secure : (h : ℕ) → IsSecureHost o h → page_in m h ≡ page_in o h
   pub states : (rd : ℕ) (realm : RmmRealm) → (granule_at m rd).state ≡ Rd realm → IsAsBefore o rd realm ⊎ ((rd ≡ w) × (realm.state ≡ IsSystemOff) × HasRim o rd realm.rim)
 
 -- a REC before any write
 pub going_first : (g w : ℕ) (m : Machine) (rec : RmmRec) → IsProper m → (granule_at m g).state ≡ IsRec rec → (granule_at m g).owner ≡ Some w → IsGoing m w g m
-going_first g w m rec proper is owned = record { proper = proper.linked; ordered = proper.ordered; rec = rec; is = is; touches = untouched true m (Some w); owned = owned; mine = inl (inr owned); vmids = refl; held = held_all m; lasts = lasts_all m; tables = tables_all m; hosts = λ h free. refl; states = λ rd realm at. inl (realm, at, refl, refl) }
+going_first g w m rec proper is owned = record { proper = proper.linked; ordered = proper.ordered; rec = rec; is = is; touches = untouched true m (Some w); owned = owned; mine = inl (inr owned); vmids = refl; held = held_all m; lasts = lasts_all m; tables = tables_all m; hosts = λ h free. refl; secure = λ h it. refl; states = λ rd realm at. inl (realm, at, refl, refl) }
 
 module _ (o : Machine) (w : ℕ) where
   pub going_inside : (g : ℕ) (m : Machine) → IsGoing o w g m → g < length m.granules
@@ -137,6 +142,7 @@ module _ (o : Machine) (w : ℕ) where
         lasts = lasts_plain o m g kept (ap is_rd going.is) going.lasts;
         tables = tables_granule o m g kept (λ table. (let rec_is = going.is in cc)) going.tables;
         hosts = λ h free. host_beside o m g kept h free (λ host. (let rec_is = going.is in cc)) (going.hosts h free);
+        secure = going.secure;
         states = λ rd realm at. ⊎_elim
             (λ (written : (rd ≡ g) × (IsRec rec ≡ Rd realm)). (let never = written.1 in absurd (cc)))
             (λ (before : (granule_at m rd).state ≡ Rd realm). going.states rd realm before)
@@ -159,6 +165,13 @@ module _ (o : Machine) (w : ℕ) where
         lasts = going.lasts;
         tables = tables_page o m g page (λ table. (let rec_is = going.is in cc)) going.tables;
         hosts = going.hosts;
+        secure = λ h it.
+            let free : (granule_at m h).state ≡ Undelegated = ap (λ (r : RmmGranule). r.state) (going.hosts h it.0) ∙ it.0 in
+            let apart : h ≢ g = λ here. (
+            let same : (granule_at m h).state ≡ (granule_at m g).state = ap (λ (y : ℕ). (granule_at m y).state) here in
+            let rec_is = going.is in
+            cc) in
+            page_in-other m g h page apart ∙ going.secure h it;
         states = going.states;
       }
 
@@ -178,8 +191,8 @@ module _ (o : Machine) (w : ℕ) where
 
   -- a page of memory
   pub going_plain : (g h : ℕ) (m : Machine) (page : List ℕ) → IsGoing o w g m → h < length m.granules → length page ≡ 4096 → is_memory_state (granule_at m h).state ≡ true → IsMine true m (Some w) h
-      → IsGoing o w g (with_page m h page)
-  going_plain g h m page going inside whole memory mine = record {
+      → (IsSecureHost o h → ⊥) → IsGoing o w g (with_page m h page)
+  going_plain g h m page going inside whole memory mine normal = record {
     proper = keep_plain_page m h page going.proper inside whole (memory_plain (granule_at m h).state memory);
     ordered = ordered_memory m h page memory going.ordered;
     rec = going.rec;
@@ -192,6 +205,7 @@ module _ (o : Machine) (w : ℕ) where
     lasts = going.lasts;
     tables = tables_page o m h page (λ table. no_memory (granule_at m h).state memory table) going.tables;
     hosts = going.hosts;
+    secure = λ x it. page_in-other m h x page (λ here. normal (subst (λ (y : ℕ). IsSecureHost o y) here it)) ∙ going.secure x it;
     states = going.states;
   }
 
@@ -218,6 +232,7 @@ module _ (o : Machine) (w : ℕ) where
         lasts = lasts_realm o m rd realm other is same going.lasts;
         tables = tables_granule o m rd (of_no_realm (Rd other)) (λ table. cc) going.tables;
         hosts = λ h free. host_beside o m rd (of_no_realm (Rd other)) h free (λ host. cc) (going.hosts h free);
+        secure = going.secure;
         states = λ x new at. ⊎_elim
             (λ (written : (x ≡ rd) × (Rd other ≡ Rd new)).
             let it : other ≡ new = same_realm written.1 in

@@ -8,7 +8,7 @@ use Rattle.granule_addr.specs.Page.{zero_page}
 use Rattle.page_arena.specs.Pages.{length-page_of}
 use Rattle.rmm_model.specs.declared.granule.RmmGranule.{RmmGranule}
 use Rattle.rmm_model.specs.declared.granule.RmmGranuleState.{RmmGranuleState}
-use Rattle.rmm_model.specs.declared.granule.RmmGranuleState.TheVariants.{Delegated, Rd, Rec as IsRec, RecAux}
+use Rattle.rmm_model.specs.declared.granule.RmmGranuleState.TheVariants.{Delegated, Rd, Rec as IsRec, RecAux, Rtt}
 use Rattle.rmm_model.specs.declared.realm.RmmRealm.{RmmRealm}
 use Rattle.rmm_model.specs.declared.rec.RmmRec.{RmmRec}
 use Rattle.rmm_model.specs.Granule.{of_no_realm, realm_of, rec_of}
@@ -31,7 +31,7 @@ use Rattle.rmm_laws.proofs.Orders.{owner_is, rd_is, rd_of, is_counter, counted, 
 use Rattle.rmm_laws.proofs.Passed.{Passed, some_same, rec_of-some, rec_named-is}
 use Rattle.rmm_laws.proofs.RecLives.{IsRecMade, rec_gone}
 use Rattle.rmm_laws.proofs.Recs.{keep_realm}
-use Rattle.rmm_laws.proofs.SameTables.{KeepsTables, tables_all, tables_granule, tables_both, tables_wiped}
+use Rattle.rmm_laws.proofs.SameTables.{KeepsSome, KeepsTables, some_granule, some_both, some_wiped}
 use Rattle.rmm_laws.proofs.Touching.{Touches, mine_before, touch_blank, touch_granule, untouched}
 use Rattle.rmm_laws.proofs.Walks.{right, one_place}
 use Rattle.rmm_laws.proofs.Wiping.{first_named, IsWiped, all_wiped, all_total, touch_wiped}
@@ -300,20 +300,25 @@ module _ (rec : ℕ) (m : Machine) (proper : IsProper m) (ok : Passed (rec_destr
       (λ i h lt is. mine_before false m less (Some w) h first (inl (inr (ap (λ (r : RmmGranule). r.owner) (aux_there less here aux less_linked (rec_at m rec) still_rec refl i h lt is) ∙ still_owned)))))
       (inl (inr of_rec.1))
 
-  after_tables : KeepsTables m after
-  after_tables =
+  -- granules of a state that is none of an RD, a REC or an auxiliary granule
+  after_some : (P : RmmGranuleState → Type 0) → ((r : RmmRealm) → P (Rd r) → ⊥) → ((r : RmmRec) → P (IsRec r) → ⊥) → (P RecAux → ⊥) → KeepsSome P m after
+  after_some P no_rd no_rec no_aux =
       let aux : ℕ = m.settings.aux in
-      let first : KeepsTables m less = tables_granule m m w (of_no_realm (Rd (with_one_less realm))) (λ table. (let s = of_rd.1 in cc)) (tables_all m) in
-      tables_both m (with_aux less here (of_no_realm Delegated) aux) here (of_no_realm Delegated) zero_page (λ table. (let s = rec_is in cc))
-      (tables_wiped m less here (of_no_realm Delegated) (λ n. tt) aux (with_aux less here (of_no_realm Delegated) aux) first (clean less here aux less_linked (rec_at m rec) still_rec refl)
-      (λ i h lt is table.
+      let first : KeepsSome P m less = some_granule P m m w (of_no_realm (Rd (with_one_less realm))) (λ it. no_rd realm (subst P of_rd.1 it)) (λ x it. (refl, refl)) in
+      some_both P m (with_aux less here (of_no_realm Delegated) aux) here (of_no_realm Delegated) zero_page (λ it. no_rec (rec_at m rec) (subst P rec_is it))
+      (some_wiped P m less here (of_no_realm Delegated) (λ n. tt) aux (with_aux less here (of_no_realm Delegated) aux) first (clean less here aux less_linked (rec_at m rec) still_rec refl)
+      (λ i h lt is it.
       let aux_is : (granule_at less h).state ≡ RecAux = ap (λ (r : RmmGranule). r.state) (aux_there less here aux less_linked (rec_at m rec) still_rec refl i h lt is) in
-      let same : (granule_at less h).state ≡ (granule_at m h).state = ap (λ (r : RmmGranule). r.state) (first h table).0 in
-      cc))
+      let same : (granule_at less h).state ≡ (granule_at m h).state = ap (λ (r : RmmGranule). r.state) (first h it).0 in
+      no_aux (subst P (sym same ∙ aux_is) it)))
+
+  pub destroyed_some : (P : RmmGranuleState → Type 0) → ((r : RmmRealm) → P (Rd r) → ⊥) → ((r : RmmRec) → P (IsRec r) → ⊥) → (P RecAux → ⊥) → KeepsSome P m (rec_destroy rec m).machine
+  unfolding rec_destroy
+  destroyed_some P no_rd no_rec no_aux =
+      subst (λ (k : Machine). KeepsSome P m (with_blank (with_aux k here (of_no_realm Delegated) m.settings.aux) here Delegated)) (sym less_is) (after_some P no_rd no_rec no_aux)
 
   pub destroyed_tables : KeepsTables m (rec_destroy rec m).machine
-  unfolding rec_destroy
-  destroyed_tables = subst (λ (k : Machine). KeepsTables m (with_blank (with_aux k here (of_no_realm Delegated) m.settings.aux) here Delegated)) (sym less_is) after_tables
+  destroyed_tables = destroyed_some (λ s. s ≡ Rtt) (λ r is. cc) (λ r is. cc) (λ is. cc)
 
   pub destroyed_touches : Touches false m (rec_destroy rec m).machine (realm_of_rec m rec)
   unfolding rec_destroy

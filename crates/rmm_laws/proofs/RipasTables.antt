@@ -1,78 +1,49 @@
 -- The RIPAS of protected addresses after calls that make or remove a table, and after each call.
-use Rattle.std.proofs.Common.{◌≡◌, ◌≢◌, ℕ, ◌+◌, ◌-◌, ◌/◌, ◌%◌, ◌^◌, ◌<◌, ◌≤◌, ◌⊎◌, ◌==◌, ◌&&◌, inl, inr, true, false, not, List, length, Option, Some, None, unwrap_or, refl, sym, ap, subst, ◌∙◌, ⊎_elim, arith}
+use Rattle.std.proofs.Common.{◌≡◌, ℕ, ◌+◌, ◌-◌, ◌/◌, ◌%◌, ◌^◌, ◌<◌, ◌≤◌, ◌⊎◌, inl, inr, true, false, length, Option, Some, None, unwrap_or, refl, sym, subst, ◌∙◌, arith}
 use Rattle.std.specs.Prelude.{nat_le}
-use Rattle.std.proofs.lemmas.Bool.{cond_both, and_parts, eqb-true, leb-true, ltb-true, ltb-false, not-true}
-use Rattle.std.proofs.lemmas.List.{length-set}
-use Rattle.granule_addr.specs.Page.{page_of}
-use Rattle.page_arena.specs.Page.{page_at}
-use Rattle.page_arena.specs.Word.{word_of_page}
+use Rattle.std.proofs.lemmas.Bool.{cond_both, and_parts, eqb-true, leb-true, ltb-true, ltb-false}
 use Rattle.rmi_abi.specs.declared.call.Call.{Call}
-use Rattle.rmi_abi.specs.declared.call.Call.TheVariants.{Version, Features, GranuleDelegate, GranuleUndelegate, RealmCreate, RealmActivate, RealmDestroy, RecAuxCount, RecCreate, RecDestroy, RecEnter, PsciComplete}
-use Rattle.rmi_abi.specs.declared.call.Call.TheVariants.{RttReadEntry, RttCreate, RttDestroy, RttFold, RttMapUnprotected, RttUnmapUnprotected, RttInitRipas, RttSetRipas, DataCreate, DataCreateUnknown, DataDestroy}
+use Rattle.rmi_abi.specs.declared.call.Call.TheVariants.{RttCreate, RttDestroy, RttFold, RttMapUnprotected, RttUnmapUnprotected, RttInitRipas, RttSetRipas, DataCreate, DataCreateUnknown, DataDestroy}
 use Rattle.rmi_abi.specs.declared.registers.Registers.{Registers}
 use Rattle.rmi_abi.specs.declared.registers.SmcResult.{SmcResult}
 use Rattle.rmi_abi.specs.declared.word.Word.TheVariants.{Success}
+use Rattle.rmm_model.specs.declared.entry.RmmRipas.{RmmRipas}
 use Rattle.rmm_model.specs.declared.entry.RmmRipas.TheVariants.{Destroyed}
 use Rattle.rmm_model.specs.declared.entry.RmmRttEntry.{RmmRttEntry}
 use Rattle.rmm_model.specs.declared.entry.RmmRttEntry.TheVariants.{Unassigned, Assigned, Table, UnassignedNs, AssignedNs}
-use Rattle.rmm_model.specs.declared.granule.RmmGranule.{RmmGranule}
-use Rattle.rmm_model.specs.declared.granule.RmmGranuleState.TheVariants.{Delegated, Rd, Rtt}
 use Rattle.rmm_model.specs.declared.realm.RmmRealm.{RmmRealm}
 use Rattle.rmm_model.specs.declared.realm.RttWalk.{RttWalk}
 use Rattle.rmm_model.specs.Call.{command_of, performed, rmi_at}
 use Rattle.rmm_model.specs.declared.step.StepWords.{StepWords}
-use Rattle.rmm_model.specs.Entry.{entry_of, entry_word, child_entry, descriptor_of, is_ram, is_table, ripas_in}
-use Rattle.rmm_model.specs.Granule.{of_no_realm, is_delegated}
+use Rattle.rmm_model.specs.Entry.{child_entry, descriptor_of, is_ram, is_table, ripas_in}
 use Rattle.rmm_model.specs.Guest.{queued}
-use Rattle.rmm_model.specs.Host.{is_host_page, can_access, can_fill, after_store, after_fill}
+use Rattle.rmm_model.specs.Host.{after_store, after_fill}
 use Rattle.rmm_model.specs.Level.{entry_size, entry_index}
-use Rattle.rmm_model.specs.Machine.{Machine, granule_at, page_in, is_aligned, is_inside, number_of, state_at, with_blank, with_page, with_word}
+use Rattle.rmm_model.specs.Machine.{Machine, page_in, number_of, state_at}
 use Rattle.rmm_model.specs.Realm.{is_in_space, is_protected}
-use Rattle.rmm_model.specs.Table.{entry_in_page, children_page, has_live, has_parts}
-use Rattle.rmm_model.specs.Walk.{entry_at, table_below, walk, with_entry}
+use Rattle.rmm_model.specs.Table.{entry_in_page, has_live}
+use Rattle.rmm_model.specs.Walk.{entry_at, table_below, walk}
 use Rattle.rmm_model.specs.Command.DataDestroy.{data_destroy}
 use Rattle.rmm_model.specs.Command.Operand.{realm_at}
-use Rattle.rmm_model.specs.Command.RealmActivate.{realm_activate}
-use Rattle.rmm_model.specs.Command.RealmDestroy.{realm_destroy, without_tables}
-use Rattle.rmm_model.specs.Command.RecAuxCount.{rec_aux_count}
 use Rattle.rmm_model.specs.Command.RecEnter.{interrupted}
-use Rattle.rmm_model.specs.Command.RttReadEntry.{rtt_read_entry}
 use Rattle.rmm_model.specs.Command.RttCreate.{rtt_create}
 use Rattle.rmm_model.specs.Command.RttDestroy.{rtt_destroy, left_entry}
-use Rattle.rmm_model.specs.Command.RttFold.{rtt_fold, is_homogeneous, is_aligned_above}
-use Rattle.rmm_laws.specs.Apart.{named_realm}
+use Rattle.rmm_model.specs.Command.RttFold.{rtt_fold}
 use Rattle.rmm_laws.specs.Proper.{IsProper}
-use Rattle.rmm_laws.specs.Ripas.{ripas_at, IsRipasGiven, KeepsRipas}
-use Rattle.rmm_laws.specs.State.{fixed, IsLasting, IsDestroyed}
-use Rattle.rmm_laws.proofs.Children.{is_free, children_word, length-children, part_word, unused_free}
-use Rattle.rmm_laws.proofs.Entries.{address_few, named_inside, number_inside}
-use Rattle.rmm_laws.proofs.EntryRipas.{entry_between}
-use Rattle.rmm_laws.proofs.EntryWords.{descriptor-few, word_ripas}
+use Rattle.rmm_laws.specs.Ripas.{ripas_at, IsBetween, IsRipasGiven, KeepsRipas}
+use Rattle.rmm_laws.proofs.Children.{is_free, unused_free}
+use Rattle.rmm_laws.proofs.EachRead.{is_acting, target_of, call_read, stored_read, filled_read, given_read, interrupted_read}
+use Rattle.rmm_laws.proofs.EntryReads.{entry_between}
+use Rattle.rmm_laws.proofs.EntryWords.{word_ripas}
 use Rattle.rmm_laws.proofs.Freed.{succeeded}
-use Rattle.rmm_laws.proofs.Guests.{entered_tables, completed_tables, given_then, interrupted_then}
-use Rattle.rmm_laws.proofs.Halves.{none_below, word_kind}
-use Rattle.rmm_laws.proofs.Halving.{child_kind}
-use Rattle.rmm_laws.proofs.KeptTables.{same_ripas, tables_of}
-use Rattle.rmm_laws.proofs.Lasting.{Lasts, lasts_all}
-use Rattle.rmm_laws.proofs.LastingCalls.{realms_after}
-use Rattle.rmm_laws.proofs.LeftAlone.{touches_host, touches_of}
-use Rattle.rmm_laws.proofs.Mapped.{content_now, entry_now, entry_beside, page_beside, entry_then, entry_other, page_other}
-use Rattle.rmm_laws.proofs.Mappings.{place_is, some_of}
-use Rattle.rmm_laws.proofs.Passed.{Passed, kept, yes_from, is_delegated-true, realm_of-some}
-use Rattle.rmm_laws.proofs.Plain.{host_plain}
-use Rattle.rmm_laws.proofs.RipasCalls.{Keeps, by_none, by_rd, by_tables, own_map, own_unmap, own_data, own_unknown, own_destroy, left_not_ram, own_init, own_set}
-use Rattle.rmm_laws.proofs.RecLives.{rec_created_tables}
-use Rattle.rmm_laws.proofs.Recs.{IsGoing}
-use Rattle.rmm_laws.proofs.RecsGone.{destroyed_tables}
-use Rattle.rmm_laws.proofs.SameTables.{KeepsTables, tables_all, tables_page}
+use Rattle.rmm_laws.proofs.LeftAlone.{touches_of}
+use Rattle.rmm_laws.proofs.Mappings.{protected_within, some_of}
+use Rattle.rmm_laws.proofs.Passed.{Passed, yes_from, realm_of-some}
+use Rattle.rmm_laws.proofs.RipasCalls.{Keeps, own_map, own_unmap, own_data, own_unknown, own_destroy, left_not_ram, own_init, own_set}
 use Rattle.rmm_laws.proofs.Seats.{in_upper}
-use Rattle.rmm_laws.proofs.States.{same_realm}
-use Rattle.rmm_laws.proofs.TableRipas.{made_ripas, gone_ripas}
-use Rattle.rmm_laws.proofs.Touching.{Touches}
-use Rattle.rmm_laws.proofs.Walks.{IsPlace, next}
-use Rattle.rmm_laws.proofs.Writes.{granule_at-same, inside-same, number-same, taken_inside}
+use Rattle.rmm_laws.proofs.TableReads.{create_read, removed_read, fold_read}
 
--- ---- children
+-- ---- tables that are made or removed
 
 child_ripas : (e : RmmRttEntry) (level k : ℕ) → ripas_in (child_entry e level k) ≡ ripas_in e
 child_ripas (Unassigned ripas) level k = refl
@@ -81,117 +52,27 @@ child_ripas UnassignedNs level k = refl
 child_ripas (AssignedNs desc) level k = refl
 child_ripas (Table address) level k = refl
 
--- an entry whose word is that of a child of another one
-child_read : (page : List ℕ) (e : RmmRttEntry) (level j : ℕ) → word_of_page page j ≡ entry_word (child_entry e level j) → ripas_in (entry_in_page page j) ≡ ripas_in e
-unfolding entry_in_page
-child_read page e level j is = ap (λ (w : ℕ). ripas_in (entry_of w)) is ∙ word_ripas (child_entry e level j) ∙ child_ripas e level j
-
-child_below : (m : Machine) (page : List ℕ) (e : RmmRttEntry) (level j : ℕ) → word_of_page page j ≡ entry_word (child_entry e level j) → is_table e ≡ false → table_below m (entry_in_page page j) ≡ None
-unfolding entry_in_page
-child_below m page e level j is leaf =
-    ap (λ (w : ℕ). table_below m (entry_of w)) is ∙ none_below m (entry_of (entry_word (child_entry e level j))) e (word_kind (child_entry e level j) ∙ child_kind e level j) leaf
-
--- ---- RMI_RTT_CREATE
-
 own_create : (rd rtt ipa level : ℕ) (m : Machine) → IsProper m → Passed (rtt_create rd rtt ipa level m).checks → length (rtt_create rd rtt ipa level m).machine.granules ≡ length m.granules
     → (x : ℕ) (after : RmmRealm) → Keeps (RttCreate rd rtt ipa level) m (rtt_create rd rtt ipa level m).machine (number_of m rd) x (realm_at m rd) after
-unfolding rtt_create
 own_create rd rtt ipa level m proper ok count x after = λ then start first protected.
     let realm : RmmRealm = realm_at m rd in
-    let r : ℕ = number_of m rd in
-    let g : ℕ = number_of m rtt in
-    let n : Machine = (rtt_create rd rtt ipa level m).machine in
-    let is = realm_of-some (state_at m rd) ok.1.1.1.1.1.0 in
-    let inside = yes_from (is_inside m rtt) ok.1.0 in
-    let free = is_delegated-true (state_at m rtt) (yes_from (is_delegated (state_at m rtt)) ok.1.1.0) in
-    let levels = and_parts (nat_le (realm.start_level + 1) level) (nat_le level 3) (yes_from _ ok.1.1.1.1.1.1.0) in
-    let least : realm.start_level + 1 ≤ level = leb-true _ _ levels.0 in
-    let most : level ≤ 3 = leb-true _ _ levels.1 in
-    let within : ipa < 2 ^ realm.s2sz = ltb-true _ _ (yes_from (is_in_space realm ipa) ok.1.1.1.1.1.1.1.1.0) in
-    let found : RttWalk = walk m realm ipa (level - 1) in
-    let there : found.level ≡ level - 1 = eqb-true _ _ (yes_from _ ok.1.1.1.1.1.1.1.1.1.0) in
-    let parent : RmmRttEntry = entry_at m found ipa in
-    let leaf : is_table parent ≡ false = not-true _ (yes_from _ ok.1.1.1.1.1.1.1.1.1.1.0) in
-    let end : IsPlace m proper.linked r ipa found = place_is m proper.linked r ipa (level - 1) realm is within (omega arith) in
-    let content : List ℕ = children_page parent level in
-    let whole = length-children parent level in
-    let lt = number_inside m rtt inside in
-    let fits = address_few m rtt proper.linked.sound inside in
-    let page : page_in n g ≡ content = content_now m proper.linked r ipa found end g lt free Rtt content whole (Table rtt) tt fits in
-    let not_g : (h : ℕ) → (granule_at m h).state ≡ Rtt → h ≢ g = λ h table same. (let states : (granule_at m h).state ≡ (granule_at m g).state = ap (λ (y : ℕ). (granule_at m y).state) same in cc) in
-    inl (made_ripas m n proper refl count r ipa (level - 1) realm is within g
-    (entry_beside m proper.linked r ipa found end g lt free Rtt content whole (Table rtt) tt fits) x leaf
-    (ap (λ (e : RmmRttEntry). table_below n e) (entry_now m proper.linked r ipa found end g lt free Rtt content whole (Table rtt) tt fits)
-    ∙ named_inside n rtt (inside-same m n refl count rtt ∙ inside)
-    ∙ ap (λ (h : ℕ). Some h) (number-same m n refl count rtt))
-    (λ h table other. page_beside m proper.linked r ipa found end g lt free Rtt content whole (Table rtt) tt fits h (not_g h (ap (λ (c : RmmGranule). c.state) table)) other)
-    (omega arith)
-    (λ j few. ap (λ (p : List ℕ). table_below n (entry_in_page p j)) page ∙ child_below n content parent level j (children_word parent level j few) leaf)
-    (λ j few. ap (λ (p : List ℕ). ripas_in (entry_in_page p j)) page ∙ child_read content parent level j (children_word parent level j few))
-    after start first protected)
-
--- ---- RMI_RTT_FOLD, and RMI_RTT_DESTROY
-
--- an entry takes the place of the table that it led to
-module _ (call : Call) (m n : Machine) (proper : IsProper m) (settings : n.settings ≡ m.settings) (count : length n.granules ≡ length m.granules) (rd ipa level g : ℕ)
-    (is : (granule_at m (number_of m rd)).state ≡ Rd (realm_at m rd)) (within : ipa < 2 ^ (realm_at m rd).s2sz) (least : (realm_at m rd).start_level ≤ level)
-    (named : table_below m (entry_at m (walk m (realm_at m rd) ipa level) ipa) ≡ Some g) (e : RmmRttEntry) (fits : descriptor_of e < 2 ^ 48) (leaf : is_table e ≡ false)
-    (pages : n.pages ≡ (with_blank (with_entry m (walk m (realm_at m rd) ipa level) ipa e) g Delegated).pages) where
-  removed : ((j : ℕ) → j < 512 → table_below m (entry_in_page (page_in m g) j) ≡ None)
-      → (x : ℕ) → ((j : ℕ) → j < 512 → x / entry_size (walk m (realm_at m rd) ipa level).level ≡ ipa / entry_size (walk m (realm_at m rd) ipa level).level
-      → (ripas_in e ≡ ripas_in (entry_in_page (page_in m g) j)) ⊎ IsRipasGiven m (Some call) (number_of m rd) x (ripas_in (entry_in_page (page_in m g) j)) (ripas_in e))
-      → (after : RmmRealm) → Keeps call m n (number_of m rd) x (realm_at m rd) after
-  removed flat x given after then start first protected =
-      let realm : RmmRealm = realm_at m rd in
-      let r : ℕ = number_of m rd in
-      let found : RttWalk = walk m realm ipa level in
-      let end : IsPlace m proper.linked r ipa found = place_is m proper.linked r ipa level realm is within least in
-      let below = next m proper.linked r ipa found g end named in
-      let apart : found.table ≢ g = λ same. (
-      let levels : proper.linked.level found.table ≡ proper.linked.level g = ap proper.linked.level same in
-      let here = end.level in
-      let deeper = below.level in
-      omega arith) in
-      let table : (granule_at m g).state ≡ Rtt = ap (λ (c : RmmGranule). c.state) below.table in
-      let lt = taken_inside m g (λ free. cc) in
-      let now = ap (λ (ps : List (List ℕ)). entry_in_page (page_at ps found.table) (entry_index found.level ipa)) pages ∙ entry_then m proper.linked r ipa found end g e lt apart fits in
-      gone_ripas m n proper settings count r ipa level realm is within g
-      (λ j few ne. ap (λ (ps : List (List ℕ)). entry_in_page (page_at ps found.table) j) pages ∙ entry_other m proper.linked r ipa found end g e lt apart fits j few ne) x named
-      (ap is_table now ∙ leaf)
-      (λ h here other not_g. ap (λ (ps : List (List ℕ)). page_at ps h) pages ∙ page_other m proper.linked r ipa found end g e lt apart fits h not_g other)
-      flat (λ old new. IsRipasGiven m (Some call) r x old new)
-      (λ j few covers. subst (λ (f : RmmRttEntry). (ripas_in f ≡ ripas_in (entry_in_page (page_in m g) j)) ⊎ IsRipasGiven m (Some call) r x (ripas_in (entry_in_page (page_in m g) j)) (ripas_in f)) (sym now) (given j few covers))
-      after start first protected
-
-first_few : (page : List ℕ) → descriptor_of (entry_in_page page 0) < 2 ^ 48
-unfolding entry_in_page
-first_few page = descriptor-few (word_of_page page 0)
+    let child : RmmRttEntry = child_entry (entry_at m (walk m realm ipa (level - 1)) ipa) level (entry_index level x) in
+    inl (create_read rd rtt ipa level m proper ok count x RmmRipas (λ e l. ripas_in e) (word_ripas child ∙ child_ripas (entry_at m (walk m realm ipa (level - 1)) ipa) level (entry_index level x)) after start first (protected_within realm x protected))
 
 own_fold : (rd ipa level : ℕ) (m : Machine) → IsProper m → Passed (rtt_fold rd ipa level m).checks → length (rtt_fold rd ipa level m).machine.granules ≡ length m.granules
     → (x : ℕ) (after : RmmRealm) → Keeps (RttFold rd ipa level) m (rtt_fold rd ipa level m).machine (number_of m rd) x (realm_at m rd) after
-unfolding rtt_fold is_homogeneous
-own_fold rd ipa level m proper ok count x after =
+own_fold rd ipa level m proper ok count x after = λ then start first protected.
     let realm : RmmRealm = realm_at m rd in
-    let is = realm_of-some (state_at m rd) ok.1.1.0 in
-    let least : realm.start_level + 1 ≤ level = leb-true _ _ (and_parts (nat_le (realm.start_level + 1) level) (nat_le level 3) (yes_from _ ok.1.1.1.0)).0 in
-    let within : ipa < 2 ^ realm.s2sz = ltb-true _ _ (yes_from (is_in_space realm ipa) ok.1.1.1.1.1.0) in
-    let below : Option ℕ = table_below m (entry_at m (walk m realm ipa (level - 1)) ipa) in
-    let g : ℕ = unwrap_or below 0 in
-    let first : RmmRttEntry = entry_in_page (page_in m g) 0 in
-    let both = and_parts (not (is_table first) && is_aligned_above first level) (has_parts (page_in m g) first level 512 0) (yes_from _ ok.1.1.1.1.1.1.1.1.0) in
-    let leaf : is_table first ≡ false = not-true _ (and_parts (not (is_table first)) (is_aligned_above first level) both.0).0 in
-    removed (RttFold rd ipa level) m (rtt_fold rd ipa level m).machine proper refl count rd ipa (level - 1) g is within (omega arith) (some_of below (yes_from _ ok.1.1.1.1.1.1.1.0)) first
-    (first_few (page_in m g)) leaf refl
-    (λ j lt. child_below m (page_in m g) first level j (part_word (page_in m g) first level 512 0 j both.1 (omega arith) (omega arith)) leaf)
-    x (λ j lt covers. inl (sym (child_read (page_in m g) first level j (part_word (page_in m g) first level 512 0 j both.1 (omega arith) (omega arith))))) after
+    let whole : RmmRttEntry = entry_in_page (page_in m (unwrap_or (table_below m (entry_at m (walk m realm ipa (level - 1)) ipa)) 0)) 0 in
+    inl (fold_read rd ipa level m proper ok count x RmmRipas (λ e l. ripas_in e) (word_ripas (child_entry whole level (entry_index level x)) ∙ child_ripas whole level (entry_index level x)) after start first (protected_within realm x protected))
 
-free_below : (m : Machine) (e : RmmRttEntry) → is_free e ≡ true → table_below m e ≡ None
+pub free_below : (m : Machine) (e : RmmRttEntry) → is_free e ≡ true → table_below m e ≡ None
 free_below m (Unassigned ripas) free = refl
 free_below m UnassignedNs free = refl
 free_below m (AssignedNs desc) free = refl
 free_below m _ free = absurd (cc)
 
-left_is : (realm : RmmRealm) (ipa : ℕ) → (descriptor_of (left_entry realm ipa) < 2 ^ 48) × (is_table (left_entry realm ipa) ≡ false)
+pub left_is : (realm : RmmRealm) (ipa : ℕ) → (descriptor_of (left_entry realm ipa) < 2 ^ 48) × (is_table (left_entry realm ipa) ≡ false)
 left_is realm ipa = cond_both (is_protected realm ipa) (Unassigned Destroyed) UnassignedNs (λ (e : RmmRttEntry). (descriptor_of e < 2 ^ 48) × (is_table e ≡ false)) (λ sure. (omega arith, refl)) (λ never. (omega arith, refl))
 
 own_table_destroy : (rd ipa level : ℕ) (m : Machine) → IsProper m → Passed (rtt_destroy rd ipa level m).checks → length (rtt_destroy rd ipa level m).machine.granules ≡ length m.granules
@@ -212,10 +93,13 @@ own_table_destroy rd ipa level m proper ok count x after = λ then start first p
     let g : ℕ = unwrap_or below 0 in
     let unused : has_live (page_in m g) ≡ false = ok.1.1.1.1.1.1.1.1.0 in
     let left = left_is realm ipa in
-    removed (RttDestroy rd ipa level) m (rtt_destroy rd ipa level m).machine proper refl count rd ipa (level - 1) g is within (omega arith) (some_of below (yes_from _ ok.1.1.1.1.1.1.1.0)) (left_entry realm ipa)
+    let given : RmmRipas → RmmRipas → Type 0 = λ old new. IsRipasGiven m (Some (RttDestroy rd ipa level)) r x old new in
+    removed_read m (rtt_destroy rd ipa level m).machine proper refl count rd ipa (level - 1) g is within (omega arith) (some_of below (yes_from _ ok.1.1.1.1.1.1.1.0)) (left_entry realm ipa)
     left.0 left.1 refl
     (λ j lt. free_below m (entry_in_page (page_in m g) j) (unused_free (page_in m g) unused j lt))
-    x (λ j lt covers.
+    x RmmRipas (λ e l. ripas_in e) given
+    (λ covers.
+    let j : ℕ = entry_index (found.level + 1) x in
     cond_both (is_protected realm ipa) (Unassigned Destroyed) UnassignedNs
     (λ (e : RmmRttEntry). (ripas_in e ≡ ripas_in (entry_in_page (page_in m g) j)) ⊎ IsRipasGiven m (Some (RttDestroy rd ipa level)) r x (ripas_in (entry_in_page (page_in m g) j)) (ripas_in e))
     (λ sure. inr (refl, entry_between (level - 1) (omega arith) ipa x begins (subst (λ (l : ℕ). x / entry_size l ≡ ipa / entry_size l) depth covers)))
@@ -223,131 +107,51 @@ own_table_destroy rd ipa level m proper ok count x after = λ then start first p
     let high = in_upper m proper.linked proper.ordered.halves r ipa realm is within (level - 1) x covers (ltb-false _ _ never) in
     let low = ltb-true _ _ protected in
     absurd (omega arith)))
-    after then start first protected
+    after start first (protected_within realm x protected)
 
 -- ---- each call
 
--- the RD of a realm that is destroyed is no RD any more
-no_rd_left : (of : ℕ) (m : Machine) (after : RmmRealm) → length (realm_destroy of m).machine.granules ≡ length m.granules → Passed (realm_destroy of m).checks
-    → (granule_at (realm_destroy of m).machine (number_of m of)).state ≡ Rd after → ⊥
-unfolding realm_destroy
-no_rd_left of m after count ok is =
-    let realm : RmmRealm = realm_at m of in
-    let k : Machine = without_tables m realm realm.table_count in
-    let same = length-set k.granules (number_of m of) (of_no_realm Delegated) in
-    let inside : number_of m of < length k.granules = (let lt = number_inside m of (yes_from (is_inside m of) ok.1.0) in omega arith) in
-    let now = ap (λ (c : RmmGranule). c.state) (granule_at-same k (number_of m of) (of_no_realm Delegated) inside) in
-    cc
+-- the RIPAS that a call gives an address
+abbrev giving : ℕ → Machine → Option Call → ℕ → RmmRipas → RmmRipas → Type 0
+giving x m call rd old new = IsRipasGiven m call rd x old new
 
-by_kept : (call : Call) (m : Machine) (rd x : ℕ) (before after : RmmRealm) → IsProper m → Touches (touches_host call) m (command_of call m).machine (named_realm m call) → (granule_at m rd).state ≡ Rd before
-    → KeepsTables m (command_of call m).machine → Keeps call m (command_of call m).machine rd x before after
-by_kept call m rd x before after proper touches is kept =
-    let n : Machine = (command_of call m).machine in
-    by_tables call m n rd x before after proper touches.settings touches.count is (tables_of m n rd kept)
-
-passed_ripas : (call : Call) (m : Machine) → IsProper m → (ok : Passed (command_of call m).checks) → Touches (touches_host call) m (command_of call m).machine (named_realm m call) → (rd x : ℕ) (before after : RmmRealm) → (granule_at m rd).state ≡ Rd before
-    → Keeps call m (command_of call m).machine rd x before after
-unfolding realm_activate rec_aux_count rtt_read_entry
-passed_ripas (Version requested) m proper ok touches rd x before after is = by_none false (Version requested) m _ rd x before after proper touches is
-passed_ripas (Features index) m proper ok touches rd x before after is = by_none false (Features index) m _ rd x before after proper touches is
-passed_ripas (GranuleDelegate address) m proper ok touches rd x before after is = by_none true (GranuleDelegate address) m _ rd x before after proper touches is
-passed_ripas (GranuleUndelegate address) m proper ok touches rd x before after is = by_none false (GranuleUndelegate address) m _ rd x before after proper touches is
-passed_ripas (RealmCreate of params) m proper ok touches rd x before after is = by_none false (RealmCreate of params) m _ rd x before after proper touches is
-passed_ripas (RealmActivate of) m proper ok touches rd x before after is = by_tables (RealmActivate of) m _ rd x before after proper touches.settings touches.count is (λ g table. refl)
-passed_ripas (RecAuxCount of) m proper ok touches rd x before after is = by_tables (RecAuxCount of) m _ rd x before after proper touches.settings touches.count is (λ g table. refl)
-passed_ripas (RttReadEntry of ipa level) m proper ok touches rd x before after is = by_tables (RttReadEntry of ipa level) m _ rd x before after proper touches.settings touches.count is (λ g table. refl)
-passed_ripas (RecCreate of rec params) m proper ok touches rd x before after is =
-    by_kept (RecCreate of rec params) m rd x before after proper touches is (rec_created_tables of rec params m proper ok)
-passed_ripas (RecDestroy rec) m proper ok touches rd x before after is =
-    by_kept (RecDestroy rec) m rd x before after proper touches is (destroyed_tables rec m proper ok)
-passed_ripas (RecEnter rec run) m proper ok touches rd x before after is =
-    by_kept (RecEnter rec run) m rd x before after proper touches is (entered_tables rec run m proper ok)
-passed_ripas (PsciComplete calling target status) m proper ok touches rd x before after is =
-    by_kept (PsciComplete calling target status) m rd x before after proper touches is (completed_tables calling target status m proper ok)
-passed_ripas (RealmDestroy of) m proper ok touches rd x before after is =
-    by_rd (RealmDestroy of) m _ of proper touches (λ y later then start first protected. absurd (no_rd_left of m later touches.count ok then)) rd x before after is
-passed_ripas (RttCreate of rtt ipa level) m proper ok touches rd x before after is = by_rd (RttCreate of rtt ipa level) m _ of proper touches (own_create of rtt ipa level m proper ok touches.count) rd x before after is
-passed_ripas (RttDestroy of ipa level) m proper ok touches rd x before after is = by_rd (RttDestroy of ipa level) m _ of proper touches (own_table_destroy of ipa level m proper ok touches.count) rd x before after is
-passed_ripas (RttFold of ipa level) m proper ok touches rd x before after is = by_rd (RttFold of ipa level) m _ of proper touches (own_fold of ipa level m proper ok touches.count) rd x before after is
-passed_ripas (RttMapUnprotected of ipa level desc) m proper ok touches rd x before after is = by_rd (RttMapUnprotected of ipa level desc) m _ of proper touches (own_map of ipa level desc m proper ok) rd x before after is
-passed_ripas (RttUnmapUnprotected of ipa level) m proper ok touches rd x before after is = by_rd (RttUnmapUnprotected of ipa level) m _ of proper touches (own_unmap of ipa level m proper ok) rd x before after is
-passed_ripas (DataCreate of page ipa source flags) m proper ok touches rd x before after is =
-    by_rd (DataCreate of page ipa source flags) m _ of proper touches (own_data of page ipa source flags m proper ok touches.count) rd x before after is
-passed_ripas (DataCreateUnknown of page ipa) m proper ok touches rd x before after is = by_rd (DataCreateUnknown of page ipa) m _ of proper touches (own_unknown of page ipa m proper ok touches.count) rd x before after is
-passed_ripas (DataDestroy of ipa) m proper ok touches rd x before after is = by_rd (DataDestroy of ipa) m _ of proper touches (own_destroy of ipa m proper ok touches.count) rd x before after is
-passed_ripas (RttInitRipas of base top) m proper ok touches rd x before after is = by_rd (RttInitRipas of base top) m _ of proper touches (own_init of base top m proper ok touches.count) rd x before after is
-passed_ripas (RttSetRipas of rec base top) m proper ok touches rd x before after is = by_rd (RttSetRipas of rec base top) m _ of proper touches (own_set of rec base top m proper ok touches.count) rd x before after is
-
-destroyed_no_rd : (call : Call) (m : Machine) (rd : ℕ) (after : RmmRealm) → length (command_of call m).machine.granules ≡ length m.granules → Passed (command_of call m).checks → IsDestroyed m (Some call) rd
-    → (granule_at (command_of call m).machine rd).state ≡ Rd after → ⊥
-destroyed_no_rd (RealmDestroy of) m rd after count ok gone is = no_rd_left of m after count ok (subst (λ (g : ℕ). (granule_at (realm_destroy of m).machine g).state ≡ Rd after) gone is)
-destroyed_no_rd _ m rd after count ok gone is = gone
-
--- the starting tables of a realm that lasts
-lasting_ripas : (call : Call) (m n : Machine) (rd x : ℕ) (before after : RmmRealm) → (granule_at n rd).state ≡ Rd after → IsLasting n rd before → is_protected before x ≡ true → Keeps call m n rd x before after
-    → (ripas_at n after x ≡ ripas_at m before x) ⊎ IsRipasGiven m (Some call) rd x (ripas_at m before x) (ripas_at n after x)
-lasting_ripas call m n rd x before after then lasting protected keeps =
-    let it : lasting.0 ≡ after = same_realm (sym lasting.1 ∙ then) in
-    let same : fixed after ≡ fixed before = ap fixed (sym it) ∙ lasting.2 in
-    keeps then (ap (λ (r : RmmRealm). r.start_level) same) (ap (λ (r : RmmRealm). r.first_table) same) protected
-
-ok_ripas : (call : Call) (m : Machine) → IsProper m → Passed (command_of call m).checks → KeepsRipas m (Some call) (command_of call m).machine
-ok_ripas call m proper ok rd x before after is then protected =
-    let n : Machine = (command_of call m).machine in
-    let touches = touches_of call m proper ok in
-    let keeps = passed_ripas call m proper ok touches rd x before after is in
-    ⊎_elim
-    (λ (lasting : IsLasting n rd before). lasting_ripas call m n rd x before after then lasting protected keeps)
-    (λ (gone : IsDestroyed m (Some call) rd). absurd (destroyed_no_rd call m rd after touches.count ok gone then))
-    (realms_after call m proper ok rd before is)
+own_ripas : (x : ℕ) (call : Call) (m : Machine) → is_acting call ≡ true → IsProper m → Passed (command_of call m).checks → length (command_of call m).machine.granules ≡ length m.granules → (after : RmmRealm)
+    → Keeps call m (command_of call m).machine (number_of m (target_of call)) x (realm_at m (target_of call)) after
+own_ripas x (RttCreate of rtt ipa level) m acts proper ok count after = own_create of rtt ipa level m proper ok count x after
+own_ripas x (RttDestroy of ipa level) m acts proper ok count after = own_table_destroy of ipa level m proper ok count x after
+own_ripas x (RttFold of ipa level) m acts proper ok count after = own_fold of ipa level m proper ok count x after
+own_ripas x (RttMapUnprotected of ipa level desc) m acts proper ok count after = own_map of ipa level desc m proper ok x after
+own_ripas x (RttUnmapUnprotected of ipa level) m acts proper ok count after = own_unmap of ipa level m proper ok x after
+own_ripas x (DataCreate of page ipa source flags) m acts proper ok count after = own_data of page ipa source flags m proper ok count x after
+own_ripas x (DataCreateUnknown of page ipa) m acts proper ok count after = own_unknown of page ipa m proper ok count x after
+own_ripas x (DataDestroy of ipa) m acts proper ok count after = own_destroy of ipa m proper ok count x after
+own_ripas x (RttInitRipas of base top) m acts proper ok count after = own_init of base top m proper ok count x after
+own_ripas x (RttSetRipas of rec base top) m acts proper ok count after = own_set of rec base top m proper ok count x after
+own_ripas x _ m acts proper ok count after = absurd (cc)
 
 pub call_ripas : (o : Option Call) (r : Registers) (m : Machine) → IsProper m → KeepsRipas m o (rmi_at o r m).1
-unfolding performed
-call_ripas None r m proper = λ rd x before after is then protected. inl (ap (λ (realm : RmmRealm). ripas_at m realm x) (same_realm (sym then ∙ is)))
-call_ripas (Some call) r m proper =
-    kept (KeepsRipas m (Some call)) (command_of call m) m (λ rd x before after is then protected. inl (ap (λ (realm : RmmRealm). ripas_at m realm x) (same_realm (sym then ∙ is)))) (ok_ripas call m proper)
+call_ripas o r m proper = λ rd x before after is then protected. call_read x RmmRipas (λ e l. ripas_in e) (giving x) (own_ripas x) o r m proper rd before after is then protected
 
 -- a page that is destroyed leaves RIPAS that is not RAM
-pub taken_ripas : (m : Machine) (rd ipa : ℕ) → IsProper m → (performed (DataDestroy rd ipa) m).0.word ≡ Success → is_ram (ripas_at (performed (DataDestroy rd ipa) m).1 (realm_at m rd) ipa) ≡ false
+pub taken_ripas : (m : Machine) (rd ipa x : ℕ) → IsProper m → (performed (DataDestroy rd ipa) m).0.word ≡ Success → IsBetween ipa (ipa + 4096) x
+    → is_ram (ripas_at (performed (DataDestroy rd ipa) m).1 (realm_at m rd) x) ≡ false
 unfolding data_destroy
-taken_ripas m rd ipa proper success =
-    succeeded (is_ram (ripas_at (performed (DataDestroy rd ipa) m).1 (realm_at m rd) ipa) ≡ false) (DataDestroy rd ipa) m refl success
+taken_ripas m rd ipa x proper success between =
+    succeeded (is_ram (ripas_at (performed (DataDestroy rd ipa) m).1 (realm_at m rd) x) ≡ false) (DataDestroy rd ipa) m refl success
     (λ ok now.
-    subst (λ (p : SmcResult × Machine). is_ram (ripas_at p.1 (realm_at m rd) ipa) ≡ false) (sym now)
-    (left_not_ram rd ipa m proper ok (touches_of (DataDestroy rd ipa) m proper ok).count))
+    subst (λ (p : SmcResult × Machine). is_ram (ripas_at p.1 (realm_at m rd) x) ≡ false) (sym now)
+    (left_not_ram rd ipa m proper ok (touches_of (DataDestroy rd ipa) m proper ok).count x between))
 
 -- ---- stores, fills, steps and interrupts
 
-none_ripas : (m n : Machine) → IsProper m → n.settings ≡ m.settings → length n.granules ≡ length m.granules → KeepsTables m n → Lasts m n → KeepsRipas m None n
-none_ripas m n proper settings count kept lasts rd x before after is then protected =
-    let lasting = lasts rd before is in
-    let same : fixed after ≡ fixed before = ap fixed (same_realm (sym then ∙ lasting.1)) ∙ lasting.2 in
-    inl (same_ripas m n proper settings count rd x before after (ap (λ (r : RmmRealm). r.start_level) same) (ap (λ (r : RmmRealm). r.first_table) same) is protected (tables_of m n rd kept))
-
-same_machine : (m : Machine) → IsProper m → KeepsRipas m None m
-same_machine m proper = none_ripas m m proper refl refl (tables_all m) (lasts_all m)
-
-host_ripas : (m : Machine) (address : ℕ) (page : List ℕ) → IsProper m → is_host_page m address ≡ true → KeepsRipas m None (with_page m (number_of m address) page)
-host_ripas m address page proper host =
-    none_ripas m (with_page m (number_of m address) page) proper refl refl (tables_page m m (number_of m address) page (λ table. (let free = host_plain m address host in cc)) (tables_all m)) (lasts_all m)
-
 pub stored_ripas : (m : Machine) (address word : ℕ) → IsProper m → KeepsRipas m None (after_store m address word)
-stored_ripas m address word proper =
-    cond_both (can_access m address) (with_word m (number_of m address) (address % 4096 / 8) word) m (KeepsRipas m None)
-    (λ can. host_ripas m address _ proper (and_parts (address % 8 == 0) (is_host_page m address) can).1)
-    (λ cannot. same_machine m proper)
+stored_ripas m address word proper = λ rd x before after is then protected. stored_read x RmmRipas (λ e l. ripas_in e) (giving x) m address word proper rd before after is then protected
 
 pub filled_ripas : (m : Machine) (address value : ℕ) → IsProper m → KeepsRipas m None (after_fill m address value)
-filled_ripas m address value proper =
-    cond_both (can_fill m address) (with_page m (number_of m address) (page_of value)) m (KeepsRipas m None)
-    (λ can. host_ripas m address _ proper (and_parts (is_aligned address) (is_host_page m address) can).1)
-    (λ cannot. same_machine m proper)
-
-going_ripas : (m : Machine) → IsProper m → (w g : ℕ) (n : Machine) → IsGoing m w g n → KeepsRipas m None n
-going_ripas m proper w g n going = none_ripas m n proper going.touches.settings going.touches.count going.tables going.lasts
+filled_ripas m address value proper = λ rd x before after is then protected. filled_read x RmmRipas (λ e l. ripas_in e) (giving x) m address value proper rd before after is then protected
 
 pub given_ripas : (m : Machine) (rec : ℕ) (w : StepWords) → IsProper m → KeepsRipas m None (queued m rec w).1
-given_ripas m rec w proper = given_then (KeepsRipas m None) m rec w proper (same_machine m proper) (going_ripas m proper)
+given_ripas m rec w proper = λ rd x before after is then protected. given_read x RmmRipas (λ e l. ripas_in e) (giving x) m rec w proper rd before after is then protected
 
 pub interrupted_ripas : (m : Machine) (rec : ℕ) → IsProper m → KeepsRipas m None (interrupted m rec).1
-interrupted_ripas m rec proper = interrupted_then (KeepsRipas m None) m rec proper (same_machine m proper) (going_ripas m proper)
+interrupted_ripas m rec proper = λ rd x before after is then protected. interrupted_read x RmmRipas (λ e l. ripas_in e) (giving x) m rec proper rd before after is then protected

@@ -14,6 +14,7 @@ use Rattle.rmm_model.specs.Table.{entry_in_page, first_live, first_live_from}
 use Rattle.rmm_model.specs.Walk.{entry_at, table_below, walk_from, start_of, walk, top_at, top}
 use Rattle.rmm_laws.specs.Role.{IsLinked}
 use Rattle.rmm_laws.specs.Walk.{end_of, IsAtLive, IsPassed}
+use Rattle.rmm_laws.proofs.Along.{stops}
 use Rattle.rmm_laws.proofs.Serving.{level_cases, few_at}
 use Rattle.rmm_laws.proofs.Walks.{walk_ends, entry_index-few}
 
@@ -101,34 +102,28 @@ module _ (m : Machine) (ipa x : ℕ) where
   down zero place = omega arith
   down (suc levels) place = down_at levels place (table_below m (entry_at m place ipa)) (λ table. down levels (child place table))
 
-  -- a walk ends at an entry that is not live
-  stops : (levels : ℕ) (place : RttWalk) → is_live (entry_at m place x) ≡ false → walk_from m x levels place ≡ place
-  unfolding walk_from
-  stops zero place dead = refl
-  stops (suc levels) place dead = ap (λ (o : Option ℕ). option_map_or (λ (table : ℕ). walk_from m x levels (child place table)) o place) (dead_below m (entry_at m place x) dead)
-
-  -- an address that is of the same entries above the end of a walk
+  -- an address that is of the same entries above the end of a walk, and whose entry there leads to no table
   follows_at : (levels more : ℕ) (place : RttWalk) (o : Option ℕ) → table_below m (entry_at m place ipa) ≡ o
       → ((p : ℕ) → p < (option_map_or (λ (table : ℕ). walk_from m ipa levels (child place table)) o place).level → entry_index p x ≡ entry_index p ipa)
-      → is_live (entry_at m (option_map_or (λ (table : ℕ). walk_from m ipa levels (child place table)) o place) x) ≡ false
-      → ((table : ℕ) → ((p : ℕ) → p < (walk_from m ipa levels (child place table)).level → entry_index p x ≡ entry_index p ipa) → is_live (entry_at m (walk_from m ipa levels (child place table)) x) ≡ false
+      → table_below m (entry_at m (option_map_or (λ (table : ℕ). walk_from m ipa levels (child place table)) o place) x) ≡ None
+      → ((table : ℕ) → ((p : ℕ) → p < (walk_from m ipa levels (child place table)).level → entry_index p x ≡ entry_index p ipa) → table_below m (entry_at m (walk_from m ipa levels (child place table)) x) ≡ None
       → walk_from m x more (child place table) ≡ walk_from m ipa levels (child place table))
       → walk_from m x (suc more) place ≡ option_map_or (λ (table : ℕ). walk_from m ipa levels (child place table)) o place
   unfolding walk_from entry_at
-  follows_at levels more place (Some table) leads same dead rest =
+  follows_at levels more place (Some table) leads same none rest =
       let far = down levels (child place table) in
       let here : entry_index place.level x ≡ entry_index place.level ipa = same place.level (omega arith) in
       let leads_too : table_below m (entry_in_page (page_in m place.table) (entry_index place.level x)) ≡ Some table = ap (λ (k : ℕ). table_below m (entry_in_page (page_in m place.table) k)) here ∙ leads in
-      ap (λ (o : Option ℕ). option_map_or (λ (t : ℕ). walk_from m x more (child place t)) o place) leads_too ∙ rest table same dead
-  follows_at levels more place None leads same dead rest = stops (suc more) place dead
+      ap (λ (o : Option ℕ). option_map_or (λ (t : ℕ). walk_from m x more (child place t)) o place) leads_too ∙ rest table same none
+  follows_at levels more place None leads same none rest = stops m x (suc more) place none
 
   follows : (levels more : ℕ) (place : RttWalk) → levels ≤ more → ((p : ℕ) → p < (walk_from m ipa levels place).level → entry_index p x ≡ entry_index p ipa)
-      → is_live (entry_at m (walk_from m ipa levels place) x) ≡ false → walk_from m x more place ≡ walk_from m ipa levels place
+      → table_below m (entry_at m (walk_from m ipa levels place) x) ≡ None → walk_from m x more place ≡ walk_from m ipa levels place
   unfolding walk_from
-  follows zero more place few same dead = stops more place dead
-  follows (suc levels) zero place few same dead = absurd (omega arith)
-  follows (suc levels) (suc more) place few same dead =
-      follows_at levels more place (table_below m (entry_at m place ipa)) refl same dead (λ table same_below dead_there. follows levels more (child place table) (omega arith) same_below dead_there)
+  follows zero more place few same none = stops m x more place none
+  follows (suc levels) zero place few same none = absurd (omega arith)
+  follows (suc levels) (suc more) place few same none =
+      follows_at levels more place (table_below m (entry_at m place ipa)) refl same none (λ table same_below none_there. follows levels more (child place table) (omega arith) same_below none_there)
 
 -- ---- tops
 
@@ -181,22 +176,27 @@ module _ (m : Machine) (linked : IsLinked m) (rd ipa level : ℕ) (realm : RmmRe
   few_here : found_here.level ≤ 3
   few_here = few_at m linked rd ipa realm found_here (walk_ends m linked rd ipa realm level is within least).place_is
 
-  pub skipped : (x : ℕ) → ipa ≤ x → x < top m (walk m realm ipa level) ipa → IsPassed m realm (walk m realm ipa level) x
+  -- the walk of an address that the same table serves, if its entry there leads to no table
+  pub same_end : (x : ℕ) → x / entry_size (walk m realm ipa level).level / 512 ≡ ipa / entry_size (walk m realm ipa level).level / 512 → table_below m (entry_at m (walk m realm ipa level) x) ≡ None
+      → walk m realm x 3 ≡ walk m realm ipa level
   unfolding walk start_of start_offset entry_index
-  skipped x from to =
-      let before = before_top m found_here ipa few_here x from to in
+  same_end x same none =
       let start : RttWalk = start_of realm ipa in
       let deep : realm.start_level ≤ found_here.level = down m ipa x (level - realm.start_level) start in
-      let above : (p : ℕ) → p < found_here.level → x / entry_size p ≡ ipa / entry_size p = λ p below. above_same p found_here.level x ipa below few_here before.1 in
+      let above : (p : ℕ) → p < found_here.level → x / entry_size p ≡ ipa / entry_size p = λ p below. above_same p found_here.level x ipa below few_here same in
       let same_start : x / entry_size realm.start_level / 512 ≡ ipa / entry_size realm.start_level / 512 =
       ⊎_elim
-      (λ (here : realm.start_level ≡ found_here.level). subst (λ (l : ℕ). x / entry_size l / 512 ≡ ipa / entry_size l / 512) (sym here) before.1)
+      (λ (here : realm.start_level ≡ found_here.level). subst (λ (l : ℕ). x / entry_size l / 512 ≡ ipa / entry_size l / 512) (sym here) same)
       (λ (other : realm.start_level ≢ found_here.level). ap (λ (q : ℕ). q / 512) (above realm.start_level (omega arith)))
       (cases_eq realm.start_level found_here.level) in
       let start_is : start_of realm x ≡ start_of realm ipa = ap (λ (k : ℕ). record { table = realm.first_table + k; level = realm.start_level }) same_start in
-      let same_walk : walk m realm x 3 ≡ found_here =
       ap (walk_from m x (3 - realm.start_level)) start_is
-      ∙ follows m ipa x (level - realm.start_level) (3 - realm.start_level) start (omega arith) (λ p below. ap (λ (q : ℕ). q % 512) (above p below)) before.0 in
+      ∙ follows m ipa x (level - realm.start_level) (3 - realm.start_level) start (omega arith) (λ p below. ap (λ (q : ℕ). q % 512) (above p below)) none
+
+  pub skipped : (x : ℕ) → ipa ≤ x → x < top m (walk m realm ipa level) ipa → IsPassed m realm (walk m realm ipa level) x
+  skipped x from to =
+      let before = before_top m found_here ipa few_here x from to in
+      let same_walk = same_end x before.1 (dead_below m (entry_at m found_here x) before.0) in
       (ap (λ (f : RttWalk). is_live (entry_at m f x)) same_walk ∙ before.0, before.0)
 
 -- ---- where tops are

@@ -1,12 +1,16 @@
 -- Realms apart: the granules that a call leaves as they are. RMM 1.0, RMI commands.
-use Rattle.std.specs.Prelude.{◌≡◌, ℕ, ◌⊎◌, ◌&&◌, Bool, true, false, Option, Some, None, is_some, if◌then◌else◌}
+use Rattle.std.specs.Prelude.{◌≡◌, ◌≢◌, ℕ, ◌+◌, ◌*◌, ◌⊎◌, ◌&&◌, Bool, true, false, Option, Some, None, is_some, if◌then◌else◌}
+use Rattle.granule_addr.specs.Page.{zero_page}
 use Rattle.rmi_abi.specs.declared.call.Call.{Call}
 use Rattle.rmi_abi.specs.declared.call.Call.TheVariants.{GranuleDelegate, RealmActivate, RealmCreate, RealmDestroy, RecAuxCount, RecCreate, RecDestroy, RecEnter, PsciComplete, DataCreate, DataCreateUnknown, DataDestroy}
 use Rattle.rmi_abi.specs.declared.call.Call.TheVariants.{RttCreate, RttDestroy, RttFold, RttReadEntry, RttMapUnprotected, RttUnmapUnprotected, RttInitRipas, RttSetRipas}
 use Rattle.rmm_model.specs.declared.granule.RmmGranuleState.TheVariants.{Undelegated, Delegated}
-use Rattle.rmm_model.specs.Granule.{realm_of}
-use Rattle.rmm_model.specs.Guest.{is_rec_named}
-use Rattle.rmm_model.specs.Machine.{Machine, granule_at, page_in, is_aligned, is_inside, number_of, state_at}
+use Rattle.rmm_model.specs.Granule.{of_no_realm, realm_of}
+use Rattle.rmm_model.specs.Guest.{rec_in, is_rec_named}
+use Rattle.rmm_model.specs.Machine.{Machine, granule_at, page_in, is_aligned, is_inside, is_secure, number_of, state_at}
+use Rattle.rmm_model.specs.Command.Operand.{realm_at}
+use Rattle.rmm_model.specs.Command.RealmCreate.{params_at}
+use Rattle.rmm_laws.specs.Role.{IsBegin}
 
 -- the RD at an address, if one begins there
 abbrev pub rd_named : Machine → ℕ → Option ℕ
@@ -44,6 +48,12 @@ changes_vmids (Some (RealmCreate rd params)) = true
 changes_vmids (Some (RealmDestroy rd)) = true
 changes_vmids call = false
 
+-- a VMID is not that of the realm that a call creates or destroys
+abbrev pub IsOtherVmid : Machine → Option Call → ℕ → Type 0
+IsOtherVmid m (Some (RealmCreate rd params)) vmid = vmid ≢ (params_at m params).vmid
+IsOtherVmid m (Some (RealmDestroy rd)) vmid = vmid ≢ (realm_at m rd).vmid
+IsOtherVmid m call vmid = Unit {0}
+
 -- a granule is the RD of a realm, or one that the realm owns
 abbrev pub IsOfRealm : Machine → Option ℕ → ℕ → Type 0
 IsOfRealm m (Some rd) g = (g ≡ rd) ⊎ ((granule_at m g).owner ≡ Some rd)
@@ -57,12 +67,35 @@ IsSpare m g = ((granule_at m g).state ≡ Undelegated) ⊎ ((granule_at m g).sta
 abbrev pub IsSameAt : Machine → Machine → ℕ → Type 0
 IsSameAt m n g = (granule_at n g ≡ granule_at m g) × (page_in n g ≡ page_in m g)
 
--- A call changes a page of the host: it delegates the granule. Or it enters a REC, whose guest and exit write pages of the
--- host, and the granule keeps its attributes.
+-- the page of a granule is not of the secure world
+abbrev pub IsNormal : Machine → ℕ → Type 0
+IsNormal m g = is_secure m (m.settings.base + g * 4096) ≡ false
+
+-- a page of the host begins at an address, outside the secure world
+abbrev pub IsHostPage : Machine → ℕ → Type 0
+IsHostPage m address = IsBegin m address × (state_at m address ≡ Undelegated) × IsNormal m (number_of m address)
+
+-- The page that a call reads is one of the host outside the secure world: the source of DATA_CREATE, and the parameters of
+-- a realm or a REC that is created.
+abbrev pub IsFromHost : Machine → Call → Type 0
+IsFromHost m (DataCreate rd page ipa source flags) = IsHostPage m source
+IsFromHost m (RealmCreate rd params) = IsHostPage m params
+IsFromHost m (RecCreate rd rec params) = IsHostPage m params
+IsFromHost m call = Unit {0}
+
+-- A call changes a page of the host outside the secure world. It delegates the granule at an address at which one begins,
+-- which is DELEGATED and zero then. Or it enters a REC, whose guest and exit write pages of the host. Then the granule
+-- keeps its attributes.
 abbrev pub IsHostChanged : Machine → Machine → Option Call → ℕ → Type 0
-IsHostChanged m n (Some (GranuleDelegate address)) g = g ≡ number_of m address
-IsHostChanged m n (Some (RecEnter rec run)) g = granule_at n g ≡ granule_at m g
+IsHostChanged m n (Some (GranuleDelegate address)) g =
+    IsBegin m address × (g ≡ number_of m address) × IsNormal m g × (granule_at n g ≡ of_no_realm Delegated) × (page_in n g ≡ zero_page)
+IsHostChanged m n (Some (RecEnter rec run)) g = IsNormal m g × (granule_at n g ≡ granule_at m g)
 IsHostChanged m n call g = ⊥
+
+-- An interrupt changes a page of the host: it is that of the run of the REC at an address, outside the secure world. The
+-- granule keeps its attributes.
+abbrev pub IsRunPage : Machine → Machine → ℕ → ℕ → Type 0
+IsRunPage m n rec g = (g ≡ number_of m (rec_in m (number_of m rec)).run) × IsNormal m g × (granule_at n g ≡ granule_at m g)
 
 -- a granule is of another realm than the one that a call is on
 abbrev pub IsOfAnother : Machine → Option Call → ℕ → Type 0

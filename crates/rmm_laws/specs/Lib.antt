@@ -1,7 +1,9 @@
 pub mod Apart
 pub mod Back
 pub mod Fold
+pub mod Guest
 pub mod Half
+pub mod Location
 pub mod Owner
 pub mod Proper
 pub mod Refusal

@@ -1,5 +1,8 @@
 -- Proper machines, in which each granule has one role and one owner. RMM 1.0, Granule attributes.
-use Rattle.rmm_model.specs.Machine.{Machine}
+use Rattle.std.specs.Prelude.{◌≡◌, ℕ}
+use Rattle.rmm_model.specs.declared.granule.RmmGranuleState.TheVariants.{Rec}
+use Rattle.rmm_model.specs.declared.rec.RmmRec.{RmmRec}
+use Rattle.rmm_model.specs.Machine.{Machine, granule_at}
 use Rattle.rmm_laws.specs.Owner.{IsOrdered}
 use Rattle.rmm_laws.specs.Role.{IsLinked}
 
@@ -7,3 +10,7 @@ use Rattle.rmm_laws.specs.Role.{IsLinked}
 pub record IsProper (m : Machine) : Type 0 where
   pub linked : IsLinked m
   pub ordered : IsOrdered m
+
+-- A machine during a run of a REC is proper, and the granule is a REC still.
+abbrev pub IsProperRun : Machine → ℕ → Type 0
+IsProperRun m g = IsProper m × (rec : RmmRec) × ((granule_at m g).state ≡ Rec rec)

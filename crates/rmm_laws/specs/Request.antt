@@ -10,11 +10,16 @@ use Rattle.rmm_model.specs.declared.step.GuestStep.TheVariants.{SetRipas}
 use Rattle.rmm_model.specs.Guest.{rec_in, first_step}
 use Rattle.rmm_model.specs.Machine.{Machine, granule_at, number_of}
 use Rattle.rmm_model.specs.Step.{is_ripas_range, ripas_of}
+use Rattle.rmm_model.specs.Command.Operand.{rec_at}
 use Rattle.rmm_model.specs.Command.RecEnter.{owner_realm}
 
 -- what is left of a request, from a later address on
 abbrev pub IsRest : RipasRequest → RipasRequest → Type 0
 IsRest rest asked = (asked.base ≤ rest.base) × (rest ≡ record asked { base = rest.base })
+
+-- RMI_RTT_SET_RIPAS begins where the REC at an address asks, and the REC asks from a later address on then.
+abbrev pub IsRestFrom : Machine → Machine → ℕ → ℕ → ℕ → Type 0
+IsRestFrom m n rec base stop = (base ≡ (rec_at m rec).ripas.base) × ((rec_in n (number_of m rec)).ripas ≡ record (rec_at m rec).ripas { base = stop })
 
 -- A call changes what a REC asks for: it enters the REC, or it changes RIPAS for a part of the range.
 abbrev pub IsRequested : Machine → Option Call → ℕ → RipasRequest → Type 0

@@ -1,5 +1,5 @@
 //! Theorems of all calls by registers, of the host's stores, and of guests.
-ghost use Rattle.std.specs.Prelude.{◌≡◌, ◌≢◌, ℕ, ◌+◌, ◌-◌, ◌*◌, ◌%◌, ◌^◌, ◌<◌, ◌≤◌, ◌⊎◌, true, false, List, [], ◌∷◌, length, Some, None};
+ghost use Rattle.std.specs.Prelude.{◌≡◌, ◌≢◌, ℕ, ◌+◌, ◌-◌, ◌*◌, ◌/◌, ◌%◌, ◌^◌, ◌<◌, ◌≤◌, ◌⊎◌, true, false, List, [], ◌∷◌, length, Some, None};
 ghost use Rattle.granule_addr.specs.Page.{zero_page};
 ghost use Rattle.page_arena.specs.Page.{page_at};
 ghost use Rattle.rmi_abi.specs.declared.registers.Registers.{Registers};
@@ -7,30 +7,34 @@ ghost use Rattle.rmi_abi.specs.declared.registers.SmcResult.{SmcResult};
 ghost use Rattle.rmi_abi.specs.declared.rec_run.RecExit.{RecExit};
 ghost use Rattle.rmi_abi.specs.declared.settings.RmmSettings.{RmmSettings};
 ghost use Rattle.rmi_abi.specs.declared.call.Call.{Call};
-ghost use Rattle.rmi_abi.specs.declared.call.Call.TheVariants.{GranuleUndelegate, RealmActivate, RealmDestroy, RecDestroy, RecEnter, RttCreate, RttDestroy, RttFold, RttUnmapUnprotected, DataCreate, DataDestroy};
+ghost use Rattle.rmi_abi.specs.declared.call.Call.TheVariants.{GranuleUndelegate, RealmActivate, RealmCreate, RealmDestroy, RecCreate, RecDestroy, RecEnter, RttCreate, RttDestroy, RttFold, RttInitRipas, RttSetRipas, RttUnmapUnprotected, DataCreate, DataCreateUnknown, DataDestroy};
 ghost use Rattle.rmi_abi.specs.declared.word.Word.{Word};
 ghost use Rattle.rmi_abi.specs.declared.word.Word.TheVariants.{Success};
 ghost use Rattle.rmi_abi.specs.Call.{call_in};
 ghost use Rattle.rmi_abi.specs.Settings.{IsPlatform};
 ghost use Rattle.rmm_granules.specs.Inside.{platform_machine};
 ghost use Rattle.rmm_model.specs.declared.access.AccessSize.{AccessSize};
-ghost use Rattle.rmm_model.specs.declared.entry.RmmRttEntry.TheVariants.{Assigned, AssignedNs, Table};
+ghost use Rattle.rmm_model.specs.declared.entry.RmmRttEntry.TheVariants.{Unassigned, Assigned, AssignedNs, Table};
 ghost use Rattle.rmm_model.specs.declared.granule.RmmGranuleState.TheVariants.{Undelegated, Delegated, Data, Rd, Rec, Rtt};
 ghost use Rattle.rmm_model.specs.declared.step.GuestStep.{GuestStep};
-ghost use Rattle.rmm_model.specs.declared.step.GuestStep.TheVariants.{Write};
+ghost use Rattle.rmm_model.specs.declared.step.GuestStep.TheVariants.{Write, Read, Fetch};
 ghost use Rattle.rmm_model.specs.declared.step.StepOutcome.{StepOutcome};
+ghost use Rattle.rmm_model.specs.declared.step.StepOutcome.TheVariants.{Result as IsResult};
+ghost use Rattle.rmm_model.specs.declared.step.StepResult.TheVariants.{Read as IsRead};
 ghost use Rattle.rmm_model.specs.declared.step.StepWords.{StepWords};
 ghost use Rattle.rmm_model.specs.declared.realm.RmmRealm.{RmmRealm};
 ghost use Rattle.rmm_model.specs.declared.realm.RmmRealmState.TheVariants.{New, Active};
 ghost use Rattle.rmm_model.specs.declared.entry.RmmRipas.{RmmRipas};
+ghost use Rattle.rmm_model.specs.declared.entry.RmmRipas.TheVariants.{Empty, Ram};
 ghost use Rattle.rmm_model.specs.declared.rec.LastExit.{LastExit};
 ghost use Rattle.rmm_model.specs.declared.rec.LastExit.TheVariants.{RipasChange};
 ghost use Rattle.rmm_model.specs.declared.rec.RmmRec.{RmmRec};
+ghost use Rattle.rmm_model.specs.Access.{value_in};
 ghost use Rattle.rmm_model.specs.Allowed.{allowed_words};
 ghost use Rattle.rmm_model.specs.Call.{command_of, performed, rmi};
 ghost use Rattle.rmm_model.specs.Entry.{is_live, is_ram};
 ghost use Rattle.rmm_model.specs.Granule.{of_no_realm, of_realm};
-ghost use Rattle.rmm_model.specs.Guest.{rec_in, is_rec_named, queued};
+ghost use Rattle.rmm_model.specs.Guest.{rec_in, is_rec_named, first_step, queued};
 ghost use Rattle.rmm_model.specs.Level.{entry_size};
 ghost use Rattle.rmm_model.specs.Realm.{is_protected, is_unprotected};
 ghost use Rattle.rmm_model.specs.Rec.{is_running, no_request};
@@ -38,19 +42,21 @@ ghost use Rattle.rmm_model.specs.Command.Auxiliary.{with_aux};
 ghost use Rattle.rmm_model.specs.Command.Operand.{realm_at, rec_at};
 ghost use Rattle.rmm_model.specs.Command.RealmDestroy.{has_live_table, without_tables};
 ghost use Rattle.rmm_model.specs.Host.{after_store, after_fill};
-ghost use Rattle.rmm_model.specs.Machine.{Machine, granule_at, is_inside, is_secure, number_of, page_in, with_blank};
+ghost use Rattle.rmm_model.specs.Machine.{Machine, granule_at, is_inside, is_secure, number_of, page_in, with_blank, is_vmid_used};
 ghost use Rattle.rmm_model.specs.Table.{entry_in_page, has_live};
 ghost use Rattle.rmm_model.specs.Walk.{entry_at, table_below, walk, top};
 ghost use Rattle.rmm_model.specs.Command.RecEnter.{interrupted, step_outcome, after_step, after_entry, after_first_step, after_exit};
-ghost use Rattle.rmm_laws.specs.Apart.{rd_named, changes_vmids, IsHostChanged, IsOfRealm, IsOfAnother, IsSameAt};
+ghost use Rattle.rmm_laws.specs.Apart.{rd_named, changes_vmids, IsFromHost, IsHostChanged, IsRunPage, IsOfRealm, IsOfAnother, IsOtherVmid, IsSameAt};
 ghost use Rattle.rmm_laws.specs.Back.{ComesBack, RecComesBack, IsAssignedTo, IsReleased};
 ghost use Rattle.rmm_laws.specs.Fold.{CanReplaceTable, IsAlike};
+ghost use Rattle.rmm_laws.specs.Guest.{IsHostValue, IsRecMadeOf, IsStepFor, is_write};
 ghost use Rattle.rmm_laws.specs.Half.{IsOfHalf, IsPlaced};
+ghost use Rattle.rmm_laws.specs.Location.{location_at, content_at, IsPageAt, KeepsLocations, KeepsContents};
 ghost use Rattle.rmm_laws.specs.Owner.{is_rec_in};
-ghost use Rattle.rmm_laws.specs.Proper.{IsProper};
+ghost use Rattle.rmm_laws.specs.Proper.{IsProper, IsProperRun};
 ghost use Rattle.rmm_laws.specs.Refusal.{IsRefused, is_refusal, IsOneOf, IsRecEnter, IsFault, IsNotGiven, IsNotQueued, IsNotRunning, IsAccess, IsNotDone};
-ghost use Rattle.rmm_laws.specs.Request.{KeepsRequests, IsAskedFor};
-ghost use Rattle.rmm_laws.specs.Ripas.{KeepsRipas, ripas_at};
+ghost use Rattle.rmm_laws.specs.Request.{KeepsRequests, IsRestFrom, IsAskedFor};
+ghost use Rattle.rmm_laws.specs.Ripas.{KeepsRipas, ripas_at, IsBetween, IsRipasSet, IsWithoutMemory, outcome_without_memory};
 ghost use Rattle.rmm_laws.specs.Role.{Used, page_count, uses, IsSound};
 ghost use Rattle.rmm_laws.specs.State.{IsRealmIn, KeepsStates, KeepsRealms, HasRim, IsMeasured, Measures, KeepsRims};
 ghost use Rattle.rmm_laws.specs.Step.{HasNextStep, HasRemoval, CanBeTornDown};
@@ -85,7 +91,8 @@ pub fn allowed_is_refused()
 
 /// Granules have one role: each RTT, DATA and REC_AUX granule is used once, in the realm that owns it, and no other is.
 /// Owners are RDs, each RD counts its RECs, and DELEGATED granules are zero. The machine of a platform is so. Each call
-/// keeps it so, and so do the host's stores and fills, steps that guests are given, and interrupts.
+/// keeps it so, and so do the host's stores and fills, steps that guests are given, and interrupts. During a run, the
+/// entry of a REC keeps it so, each step of its guest, and the exit.
 pub fn granules_have_one_role()
     ensures opened { (s : RmmSettings) (pages : List (List ℕ)) → IsPlatform s → length pages ≤ 4096 → ((k : ℕ) → k < length pages → length (page_at pages k) ≡ 4096)
         → IsProper (platform_machine s pages) }
@@ -95,6 +102,9 @@ pub fn granules_have_one_role()
     ensures fills { (m : Machine) (address value : ℕ) → IsProper m → IsProper (after_fill m address value) }
     ensures steps { (m : Machine) (rec : ℕ) (w : StepWords) → IsProper m → IsProper (queued m rec w).1 }
     ensures interrupts { (m : Machine) (rec : ℕ) → IsProper m → IsProper (interrupted m rec).1 }
+    ensures entries { (m : Machine) (g address flags : ℕ) → IsProperRun m g → IsProperRun (after_entry m g address flags) g }
+    ensures guests { (m : Machine) (g flags : ℕ) → IsProperRun m g → IsProperRun (after_first_step m g flags) g }
+    ensures exits { (m : Machine) (g : ℕ) (exit : RecExit) (last : LastExit) → IsProperRun m g → IsProperRun (after_exit m g exit last) g }
     ensures used { (m : Machine) (proper : IsProper m) (user index part : ℕ) (u : Used) → uses m proper.linked.level user index part ≡ Some u → granule_at m u.number ≡ u.attributes }
     ensures once { (m : Machine) (proper : IsProper m) (x i k y j l : ℕ) (u v : Used) → uses m proper.linked.level x i k ≡ Some u → uses m proper.linked.level y j l ≡ Some v → u.number ≡ v.number
         → (x ≡ y) × (i ≡ j) × (k ≡ l) }
@@ -217,7 +227,8 @@ pub fn activated_once()
 
 /// RIMs are measured: RMI_REALM_CREATE gives a realm its first RIM. RMI_DATA_CREATE, RMI_RTT_INIT_RIPAS and RMI_REC_CREATE
 /// of a REC that is measured extend it while the realm is NEW. No other call changes it, and neither do steps that
-/// guests are given, and interrupts. A page of data has the bytes that are measured.
+/// guests are given, and interrupts. A page of data has the bytes that are measured. What is measured is read from a page of
+/// the host outside the secure world, and so are parameters.
 pub fn rims_are_measured()
     ensures calls { (r : Registers) (m : Machine) → IsProper m → KeepsRims m (call_in r) (rmi r m).1 }
     ensures steps { (m : Machine) (rec : ℕ) (w : StepWords) → KeepsRims m None (queued m rec w).1 }
@@ -225,38 +236,95 @@ pub fn rims_are_measured()
     ensures measured { (m : Machine) (call : Call) (rd : ℕ) → Measures m call rd → (performed call m).0.word ≡ Success → (rim : List ℕ) × HasRim (performed call m).1 rd rim × IsMeasured m (Some call) rd rim }
     ensures content { (m : Machine) (rd page ipa source flags : ℕ) → IsProper m → (performed (DataCreate rd page ipa source flags) m).0.word ≡ Success
         → page_in (performed (DataCreate rd page ipa source flags) m).1 (number_of m page) ≡ page_in m (number_of m source) }
+    ensures rec { (m : Machine) (rd rec params : ℕ) → IsProper m → (performed (RecCreate rd rec params) m).0.word ≡ Success → IsRecMadeOf m (performed (RecCreate rd rec params) m).1 rd rec params }
+    ensures sources { (m : Machine) (call : Call) → IsProper m → (performed call m).0.word ≡ Success → IsFromHost m call }
 {}
 
 /// What RECs ask for of RIPAS is their guests'. A call keeps what each REC asks for, but RMI_REC_ENTER of the REC, and
 /// RMI_RTT_SET_RIPAS, after which the REC asks for the rest. So do steps that a guest is given, and interrupts. A REC that
-/// left with a request asks for nothing once it is entered. A step of its guest asks for a range of the protected half,
-/// or leaves what is asked for as it is, and so does the exit.
+/// left with a request asks for nothing once it is entered, and any other asks for what it asked for before. A step of
+/// its guest asks for a range of the protected half, or leaves what is asked for as it is, and so does the exit.
+/// RMI_RTT_SET_RIPAS begins where the REC asks, and then the REC asks for the rest from X1 on.
 pub fn requests_are_the_guest_s()
     ensures calls { (r : Registers) (m : Machine) → KeepsRequests m (call_in r) (rmi r m).1 }
     ensures steps { (m : Machine) (rec : ℕ) (w : StepWords) → KeepsRequests m None (queued m rec w).1 }
     ensures interrupts { (m : Machine) (rec : ℕ) → KeepsRequests m None (interrupted m rec).1 }
     ensures entered { (m : Machine) (g address flags : ℕ) (rec : RmmRec) → (rec_in m g).exit ≡ RipasChange → (granule_at (after_entry m g address flags) g).state ≡ Rec rec → rec.ripas ≡ no_request }
+    ensures kept { (m : Machine) (g address flags : ℕ) (rec : RmmRec) → (rec_in m g).exit ≢ RipasChange → (granule_at (after_entry m g address flags) g).state ≡ Rec rec → rec.ripas ≡ (rec_in m g).ripas }
     ensures asked { (m : Machine) (g flags : ℕ) (rec : RmmRec) → (granule_at (after_first_step m g flags) g).state ≡ Rec rec → (rec.ripas ≡ (rec_in m g).ripas) ⊎ IsAskedFor m g rec.ripas }
+    ensures rest { (m : Machine) (rd rec base top : ℕ) → (performed (RttSetRipas rd rec base top) m).0.word ≡ Success
+        → IsRestFrom m (performed (RttSetRipas rd rec base top) m).1 rec base (performed (RttSetRipas rd rec base top) m).0.x1 }
     ensures left { (m : Machine) (g : ℕ) (exit : RecExit) (last : LastExit) → KeepsRequests m None (after_exit m g exit last) }
 {}
 
 /// RIPAS is the guest's. RMI_RTT_INIT_RIPAS and RMI_DATA_CREATE alone can make it RAM while a realm is NEW.
 /// RMI_DATA_DESTROY and RMI_RTT_DESTROY can make it DESTROYED, and a page that is destroyed leaves RIPAS that is not RAM.
-/// RMI_RTT_SET_RIPAS can make it what a REC of the realm asks for, within the range that it asks for. No other call
-/// changes the RIPAS of a protected address, and neither do stores and fills of the host, steps that guests are given,
-/// and interrupts.
+/// RMI_RTT_SET_RIPAS can make it what a REC of the realm asks for, within the range that it asks for. If it succeeds, it
+/// does so up to X1 and no further, and leaves the pages. So does RMI_RTT_INIT_RIPAS with RAM. No other call changes the
+/// RIPAS of a protected address, and neither do stores and fills of the host, steps that guests are given, and interrupts.
+/// A new realm is EMPTY and has no page at each protected address. An access of a guest where RIPAS is not RAM, or where
+/// there is no page, is answered an SEA or makes an exit, and reads and writes nothing.
 pub fn ripas_is_the_guest_s()
     ensures calls { (r : Registers) (m : Machine) → IsProper m → KeepsRipas m (call_in r) (rmi r m).1 }
-    ensures taken { (m : Machine) (rd ipa : ℕ) → IsProper m → (performed (DataDestroy rd ipa) m).0.word ≡ Success → is_ram (ripas_at (performed (DataDestroy rd ipa) m).1 (realm_at m rd) ipa) ≡ false }
+    ensures taken { (m : Machine) (rd ipa x : ℕ) → IsProper m → (performed (DataDestroy rd ipa) m).0.word ≡ Success → IsBetween ipa (ipa + 4096) x
+        → is_ram (ripas_at (performed (DataDestroy rd ipa) m).1 (realm_at m rd) x) ≡ false }
+    ensures changed { (m : Machine) (rd rec base top : ℕ) → IsProper m → (performed (RttSetRipas rd rec base top) m).0.word ≡ Success
+        → IsRipasSet m (performed (RttSetRipas rd rec base top) m).1 (realm_at m rd) (rec_at m rec).ripas.ripas base (performed (RttSetRipas rd rec base top) m).0.x1 × ((performed (RttSetRipas rd rec base top) m).0.x1 ≤ top) }
+    ensures inited { (m : Machine) (rd base top : ℕ) → IsProper m → (performed (RttInitRipas rd base top) m).0.word ≡ Success
+        → IsRipasSet m (performed (RttInitRipas rd base top) m).1 (realm_at m rd) Ram base (performed (RttInitRipas rd base top) m).0.x1 × ((performed (RttInitRipas rd base top) m).0.x1 ≤ top) }
+    ensures new { (m : Machine) (rd params ipa : ℕ) (realm : RmmRealm) → IsProper m → (performed (RealmCreate rd params) m).0.word ≡ Success
+        → (granule_at (performed (RealmCreate rd params) m).1 (number_of m rd)).state ≡ Rd realm → is_protected realm ipa ≡ true
+        → entry_at (performed (RealmCreate rd params) m).1 (walk (performed (RealmCreate rd params) m).1 realm ipa 3) ipa ≡ Unassigned Empty }
+    ensures reads { (m : Machine) (realm : RmmRealm) (rec flags ipa : ℕ) (size : AccessSize) → IsWithoutMemory m realm ipa
+        → step_outcome m realm rec flags (Read ipa size) ≡ outcome_without_memory m realm 0x90000000 ipa }
+    ensures writes { (m : Machine) (realm : RmmRealm) (rec flags ipa value : ℕ) (size : AccessSize) (outcome : StepOutcome) → IsWithoutMemory m realm ipa
+        → (step_outcome m realm rec flags (Write ipa value size) ≡ outcome_without_memory m realm 0x90000000 ipa) × (after_step m realm rec (Write ipa value size) outcome ≡ m) }
+    ensures fetches { (m : Machine) (realm : RmmRealm) (rec flags ipa : ℕ) → IsWithoutMemory m realm ipa → step_outcome m realm rec flags (Fetch ipa) ≡ outcome_without_memory m realm 0x80000000 ipa }
     ensures stores { (m : Machine) (address word : ℕ) → IsProper m → KeepsRipas m None (after_store m address word) }
     ensures fills { (m : Machine) (address value : ℕ) → IsProper m → KeepsRipas m None (after_fill m address value) }
     ensures steps { (m : Machine) (rec : ℕ) (w : StepWords) → IsProper m → KeepsRipas m None (queued m rec w).1 }
     ensures interrupts { (m : Machine) (rec : ℕ) → IsProper m → KeepsRipas m None (interrupted m rec).1 }
 {}
 
+/// Memory is the guest's. RMI_DATA_CREATE and RMI_DATA_CREATE_UNKNOWN alone give a protected address a page, where there was
+/// none, and RMI_DATA_DESTROY alone takes it. So a page takes the place of another one only after that was destroyed. The
+/// first gives the bytes of a page of the host while the realm is NEW, the second gives zeros. Then the bytes stay, but
+/// while RECs of the realm are entered. Stores and fills of the host, steps that guests are given, and interrupts change
+/// neither. A guest reads the bytes of the page that its address leads to, if RIPAS is RAM. What it writes at a protected
+/// address changes those at no protected address of another page or realm.
+pub fn memory_is_the_guest_s()
+    ensures calls { (r : Registers) (m : Machine) → IsProper m → KeepsLocations m (call_in r) (rmi r m).1 }
+    ensures stores { (m : Machine) (address word : ℕ) → IsProper m → KeepsLocations m None (after_store m address word) }
+    ensures fills { (m : Machine) (address value : ℕ) → IsProper m → KeepsLocations m None (after_fill m address value) }
+    ensures steps { (m : Machine) (rec : ℕ) (w : StepWords) → IsProper m → KeepsLocations m None (queued m rec w).1 }
+    ensures interrupts { (m : Machine) (rec : ℕ) → IsProper m → KeepsLocations m None (interrupted m rec).1 }
+    ensures created { (m : Machine) (rd page ipa source flags : ℕ) → IsProper m → (performed (DataCreate rd page ipa source flags) m).0.word ≡ Success
+        → IsPageAt (performed (DataCreate rd page ipa source flags) m).1 (realm_at m rd) ipa page Ram }
+    ensures created_unknown { (m : Machine) (rd page ipa : ℕ) → IsProper m → (performed (DataCreateUnknown rd page ipa) m).0.word ≡ Success
+        → IsPageAt (performed (DataCreateUnknown rd page ipa) m).1 (realm_at m rd) ipa page (ripas_at m (realm_at m rd) ipa) }
+    ensures called { (r : Registers) (m : Machine) → IsProper m → KeepsContents m (call_in r) (rmi r m).1 }
+    ensures stored { (m : Machine) (address word : ℕ) → IsProper m → KeepsContents m None (after_store m address word) }
+    ensures filled { (m : Machine) (address value : ℕ) → IsProper m → KeepsContents m None (after_fill m address value) }
+    ensures given { (m : Machine) (rec : ℕ) (w : StepWords) → IsProper m → KeepsContents m None (queued m rec w).1 }
+    ensures ended { (m : Machine) (rec : ℕ) → IsProper m → KeepsContents m None (interrupted m rec).1 }
+    ensures reads { (m : Machine) (rd rec flags ipa : ℕ) (size : AccessSize) (realm : RmmRealm) (page : List ℕ) → IsProper m → (granule_at m rd).state ≡ Rd realm → is_protected realm ipa ≡ true
+        → content_at m realm ipa ≡ Some page → ripas_at m realm ipa ≡ Ram → step_outcome m realm rec flags (Read ipa size) ≡ IsResult (IsRead (value_in page size ipa)) }
+    ensures entered { (m : Machine) (g address flags : ℕ) → IsProperRun m g → KeepsContents m None (after_entry m g address flags) }
+    ensures stepped { (m : Machine) (g flags : ℕ) → IsProperRun m g → is_write (first_step m g) ≡ false → KeepsContents m None (after_first_step m g flags) }
+    ensures left { (m : Machine) (g : ℕ) (exit : RecExit) (last : LastExit) → IsProperRun m g → KeepsContents m None (after_exit m g exit last) }
+    ensures upper_reads { (m : Machine) (realm : RmmRealm) (rec flags ipa value : ℕ) (size : AccessSize) → IsProper m → is_protected realm ipa ≡ false
+        → step_outcome m realm rec flags (Read ipa size) ≡ IsResult (IsRead value) → IsHostValue m size ipa value }
+    ensures performed { (m : Machine) (rd g flags : ℕ) (realm : RmmRealm) → (granule_at m g).owner ≡ Some rd → (granule_at m rd).state ≡ Rd realm → (rec_in m g).step_count ≢ 0 → IsStepFor m realm g flags }
+    ensures upper_writes { (m : Machine) (rd other rec ipa value x : ℕ) (size : AccessSize) (realm its : RmmRealm) (outcome : StepOutcome) → IsProper m → (granule_at m rd).state ≡ Rd realm → (granule_at m other).state ≡ Rd its
+        → is_protected realm ipa ≡ false → is_protected its x ≡ true → content_at (after_step m realm rec (Write ipa value size) outcome) its x ≡ content_at m its x }
+    ensures writes { (m : Machine) (rd other rec ipa value x : ℕ) (size : AccessSize) (realm its : RmmRealm) (outcome : StepOutcome) → IsProper m → (granule_at m rd).state ≡ Rd realm → (granule_at m other).state ≡ Rd its
+        → is_protected realm ipa ≡ true → is_protected its x ≡ true → (other ≢ rd) ⊎ (x / 4096 ≢ ipa / 4096) → content_at (after_step m realm rec (Write ipa value size) outcome) its x ≡ content_at m its x }
+{}
+
 /// RMI_RTT_FOLD undoes RMI_RTT_CREATE: it succeeds right after it, with its operands. And RMI_RTT_CREATE undoes
 /// RMI_RTT_FOLD, with the granule that comes back. Then each granule has the attributes that it had before both, and each
-/// entry of each table is as it was. A table is folded only if the entry can replace it.
+/// entry of each table is as it was. A table is folded only if the entry can replace it. After each of both calls an
+/// address leads to the same memory as before.
 pub fn fold_and_unfold()
     ensures created { (m : Machine) (rd rtt ipa level : ℕ) → IsProper m → (performed (RttCreate rd rtt ipa level) m).0.word ≡ Success
         → ((performed (RttFold rd ipa level) (performed (RttCreate rd rtt ipa level) m).1).0.word ≡ Success)
@@ -266,13 +334,17 @@ pub fn fold_and_unfold()
         × IsAlike m (performed (RttCreate rd (performed (RttFold rd ipa level) m).0.x1 ipa level) (performed (RttFold rd ipa level) m).1).1 }
     ensures only { (m : Machine) (rd ipa level : ℕ) → IsProper m → (performed (RttFold rd ipa level) m).0.word ≡ Success
         → CanReplaceTable m (entry_at (performed (RttFold rd ipa level) m).1 (walk m (realm_at m rd) ipa (level - 1)) ipa) level }
+    ensures memory_created { (m : Machine) (rd rtt ipa level x : ℕ) → IsProper m → (performed (RttCreate rd rtt ipa level) m).0.word ≡ Success → x < 2 ^ (realm_at m rd).s2sz
+        → location_at (performed (RttCreate rd rtt ipa level) m).1 (realm_at m rd) x ≡ location_at m (realm_at m rd) x }
+    ensures memory_folded { (m : Machine) (rd ipa level x : ℕ) → IsProper m → (performed (RttFold rd ipa level) m).0.word ≡ Success → x < 2 ^ (realm_at m rd).s2sz
+        → location_at (performed (RttFold rd ipa level) m).1 (realm_at m rd) x ≡ location_at m (realm_at m rd) x }
 {}
 
 /// Other realms stay: a call leaves each granule as it was, but for those of the realm that it is on, and UNDELEGATED
 /// and DELEGATED ones. So it keeps the RDs, tables, pages and RECs of all other realms. UNDELEGATED ones stay as they
-/// were, but for one that is delegated, and for pages that a REC writes which is entered. Stores and fills of the host
-/// change UNDELEGATED granules alone, a step that a guest is given its REC, and an interrupt its REC and UNDELEGATED
-/// granules. A write of a guest changes pages of its realm, and of the host outside the secure world. Settings and the
+/// were, but for one that is delegated, and for pages that a REC writes which is entered. None of these is of the secure
+/// world. Stores and fills of the host change UNDELEGATED granules alone, a step that a guest is given its REC, and an
+/// interrupt its REC and its run page. A write of a guest changes pages of its realm, and of the host outside the secure world. Settings and the
 /// number of granules stay. VMIDs are those before, but for calls that create or destroy a realm.
 pub fn other_realms_stay()
     ensures calls { (r : Registers) (m : Machine) (granule : ℕ) → IsProper m → IsOfAnother m (call_in r) granule → IsSameAt m (rmi r m).1 granule }
@@ -284,10 +356,16 @@ pub fn other_realms_stay()
     ensures filled { (m : Machine) (address value : ℕ) → (after_fill m address value).granules ≡ m.granules }
     ensures steps { (m : Machine) (rec granule : ℕ) (w : StepWords) → granule ≢ number_of m rec → IsSameAt m (queued m rec w).1 granule }
     ensures interrupts { (m : Machine) (rec granule : ℕ) → granule ≢ number_of m rec → (granule_at m granule).state ≢ Undelegated → IsSameAt m (interrupted m rec).1 granule }
+    ensures ended { (m : Machine) (rec granule : ℕ) → IsProper m → (granule_at m granule).state ≡ Undelegated → IsSameAt m (interrupted m rec).1 granule ⊎ IsRunPage m (interrupted m rec).1 rec granule }
     ensures writes { (m : Machine) (rd rec ipa value granule : ℕ) (size : AccessSize) (outcome : StepOutcome) (realm : RmmRealm) → IsProper m → (granule_at m rd).state ≡ Rd realm
         → granule_at m granule ≢ of_realm rd Data → (granule_at m granule).state ≢ Undelegated → IsSameAt m (after_step m realm rec (Write ipa value size) outcome) granule }
     ensures secure { (m : Machine) (rd rec ipa value granule : ℕ) (size : AccessSize) (outcome : StepOutcome) (realm : RmmRealm) → IsProper m → (granule_at m rd).state ≡ Rd realm
         → (granule_at m granule).state ≡ Undelegated → is_secure m (m.settings.base + granule * 4096) ≡ true → IsSameAt m (after_step m realm rec (Write ipa value size) outcome) granule }
+    ensures lower { (m : Machine) (rd rec ipa value granule : ℕ) (size : AccessSize) (outcome : StepOutcome) (realm : RmmRealm) → IsProper m → (granule_at m rd).state ≡ Rd realm → is_protected realm ipa ≡ true
+        → (granule_at m granule).state ≡ Undelegated → IsSameAt m (after_step m realm rec (Write ipa value size) outcome) granule }
+    ensures store_beside { (m : Machine) (address word granule : ℕ) → granule ≢ number_of m address → IsSameAt m (after_store m address word) granule }
+    ensures fill_beside { (m : Machine) (address value granule : ℕ) → granule ≢ number_of m address → IsSameAt m (after_fill m address value) granule }
+    ensures vmid { (r : Registers) (m : Machine) (vmid : ℕ) → IsProper m → IsOtherVmid m (call_in r) vmid → is_vmid_used (rmi r m).1 vmid ≡ is_vmid_used m vmid }
     ensures settings { (r : Registers) (m : Machine) → IsProper m → ((rmi r m).1.settings ≡ m.settings) × (length (rmi r m).1.granules ≡ length m.granules) }
 {}
 

@@ -16,13 +16,15 @@ use Rattle.rmm_model.specs.Command.RecEnter.{after_step}
 use Rattle.rmm_model.specs.Machine.{Machine, granule_at, is_aligned, is_secure, number_of, with_page, with_word}
 use Rattle.rmm_laws.specs.Apart.{named_realm, IsHostChanged, IsSameAt, IsOfAnother}
 use Rattle.rmm_laws.specs.Proper.{IsProper}
-use Rattle.rmm_laws.proofs.LeftAlone.{touches_host, touches_of, host_left, left_alone}
+use Rattle.rmm_laws.proofs.HostAccesses.{lower_written, store_beside, fill_beside}
+use Rattle.rmm_laws.proofs.LeftAlone.{touches_host, touches_of, host_left, interrupt_host, left_alone}
 use Rattle.rmm_laws.proofs.Passed.{kept}
 use Rattle.rmm_laws.proofs.Plain.{host_plain}
 use Rattle.rmm_laws.proofs.Aside.{given_apart, interrupt_apart, written_apart, plain_of}
 use Rattle.rmm_laws.proofs.Accesses.{IsHostAt, IsPlainIfOk, accessed, reached_normal}
 use Rattle.rmm_laws.proofs.ReleasingCalls.{call_vmids}
 use Rattle.rmm_laws.proofs.Touching.{Touches, untouched}
+use Rattle.rmm_laws.proofs.Vmids.{vmid_left}
 use Rattle.rmm_laws.proofs.Writes.{page_in-other}
 use Rattle.rmm_laws.proofs.law.other_realms_stay.Goals as goal
 
@@ -55,6 +57,9 @@ returns-clause-steps c = given_apart
 
 pub returns-clause-interrupts : goal.returns-clause-interrupts
 returns-clause-interrupts c = interrupt_apart
+
+pub returns-clause-ended : goal.returns-clause-ended
+returns-clause-ended c = interrupt_host
 
 by_settings : (o : Option Call) (r : Registers) (m : Machine) → IsProper m → ((rmi_at o r m).1.settings ≡ m.settings) × (length (rmi_at o r m).1.granules ≡ length m.granules)
 unfolding performed
@@ -105,3 +110,16 @@ returns-clause-filled c = λ m address value.
 pub returns-clause-vmids : goal.returns-clause-vmids
 unfolding rmi
 returns-clause-vmids c = λ r m proper quiet. call_vmids (call_in r) r m proper quiet
+
+pub returns-clause-lower : goal.returns-clause-lower
+returns-clause-lower c = λ m rd rec ipa value g size outcome realm proper is lower free. lower_written m rd rec ipa value g size outcome realm proper is lower free
+
+pub returns-clause-store_beside : goal.returns-clause-store_beside
+returns-clause-store_beside c = store_beside
+
+pub returns-clause-fill_beside : goal.returns-clause-fill_beside
+returns-clause-fill_beside c = fill_beside
+
+pub returns-clause-vmid : goal.returns-clause-vmid
+unfolding rmi
+returns-clause-vmid c = λ r m vmid proper other. vmid_left (call_in r) r m vmid proper other

@@ -2,6 +2,7 @@ use Rattle.std.proofs.Common.{inl}
 use Rattle.rmi_abi.specs.Call.{call_in}
 use Rattle.rmm_model.specs.Call.{rmi}
 use Rattle.rmm_laws.proofs.Effects.{content_then, measured_then}
+use Rattle.rmm_laws.proofs.Sources.{read_from_host, rec_made}
 use Rattle.rmm_laws.proofs.StateCalls.{call_rims, queued_states, interrupt_states}
 use Rattle.rmm_laws.proofs.law.rims_are_measured.Goals as goal
 
@@ -20,3 +21,9 @@ returns-clause-measured c = measured_then
 
 pub returns-clause-content : goal.returns-clause-content
 returns-clause-content c = content_then
+
+pub returns-clause-sources : goal.returns-clause-sources
+returns-clause-sources c = read_from_host
+
+pub returns-clause-rec : goal.returns-clause-rec
+returns-clause-rec c = rec_made

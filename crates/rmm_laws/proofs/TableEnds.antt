@@ -1,39 +1,37 @@
--- The RIPAS of addresses after a table was made in the place of an entry, or an entry took the place of a table.
-use Rattle.std.proofs.Common.{◌≡◌, ◌≢◌, ℕ, zero, suc, ◌+◌, ◌*◌, ◌/◌, ◌^◌, ◌<◌, ◌≤◌, ◌⊎◌, inl, inr, true, false, List, length, Some, None, refl, sym, ap, subst, ◌∙◌, ⊎_elim, arith}
+-- What is read at addresses after a table was made in the place of an entry, or an entry took the place of a table.
+use Rattle.std.proofs.Common.{◌≡◌, ◌≢◌, ℕ, zero, suc, ◌+◌, ◌*◌, ◌/◌, ◌^◌, ◌<◌, ◌≤◌, ◌⊎◌, inl, inr, false, List, length, Some, None, refl, sym, ap, subst, ◌∙◌, ⊎_elim, arith}
 use Rattle.std.specs.Prelude.{nat_lt, ◌==◌}
 use Rattle.std.proofs.lemmas.Bool.{cases_eq, cond-true, and_from, lt-ltb}
-use Rattle.rmm_model.specs.declared.entry.RmmRipas.{RmmRipas}
 use Rattle.rmm_model.specs.declared.entry.RmmRttEntry.{RmmRttEntry}
 use Rattle.rmm_model.specs.declared.granule.RmmGranule.{RmmGranule}
 use Rattle.rmm_model.specs.declared.granule.RmmGranuleState.{RmmGranuleState}
 use Rattle.rmm_model.specs.declared.granule.RmmGranuleState.TheVariants.{Rd, Rtt}
 use Rattle.rmm_model.specs.declared.realm.RmmRealm.{RmmRealm}
 use Rattle.rmm_model.specs.declared.realm.RttWalk.{RttWalk}
-use Rattle.rmm_model.specs.Entry.{is_table, ripas_in}
+use Rattle.rmm_model.specs.Entry.{is_table}
 use Rattle.rmm_model.specs.Level.{entry_size, entry_index, start_offset}
 use Rattle.rmm_model.specs.Machine.{Machine, granule_at, page_in}
-use Rattle.rmm_model.specs.Realm.{is_protected}
 use Rattle.rmm_model.specs.Table.{entry_in_page}
 use Rattle.rmm_model.specs.Walk.{entry_at, table_below, walk_from, start_of, walk}
 use Rattle.rmm_laws.specs.Proper.{IsProper}
-use Rattle.rmm_laws.specs.Ripas.{ripas_at}
 use Rattle.rmm_laws.specs.Role.{used, state_uses, uses}
 use Rattle.rmm_laws.specs.Walk.{IsTableOf}
 use Rattle.rmm_laws.proofs.Along.{IsMet, along, stops, goes}
-use Rattle.rmm_laws.proofs.EntryRipas.{covered}
+use Rattle.rmm_laws.proofs.EntryReads.{covered}
 use Rattle.rmm_laws.proofs.Halves.{no_rtt, none_below}
 use Rattle.rmm_laws.proofs.KeptTables.{on_same}
-use Rattle.rmm_laws.proofs.Mappings.{served, protected_within}
+use Rattle.rmm_laws.proofs.Mappings.{served}
 use Rattle.rmm_laws.proofs.Seats.{IsSeat, seat_next, walk_seat}
 use Rattle.rmm_laws.proofs.Serving.{few_at}
 use Rattle.rmm_laws.proofs.Sides.{whole_index}
 use Rattle.rmm_laws.proofs.Walks.{by_entry, one_place, start_inside, uses-entry, entry_index-few}
 
--- The machines differ in one entry of a table of a realm, and in the table that it leads to.
+-- The machines differ in one entry of a table of a realm, and in the table that it leads to. What is read is by the entry
+-- at which a walk ends, and its level.
 module _ (m n : Machine) (proper : IsProper m) (settings : n.settings ≡ m.settings) (count : length n.granules ≡ length m.granules) (rd ipa level : ℕ) (realm : RmmRealm)
     (is : (granule_at m rd).state ≡ Rd realm) (within : ipa < 2 ^ realm.s2sz) (g : ℕ)
     (beside : (j : ℕ) → j < 512 → j ≢ entry_index (walk m realm ipa level).level ipa
-    → entry_in_page (page_in n (walk m realm ipa level).table) j ≡ entry_in_page (page_in m (walk m realm ipa level).table) j) (x : ℕ) where
+    → entry_in_page (page_in n (walk m realm ipa level).table) j ≡ entry_in_page (page_in m (walk m realm ipa level).table) j) (x : ℕ) (A : Type 0) (F : RmmRttEntry → ℕ → A) where
   abbrev found : RttWalk
   found = walk m realm ipa level
 
@@ -80,15 +78,16 @@ module _ (m n : Machine) (proper : IsProper m) (settings : n.settings ≡ m.sett
       (leads : table_below n (entry_in_page (page_in n (walk m realm ipa level).table) (entry_index (walk m realm ipa level).level ipa)) ≡ Some g)
       (others : (h : ℕ) → IsTableOf m rd h → h ≢ (walk m realm ipa level).table → page_in n h ≡ page_in m h) (few : (walk m realm ipa level).level ≤ 2)
       (flat : (j : ℕ) → j < 512 → table_below n (entry_in_page (page_in n g) j) ≡ None)
-      (alike : (j : ℕ) → j < 512 → ripas_in (entry_in_page (page_in n g) j) ≡ ripas_in (entry_at m (walk m realm ipa level) ipa)) where
+      (alike : x / entry_size (walk m realm ipa level).level ≡ ipa / entry_size (walk m realm ipa level).level
+      → F (entry_in_page (page_in n g) (entry_index ((walk m realm ipa level).level + 1) x)) ((walk m realm ipa level).level + 1) ≡ F (entry_at m (walk m realm ipa level) ipa) (walk m realm ipa level).level) where
     abbrev Same : RttWalk → RttWalk → Type 0
-    Same p q = ripas_in (entry_at n q x) ≡ ripas_in (entry_at m p x)
+    Same p q = F (entry_at n q x) q.level ≡ F (entry_at m p x) p.level
 
     abbrev MetSame : RttWalk → Type 0
     MetSame p = IsMet m n proper.linked proper.ordered.halves rd x realm (λ table. Unit {0}) Same p
 
     on_as_before : (p : RttWalk) → entry_at n p x ≡ entry_at m p x → MetSame p
-    on_as_before p entry = inl (on_same m n proper settings count rd x realm (λ table. Unit {0}) Same p entry (λ table leads. tt) (ap ripas_in entry))
+    on_as_before p entry = inl (on_same m n proper settings count rd x realm (λ table. Unit {0}) Same p entry (λ table leads. tt) (ap (λ (e : RmmRttEntry). F e p.level) entry))
 
     made_here : (p : RttWalk) → Seat p → p.table ≡ (walk m realm ipa level).table → entry_index p.level x ≡ entry_index (walk m realm ipa level).level ipa → (levels : ℕ) → p.level + levels ≡ 3
         → Same (walk_from m x levels p) (walk_from n x levels p)
@@ -98,12 +97,13 @@ module _ (m n : Machine) (proper : IsProper m) (settings : n.settings ≡ m.sett
         let entry : entry_at m p x ≡ entry_at m found ipa = same_place m p here same in
         let none = ap (λ (e : RmmRttEntry). table_below m e) entry ∙ none_below m (entry_at m found ipa) (entry_at m found ipa) refl leaf in
         let on : table_below n (entry_at n p x) ≡ Some g = ap (λ (e : RmmRttEntry). table_below n e) (same_place n p here same) ∙ leads in
-        let j : ℕ = entry_index (p.level + 1) x in
-        let lt = entry_index-few (p.level + 1) x in
-        ap (λ (q : RttWalk). ripas_in (entry_at n q x)) (goes n x levels g p on ∙ stops n x levels (child p) (flat j lt))
-        ∙ alike j lt
-        ∙ ap ripas_in (sym entry)
-        ∙ ap (λ (q : RttWalk). ripas_in (entry_at m q x)) (sym (stops m x (suc levels) p none))
+        let depth = (covered m n proper settings count rd ipa level realm is within x p seat here).0 in
+        ap (λ (q : RttWalk). F (entry_at n q x) q.level) (goes n x levels g p on ∙ stops n x levels (child p) (flat (entry_index (p.level + 1) x) (entry_index-few (p.level + 1) x)))
+        ∙ ap (λ (l : ℕ). F (entry_in_page (page_in n g) (entry_index (l + 1) x)) (l + 1)) depth
+        ∙ alike (same_entry p seat here same)
+        ∙ ap (λ (l : ℕ). F (entry_at m found ipa) l) (sym depth)
+        ∙ ap (λ (e : RmmRttEntry). F e p.level) (sym entry)
+        ∙ ap (λ (q : RttWalk). F (entry_at m q x) q.level) (sym (stops m x (suc levels) p none))
 
     met_made : (p : RttWalk) → Seat p → Unit {0} → MetSame p
     unfolding entry_at
@@ -116,20 +116,23 @@ module _ (m n : Machine) (proper : IsProper m) (settings : n.settings ≡ m.sett
         (λ (other : p.table ≢ found.table). on_as_before p (ap (λ (q : List ℕ). entry_in_page q (entry_index p.level x)) (others p.table seat.is.table other)))
         (cases_eq p.table found.table)
 
-    pub made_ripas : (after : RmmRealm) → after.start_level ≡ realm.start_level → after.first_table ≡ realm.first_table → is_protected realm x ≡ true → ripas_at n after x ≡ ripas_at m realm x
-    made_ripas after start first protected = along m n proper.linked proper.ordered.halves rd x realm (λ table. Unit {0}) Same after start first is (protected_within realm x protected) tt met_made
+    pub made_read : (after : RmmRealm) → after.start_level ≡ realm.start_level → after.first_table ≡ realm.first_table → x < 2 ^ realm.s2sz
+        → F (entry_at n (walk n after x 3) x) (walk n after x 3).level ≡ F (entry_at m (walk m realm x 3) x) (walk m realm x 3).level
+    made_read after start first inside = along m n proper.linked proper.ordered.halves rd x realm (λ table. Unit {0}) Same after start first is inside tt met_made
 
   -- ---- a table that is gone
 
   module _ (leads : table_below m (entry_at m (walk m realm ipa level) ipa) ≡ Some g)
       (leaf : is_table (entry_in_page (page_in n (walk m realm ipa level).table) (entry_index (walk m realm ipa level).level ipa)) ≡ false)
       (others : (h : ℕ) → IsTableOf m rd h → h ≢ (walk m realm ipa level).table → h ≢ g → page_in n h ≡ page_in m h)
-      (flat : (j : ℕ) → j < 512 → table_below m (entry_in_page (page_in m g) j) ≡ None) (G : RmmRipas → RmmRipas → Type 0)
-      (given : (j : ℕ) → j < 512 → x / entry_size (walk m realm ipa level).level ≡ ipa / entry_size (walk m realm ipa level).level
-      → (ripas_in (entry_in_page (page_in n (walk m realm ipa level).table) (entry_index (walk m realm ipa level).level ipa)) ≡ ripas_in (entry_in_page (page_in m g) j))
-      ⊎ G (ripas_in (entry_in_page (page_in m g) j)) (ripas_in (entry_in_page (page_in n (walk m realm ipa level).table) (entry_index (walk m realm ipa level).level ipa)))) where
+      (flat : (j : ℕ) → j < 512 → table_below m (entry_in_page (page_in m g) j) ≡ None) (G : A → A → Type 0)
+      (given : x / entry_size (walk m realm ipa level).level ≡ ipa / entry_size (walk m realm ipa level).level
+      → (F (entry_in_page (page_in n (walk m realm ipa level).table) (entry_index (walk m realm ipa level).level ipa)) (walk m realm ipa level).level
+      ≡ F (entry_in_page (page_in m g) (entry_index ((walk m realm ipa level).level + 1) x)) ((walk m realm ipa level).level + 1))
+      ⊎ G (F (entry_in_page (page_in m g) (entry_index ((walk m realm ipa level).level + 1) x)) ((walk m realm ipa level).level + 1))
+      (F (entry_in_page (page_in n (walk m realm ipa level).table) (entry_index (walk m realm ipa level).level ipa)) (walk m realm ipa level).level)) where
     abbrev Q : RttWalk → RttWalk → Type 0
-    Q p q = (ripas_in (entry_at n q x) ≡ ripas_in (entry_at m p x)) ⊎ G (ripas_in (entry_at m p x)) (ripas_in (entry_at n q x))
+    Q p q = (F (entry_at n q x) q.level ≡ F (entry_at m p x) p.level) ⊎ G (F (entry_at m p x) p.level) (F (entry_at n q x) q.level)
 
     abbrev Other : ℕ → Type 0
     Other table = table ≢ g
@@ -178,11 +181,12 @@ module _ (m n : Machine) (proper : IsProper m) (settings : n.settings ≡ m.sett
         let entry = same_place n p here same in
         let e : RmmRttEntry = entry_in_page (page_in n found.table) at in
         let none = ap (λ (e : RmmRttEntry). table_below n e) entry ∙ none_below n e e refl leaf in
-        let j : ℕ = entry_index (p.level + 1) x in
-        let lt = entry_index-few (p.level + 1) x in
+        let depth = (covered m n proper settings count rd ipa level realm is within x p seat here).0 in
+        let there : (F e p.level ≡ F (entry_in_page (page_in m g) (entry_index (p.level + 1) x)) (p.level + 1)) ⊎ G (F (entry_in_page (page_in m g) (entry_index (p.level + 1) x)) (p.level + 1)) (F e p.level) =
+        subst (λ (l : ℕ). (F e l ≡ F (entry_in_page (page_in m g) (entry_index (l + 1) x)) (l + 1)) ⊎ G (F (entry_in_page (page_in m g) (entry_index (l + 1) x)) (l + 1)) (F e l)) (sym depth) (given (same_entry p seat here same)) in
         let here_then : Q (child p) p =
-        subst (λ (f : RmmRttEntry). (ripas_in f ≡ ripas_in (entry_in_page (page_in m g) j)) ⊎ G (ripas_in (entry_in_page (page_in m g) j)) (ripas_in f)) (sym entry) (given j lt (same_entry p seat here same)) in
-        subst (λ (q : RttWalk). Q q (walk_from n x (suc levels) p)) (sym (goes m x levels g p on ∙ stops m x levels (child p) (flat j lt)))
+        subst (λ (f : RmmRttEntry). (F f p.level ≡ F (entry_in_page (page_in m g) (entry_index (p.level + 1) x)) (p.level + 1)) ⊎ G (F (entry_in_page (page_in m g) (entry_index (p.level + 1) x)) (p.level + 1)) (F f p.level)) (sym entry) there in
+        subst (λ (q : RttWalk). Q q (walk_from n x (suc levels) p)) (sym (goes m x levels g p on ∙ stops m x levels (child p) (flat (entry_index (p.level + 1) x) (entry_index-few (p.level + 1) x))))
         (subst (λ (q : RttWalk). Q (child p) q) (sym (stops n x (suc levels) p none)) here_then)
 
     met_gone : (p : RttWalk) → Seat p → Other p.table → Met p
@@ -193,15 +197,12 @@ module _ (m n : Machine) (proper : IsProper m) (settings : n.settings ≡ m.sett
         (λ (same : entry_index p.level x ≡ at). inr (gone_here p seat here same))
         (λ (other : entry_index p.level x ≢ at).
         let entry = same_beside p here other in
-        inl (on_same m n proper settings count rd x realm Other Q p entry (λ table to it. other (only_here p seat (to ∙ ap (λ (t : ℕ). Some t) it)).1) (inl (ap ripas_in entry))))
+        inl (on_same m n proper settings count rd x realm Other Q p entry (λ table to it. other (only_here p seat (to ∙ ap (λ (t : ℕ). Some t) it)).1) (inl (ap (λ (f : RmmRttEntry). F f p.level) entry))))
         (cases_eq (entry_index p.level x) at))
         (λ (other : p.table ≢ found.table).
         let entry : entry_at n p x ≡ entry_at m p x = ap (λ (q : List ℕ). entry_in_page q (entry_index p.level x)) (others p.table seat.is.table other good) in
-        inl (on_same m n proper settings count rd x realm Other Q p entry (λ table to it. other (only_here p seat (to ∙ ap (λ (t : ℕ). Some t) it)).0) (inl (ap ripas_in entry))))
+        inl (on_same m n proper settings count rd x realm Other Q p entry (λ table to it. other (only_here p seat (to ∙ ap (λ (t : ℕ). Some t) it)).0) (inl (ap (λ (f : RmmRttEntry). F f p.level) entry))))
         (cases_eq p.table found.table)
 
-    pub gone_ripas : (after : RmmRealm) → after.start_level ≡ realm.start_level → after.first_table ≡ realm.first_table → is_protected realm x ≡ true
-        → (ripas_at n after x ≡ ripas_at m realm x) ⊎ G (ripas_at m realm x) (ripas_at n after x)
-    gone_ripas after start first protected =
-        let inside = protected_within realm x protected in
-        along m n proper.linked proper.ordered.halves rd x realm Other Q after start first is inside (start_other inside) met_gone
+    pub gone_read : (after : RmmRealm) → after.start_level ≡ realm.start_level → after.first_table ≡ realm.first_table → x < 2 ^ realm.s2sz → Q (walk m realm x 3) (walk n after x 3)
+    gone_read after start first inside = along m n proper.linked proper.ordered.halves rd x realm Other Q after start first is inside (start_other inside) met_gone

@@ -1,4 +1,4 @@
--- The RIPAS of addresses after writes of entries that lead to no table.
+-- What is read at addresses after writes of entries that lead to no table.
 use Rattle.std.proofs.Common.{◌≡◌, ◌≢◌, ℕ, zero, suc, ◌+◌, ◌-◌, ◌*◌, ◌/◌, ◌%◌, ◌^◌, ◌<◌, ◌≤◌, ◌⊎◌, inl, inr, ◌||◌, true, false, List, length, refl, sym, ap, subst, ◌∙◌, ⊎_elim, arith}
 use Rattle.std.specs.Prelude.{nat_le}
 use Rattle.std.proofs.Math.Bool.{or-false}
@@ -14,17 +14,16 @@ use Rattle.rmm_model.specs.declared.realm.RttWalk.{RttWalk}
 use Rattle.rmm_model.specs.Entry.{can_change, entry_with_ripas, is_table, ripas_in}
 use Rattle.rmm_model.specs.Level.{entry_size, entry_index}
 use Rattle.rmm_model.specs.Machine.{Machine, granule_at, page_in}
-use Rattle.rmm_model.specs.Realm.{is_protected}
 use Rattle.rmm_model.specs.Table.{entry_in_page, first_fixed}
 use Rattle.rmm_model.specs.Walk.{entry_at, table_below, walk}
 use Rattle.rmm_model.specs.Command.RipasRange.{change_count, entries_below}
 use Rattle.rmm_laws.specs.Proper.{IsProper}
-use Rattle.rmm_laws.specs.Ripas.{ripas_at, IsBetween}
+use Rattle.rmm_laws.specs.Ripas.{IsBetween}
 use Rattle.rmm_laws.specs.Walk.{IsTableOf}
 use Rattle.rmm_laws.proofs.Along.{IsMet, along}
 use Rattle.rmm_laws.proofs.Halves.{none_below}
-use Rattle.rmm_laws.proofs.KeptTables.{on_same}
-use Rattle.rmm_laws.proofs.Mappings.{first_fixed-most, protected_within}
+use Rattle.rmm_laws.proofs.KeptTables.{read_at, IsReadAs, IsRead, on_same}
+use Rattle.rmm_laws.proofs.Mappings.{first_fixed-most}
 use Rattle.rmm_laws.proofs.Seats.{IsSeat, walk_seat}
 use Rattle.rmm_laws.proofs.Serving.{level_cases}
 use Rattle.rmm_laws.proofs.Sides.{whole_index}
@@ -46,15 +45,6 @@ module _ (m n : Machine) (proper : IsProper m) (settings : n.settings ≡ m.sett
   abbrev at : ℕ
   at = entry_index (walk m realm ipa level).level ipa
 
-  -- an entry of the table is as it was, or both entries lead to no table, and each address in it has a RIPAS as is allowed
-  abbrev pub IsChanged : (ℕ → RmmRipas → RmmRipas → Type 0) → ℕ → Type 0
-  IsChanged G j =
-      (entry_in_page (page_in n (walk m realm ipa level).table) j ≡ entry_in_page (page_in m (walk m realm ipa level).table) j)
-      ⊎ ((is_table (entry_in_page (page_in m (walk m realm ipa level).table) j) ≡ false) × (is_table (entry_in_page (page_in n (walk m realm ipa level).table) j) ≡ false)
-      × ((x : ℕ) → x / entry_size (walk m realm ipa level).level ≡ ipa / entry_size (walk m realm ipa level).level / 512 * 512 + j
-      → (ripas_in (entry_in_page (page_in n (walk m realm ipa level).table) j) ≡ ripas_in (entry_in_page (page_in m (walk m realm ipa level).table) j))
-      ⊎ G x (ripas_in (entry_in_page (page_in m (walk m realm ipa level).table) j)) (ripas_in (entry_in_page (page_in n (walk m realm ipa level).table) j))))
-
   -- the addresses that an entry of the table covers
   pub covered : (x : ℕ) (p : RttWalk) → IsSeat m proper.linked proper.ordered.halves rd x realm p → p.table ≡ (walk m realm ipa level).table
       → (p.level ≡ (walk m realm ipa level).level) × (x / entry_size (walk m realm ipa level).level ≡ ipa / entry_size (walk m realm ipa level).level / 512 * 512 + entry_index p.level x)
@@ -65,74 +55,82 @@ module _ (m n : Machine) (proper : IsProper m) (settings : n.settings ≡ m.sett
       ap (λ (l : ℕ). x / entry_size l / 512) (sym same) ∙ sym seat.seat ∙ ap proper.ordered.halves.place here ∙ there.seat in
       (same, sym (whole_index found.level x) ∙ ap (λ (q : ℕ). q * 512 + entry_index found.level x) place ∙ ap (λ (l : ℕ). ipa / entry_size found.level / 512 * 512 + entry_index l x) (sym same))
 
-  module _ (G : ℕ → RmmRipas → RmmRipas → Type 0) (x : ℕ) (each : (j : ℕ) → j < 512 → IsChanged G j) (others : (g : ℕ) → IsTableOf m rd g → g ≢ (walk m realm ipa level).table → page_in n g ≡ page_in m g) where
-    abbrev Q : RttWalk → RttWalk → Type 0
-    Q p q = (q ≡ p) × ((ripas_in (entry_at n p x) ≡ ripas_in (entry_at m p x)) ⊎ G x (ripas_in (entry_at m p x)) (ripas_in (entry_at n p x)))
+  -- what is read at an address, by its entry and the level of that, and what else may be read there
+  module _ (x : ℕ) (A : Type 0) (F : RmmRttEntry → ℕ → A) (G : A → A → Type 0) where
+    -- an entry of the table is as it was, or both entries lead to no table, and the address reads as is allowed if it is in it
+    abbrev pub IsChanged : ℕ → Type 0
+    IsChanged j =
+        (entry_in_page (page_in n (walk m realm ipa level).table) j ≡ entry_in_page (page_in m (walk m realm ipa level).table) j)
+        ⊎ ((is_table (entry_in_page (page_in m (walk m realm ipa level).table) j) ≡ false) × (is_table (entry_in_page (page_in n (walk m realm ipa level).table) j) ≡ false)
+        × (x / entry_size (walk m realm ipa level).level ≡ ipa / entry_size (walk m realm ipa level).level / 512 * 512 + j
+        → IsReadAs A F G (entry_in_page (page_in m (walk m realm ipa level).table) j) (entry_in_page (page_in n (walk m realm ipa level).table) j) (walk m realm ipa level).level))
 
-    abbrev Met : RttWalk → Type 0
-    Met p = IsMet m n proper.linked proper.ordered.halves rd x realm (λ table. Unit {0}) Q p
+    module _ (each : (j : ℕ) → j < 512 → IsChanged j) (others : (g : ℕ) → IsTableOf m rd g → g ≢ (walk m realm ipa level).table → page_in n g ≡ page_in m g) where
+      abbrev Q : RttWalk → RttWalk → Type 0
+      Q p q = (q ≡ p) × IsReadAs A F G (entry_at m p x) (entry_at n p x) p.level
 
-    met_same : (p : RttWalk) → entry_at n p x ≡ entry_at m p x → Met p
-    met_same p entry = inl (on_same m n proper settings count rd x realm (λ table. Unit {0}) Q p entry (λ table leads. tt) (refl, inl (ap ripas_in entry)))
+      abbrev Met : RttWalk → Type 0
+      Met p = IsMet m n proper.linked proper.ordered.halves rd x realm (λ table. Unit {0}) Q p
 
-    met_here : (p : RttWalk) → IsSeat m proper.linked proper.ordered.halves rd x realm p → p.table ≡ (walk m realm ipa level).table → Met p
+      met_same : (p : RttWalk) → entry_at n p x ≡ entry_at m p x → Met p
+      met_same p entry = inl (on_same m n proper settings count rd x realm (λ table. Unit {0}) Q p entry (λ table leads. tt) (refl, inl (ap (λ (e : RmmRttEntry). F e p.level) entry)))
+
+      met_here : (p : RttWalk) → IsSeat m proper.linked proper.ordered.halves rd x realm p → p.table ≡ (walk m realm ipa level).table → Met p
+      unfolding entry_at
+      met_here p seat here =
+          let j : ℕ = entry_index p.level x in
+          let before : entry_in_page (page_in m p.table) j ≡ entry_in_page (page_in m found.table) j = ap (λ (t : ℕ). entry_in_page (page_in m t) j) here in
+          let after : entry_in_page (page_in n p.table) j ≡ entry_in_page (page_in n found.table) j = ap (λ (t : ℕ). entry_in_page (page_in n t) j) here in
+          let covers = covered x p seat here in
+          ⊎_elim
+          (λ (same : entry_in_page (page_in n found.table) j ≡ entry_in_page (page_in m found.table) j). met_same p (after ∙ same ∙ sym before))
+          (λ other.
+          let none_before = ap (λ (e : RmmRttEntry). table_below m e) before ∙ none_below m (entry_in_page (page_in m found.table) j) (entry_in_page (page_in m found.table) j) refl other.0 in
+          let none_after = ap (λ (e : RmmRttEntry). table_below n e) after ∙ none_below n (entry_in_page (page_in n found.table) j) (entry_in_page (page_in n found.table) j) refl other.1 in
+          let there : IsReadAs A F G (entry_in_page (page_in m found.table) j) (entry_in_page (page_in n found.table) j) p.level =
+          subst (λ (l : ℕ). IsReadAs A F G (entry_in_page (page_in m found.table) j) (entry_in_page (page_in n found.table) j) l) (sym covers.0) (other.2 covers.1) in
+          inl (record {
+            leads = none_after ∙ sym none_before;
+            good = λ table leads. tt;
+            end = (refl, subst (λ (t : ℕ). IsReadAs A F G (entry_in_page (page_in m t) j) (entry_in_page (page_in n t) j) p.level) (sym here) there);
+          }))
+          (each j (entry_index-few p.level x))
+
+      met : (p : RttWalk) → IsSeat m proper.linked proper.ordered.halves rd x realm p → Unit {0} → Met p
+      unfolding entry_at
+      met p seat good =
+          ⊎_elim
+          (λ (here : p.table ≡ found.table). met_here p seat here)
+          (λ (other : p.table ≢ found.table). met_same p (ap (λ (q : List ℕ). entry_in_page q (entry_index p.level x)) (others p.table seat.is.table other)))
+          (cases_eq p.table found.table)
+
+      -- the walk ends where it did, and what has become of what is read there
+      pub changed : (after : RmmRealm) → after.start_level ≡ realm.start_level → after.first_table ≡ realm.first_table → x < 2 ^ realm.s2sz → Q (walk m realm x 3) (walk n after x 3)
+      changed after start first inside = along m n proper.linked proper.ordered.halves rd x realm (λ table. Unit {0}) Q after start first is inside tt met
+
+      pub changed_read : (after : RmmRealm) → after.start_level ≡ realm.start_level → after.first_table ≡ realm.first_table → x < 2 ^ realm.s2sz
+          → IsRead A F m n realm after x ⊎ G (read_at A F m realm x) (read_at A F n after x)
+      changed_read after start first inside =
+          let both = changed after start first inside in
+          subst (λ (q : RttWalk). (F (entry_at n q x) q.level ≡ read_at A F m realm x) ⊎ G (read_at A F m realm x) (F (entry_at n q x) q.level)) (sym both.0) both.1
+
+    -- one entry is written
+    pub one_changed : (e : RmmRttEntry) → entry_in_page (page_in n (walk m realm ipa level).table) (entry_index (walk m realm ipa level).level ipa) ≡ e
+        → ((j : ℕ) → j < 512 → j ≢ entry_index (walk m realm ipa level).level ipa → entry_in_page (page_in n (walk m realm ipa level).table) j ≡ entry_in_page (page_in m (walk m realm ipa level).table) j)
+        → is_table (entry_at m (walk m realm ipa level) ipa) ≡ false → is_table e ≡ false
+        → (x / entry_size (walk m realm ipa level).level ≡ ipa / entry_size (walk m realm ipa level).level → IsReadAs A F G (entry_at m (walk m realm ipa level) ipa) e (walk m realm ipa level).level)
+        → (j : ℕ) → j < 512 → IsChanged j
     unfolding entry_at
-    met_here p seat here =
-        let j : ℕ = entry_index p.level x in
-        let before : entry_in_page (page_in m p.table) j ≡ entry_in_page (page_in m found.table) j = ap (λ (t : ℕ). entry_in_page (page_in m t) j) here in
-        let after : entry_in_page (page_in n p.table) j ≡ entry_in_page (page_in n found.table) j = ap (λ (t : ℕ). entry_in_page (page_in n t) j) here in
+    one_changed e now beside before leaf given j lt =
+        let old : RmmRttEntry = entry_in_page (page_in m found.table) at in
         ⊎_elim
-        (λ (same : entry_in_page (page_in n found.table) j ≡ entry_in_page (page_in m found.table) j). met_same p (after ∙ same ∙ sym before))
-        (λ other.
-        let none_before = ap (λ (e : RmmRttEntry). table_below m e) before ∙ none_below m (entry_in_page (page_in m found.table) j) (entry_in_page (page_in m found.table) j) refl other.0 in
-        let none_after = ap (λ (e : RmmRttEntry). table_below n e) after ∙ none_below n (entry_in_page (page_in n found.table) j) (entry_in_page (page_in n found.table) j) refl other.1 in
-        inl (record {
-          leads = none_after ∙ sym none_before;
-          good = λ table leads. tt;
-          end = (
-            refl,
-            subst (λ (t : ℕ). (ripas_in (entry_in_page (page_in n t) j) ≡ ripas_in (entry_in_page (page_in m t) j)) ⊎ G x (ripas_in (entry_in_page (page_in m t) j)) (ripas_in (entry_in_page (page_in n t) j))) (sym here)
-                (other.2 x (covered x p seat here).1),
-          );
-        }))
-        (each j (entry_index-few p.level x))
-
-    met : (p : RttWalk) → IsSeat m proper.linked proper.ordered.halves rd x realm p → Unit {0} → Met p
-    unfolding entry_at
-    met p seat good =
-        ⊎_elim
-        (λ (here : p.table ≡ found.table). met_here p seat here)
-        (λ (other : p.table ≢ found.table). met_same p (ap (λ (q : List ℕ). entry_in_page q (entry_index p.level x)) (others p.table seat.is.table other)))
-        (cases_eq p.table found.table)
-
-    -- the walk ends where it did, and what has become of the RIPAS there
-    pub changed : (after : RmmRealm) → after.start_level ≡ realm.start_level → after.first_table ≡ realm.first_table → is_protected realm x ≡ true → Q (walk m realm x 3) (walk n after x 3)
-    changed after start first protected = along m n proper.linked proper.ordered.halves rd x realm (λ table. Unit {0}) Q after start first is (protected_within realm x protected) tt met
-
-    pub changed_ripas : (after : RmmRealm) → after.start_level ≡ realm.start_level → after.first_table ≡ realm.first_table → is_protected realm x ≡ true
-        → (ripas_at n after x ≡ ripas_at m realm x) ⊎ G x (ripas_at m realm x) (ripas_at n after x)
-    changed_ripas after start first protected =
-        let both = changed after start first protected in
-        subst (λ (q : RttWalk). (ripas_in (entry_at n q x) ≡ ripas_at m realm x) ⊎ G x (ripas_at m realm x) (ripas_in (entry_at n q x))) (sym both.0) both.1
-
-  -- one entry is written
-  pub one_changed : (G : ℕ → RmmRipas → RmmRipas → Type 0) (e : RmmRttEntry) → entry_in_page (page_in n (walk m realm ipa level).table) (entry_index (walk m realm ipa level).level ipa) ≡ e
-      → ((j : ℕ) → j < 512 → j ≢ entry_index (walk m realm ipa level).level ipa → entry_in_page (page_in n (walk m realm ipa level).table) j ≡ entry_in_page (page_in m (walk m realm ipa level).table) j)
-      → is_table (entry_at m (walk m realm ipa level) ipa) ≡ false → is_table e ≡ false
-      → ((x : ℕ) → x / entry_size (walk m realm ipa level).level ≡ ipa / entry_size (walk m realm ipa level).level
-      → (ripas_in e ≡ ripas_in (entry_at m (walk m realm ipa level) ipa)) ⊎ G x (ripas_in (entry_at m (walk m realm ipa level) ipa)) (ripas_in e))
-      → (j : ℕ) → j < 512 → IsChanged G j
-  unfolding entry_at
-  one_changed G e now beside before leaf given j lt =
-      ⊎_elim
-      (λ (here : j ≡ at). subst (IsChanged G) (sym here) (inr (
-        before,
-        ap is_table now ∙ leaf,
-        λ x covers. subst (λ (f : RmmRttEntry). (ripas_in f ≡ ripas_in (entry_in_page (page_in m found.table) at)) ⊎ G x (ripas_in (entry_in_page (page_in m found.table) at)) (ripas_in f)) (sym now)
-            (given x (covers ∙ whole_index found.level ipa)),
-      )))
-      (λ (other : j ≢ at). inl (beside j lt other))
-      (cases_eq j at)
+        (λ (here : j ≡ at). subst (λ (i : ℕ). IsChanged i) (sym here) (inr (
+          before,
+          ap is_table now ∙ leaf,
+          λ covers. subst (λ (f : RmmRttEntry). IsReadAs A F G old f found.level) (sym now) (given (covers ∙ whole_index found.level ipa)),
+        )))
+        (λ (other : j ≢ at). inl (beside j lt other))
+        (cases_eq j at)
 
 -- ---- ranges
 
@@ -160,7 +158,7 @@ can_in_range m changeable found base top j low high =
     fixed_from changeable (page_in m found.table) (entries_below found base top) (entry_index found.level base) j low (omega arith)
 
 -- they are below the top
-change_below : (m : Machine) (changeable : Changeable) (found : RttWalk) (base top : ℕ) → change_count m changeable found base top ≤ (top - base) / entry_size found.level
+pub change_below : (m : Machine) (changeable : Changeable) (found : RttWalk) (base top : ℕ) → change_count m changeable found base top ≤ (top - base) / entry_size found.level
 unfolding change_count entries_below
 change_below m changeable found base top =
     let first : ℕ = entry_index found.level base in
