@@ -1,14 +1,23 @@
--- Digits without the zeros at the high end.
-use Rattle.std.proofs.Common.{◌≡◌, ℕ, zero, suc, ◌+◌, ◌*◌, ◌^◌, ◌<◌, ◌≤◌, ◌==◌, Bool, true, false, cond, List, [], ◌∷◌, ◌++◌, length, take, get_or, add-one, refl, ap, ◌∙◌, arith}
+-- Digits without the zeros at the high end: they are those of the number.
+use Rattle.std.proofs.Common.{◌≡◌, ℕ, zero, suc, ◌+◌, ◌*◌, ◌^◌, ◌/◌, ◌%◌, ◌<◌, ◌≤◌, ◌==◌, Bool, true, false, cond, List, [], ◌∷◌, ◌++◌, length, take, get_or, add-one, All, refl, sym, ap, ◌∙◌, arith, eq-eqb}
 use native.Mathlib.Nat.{pow-succ'}
 use Rattle.std.proofs.Math.Nat.{le-mul_of_pos_right}
 use Rattle.std.proofs.Math.Seq.{take-suc}
 use Rattle.std.proofs.lemmas.List.{length-take-le}
-use Rattle.std.proofs.lemmas.Bool.{eqb-true, ne_eqb}
-use Rattle.schedule_graph.specs.Number.{number_of, trimmed}
-use Rattle.schedule_graph.proofs.Numbers.{number_of-push}
+use Rattle.std.proofs.lemmas.Bool.{eqb-true, eqb-false, ne_eqb}
+use Rattle.schedule_graph.specs.Number.{number_of, trimmed, digits_of, numeral}
+use Rattle.schedule_graph.proofs.Numbers.{number_of-push, number_of_none}
 
--- ---- whether any are left
+-- ---- the number stays
+
+pub number_of-trimmed : (digits : List ℕ) → number_of (trimmed digits) ≡ number_of digits
+unfolding number_of
+number_of-trimmed [] = refl
+number_of-trimmed (d ∷ digits) = at (number_of-trimmed digits) (number_of (d ∷ digits) == 0) refl
+  where
+    at : number_of (trimmed digits) ≡ number_of digits → (t : Bool) → (number_of (d ∷ digits) == 0) ≡ t → number_of (cond t [] (d ∷ trimmed digits)) ≡ number_of (d ∷ digits)
+    at rest true none = sym (eqb-true (number_of (d ∷ digits)) 0 none)
+    at rest false some = ap (λ n. d + 10 * n) rest
 
 pub trimmed_none : (digits : List ℕ) → (length (trimmed digits) == 0) ≡ (number_of digits == 0)
 unfolding number_of
@@ -17,6 +26,42 @@ trimmed_none (d ∷ digits) = elim (number_of (d ∷ digits) == 0) as (λ t. (le
   | true ↦ refl
   | false ↦ ne_eqb (length (d ∷ trimmed digits)) 0 (λ e. omega (arith, e))
 ]
+
+-- ---- they are the digits of the number
+
+lowest : (d m : ℕ) → d < 10 → (d + 10 * m) % 10 ≡ d
+lowest d m small = omega arith
+
+others : (d m : ℕ) → d < 10 → (d + 10 * m) / 10 ≡ m
+others d m small = omega arith
+
+pub trimmed_is : (digits : List ℕ) (most : ℕ) → All (λ digit. digit < 10) digits → number_of digits ≤ most → trimmed digits ≡ digits_of most (number_of digits)
+unfolding number_of
+trimmed_is [] zero small few = refl
+trimmed_is [] (suc most) small few = refl
+trimmed_is (d ∷ digits) most small few = at (λ m below. trimmed_is digits m rest below) (number_of (d ∷ digits) == 0) refl most few
+  where
+    first : d < 10
+    first = small 0 0 (omega arith)
+
+    rest : All (λ digit. digit < 10) digits
+    rest = λ k e below. small (suc k) e (omega (arith, below))
+
+    at : ((m : ℕ) → number_of digits ≤ m → trimmed digits ≡ digits_of m (number_of digits))
+        → (t : Bool) → (number_of (d ∷ digits) == 0) ≡ t → (most : ℕ) → number_of (d ∷ digits) ≤ most → cond t [] (d ∷ trimmed digits) ≡ digits_of most (number_of (d ∷ digits))
+    at more_digits true none zero few = refl
+    at more_digits true none (suc most) few = sym (ap (λ t. cond t [] (number_of (d ∷ digits) % 10 ∷ digits_of most (number_of (d ∷ digits) / 10))) none)
+    at more_digits false some zero few = absurd (eqb-false (number_of (d ∷ digits)) 0 some (omega (arith, few)))
+    at more_digits false some (suc most) few =
+        let more = eqb-false (number_of (d ∷ digits)) 0 some in
+        let below : number_of digits ≤ most = fits (number_of digits) most few more in
+        ap (λ ds. d ∷ ds) (more_digits most below)
+        ∙ (λ i. sym (lowest d (number_of digits) first) i ∷ digits_of most (sym (others d (number_of digits) first) i))
+        ∙ sym (ap (λ t. cond t [] (number_of (d ∷ digits) % 10 ∷ digits_of most (number_of (d ∷ digits) / 10))) some)
+      where
+        fits : (m most : ℕ) → d + 10 * m ≤ suc most → (d + 10 * m ≡ 0 → ⊥) → m ≤ most
+        fits zero most few more = omega arith
+        fits (suc m) most few more = omega (arith, few)
 
 -- ---- where the digits end
 

@@ -1,5 +1,5 @@
 -- Numbers as decimal digits.
-use Rattle.std.specs.Prelude.{ℕ, ◌+◌, ◌*◌, ◌==◌, if◌then◌else◌, List, [], ◌∷◌}
+use Rattle.std.specs.Prelude.{ℕ, zero, suc, ◌+◌, ◌*◌, ◌/◌, ◌%◌, ◌==◌, if◌then◌else◌, List, [], ◌∷◌, map, reverse}
 
 -- the number that has these digits, the lowest first
 unfoldable pub number_of : List ℕ → ℕ
@@ -10,3 +10,12 @@ number_of (digit ∷ digits) = digit + 10 * number_of digits
 abbrev pub trimmed : List ℕ → List ℕ
 trimmed [] = []
 trimmed (digit ∷ digits) = if number_of (digit ∷ digits) == 0 then [] else digit ∷ trimmed digits
+
+-- the digits of a number, the lowest first, at most so many
+abbrev pub digits_of : ℕ → ℕ → List ℕ
+digits_of zero n = []
+digits_of (suc most) n = if n == 0 then [] else n % 10 ∷ digits_of most (n / 10)
+
+-- the number in decimal, as `{}` writes it, of any size
+unfoldable pub numeral : ℕ → List ℕ
+numeral n = if n == 0 then 48 ∷ [] else map (λ digit. 48 + digit) (reverse (digits_of n n))

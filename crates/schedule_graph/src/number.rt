@@ -1,6 +1,6 @@
 //! Numbers of any size, to count schedules with.
-ghost use Rattle.std.specs.Prelude.{◌≡◌, ℕ, ◌+◌, ◌*◌, ◌^◌, ◌<◌, ◌≤◌, ◌==◌, List, length, All, OnOk, IfOk};
-ghost use Rattle.schedule_graph.specs.Number.{number_of, trimmed};
+ghost use Rattle.std.specs.Prelude.{◌≡◌, ℕ, ◌+◌, ◌*◌, ◌^◌, ◌<◌, ◌≤◌, ◌==◌, List, ◌++◌, length, map, reverse, All, OnOk, IfOk, string_bytes};
+ghost use Rattle.schedule_graph.specs.Number.{number_of, trimmed, numeral};
 
 use std::alloc::{AllocError, Global};
 use std::marker::Model;
@@ -110,6 +110,18 @@ fn trimmed(digits: &[u8]) -> &[u8]
     &digits[..count]
 }
 
+// Appends digits to a text, the highest first.
+fn push_digits(text: &mut String, digits: &[u8]) -> Result<(), AllocError>
+    requires { All (λ digit. digit < 10) digits.now }
+    ensures { OnOk result (string_bytes text.new ≡ string_bytes text.old ++ map (λ digit. 48 + digit) (reverse digits.now)) }
+{
+    for done in 0..digits.len() {
+        let digit = digits[digits.len() - 1 - done];
+        write!(text, "{digit}")?;
+    }
+    Ok(())
+}
+
 impl Count {
     /// The number 0.
     pub fn zero(alloc: Global) -> Count
@@ -141,5 +153,23 @@ impl Count {
         ensures { result ≡ (self.now == 0) }
     {
         trimmed(&self.digits).is_empty()
+    }
+
+    /// Whether it is the same number.
+    pub fn is_same(&self, other: &Count) -> bool
+        ensures { result ≡ (self.now == other.now) }
+    {
+        trimmed(&self.digits) == trimmed(&other.digits)
+    }
+
+    /// Appends the number to a text, in decimal. At an `Err` allocation failed, and the text may have a part of it.
+    pub fn push_to(&self, text: &mut String) -> Result<(), AllocError>
+        ensures { OnOk result (string_bytes text.new ≡ string_bytes text.old ++ numeral self.now) }
+    {
+        let digits = trimmed(&self.digits);
+        if digits.is_empty() {
+            return text.push_str("0");
+        }
+        push_digits(text, digits)
     }
 }

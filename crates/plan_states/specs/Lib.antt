@@ -1,0 +1,5 @@
+pub mod Runs
+pub mod Signs
+pub mod Outcomes
+pub mod Graph
+pub mod OrderText

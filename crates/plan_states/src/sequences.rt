@@ -1,0 +1,51 @@
+//! Sequences, each with a number.
+use std::alloc::{AllocError, Global};
+
+/// Sequences, each with a number. Those that begin alike share the numbers of their beginnings.
+#[derive(Drop)]
+pub(crate) struct Sequences<S> {
+    // of each sequence: its last items, and the number of the sequence with it
+    longer: Vec<Vec<(S, u32)>>,
+}
+
+// The number of the sequence with this item at its end.
+fn known<S: Copy + Eq + Drop>(longer: &[(S, u32)], item: S) -> Option<u32> {
+    for pair in longer {
+        if pair.0 == item {
+            return Some(pair.1);
+        }
+    }
+    None
+}
+
+impl<S: Copy + Eq + Drop> Sequences<S> {
+    /// No sequence.
+    pub(crate) fn new(alloc: Global) -> Sequences<S> {
+        Sequences {
+            longer: Vec::new(alloc),
+        }
+    }
+
+    /// The number of a new sequence, which has no item.
+    pub(crate) fn begin(&mut self, alloc: Global) -> Result<u32, AllocError> {
+        let number = self.longer.len() as u32;
+        self.longer.push(Vec::new(alloc))?;
+        Ok(number)
+    }
+
+    /// The number of a sequence with one more item, and whether it is new.
+    pub(crate) fn with(
+        &mut self,
+        alloc: Global,
+        sequence: u32,
+        item: S,
+    ) -> Result<(u32, bool), AllocError> {
+        let at = sequence as usize;
+        if let Some(number) = known(&self.longer[at], item) {
+            return Ok((number, false));
+        }
+        let number = self.begin(alloc)?;
+        self.longer[at].push((item, number))?;
+        Ok((number, true))
+    }
+}

@@ -1,0 +1,261 @@
+//! The turns of builds, each run once.
+use crate::running::{run_to, take};
+use crate::sequences::Sequences;
+use crate::state::State;
+use crate::step_end::StepEnd;
+use host_commands::{Cmd, Refusal, Step};
+use plan_replay::{PlanCursor, step_after};
+use realm_plan::{Plan, PlanStep};
+use realm_program::Fault;
+use std::alloc::{AllocError, Global};
+use std::collections::HashMap;
+
+/// What a turn gave its build beside what follows from what it did: a refusal, a block, a VMID.
+#[derive(Clone, Copy, PartialEq, Eq)]
+pub(crate) struct Given {
+    pub(crate) refusal: Option<Refusal>,
+    pub(crate) first: Option<u16>,
+    pub(crate) vmid: Option<u8>,
+}
+
+/// A block that was leased, or given back.
+#[derive(Clone, Copy, PartialEq, Eq)]
+pub(crate) struct Moved {
+    pub(crate) is_back: bool,
+    pub(crate) order: u8,
+    pub(crate) first: u16,
+}
+
+/// The things of all builds that a step needs.
+#[derive(Clone, Copy, PartialEq, Eq)]
+enum Shared {
+    Nothing,
+    Blocks,
+    Vmids,
+}
+
+// What a build did: its cursor, the VMID of its realm, and what its next step needs, if it has one.
+#[derive(Clone, Copy)]
+struct Done {
+    done: usize,
+    vmid: Option<u8>,
+    next: Option<Shared>,
+}
+
+/// What a turn depends on: what its build did, and of what all builds share what it needs.
+#[derive(Clone, Copy, PartialEq, Eq, Hash)]
+pub(crate) struct Before {
+    build: u32,
+    shared: u32,
+}
+
+/// The outcome of a turn.
+#[derive(Clone, Copy)]
+pub(crate) struct After {
+    pub(crate) build: u32,
+    moved: Option<Moved>,
+    pub(crate) end: Option<u32>,
+}
+
+/// What builds did in any schedule, and the turns that they had.
+#[derive(Drop)]
+pub(crate) struct Turns {
+    builds: Sequences<Given>,
+    done: Vec<Done>,
+    blocks: Sequences<Moved>,
+    known: HashMap<Before, After>,
+    pub(crate) ends: Vec<StepEnd>,
+}
+
+// The things of all builds that a step needs.
+fn shared_by(step: &PlanStep) -> Shared {
+    match step {
+        PlanStep::Whole(Step::Ask(Cmd::Take { .. })) => Shared::Blocks,
+        PlanStep::Whole(Step::Ask(Cmd::Realm { .. })) => Shared::Vmids,
+        PlanStep::WidthLeftOut { .. } => Shared::Vmids,
+        _ => Shared::Nothing,
+    }
+}
+
+// What the next step of a build needs, if it has one.
+fn next_of(plan: &Plan, build: usize, done: usize) -> Option<Shared> {
+    match step_after(plan, build, done) {
+        Some(step) => Some(shared_by(step)),
+        None => None,
+    }
+}
+
+// The place of an end among those that are known; it is added if it is new.
+fn place_of_end(ends: &mut Vec<StepEnd>, end: StepEnd) -> Result<u32, AllocError> {
+    for place in 0..ends.len() {
+        if ends[place] == end {
+            return Ok(place as u32);
+        }
+    }
+    ends.push(end)?;
+    Ok((ends.len() - 1) as u32)
+}
+
+impl Turns {
+    /// No turn, and the state before the first.
+    pub(crate) fn begin(alloc: Global, plan: &Plan) -> Result<(Turns, State), AllocError> {
+        let mut builds = Sequences::new(alloc);
+        let mut done = Vec::new(alloc);
+        let mut first = [0u32; 8];
+        for build in 0..8 {
+            first[build] = builds.begin(alloc)?;
+            done.push(Done {
+                done: 0,
+                vmid: None,
+                next: next_of(plan, build, 0),
+            })?;
+        }
+        let mut blocks = Sequences::new(alloc);
+        let none = blocks.begin(alloc)?;
+        let state = State {
+            builds: first,
+            blocks: none,
+        };
+        let turns = Turns {
+            builds,
+            done,
+            blocks,
+            known: HashMap::new(alloc),
+            ends: Vec::new(alloc),
+        };
+        Ok((turns, state))
+    }
+
+    // The lowest VMID that no realm has; 0 if there is none.
+    fn lowest_vmid(&self, plan: &Plan, state: &State) -> u32 {
+        for vmid in 1..=plan.vmids {
+            let mut is_used = false;
+            for number in &state.builds {
+                is_used = is_used || self.done[*number as usize].vmid == Some(vmid);
+            }
+            if !is_used {
+                return u32::from(vmid);
+            }
+        }
+        0
+    }
+
+    /// What the next turn of a build depends on; None if it has no step left.
+    pub(crate) fn before(&self, plan: &Plan, state: &State, build: usize) -> Option<Before> {
+        let number = state.builds[build];
+        let shared = match self.done[number as usize].next? {
+            Shared::Nothing => 0,
+            Shared::Blocks => state.blocks,
+            Shared::Vmids => self.lowest_vmid(plan, state),
+        };
+        Some(Before {
+            build: number,
+            shared,
+        })
+    }
+
+    /// Whether a build has a step left.
+    pub(crate) fn has_left(&self, state: &State, build: usize) -> bool {
+        self.done[state.builds[build] as usize].next.is_some()
+    }
+
+    // The end of the step that a turn used up, if it did.
+    fn end_of(
+        &mut self,
+        before: &Done,
+        place: &PlanCursor,
+        build: usize,
+        refusal: Option<Refusal>,
+    ) -> Result<Option<u32>, AllocError> {
+        if place.done == before.done {
+            return Ok(None);
+        }
+        let end = StepEnd {
+            build,
+            step: before.done,
+            refusal,
+        };
+        Ok(Some(place_of_end(&mut self.ends, end)?))
+    }
+
+    /// The turn that is known of this.
+    pub(crate) fn known(&self, before: &Before) -> Option<After> {
+        self.known.get(before).copied()
+    }
+
+    /// Runs a turn of a build after the schedule `order`, on a fresh host, and notes it.
+    pub(crate) fn run(
+        &mut self,
+        alloc: Global,
+        plan: &Plan,
+        before: Before,
+        order: &[usize],
+        build: usize,
+    ) -> Result<After, Fault> {
+        let mut running = run_to(alloc, plan, order)?;
+        let Some(taken) = take(plan, &mut running, build) else {
+            return Err(Fault::Mismatch);
+        };
+        let was = self.done[before.build as usize];
+        let place = running.places[build];
+        let end = self.end_of(&was, &place, build, taken.given.refusal)?;
+        let (number, is_new) = self.builds.with(alloc, before.build, taken.given)?;
+        if is_new {
+            let next = next_of(plan, build, place.done);
+            self.note_done(place.done, taken.given.vmid, next)?;
+        }
+        let after = After {
+            build: number,
+            moved: taken.moved,
+            end,
+        };
+        self.note(before, after)?;
+        Ok(after)
+    }
+
+    // Notes what a build did.
+    fn note_done(
+        &mut self,
+        done: usize,
+        vmid: Option<u8>,
+        next: Option<Shared>,
+    ) -> Result<(), AllocError> {
+        self.done.push(Done { done, vmid, next })?;
+        Ok(())
+    }
+
+    // Notes a turn.
+    fn note(&mut self, before: Before, after: After) -> Result<(), AllocError> {
+        self.known.insert(before, after)?;
+        Ok(())
+    }
+
+    /// The state after a turn.
+    pub(crate) fn state_after(
+        &mut self,
+        alloc: Global,
+        state: &State,
+        build: usize,
+        after: After,
+    ) -> Result<State, AllocError> {
+        let blocks = match after.moved {
+            Some(moved) => self.blocks.with(alloc, state.blocks, moved)?.0,
+            None => state.blocks,
+        };
+        Ok(state.with(build, after.build, blocks))
+    }
+}
+
+impl Turns {
+    /// The ends of the steps, and the number of turns that were run.
+    pub(crate) fn into_ends(self) -> (Vec<StepEnd>, usize) {
+        let Turns {
+            builds: _,
+            done: _,
+            blocks: _,
+            known,
+            ends,
+        } = self;
+        (ends, known.len())
+    }
+}
