@@ -8,7 +8,7 @@ use Rattle.std.proofs.Math.ListN.{drop_of_length-le}
 use Rattle.std.proofs.lemmas.List.{append-nil, get_or-map, length-map}
 use Rattle.std.proofs.lemmas.List.Concat.{flat_map-cons}
 use Rattle.schedule_graph.specs.Paths.{Layer, Path, paths_by_edges, paths, shows, count_at}
-use Rattle.schedule_graph.specs.First.{first_like, layers_in, goes_on, AreNumbers}
+use Rattle.schedule_graph.specs.First.{first_like, layers_in, goes_on, ArePathNumbers}
 use Rattle.schedule_graph.specs.declared.graph.Edge.{Edge}
 
 -- ---- what is found, and how many there are
@@ -240,7 +240,7 @@ module _ {L : Type 0} (is : L → Bool) (accept : Bool → Bool) (layers : List 
       at (l ∷ ls) none some = cc
 
   module _ (with_it without_it : List (List ℕ))
-      (are_with : AreNumbers (λ path. accept true) layers with_it) (are_without : AreNumbers (λ path. accept (shows is path)) layers without_it)
+      (are_with : ArePathNumbers (λ path. accept true) layers with_it) (are_without : ArePathNumbers (λ path. accept (shows is path)) layers without_it)
       (depth state : ℕ) (shown : Bool) (labels : List L) (inside : depth < length layers) (way : IsOnWay depth state shown labels) where
     are_next : (shown : Bool) (state : ℕ) → count_at (cond shown (slice_index_or with_it (depth + 1) []) (slice_index_or without_it (depth + 1) [])) state
         ≡ length (filter (like is accept shown) (paths (drop (depth + 1) layers) state))
@@ -310,7 +310,7 @@ layers_length {L} layers = length-map layers (λ (l : Vec (Vec (Edge L) Global) 
 
 -- ---- the first path from the first state
 
-module _ {L : Type 0} (like : Path L → Bool) (layers : List (Layer L)) (counts : List (List ℕ)) (are : AreNumbers like layers counts) where
+module _ {L : Type 0} (like : Path L → Bool) (layers : List (Layer L)) (counts : List (List ℕ)) (are : ArePathNumbers like layers counts) where
   pub no_first : nat_lt 0 (count_at (slice_index_or counts 0 []) 0) ≡ false → first_like like (paths layers 0) ≡ None
   no_first none =
       let fewer = ltb-false 0 (count_at (slice_index_or counts 0 []) 0) none in
@@ -322,6 +322,6 @@ none_kept [] = refl
 none_kept (x ∷ xs) = none_kept xs
 
 -- no path is like that where none may be
-pub no_numbers : {L : Type 0} (layers : List (Layer L)) → AreNumbers {L = L} (λ path. false) layers []
+pub no_numbers : {L : Type 0} (layers : List (Layer L)) → ArePathNumbers {L = L} (λ path. false) layers []
 no_numbers {L} layers zero state = sym (ap length (none_kept (paths layers state)))
 no_numbers {L} layers (suc depth) state = sym (ap length (none_kept (paths (drop (suc depth) layers) state)))

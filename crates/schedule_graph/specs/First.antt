@@ -9,12 +9,12 @@ use Rattle.schedule_graph.specs.declared.graph.Edge.{Edge}
 abbrev pub layers_in : {L : Type 0} → List (Vec (Vec (Edge L) Global) Global) → List (Layer L)
 layers_in layers = map (λ layer. map vec_items (vec_items layer)) layers
 
-abbrev pub numbers_in : List (Vec ℕ Global) → List (List ℕ)
-numbers_in counts = map vec_items counts
+abbrev pub path_numbers_in : List (Vec ℕ Global) → List (List ℕ)
+path_numbers_in counts = map vec_items counts
 
 -- Of each layer, the numbers of the paths like that: one for each of its states. A number that is left out is 0.
-abbrev pub AreNumbers : {L : Type 0} → (Path L → Bool) → List (Layer L) → List (List ℕ) → Type 0
-AreNumbers like layers counts =
+abbrev pub ArePathNumbers : {L : Type 0} → (Path L → Bool) → List (Layer L) → List (List ℕ) → Type 0
+ArePathNumbers like layers counts =
     (depth state : ℕ) → count_at (slice_index_or counts depth []) state ≡ length (filter like (paths (drop depth layers) state))
 
 -- the labels of the first path like that, if there is one
@@ -31,7 +31,7 @@ shows_none is path = not (shows is path)
 
 -- ---- the next edge of a path
 
--- By the numbers of the next layer, paths go on from the edge: those for paths that have shown a label like that, here
--- or before, and those for the others.
+-- Paths go on from the edge, by the numbers of the next layer. One list is for paths that have shown a label like that,
+-- here or before, and one for the others.
 abbrev pub goes_on : {L : Type 0} → (L → Bool) → Bool → List ℕ → List ℕ → Edge L → Bool
 goes_on is shown with_it without_it edge = nat_lt 0 (count_at (cond (shown || is edge.label) with_it without_it) edge.to)

@@ -1,7 +1,8 @@
 //! The first paths that show a label, and that show none.
-ghost use Rattle.std.specs.Prelude.{◌≡◌, ◌<◌, nat_lt, Bool, true, not, ◌||◌, option_map, slice_index_or, [], IfOk, Some, map, vec_items};
+ghost use Rattle.std.specs.Prelude.{◌≡◌, ◌<◌, nat_lt, Bool, true, option_map, slice_index_or, [], IfOk, Some, map, vec_items};
 ghost use Rattle.std.specs.List.{find};
-ghost use Rattle.schedule_graph.specs.First.{layers_in, numbers_in, first_like, any_path, shows_none, AreNumbers, goes_on};
+ghost use Rattle.schedule_graph.specs.First.{layers_in, path_numbers_in, first_like, any_path, shows_none};
+ghost use Rattle.schedule_graph.specs.First.{ArePathNumbers, goes_on};
 ghost use Rattle.schedule_graph.specs.Paths.{paths, shows, count_at};
 
 use crate::graph::{Edge, Sign};
@@ -10,7 +11,7 @@ use std::alloc::{AllocError, Global};
 
 /// The numbers of a layer; none if there is no such layer.
 pub(crate) fn numbers_at(counts: &[Vec<Count>], depth: usize) -> &[Count]
-    ensures { result.now ≡ slice_index_or (numbers_in counts.now) depth [] }
+    ensures { result.now ≡ slice_index_or (path_numbers_in counts.now) depth [] }
 {
     match counts.get(depth) {
         Some(here) => here,
@@ -84,10 +85,12 @@ fn walk<L: Copy, S: Sign<L>>(
     without_it: &[Vec<Count>],
 ) -> Result<Vec<L>, AllocError>
     ensures { IfOk result (λ labels. (accept : Bool → Bool)
-        → AreNumbers (λ path. accept true) (layers_in layers.now) (numbers_in with_it.now)
-        → AreNumbers (λ path. accept (shows (S.is_on sign.now) path)) (layers_in layers.now) (numbers_in without_it.now)
-        → 0 < count_at (slice_index_or (numbers_in without_it.now) 0 []) 0
-        → first_like (λ path. accept (shows (S.is_on sign.now) path)) (paths (layers_in layers.now) 0) ≡ Some labels.items) }
+        → ArePathNumbers (λ path. accept true) (layers_in layers.now) (path_numbers_in with_it.now)
+        → ArePathNumbers (λ path. accept (shows (S.is_on sign.now) path)) (layers_in layers.now)
+        (path_numbers_in without_it.now)
+        → 0 < count_at (slice_index_or (path_numbers_in without_it.now) 0 []) 0
+        → first_like (λ path. accept (shows (S.is_on sign.now) path)) (paths (layers_in layers.now) 0)
+        ≡ Some labels.items) }
 {
     let mut labels = Vec::new(alloc);
     let mut state = 0;
@@ -115,8 +118,8 @@ pub fn first_with<L: Copy, S: Sign<L>>(
     all: &[Vec<Count>],
     with_it: &[Vec<Count>],
 ) -> Result<Option<Vec<L>>, AllocError>
-    ensures { IfOk result (λ first. AreNumbers any_path (layers_in layers.now) (numbers_in all.now)
-        → AreNumbers (shows (S.is_on sign.now)) (layers_in layers.now) (numbers_in with_it.now)
+    ensures { IfOk result (λ first. ArePathNumbers any_path (layers_in layers.now) (path_numbers_in all.now)
+        → ArePathNumbers (shows (S.is_on sign.now)) (layers_in layers.now) (path_numbers_in with_it.now)
         → first_like (shows (S.is_on sign.now)) (paths (layers_in layers.now) 0) ≡ option_map vec_items first) }
 {
     if !has_paths(numbers_at(with_it, 0), 0) {
@@ -133,7 +136,8 @@ pub fn first_without<L: Copy, S: Sign<L>>(
     sign: &S,
     without_it: &[Vec<Count>],
 ) -> Result<Option<Vec<L>>, AllocError>
-    ensures { IfOk result (λ first. AreNumbers (shows_none (S.is_on sign.now)) (layers_in layers.now) (numbers_in without_it.now)
+    ensures { IfOk result (λ first.
+        ArePathNumbers (shows_none (S.is_on sign.now)) (layers_in layers.now) (path_numbers_in without_it.now)
         → first_like (shows_none (S.is_on sign.now)) (paths (layers_in layers.now) 0) ≡ option_map vec_items first) }
 {
     if !has_paths(numbers_at(without_it, 0), 0) {

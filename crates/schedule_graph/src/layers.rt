@@ -1,6 +1,6 @@
 //! The numbers of paths from each state of all layers.
 ghost use Rattle.std.specs.Prelude.{◌≡◌, IfOk};
-ghost use Rattle.schedule_graph.specs.First.{layers_in, numbers_in, any_path, shows_none, AreNumbers};
+ghost use Rattle.schedule_graph.specs.First.{layers_in, path_numbers_in, any_path, shows_none, ArePathNumbers};
 ghost use Rattle.schedule_graph.specs.Paths.{shows};
 
 use crate::first::numbers_at;
@@ -13,7 +13,7 @@ pub fn count_all<L>(
     alloc: Global,
     layers: &[Vec<Vec<Edge<L>>>],
 ) -> Result<Vec<Vec<Count>>, AllocError>
-    ensures { IfOk result (λ counts. AreNumbers any_path (layers_in layers.now) (numbers_in counts.items)) }
+    ensures { IfOk result (λ counts. ArePathNumbers any_path (layers_in layers.now) (path_numbers_in counts.items)) }
 {
     let mut counts: Vec<Vec<Count>> = Vec::new(alloc);
     for done in 0..layers.len() {
@@ -34,8 +34,8 @@ pub fn count_all_with<L, S: Sign<L>>(
     sign: &S,
     all: &[Vec<Count>],
 ) -> Result<Vec<Vec<Count>>, AllocError>
-    ensures { IfOk result (λ counts. AreNumbers any_path (layers_in layers.now) (numbers_in all.now)
-        → AreNumbers (shows (S.is_on sign.now)) (layers_in layers.now) (numbers_in counts.items)) }
+    ensures { IfOk result (λ counts. ArePathNumbers any_path (layers_in layers.now) (path_numbers_in all.now)
+        → ArePathNumbers (shows (S.is_on sign.now)) (layers_in layers.now) (path_numbers_in counts.items)) }
 {
     let mut counts: Vec<Vec<Count>> = Vec::new(alloc);
     for done in 0..layers.len() {
@@ -56,7 +56,8 @@ pub fn count_all_without<L, S: Sign<L>>(
     layers: &[Vec<Vec<Edge<L>>>],
     sign: &S,
 ) -> Result<Vec<Vec<Count>>, AllocError>
-    ensures { IfOk result (λ counts. AreNumbers (shows_none (S.is_on sign.now)) (layers_in layers.now) (numbers_in counts.items)) }
+    ensures { IfOk result (λ counts.
+        ArePathNumbers (shows_none (S.is_on sign.now)) (layers_in layers.now) (path_numbers_in counts.items)) }
 {
     let mut counts: Vec<Vec<Count>> = Vec::new(alloc);
     for done in 0..layers.len() {

@@ -1,7 +1,7 @@
 use Rattle.std.proofs.Common.{◌≡◌, ◌+◌, ◌<◌, ◌||◌, [], map, length, vec_items, sym, ap, ◌∙◌, subst, arith}
 use Rattle.std.specs.Prelude.{slice_index_or}
 use Rattle.std.specs.List.{find}
-use Rattle.schedule_graph.specs.First.{layers_in, numbers_in, goes_on}
+use Rattle.schedule_graph.specs.First.{layers_in, path_numbers_in, goes_on}
 use Rattle.schedule_graph.proofs.Firsts.{IsOnWay, way_is_over, way_goes_on, way_ends, layer_in, layers_length}
 use Rattle.schedule_graph.proofs.first.walk.Goals.{then-shown, else-shown}
 use Rattle.schedule_graph.proofs.first.walk.Goals as goal
@@ -15,7 +15,7 @@ returns-in_default g c = λ accept are_with are_without some.
     c.edges_at-edges.ensures
     ∙ ap (λ l. slice_index_or (map vec_items l) at.state []) c.deref.ensures.value
     ∙ ap (λ l. slice_index_or l at.state []) (layer_in c.args.layers.now at.depth c.index-layers-depth.result below c.index-layers-depth.is) in
-    way_ends (g.S.Sign.is_on c.args.sign.now) accept (layers_in c.args.layers.now) (numbers_in c.args.with_it.now) (numbers_in c.args.without_it.now) are_with are_without
+    way_ends (g.S.Sign.is_on c.args.sign.now) accept (layers_in c.args.layers.now) (path_numbers_in c.args.with_it.now) (path_numbers_in c.args.without_it.now) are_with are_without
     at.depth at.state at.shown at.labels.items inside (at.invariant accept are_with are_without some)
     (sym (c.in_default.ensures ∙ (λ i. find (goes_on (g.S.Sign.is_on c.args.sign.now) at.shown (c.numbers_at-with_next.ensures i) (c.numbers_at-without_next.ensures i)) (edges i))))
 
@@ -34,7 +34,7 @@ loop-depth-preserved g c = λ accept are_with are_without some.
       | then-shown w ↦ w.shown-is ∙ w.if-shown.true ∙ sym (ap (λ t. t || g.S.Sign.is_on c.args.sign.now edge.label) w.if-shown.true)
       | else-shown w ↦ w.shown-is ∙ w.is_on-shown.ensures ∙ sym (ap (λ t. t || g.S.Sign.is_on c.args.sign.now edge.label) w.if-shown.false)
     ] in
-    let way = way_goes_on (g.S.Sign.is_on c.args.sign.now) accept (layers_in c.args.layers.now) (numbers_in c.args.with_it.now) (numbers_in c.args.without_it.now) are_with are_without
+    let way = way_goes_on (g.S.Sign.is_on c.args.sign.now) accept (layers_in c.args.layers.now) (path_numbers_in c.args.with_it.now) (path_numbers_in c.args.without_it.now) are_with are_without
     at.depth at.state at.shown at.labels.items inside (at.invariant accept are_with are_without some) edge
     (sym (c.in-Some.ensures ∙ (λ i. find (goes_on (g.S.Sign.is_on c.args.sign.now) at.shown (c.numbers_at-with_next.ensures i) (c.numbers_at-without_next.ensures i)) (edges i)))) in
     subst (λ t. IsOnWay (g.S.Sign.is_on c.args.sign.now) accept (layers_in c.args.layers.now) (at.depth + 1) edge.to t c.push.new.self.items) (sym shown_is)

@@ -1,7 +1,7 @@
 use Rattle.std.proofs.Common.{◌≡◌, ◌+◌, ◌-◌, ◌<◌, [], ◌∷◌, length, map, drop, vec_items, ap, ◌∙◌, subst, arith, length-append}
 use Rattle.std.specs.Prelude.{filter, slice_index_or}
 use Rattle.schedule_graph.specs.Paths.{paths, shows, AreCounts, AreCountsWith}
-use Rattle.schedule_graph.specs.First.{layers_in, numbers_in, any_path}
+use Rattle.schedule_graph.specs.First.{layers_in, path_numbers_in, any_path}
 use Rattle.schedule_graph.proofs.LayerNumbers.{any_counts, next_in, more_in, all_in}
 use Rattle.schedule_graph.proofs.layers.count_all_with.Goals as goal
 
@@ -11,8 +11,8 @@ loop-done-preserved g c =
     let at = c.loop-done in
     let layers = c.args.layers.now in
     let below : at.done < length layers = omega (arith, c.loop-done-test.true) in
-    let next_is : c.numbers_at-next.result.now ≡ slice_index_or (numbers_in at.counts.items) (at.done - 1) [] =
-    c.numbers_at-next.ensures ∙ (λ i. slice_index_or (numbers_in (c.deref.ensures.value i)) (c.saturating_sub.ensures i) []) in
+    let next_is : c.numbers_at-next.result.now ≡ slice_index_or (path_numbers_in at.counts.items) (at.done - 1) [] =
+    c.numbers_at-next.ensures ∙ (λ i. slice_index_or (path_numbers_in (c.deref.ensures.value i)) (c.saturating_sub.ensures i) []) in
     let rest = drop (length layers - at.done) (layers_in layers) in
     let suc_depth : length layers - 1 - at.done + 1 ≡ length layers - at.done = omega (arith, below) in (
       omega (arith, ap length c.in_ok-push.ensures.items, length-append at.counts.items (c.in_ok-here.here ∷ []), at.invariant.0),

@@ -1,7 +1,7 @@
 use Rattle.std.proofs.Common.{◌≡◌, ◌-◌, ◌<◌, [], ◌∷◌, length, map, drop, vec_items, ap, ◌∙◌, subst, arith, length-append}
 use Rattle.std.specs.Prelude.{slice_index_or}
 use Rattle.schedule_graph.specs.Paths.{AreCountsWithout}
-use Rattle.schedule_graph.specs.First.{layers_in, numbers_in, shows_none}
+use Rattle.schedule_graph.specs.First.{layers_in, path_numbers_in, shows_none}
 use Rattle.schedule_graph.proofs.LayerNumbers.{next_in, more_in, all_in}
 use Rattle.schedule_graph.proofs.layers.count_all_without.Goals as goal
 
@@ -11,8 +11,8 @@ loop-done-preserved g c =
     let at = c.loop-done in
     let layers = c.args.layers.now in
     let below : at.done < length layers = omega (arith, c.loop-done-test.true) in
-    let next_is : c.numbers_at-next.result.now ≡ slice_index_or (numbers_in at.counts.items) (at.done - 1) [] =
-    c.numbers_at-next.ensures ∙ (λ i. slice_index_or (numbers_in (c.deref.ensures.value i)) (c.saturating_sub.ensures i) []) in
+    let next_is : c.numbers_at-next.result.now ≡ slice_index_or (path_numbers_in at.counts.items) (at.done - 1) [] =
+    c.numbers_at-next.ensures ∙ (λ i. slice_index_or (path_numbers_in (c.deref.ensures.value i)) (c.saturating_sub.ensures i) []) in
     let rest = drop (length layers - at.done) (layers_in layers) in
     let next_are : AreCountsWithout is rest c.numbers_at-next.result.now =
     next_in (shows_none is) layers at.counts.items at.done below at.invariant.0 at.invariant.1 c.numbers_at-next.result.now next_is in
