@@ -1,7 +1,7 @@
 # PLAN: the plans of `make try` (several in quotes: PLAN="a.toml b.toml"). TRACE: the traces of `make try-trace`, likewise.
 PLAN ?= plans/missing-tables.toml
 TRACE ?= traces/granules.trace
-# CRATE: the crates whose mutants are tried (all). SINCE: a commit; only what has changed since then is tried.
+# CRATE: the crates whose mutants are tried (all), or that `make quick` is for (those that have changed). SINCE: a commit; only what has changed since then is tried.
 # JOBS: how many checks run side by side (one a processor).
 CRATE ?=
 SINCE ?=
@@ -13,11 +13,10 @@ PREFIX ?= /usr/local
 DESTDIR ?=
 
 PROGRAMS = realmhost rmitrace realmview
-DOCS = docs $(patsubst %/,%,$(sort $(dir $(wildcard docs/*/*))))
 SHARE = $(DESTDIR)$(PREFIX)/share
 LIB = $(DESTDIR)$(PREFIX)/lib
 
-.PHONY: allocations bench build c-library c-test docs-html fuzz help install install-c-library memcheck planted test try try-trace mutants
+.PHONY: allocations bench build c-library c-test dist docs-html fuzz help install install-c-library lint memcheck mutants planted quick test try try-trace
 
 help: ## lists the targets
 	@grep -E '^[a-z-]+:.*## ' $(MAKEFILE_LIST) | sed 's/:.*## /\t/' | expand -t 20
@@ -28,6 +27,9 @@ try: ## a minute: builds realmview with nothing proved, and explains PLAN
 try-trace: ## a minute: builds rmitrace with nothing proved, and checks TRACE
 	@tools/try rmitrace $(TRACE) -- check
 
+quick: ## at most five minutes: proves what has changed since main, or CRATE, and what is above it as far as the time lasts, and runs its tests
+	@tools/quick $(CRATE)
+
 build: ## proves the three programs with their libraries, and puts them into bin/
 	@tools/build
 
@@ -37,31 +39,17 @@ c-library: ## proves the RMM and the host as libraries for C, and puts them into
 c-test: c-library ## tries the libraries from C, C++ and Python, with sanitizers, valgrind and random calls (needs a C compiler)
 	@FUZZ_SECONDS=2 tools/pytest -q -m "" tests/test_c_library.py tests/test_host_library.py tests/test_examples.py tests/test_fuzz_c.py
 
+dist: build c-library ## packs what is installed as a tar.gz and a .deb in build/dist, with sums and a list of contents (needs pandoc)
+	@tools/dist
+
 docs-html: ## makes a site of the documents in build/html, which can be read offline (needs pandoc)
 	@tools/docs_html
 
 install: ## copies what `make build` and `make c-library` have built, man pages, completions, documents, plans and traces below PREFIX
 	@for it in $(PROGRAMS); do test -x bin/$$it || { echo "install: there is no bin/$$it yet: make build" >&2; exit 1; }; done
-	install -d $(DESTDIR)$(PREFIX)/bin $(DOCS:%=$(SHARE)/doc/realmhost/%) $(SHARE)/realmhost/plans/guide $(SHARE)/realmhost/traces $(SHARE)/realmhost/examples
+	install -d $(DESTDIR)$(PREFIX)/bin
 	install -m 755 $(PROGRAMS:%=bin/%) $(DESTDIR)$(PREFIX)/bin
-	install -d $(SHARE)/man/man1 $(SHARE)/man/man5 $(SHARE)/bash-completion/completions $(SHARE)/zsh/site-functions $(SHARE)/fish/vendor_completions.d
-	install -m 644 man/*.1 $(SHARE)/man/man1
-	install -m 644 man/*.5 $(SHARE)/man/man5
-	for it in $(PROGRAMS); do install -m 644 completions/$$it.bash $(SHARE)/bash-completion/completions/$$it || exit 1; done
-	install -m 644 completions/_* $(SHARE)/zsh/site-functions
-	install -m 644 completions/*.fish $(SHARE)/fish/vendor_completions.d
-	install -m 644 README.md CHANGELOG.md CONTRIBUTING.md LICENSE $(SHARE)/doc/realmhost
-	for it in $(wildcard docs/*.md docs/*/*.md docs/*/*.json docs/pictures/*); do install -m 644 $$it $(SHARE)/doc/realmhost/$$it || exit 1; done
-	@# links to what is installed elsewhere
-	sed -i -E 's,\]\(../../(examples|python|plans|traces)/,](../../../../realmhost/\1/,g; s,\]\(../../include/,](../../../../../include/,g' $(SHARE)/doc/realmhost/docs/*/*.md
-	sed -i -E 's,\]\((examples|plans|traces)/,](../../realmhost/\1/,g' $(SHARE)/doc/realmhost/README.md
-	install -m 644 plans/*.* $(SHARE)/realmhost/plans
-	install -m 644 plans/guide/* $(SHARE)/realmhost/plans/guide
-	install -m 644 traces/*.trace $(SHARE)/realmhost/traces
-	install -d $(SHARE)/realmhost/traces/rmm/random
-	install -m 644 traces/rmm/*.* $(SHARE)/realmhost/traces/rmm
-	install -m 644 traces/rmm/random/*.trace $(SHARE)/realmhost/traces/rmm/random
-	install -m 644 examples/*.py examples/README.md $(SHARE)/realmhost/examples
+	tools/installed.py $(DESTDIR)$(PREFIX)
 	@if test -f build/librmm.a; then $(MAKE) --no-print-directory install-c-library; \
 	  else echo "install: there is no build/librmm.a, and the library for C is left out: make c-library"; fi
 
@@ -84,8 +72,10 @@ test: ## the whole gate from nothing: proofs, tests, what the built programs pri
 mutants: ## tries the mutants of CRATE or all: the prover has to refuse each
 	@tests/mutants.py $(if $(JOBS),--jobs $(JOBS)) $(if $(SINCE),--since $(SINCE)) $(CRATE)
 
-planted: ## tries edits that are no mutants, after a change of tests/mutants.py or of the toolchain
+planted: ## tries edits that are no mutants, or those of CRATE alone; then all mistakes that are put into an RMM have to be found
 	@tests/mutants.py $(if $(JOBS),--jobs $(JOBS)) --planted $(CRATE)
+	@test -n "$(CRATE)" || tests/random_laws planted
+	@test -n "$(CRATE)" || tools/pytest -q -n auto -m "" -k planted
 
 allocations: ## refuses each allocation of the programs in turn, over all plans and traces; `make test` has the first of them
 	@tools/build $(PROGRAMS) test_memory
@@ -99,7 +89,7 @@ fuzz: build ## runs COUNT plans and traces of each kind of random change, long i
 	@COUNT=$(or $(COUNT),2000) tools/pytest -q -n auto -m random
 
 bench: build ## CPU time and peak memory of the program over plans of several shapes, and how they grow, and CPU time of each command of the RMM by registers, beside plain Rust (needs cargo)
-	@tools/build test_rmm_speed
+	@tools/build test_memory
 	@bench/run --series
 	@bench/plot
 	@bench/rmm

@@ -108,9 +108,11 @@ enum {
     /* the handle is closed, and what is asked for is no command */
     RHM_HANDLE_CLOSED = 14,
     RHM_NO_COMMAND = 15,
-    /* of rhm_commit alone: the RMM has not answered as expected; the RMM did what the model refuses */
+    /* of rhm_commit and rhm_commit_undo alone: the RMM has not performed the call; it has, and the model refuses it; it
+     * has, with another output */
     RHM_NOT_EXPECTED = 16,
-    RHM_DIVERGED = 17
+    RHM_DIVERGED = 17,
+    RHM_OTHER_OUTPUT = 18
 };
 
 /* ---- commands of a build. It names its pages by its own numbers, from 0 on in the order of taking */
@@ -128,7 +130,7 @@ enum {
     RHM_UNKNOWN = 8,   /* page, ipa */
     RHM_REC = 9,       /* page, aux_count, aux. The value is the number of the REC */
     RHM_ACTIVATE = 10,
-    RHM_ENTER = 11,    /* rec: one of the build's, which rhm_prepare does not check; run: the page for exits, 0 to 63 */
+    RHM_ENTER = 11,    /* rec; run: the page for exits, 0 to 63 */
     RHM_EXIT = 12,     /* rec: its run has come back. It makes no call, and is due before an abort too */
     RHM_POKE = 13      /* rec, ipa, offset, value, run: a write of the guest, for simulations */
 };
@@ -216,8 +218,9 @@ typedef struct rhm_answer {
 } rhm_answer;
 
 /* Prepares a command, and changes nothing. RHM_DONE, with the operations for the RMM in `actions`; or the refusal that
- * the host gives before it calls an RMM. RHM_RMI is an operand that no call has, as a level 4, or an access to a page that
- * is not UNDELEGATED. RHM_NO_BLOCK comes from rhm_commit.
+ * the host gives before it calls an RMM, which is also that of rhm_ask. RHM_RMI is an operand that no call has: a level 4,
+ * or the number of a REC that there is not. It is also an access to a page that is not UNDELEGATED, and the exit of a REC
+ * that does not run. RHM_NO_BLOCK comes from rhm_commit.
  * Required: handle; `command` is not NULL, and each of its fields is written; `actions` is not NULL, and may be written
  * to. */
 uint64_t rhm_prepare(rhm_handle *handle, uint64_t build, const rhm_command *command, rhm_actions *actions) RHM_NO_NULL;
@@ -225,11 +228,13 @@ uint64_t rhm_prepare(rhm_handle *handle, uint64_t build, const rhm_command *comm
 /* Commits a command, after its operations were performed. If the answer is the expected one, it is performed on the model
  * as by rhm_ask.
  *
- * RHM_NOT_EXPECTED: X0 is not RMI_SUCCESS, nor 2^64 - 2 after an entry, which the RMM of this repository answers while a
- * guest runs on; or X1 is not the output that the host knows.
- * Nothing is recorded. If X0 is RMI_SUCCESS, the RMM has changed something, and the call is not to be made again.
- * RHM_DIVERGED: the RMM has performed a call that the model refuses with the result word `value`, or the command has no
- * call, as RHM_EXIT, and the model refuses it. Nothing is recorded.
+ * RHM_NOT_EXPECTED: the RMM has not performed the call. X0 is not RMI_SUCCESS, nor 2^64 - 2 after an entry, which the RMM
+ * of this repository answers while a guest runs on.
+ * RHM_OTHER_OUTPUT: it has, and X1 is not the `output` of the call. The call is not to be made again. If the hypervisor
+ * goes on nevertheless, it commits with `output` as X1.
+ * RHM_DIVERGED: it has, with that output, and the model refuses the call with the result word `value`. It does not come of
+ * a command that makes no call, as RHM_EXIT.
+ * Of each of the three, nothing is recorded.
  *
  * What is recorded is what was performed if no other call came for the build since rhm_prepare; for a RHM_REALM, none that
  * creates or removes another realm; and for a RHM_REALM or a RHM_REC, no operation of another one, since they share the
@@ -268,10 +273,10 @@ uint64_t rhm_free_count(rhm_handle *handle) RHM_NO_NULL;
 
 typedef struct rhm_build {
     uint64_t page_count;
-    uint64_t open_count; /* operations that are open */
-    uint64_t mark;       /* how many were open at its mark */
-    bool has_mark;
-    bool is_aborting;
+    uint64_t open_count;  /* operations that are open */
+    uint64_t mark;        /* how many were open at its mark */
+    uint64_t has_mark;    /* 1 if it has a mark, else 0 */
+    uint64_t is_aborting; /* 1 if it is in abort, else 0 */
 } rhm_build;
 
 bool rhm_read_build(rhm_handle *handle, uint64_t build, rhm_build *reading) RHM_NO_NULL;
@@ -334,14 +339,14 @@ enum {
     RHM_EVENT_DATA = 12,    /* granule, ipa; second: the source */
     RHM_EVENT_UNKNOWN = 13, /* granule, ipa */
     RHM_EVENT_UNDATA = 14,
-    RHM_EVENT_REC = 15, /* granule, rec; count: of auxiliary granules */
+    RHM_EVENT_REC = 15, /* granule, rec, aux; count: of auxiliary granules */
     RHM_EVENT_UNREC = 16,
     RHM_EVENT_ENTER = 17, /* rec */
     RHM_EVENT_EXIT = 18,
     RHM_EVENT_POKE = 19 /* rec, ipa, offset, value */
 };
 
-/* An event of the history. `granule` and `second` are addresses. What its kind has not is 0. */
+/* An event of the history. `granule`, `second` and `aux` are addresses. What its kind has not is 0. */
 typedef struct rhm_event {
     uint64_t build;
     uint64_t kind;
@@ -355,6 +360,7 @@ typedef struct rhm_event {
     uint64_t offset;
     uint64_t value;
     uint64_t vmid;
+    uint64_t aux[16];
 } rhm_event;
 
 /* The number of events; 0 for a closed handle.   Required: handle. */
@@ -363,9 +369,102 @@ uint64_t rhm_event_count(rhm_handle *handle) RHM_NO_NULL;
 /* The event of a number, from 0 on. */
 bool rhm_read_event(rhm_handle *handle, uint64_t number, rhm_event *reading) RHM_NO_NULL;
 
-RHM_STATIC_ASSERT(sizeof(rhm_event) == 96, "rhm_event has 96 bytes");
-RHM_STATIC_ASSERT(sizeof(rhm_build) == 32 && sizeof(rhm_page) == 16 && sizeof(rhm_realm) == 48 && sizeof(rhm_rec) == 16,
+RHM_STATIC_ASSERT(sizeof(rhm_event) == 224, "rhm_event has 224 bytes");
+RHM_STATIC_ASSERT(sizeof(rhm_build) == 40 && sizeof(rhm_page) == 16 && sizeof(rhm_realm) == 48 && sizeof(rhm_rec) == 16,
                   "readings have these sizes");
+
+/* ---- the history as text: the lines that `realmview apply` reads, and `realmview history` prints of a plan */
+
+/* The bytes of a line, with the 0 at its end: enough for any numbers. */
+#define RHM_LINE 400
+
+static inline size_t rhm_put_word(char *text, size_t at, const char *word)
+{
+    size_t length = strlen(word);
+    memcpy(text + at, word, length + 1);
+    return at + length;
+}
+
+/* A space, and a number in decimal. */
+static inline size_t rhm_put_number(char *text, size_t at, uint64_t number)
+{
+    char digits[21];
+    size_t from = sizeof digits - 1;
+    digits[from] = 0;
+    do
+        digits[--from] = (char)('0' + number % 10);
+    while ((number /= 10) != 0);
+    return rhm_put_word(text, rhm_put_word(text, at, " "), digits + from);
+}
+
+/* The letters of the operands of a kind, in their sequence: o, the order of a block; g and s, the numbers of a granule and
+ * of the second one; i, l, n, w, v, m, r, f for ipa, level, count, width, value, vmid, rec, offset; a, the auxiliaries. */
+static inline const char *rhm_event_operands(uint64_t kind)
+{
+    static const char *const operands[] = {"og", "og", "gv", "gfv", "g",  "g",  "gswm", "gswm", "",  "gil",
+                                           "gil", "in", "gis", "gi", "gi", "gra", "gra",  "r",    "r", "rifv"};
+    return kind < sizeof operands / sizeof operands[0] ? operands[kind] : "";
+}
+
+static inline const char *rhm_event_name(uint64_t kind)
+{
+    static const char *const names[] = {"take",     "untake", "fill",  "peek",  "delegate", "undelegate", "realm",
+                                        "unrealm",  "activate", "rtt", "unrtt", "ripas",    "data",       "unknown",
+                                        "undata",   "rec",    "unrec", "enter", "exit",     "poke"};
+    return kind < sizeof names / sizeof names[0] ? names[kind] : "?";
+}
+
+static inline uint64_t rhm_order_of(uint64_t count)
+{
+    uint64_t order = 0;
+    while (count > 1) {
+        count /= 2;
+        order++;
+    }
+    return order;
+}
+
+static inline size_t rhm_put_operand(char *text, size_t at, const rhm_event *event, uint64_t base, char operand)
+{
+    switch (operand) {
+    case 'o': return rhm_put_number(text, at, rhm_order_of(event->count));
+    case 'g': return rhm_put_number(text, at, (event->granule - base) / RHM_GRANULE_SIZE);
+    case 's': return rhm_put_number(text, at, (event->second - base) / RHM_GRANULE_SIZE);
+    case 'i': return rhm_put_number(text, at, event->ipa);
+    case 'l': return rhm_put_number(text, at, event->level);
+    case 'n': return rhm_put_number(text, at, event->count);
+    case 'w': return rhm_put_number(text, at, event->width);
+    case 'v': return rhm_put_number(text, at, event->value);
+    case 'm': return rhm_put_number(text, at, event->vmid);
+    case 'r': return rhm_put_number(text, at, event->rec);
+    case 'f': return rhm_put_number(text, at, event->offset);
+    default:
+        for (uint64_t k = 0; k < event->count && k < 16; k++)
+            at = rhm_put_number(text, at, (event->aux[k] - base) / RHM_GRANULE_SIZE);
+        return at;
+    }
+}
+
+/* Writes the line of an event of a host with this base to `text`, with a 0 and no line feed after it. */
+static inline void rhm_event_text(const rhm_event *event, uint64_t base, char text[RHM_LINE])
+{
+    size_t at = 0;
+    text[at++] = (char)('0' + event->build % 8);
+    at = rhm_put_word(text, rhm_put_word(text, at, " "), rhm_event_name(event->kind));
+    for (const char *operand = rhm_event_operands(event->kind); *operand != 0; operand++)
+        at = rhm_put_operand(text, at, event, base, *operand);
+}
+
+/* Writes the first line of a history, by the settings of the host, likewise. */
+static inline void rhm_opening_text(const rhm_settings *settings, char text[RHM_LINE])
+{
+    size_t at = rhm_put_word(text, 0, "history 1");
+    at = rhm_put_number(text, at, settings->pages);
+    at = rhm_put_number(text, at, settings->vmids);
+    at = rhm_put_number(text, at, settings->aux);
+    at = rhm_put_number(text, at, settings->history);
+    rhm_put_number(text, at, settings->builds);
+}
 
 /* ---- commands by name */
 
@@ -469,7 +568,7 @@ static inline const char *rhm_status_name(uint64_t status)
         "RHM_DONE",          "RHM_NO_BUILD",      "RHM_ABORTING",      "RHM_BAD_ORDER",     "RHM_NOT_LEASED",
         "RHM_REALM_THERE",   "RHM_NO_REALM",      "RHM_NOTHING_TO_UNDO", "RHM_REC_RUNNING", "RHM_JOURNAL_FULL",
         "RHM_HISTORY_FULL",  "RHM_NO_BLOCK",      "RHM_NO_VMID",       "RHM_RMI",           "RHM_HANDLE_CLOSED",
-        "RHM_NO_COMMAND",    "RHM_NOT_EXPECTED",  "RHM_DIVERGED",
+        "RHM_NO_COMMAND",    "RHM_NOT_EXPECTED",  "RHM_DIVERGED",      "RHM_OTHER_OUTPUT",
     };
     return status < sizeof names / sizeof names[0] ? names[status] : "?";
 }

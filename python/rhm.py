@@ -29,7 +29,7 @@ MOST = 2**64 - 1
 STATUSES = (
     "RHM_DONE", "RHM_NO_BUILD", "RHM_ABORTING", "RHM_BAD_ORDER", "RHM_NOT_LEASED", "RHM_REALM_THERE", "RHM_NO_REALM",
     "RHM_NOTHING_TO_UNDO", "RHM_REC_RUNNING", "RHM_JOURNAL_FULL", "RHM_HISTORY_FULL", "RHM_NO_BLOCK", "RHM_NO_VMID",
-    "RHM_RMI", "RHM_HANDLE_CLOSED", "RHM_NO_COMMAND", "RHM_NOT_EXPECTED", "RHM_DIVERGED",
+    "RHM_RMI", "RHM_HANDLE_CLOSED", "RHM_NO_COMMAND", "RHM_NOT_EXPECTED", "RHM_DIVERGED", "RHM_OTHER_OUTPUT",
 )
 DONE, ABORTING = 0, 2
 GRANULE_STATES = ("UNDELEGATED", "DELEGATED", "RD", "REC", "REC_AUX", "DATA", "RTT")
@@ -63,10 +63,15 @@ OPERANDS = ("order", "page", "second", "ipa", "level", "count", "width", "rec", 
 EVENT = (
     "build", "kind", "granule", "second", "ipa", "level", "count", "width", "rec", "offset", "value", "vmid",
 )
-EVENTS = (
-    "take", "untake", "fill", "peek", "delegate", "undelegate", "realm", "unrealm", "activate", "rtt", "unrtt", "ripas",
-    "data", "unknown", "undata", "rec", "unrec", "enter", "exit", "poke",
-)
+# Of each kind of event its operands as a line has them, in the sequence of the kinds.
+EVENT_OPERANDS = {
+    "take": "order granule", "untake": "order granule", "fill": "granule value", "peek": "granule offset value",
+    "delegate": "granule", "undelegate": "granule", "realm": "granule second width vmid",
+    "unrealm": "granule second width vmid", "activate": "", "rtt": "granule ipa level", "unrtt": "granule ipa level",
+    "ripas": "ipa count", "data": "granule ipa second", "unknown": "granule ipa", "undata": "granule ipa",
+    "rec": "granule rec aux", "unrec": "granule rec aux", "enter": "rec", "exit": "rec", "poke": "rec ipa offset value",
+}
+EVENTS = tuple(EVENT_OPERANDS)
 FIELDS = (
     "x0", "x1", "x2", "x3", "x4", "x5", "x6", "address", "count", "value", "ipa", "vmid", "tables", "output", "has_output",
 )
@@ -172,7 +177,10 @@ class _Reading(ctypes.Structure):
 
 
 class _Build(_Reading):
-    _fields_ = [("page_count", _U64), ("open_count", _U64), ("mark", _U64), ("has_mark", _BOOL), ("is_aborting", _BOOL)]
+    _fields_ = [(name, _U64) for name in ("page_count", "open_count", "mark", "has_mark", "is_aborting")]
+
+    def as_dict(self):
+        return {**super().as_dict(), "has_mark": self.has_mark == 1, "is_aborting": self.is_aborting == 1}
 
 
 class _Page(_Reading):
@@ -188,7 +196,12 @@ class _Rec(_Reading):
 
 
 class _Event(_Reading):
-    _fields_ = [(name, _U64) for name in EVENT]
+    _fields_ = [*[(name, _U64) for name in EVENT], ("aux", _U64 * 16)]
+
+    def as_dict(self):
+        kind = EVENTS[self.kind]
+        aux = self.aux[: self.count] if kind in ("rec", "unrec") else []
+        return {**super().as_dict(), "kind": kind, "aux": aux}
 
 
 _FUNCTIONS = {
@@ -253,6 +266,15 @@ def _command(name, operands):
     return command
 
 
+def _line(event, base):
+    """The line of an event."""
+    granule = lambda address: (address - base) // 4096
+    values = {**event, "order": event["count"].bit_length() - 1, "granule": granule(event["granule"])}
+    values.update(second=granule(event["second"]), aux=" ".join(str(granule(it)) for it in event["aux"]))
+    operands = [str(values[name]) for name in EVENT_OPERANDS[event["kind"]].split()]
+    return " ".join(it for it in [str(event["build"]), event["kind"], *operands] if it)
+
+
 _loaded = {}
 
 
@@ -273,7 +295,7 @@ class Host:
             raise NoHost(NoHost.__doc__)
         if answer == NO_MEMORY:
             raise MemoryError("there is no memory for the host")
-        self._handle = handle
+        self._handle, self._settings = handle, given
 
     def close(self):
         """Gives the memory back. A host that is closed stays closed."""
@@ -414,5 +436,11 @@ class Host:
     @property
     def history(self):
         """The events: each a dictionary, with the name of its kind."""
-        events = [self._read(_Event, "read_event", number) for number in range(self._call("event_count"))]
-        return [{**event, "kind": EVENTS[event["kind"]]} for event in events]
+        return [self._read(_Event, "read_event", number) for number in range(self._call("event_count"))]
+
+    @property
+    def history_text(self):
+        """The history as the lines that `realmview apply` reads."""
+        it = self._settings
+        opening = f"history 1 {it.pages} {it.vmids} {it.aux} {it.history} {it.builds}"
+        return "".join(f"{line}\n" for line in [opening, *[_line(event, it.base) for event in self.history]])

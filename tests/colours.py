@@ -47,12 +47,12 @@ def distance(one, other):
     c1, c2 = math.hypot(a1 * g, b1), math.hypot(a2 * g, b2)
     h1, h2 = (math.degrees(math.atan2(b, a * g)) % 360 if a or b else 0 for a, b in ((a1, b1), (a2, b2)))
     turn = 0 if c1 * c2 == 0 else (h2 - h1 + 180) % 360 - 180
-    hue, c, l = (h1 + turn / 2) % 360 if c1 * c2 else h1 + h2, (c1 + c2) / 2, (l1 + l2) / 2
+    hue, c, light = (h1 + turn / 2) % 360 if c1 * c2 else h1 + h2, (c1 + c2) / 2, (l1 + l2) / 2
     t = sum(
         k * math.cos(math.radians(n * hue + s))
         for k, n, s in ((1, 0, 0), (-0.17, 1, -30), (0.24, 2, 0), (0.32, 3, 6), (-0.2, 4, -63))
     )
-    of_l = (l2 - l1) / (1 + 0.015 * (l - 50) ** 2 / math.sqrt(20 + (l - 50) ** 2))
+    of_l = (l2 - l1) / (1 + 0.015 * (light - 50) ** 2 / math.sqrt(20 + (light - 50) ** 2))
     of_c = (c2 - c1) / (1 + 0.045 * c)
     of_h = 2 * math.sqrt(c1 * c2) * math.sin(math.radians(turn / 2)) / (1 + 0.015 * c * t)
     turned = (-math.sin(math.radians(60 * math.exp(-(((hue - 275) / 25) ** 2)))) * 2 * math.sqrt(c**7 / (c**7 + 25**7)))

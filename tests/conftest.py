@@ -89,11 +89,29 @@ def pytest_terminal_summary(terminalreporter):
 
 # ---- programs
 
+# The tests that read the sources of the crates, and need no program.
+OF_THE_SOURCES = {f"test_{it}" for it in ("believed", "documents", "made", "names", "prose")}
+
 
 def pytest_configure(config):
     config.addinivalue_line("markers", "random: the test draws inputs, of which `make fuzz` draws more")
     config.addinivalue_line("markers", "long: the test takes minutes, and runs where `-m` asks for it")
     config.addinivalue_line("markers", "needs(program, ..): the test runs these programs, as `make build` or `make test` puts them into bin/")
+
+
+def pytest_addoption(parser):
+    parser.addoption("--of", metavar="NAMES", help="run the tests that need one of these programs and libraries, and those of the sources")
+    parser.addoption("--without", metavar="NAMES", default="", help="with --of: run no test that needs one of these")
+
+
+def pytest_collection_modifyitems(config, items):
+    """Leaves out what --of does not ask for: a program or a library is named by its file, up to the first dot."""
+    if config.getoption("of") is not None:
+        some, none = (set(config.getoption(it).split(",")) for it in ("of", "without"))
+        needed = {it: {path.name.split(".")[0] for mark in it.iter_markers("needs") for path in mark.args} for it in items}
+        chosen = [it for it, names in needed.items() if names & some and not names & none or it.path.stem in OF_THE_SOURCES]
+        config.hook.pytest_deselected(items=[it for it in items if it not in chosen])
+        items[:] = chosen
 
 
 def pytest_runtest_setup(item):

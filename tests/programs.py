@@ -1,4 +1,6 @@
 """The built programs, the repository's plans, and how the tests run them."""
+import importlib.machinery
+import importlib.util
 import os
 import shlex
 import shutil
@@ -18,7 +20,7 @@ MEMORY = TOP / "bin/test_memory"
 PLANS, RUNS = ("plans", "plans/guide"), "tests/runs"
 # What judges the log of an RMM; JUDGE names another program, as `python3 tests/second_rmm check`.
 JUDGE = shlex.split(os.environ.get("JUDGE", "")) or [os.fspath(TRACER), "check"]
-SECONDS = 60
+SECONDS, LONG_SECONDS = 60, 900
 
 
 class Ran(NamedTuple):
@@ -41,6 +43,26 @@ def run(program, words, given=b"", **how):
     except subprocess.TimeoutExpired:
         return Ran(f"none within {how['timeout']} seconds", none, none)
     return Ran(ran.returncode, ran.stdout or none, ran.stderr or none)
+
+
+def ran(words, status=0, **how):
+    """What a program prints on both streams. Its status has to be this one, or any but 0 for None."""
+    words, given = [os.fspath(word) for word in words], how.get("input")
+    how = {"stdout": subprocess.PIPE, "stderr": subprocess.STDOUT, "timeout": LONG_SECONDS, **how}
+    how |= {"input": given.encode()} if isinstance(given, str) else {} if "input" in how else {"stdin": how.get("stdin", subprocess.DEVNULL)}
+    it = subprocess.run(words, **how)
+    said = it.stdout.decode(errors="replace")
+    if it.returncode != status and not (status is None and it.returncode):
+        raise AssertionError(f"{Path(words[0]).name}: status {it.returncode}, and not {status or 'another'}: {said[-2000:]}")
+    return said
+
+
+def module_of(path):
+    """A script as a module."""
+    loader = importlib.machinery.SourceFileLoader(path.name, str(path))
+    module = importlib.util.module_from_spec(importlib.util.spec_from_loader(path.name, loader))
+    loader.exec_module(module)
+    return module
 
 
 def files(*folders, suffix="toml"):

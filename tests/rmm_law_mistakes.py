@@ -1,7 +1,6 @@
 """Wrong definitions of the second RMM, each with the statements that find it."""
 from __future__ import annotations
 
-from collections.abc import Iterator
 from contextlib import AbstractContextManager
 from typing import Any, NamedTuple
 from unittest.mock import patch

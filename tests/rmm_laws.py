@@ -18,17 +18,22 @@ UNPROTECTED_KINDS, PROTECTED_KINDS = ("UNASSIGNED_NS", "ASSIGNED_NS", "TABLE"), 
 MOST_CALLS = 20_000
 
 
-def entries_of(machine: Machine, realm: Realm) -> Iterator[tuple[int, int, Entry]]:
-    """Each entry of a realm's tables: its level, where it begins, and itself."""
+def tables_of(machine: Machine, realm: Realm) -> Iterator[tuple[int, int, list[Entry]]]:
+    """Each table of a realm: its level, where it begins, and its entries."""
     span = size(realm.level)
     below = [(realm.level, 512 * span * k, table) for k, table in enumerate(realm.tables)]
     while below:
         level, begin, table = below.pop()
-        for k, entry in enumerate(machine.granule(table).table):
-            at = begin + k * size(level)
-            yield level, at, entry
-            if entry.kind == "TABLE":
-                below.append((level + 1, at, entry.address))
+        entries, step = machine.granule(table).table, size(level)
+        yield level, begin, entries
+        below += [(level + 1, begin + k * step, it.address) for k, it in enumerate(entries) if it.kind == "TABLE"]
+
+
+def entries_of(machine: Machine, realm: Realm) -> Iterator[tuple[int, int, Entry]]:
+    """Each entry of a realm's tables: its level, where it begins, and itself."""
+    for level, begin, entries in tables_of(machine, realm):
+        step = size(level)
+        yield from ((level, begin + k * step, entry) for k, entry in enumerate(entries))
 
 
 def is_entry_right(machine: Machine, realm: Realm, level: int, at: int, entry: Entry) -> bool:
@@ -45,11 +50,10 @@ def named_by(machine: Machine, realm: Realm) -> Iterator[tuple[int, str]]:
     """The granules that a realm names, each with the state that it has to have."""
     yield realm.rd, RD
     yield from ((table, RTT_STATE) for table in realm.tables)
-    for level, _, entry in entries_of(machine, realm):
-        if entry.kind == "TABLE":
-            yield entry.address, RTT_STATE
-        elif entry.kind == "ASSIGNED":
-            yield from ((entry.address + it, DATA) for it in range(0, size(level), PAGE))
+    for level, _, entries in tables_of(machine, realm):
+        yield from ((it.address, RTT_STATE) for it in entries if it.kind == "TABLE")
+        for mapped in (it for it in entries if it.kind == "ASSIGNED"):
+            yield from ((mapped.address + it, DATA) for it in range(0, size(level), PAGE))
     for number, granule in enumerate(machine.granules):
         if granule.rec is not None and granule.rec.realm is realm:
             yield machine.base + PAGE * number, REC_STATE

@@ -15,6 +15,7 @@ from __future__ import annotations
 import copy
 from collections.abc import Iterator
 from dataclasses import replace
+from itertools import groupby
 from random import Random
 from typing import NamedTuple
 
@@ -72,16 +73,19 @@ def leaves_of(it: Seen, realm: Realm) -> list[Leaf]:
     ranges: list[Leaf] = []
     spans = [(realm.level, ENTRIES * size(realm.level) * k, table) for k, table in enumerate(realm.tables)]
     while spans:
-        level, begin, table = spans.pop(0)
-        for k, entry in enumerate(it.granules[(table - it.base) // PAGE][2]):  # type: ignore[arg-type, var-annotated]
-            at = begin + k * size(level)
+        level, at, table = spans.pop(0)
+        step = size(level)
+        # Adjacent entries are mostly alike.
+        for entry, alike in groupby(it.granules[(table - it.base) // PAGE][2]):  # type: ignore[call-overload]
+            end = at + step * sum(1 for _ in alike)
             if entry.kind == "TABLE":
                 spans.append((level + 1, at, entry.address))
             elif entry.kind in ("UNASSIGNED", "ASSIGNED"):
                 if ranges and ranges[-1][1] == at and ranges[-1][2] == entry.ripas:
-                    ranges[-1] = ranges[-1][0], at + size(level), entry.ripas
+                    ranges[-1] = ranges[-1][0], end, entry.ripas
                 else:
-                    ranges.append((at, at + size(level), entry.ripas))
+                    ranges.append((at, end, entry.ripas))
+            at = end
     ordered: list[Leaf] = []
     for begin, end, ripas in sorted(ranges):
         is_next = ordered and ordered[-1][1:] == (begin, ripas)

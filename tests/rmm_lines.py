@@ -9,7 +9,7 @@ not compared. Words are separated by one space. Numbers are hexadecimal with sma
 digits each. A line that begins with `#` is a comment: each line of the trace, before its operations.
 
     platform BASE GRANULES AUX VMID_BITS S2SZ MAX_RECS_ORDER FLAGS BPS WPS LRS SECURE COUNT
-    smc X0 X1 X2 X3 X4 X5 X6 = X0 [X1 ..]            a register that is `-` is not compared
+    smc X0 X1 X2 X3 X4 X5 X6 = X0 [X1 ..]            a register that is `-` is not compared; X5 and X6 have to stay
     fill ADDR BYTE = done                            a whole granule; or `fault`
     store ADDR HEX = done                            within a granule; or `fault`
     load ADDR COUNT = HEX                            COUNT bytes within a granule; or `fault`
@@ -21,6 +21,8 @@ digits each. A line that begins with `#` is a comment: each line of the trace, b
     rim RD = HEX                                     32 or 64 bytes
     rec REC = RUNNING RD MPIDR RUNNABLE PENDING PC GPR0       RUNNING, RUNNABLE and PENDING: 0 or 1
     saw REC = COUNT [RESULT VALUE ..]                results by their place in RESULTS; a value that is none is 0
+
+A raw line of a trace has X0 and the outputs; its operation has X0 to X4, of which those that are no output are 0.
 
 FLAGS has a bit for each setting of SETTINGS that is not its default. KIND is a step's place in KINDS. After an entry or
 an interrupt that made an exit, `load` compares the fields of RmiRecExit that the trace names. SECURE and COUNT are 0
@@ -81,6 +83,14 @@ def word(answer: Answer) -> str:
 
 def line(*words: str, answer: str | None = None) -> str:
     return " ".join(words) + ("" if answer is None else f" = {answer}")
+
+
+def registers_after(asked: list[int], answered: list[str]) -> list[str]:
+    """X0 to X4 after a call, where X0 and all outputs are known. A register that is no output is 0; a call that is none
+    changes X0 alone."""
+    it = next((it for it in COMMANDS.values() if it.fid == asked[0]), None)
+    others = ["0"] * 5 if it else [*map(digits, asked)]
+    return answered if it and len(answered) <= len(it.outputs) else [*answered, *others[len(answered) : 5]]
 
 
 class NoLine(Exception):
@@ -158,7 +168,7 @@ class Raw:
         registers = [int(it, 0) for it in words] + [0] * (7 - len(words))
         if registers[0] == COMMANDS[ENTER].fid and (answer or "0x0").split(" ")[0] in ("0x0", hex(RUNNING)):
             self.runs[registers[1]] = registers[RUN_OPERAND]
-        came = None if answer is None else " ".join(value(it) for it in answer.split(" "))
+        came = None if answer is None else " ".join(registers_after(registers, [*map(value, answer.split(" "))]))
         yield line("smc", *map(digits, registers), answer=came)
 
     # ---- memory
@@ -293,8 +303,9 @@ class RawBench:
         self.here = Machine(base, count, settings)
 
     def smc(self, *words: str) -> str:
-        registers, _ = smc(self.here, [int(it, 16) for it in words], frozenset())
-        return " ".join(map(digits, registers))
+        asked = [int(it, 16) for it in words]
+        registers, _ = smc(self.here, asked, frozenset())
+        return " ".join(registers_after(asked, [*map(digits, registers)]))
 
     def put(self, address: str, content: bytes) -> str:
         if not self.here.is_host_s(int(address, 16)):

@@ -81,7 +81,7 @@ def raw_calls(lines: Iterable[str], bench: Bench) -> Iterator[str]:
         if name is None or outcome is None:
             yield line
             continue
-        operands = [plain(of, int(it, 0)) for of, it in zip(COMMANDS[name].operands, words[1:])]
+        operands = [plain(of, int(it, 0)) for of, it in zip(COMMANDS[name].operands, [*words[1:], *"000000"])]
         answer = outcome_text(replace(outcome, check="", exit=None))
         yield f"{' '.join([name, *operands])} = {answer}"
 

@@ -11,7 +11,7 @@ from typing import Any, NamedTuple
 
 from second_rmm import guest, measurement, realms, recs, tables
 from second_rmm.command import COMMANDS, Check, Checks, Command, Outcome
-from second_rmm.facts import DATA, DELEGATED, EMPTY, PAGE, RAM, size
+from second_rmm.facts import DATA, DELEGATED, EMPTY, PAGE, RAM, UNDELEGATED, size
 from second_rmm.machine import Entry, Exit, Machine
 
 # Puts a value in the place of an attribute.
@@ -129,6 +129,16 @@ def undelegate_takes_data(put: Put) -> None:
         return check._replace(fails=is_taken) if check.name == "gran_state" else check
 
     with_checks(put, "rmi_granule_undelegate", change)
+
+
+@mistake("RMI_GRANULE_UNDELEGATE", "the host gets a page of DATA back with its bytes")
+def page_comes_back_with_bytes(put: Put) -> None:
+    def effect(self: Any) -> Outcome:
+        self.machine.become(self.addr, UNDELEGATED, self.machine.granule(self.addr).page)
+        return Outcome(0)
+
+    MISTAKES["destroyed_page_keeps_bytes"].plant(put)
+    put(realms.GranuleUndelegate, "effect", effect)
 
 
 # ---- realms

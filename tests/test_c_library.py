@@ -21,17 +21,17 @@
 import os
 import re
 import shutil
-import subprocess
 import sys
 from functools import cached_property
 from pathlib import Path
 
 import pytest
 
+from c_programs import BUILD, COMPILER, CXX, FLAGS, MEMCHECK, WRAPPED, Library, first_block, last_line, without_comments
 from differences import same
-from programs import SHARED, STATIC, TOP, needs, parts
+from programs import SHARED, STATIC, TOP, needs, parts, ran
 
-BUILD, HERE, CRATE = TOP / "build", TOP / "tests/rmm_c", TOP / "crates/rmm_c"
+HERE, DOCUMENT = TOP / "tests/rmm_c", "docs/how-to/C.md"
 sys.path += [os.fspath(HERE), os.fspath(TOP / "python")]
 from judging import judged
 from random_rmm.lives import history
@@ -39,9 +39,6 @@ from rmm_lines import is_met, raw
 
 TRACES = TOP / "traces/rmm"
 HEADERS = [TOP / "include/rmm.h", TOP / "include/rmm_commands.h"]
-COMPILER = os.environ.get("CC", "cc")
-FLAGS = ["-O2", "-Wall", "-Wextra", "-Wconversion", "-Werror", f"-I{TOP}/include"]
-SECONDS = 600
 # Random histories, and those of `make c-test`. Without it Python performs a part of the traces.
 FEW, MANY = 10, 60
 
@@ -49,97 +46,18 @@ FEW, MANY = 10, 60
 FIRST_OUTPUT = "RMI_ERROR_INPUT: gran_state\n"
 
 # The types of C, of those in the crate.
-OF_C = {
+LIBRARY = Library("rmm", {
     "u8": "uint8_t", "u64": "uint64_t", "bool": "bool", "RmmHandle": "rmm_handle", "PlatformSettings": "rmm_settings",
     "SmcRegisters": "rmm_registers", "RawStep": "rmm_step", "GuestStepResult": "rmm_step_result",
     "RealmAttributes": "rmm_realm", "RecAttributes": "rmm_rec",
-}
-
-
-def ran(words, status=0, **how):
-    """What a program prints; its status has to be this one."""
-    words = [os.fspath(word) for word in words]
-    it = subprocess.run(words, stdout=subprocess.PIPE, stderr=subprocess.STDOUT, timeout=SECONDS, **how)
-    if it.returncode != status:
-        said = it.stdout.decode(errors="replace")[-2000:]
-        raise AssertionError(f"{Path(words[0]).name}: status {it.returncode}, and not {status}: {said}")
-    return it.stdout.decode()
-
-
-def last_line(text, form):
-    line = text.splitlines()[-1]
-    if not re.fullmatch(form, line):
-        raise AssertionError(f"the last line is {line!r}, and not {form!r}")
+}, "RmmHandle")
 
 
 # ---- header
 
 
-def types_of(kind):
-    """The parameters of C for one of the crate's. A `Global` takes no bytes, so C passes nothing for it."""
-    if kind == "Global":
-        return []
-    is_changed = kind.startswith("&mut ")
-    it = kind.removeprefix("&mut ").removeprefix("&")
-    if it == kind:
-        return [OF_C[kind]]
-    # (bytes are those of any object)
-    pointer = ("" if is_changed else "const ") + ("void" if it == "[u8]" else OF_C[it]) + " *"
-    return [pointer, "size_t"] if it == "[u8]" else [pointer]
-
-
-def sources():
-    return [file.read_text() for file in sorted(CRATE.glob("src/*.rt"))]
-
-
-def exported():
-    """The functions that the crate exports: the type of the result, and those of the parameters."""
-    found = {}
-    for text in sources():
-        for name, given, answer in re.findall(r'pub extern "C" fn (\w+)\(([^)]*)\)(?: -> (\w+))?', text):
-            kinds = [it.split(":", 1)[1].strip() for it in given.split(",") if it.strip()]
-            found[name] = (OF_C[answer] if answer else "void", [it for kind in kinds for it in types_of(kind)])
-    return found
-
-
-def without_comments(path):
-    return re.sub(r"/\*.*?\*/", "", path.read_text(), flags=re.S)
-
-
-def declared():
-    found = {}
-    pattern = r"^(\w+) (rmm_\w+)\(([^)]*)\)\s*RMM_NO_NULL;"
-    for answer, name, given in re.findall(pattern, without_comments(HEADERS[0]), re.M):
-        found[name] = (answer, [re.sub(r"\w+$", "", it.strip()).strip() for it in given.split(",")])
-    return found
-
-
-def structures():
-    """The fields of each structure that C writes or reads: those of the crate, and those of the header."""
-    of_crate, of_header = {}, {}
-    for text in sources():
-        for name, body in re.findall(r"^#\[repr\(C\)\].*?^pub struct (\w+) \{\n(.*?)^\}", text, re.S | re.M):
-            if name in OF_C and name != "RmmHandle":
-                of_crate[OF_C[name]] = [(it, re.sub(r"u8|u64|bool", lambda m: OF_C[m[0]], kind))
-                                        for it, kind in re.findall(r"^    pub (\w+): ([^,]+),", body, re.M)]
-    for body, name in re.findall(r"^typedef struct \w+ \{\n(.*?)^\} (\w+);", without_comments(HEADERS[0]), re.S | re.M):
-        lines = re.findall(r"^    (\w+) (\w+)(?:\[(\d+)\])?;", body, re.M)
-        of_header[name] = [(it, f"[{kind}; {count}]" if count else kind) for kind, it, count in lines]
-    return of_crate, {name: of_header[name] for name in of_crate}
-
-
-def symbols(library, *how):
-    # (C's startup code may leave names that begin so in a shared library)
-    names = re.findall(r" [TW] (\w+)", ran(["nm", "--defined-only", *how, library]))
-    return {it for it in names if not it.startswith("_")}
-
-
 def header(_room):
-    wanted = exported()
-    same("the header", declared(), wanted)
-    same("the number of functions", len(wanted), 14)
-    of_crate, of_header = structures()
-    same("the structures of the header", of_header, of_crate)
+    wanted = LIBRARY.compare(14)
     # Each comment over functions says what is required of each pointer.
     text = HEADERS[0].read_text()
     for name, (_, kinds) in wanted.items():
@@ -148,9 +66,6 @@ def header(_room):
         pointers = [it.rsplit("*", 1)[1] for it in given.split(",") if "*" in it][1:]
         missing = [it for it in pointers if f"`{it}` is not NULL" not in said.split("Required:")[-1]]
         same(f"what is not said of {name}", ("Required: handle" in said, missing), (True, []))
-    if shutil.which("nm"):
-        same("what build/librmm.a exports", {it for it in symbols(STATIC) if it.startswith("rmm_")}, set(wanted))
-        same("what build/librmm.so.0 exports", symbols(SHARED, "-D"), set(wanted))
 
 
 def defaults(_room):
@@ -160,7 +75,7 @@ def defaults(_room):
     wanted = dict(re.findall(r"(\w+): ([\w:]+),", body))
     wanted = {name: value.replace("_", "").replace("Layout::", "") for name, value in wanted.items()}
     macro = re.search(r"#define RMM_DEFAULTS\s*\\\n\s*\{(.*?)\}", HEADERS[0].read_text(), re.S)[1].replace("\\", "")
-    fields = [name for name, _ in structures()[1]["rmm_settings"]]
+    fields = [name for name, _ in LIBRARY.structures()[1]["rmm_settings"]]
     of_header = dict(zip(fields, (it.strip() for it in macro.split(",")), strict=True))
     # (the number of granules is no setting of a monitor)
     count = of_header.pop("granules")
@@ -212,6 +127,12 @@ def differences(operations, results):
     return (f"{it} came as {came}" for it, came in zip(operations, results, strict=True) if not is_met(it, came))
 
 
+def widened(operation):
+    """A guest that writes fewer than eight bytes has more bits in its register. They change nothing."""
+    bits = lambda it: f"{it[1]}{int(it[2], 16) | 0xA5 << 8 * int(it[3], 16):x} {it[3]}"
+    return re.sub(r"^(guest \w+ 0 \w+ )(\w+) ([124])\b", bits, operation)
+
+
 class Room:
     """A folder with the compiled tests, and what they replay."""
 
@@ -227,7 +148,9 @@ class Room:
     def traces(self):
         """The raw operations of each trace, with judgements."""
         paths = [*sorted(TRACES.glob("*.trace")), *sorted(TRACES.glob("random/*.trace"))]
-        return [(path.name, list(judged(raw(path.read_text().splitlines())))) for path in paths]
+        found = [(path.name, list(judged(raw(path.read_text().splitlines())))) for path in paths]
+        entries = dict(found)["raw-entries.trace"]
+        return [("wide writes", [*map(widened, entries)]), *found]
 
     @cached_property
     def histories(self):
@@ -269,9 +192,6 @@ def handles(room):
     last_line(ran([room.compiled("handles")]), r"[1-9]\d* checks passed")
 
 
-WRAPPED = [f"-Wl,--wrap={it}" for it in ("malloc", "realloc", "free")]
-
-
 def memory(room):
     last_line(ran([room.compiled("no_memory", *WRAPPED)]), r"[1-9]\d* allocations were refused, each in turn")
 
@@ -298,26 +218,21 @@ int main() {
 }
 """)
     to = room.folder / "both"
-    ran([os.environ.get("CXX", "c++"), "-std=c++11", *FLAGS, source, STATIC, "-o", to])
+    ran([CXX, "-std=c++11", *FLAGS, source, STATIC, "-o", to])
     ran([to])
 
 
 # ---- the document
 
 
-def block(language):
-    """The first block of a language in C.md."""
-    return re.search(rf"^```{language}\n(.*?)^```$", (TOP / "docs/how-to/C.md").read_text(), re.M | re.S)[1]
-
-
 def of_the_document(room):
     """The first program in C, and the first in Python."""
     source, to = room.folder / "mine.c", room.folder / "mine"
-    source.write_text(block("c"))
+    source.write_text(first_block(DOCUMENT, "c"))
     ran([COMPILER, *FLAGS, source, STATIC, "-o", to])
     same("the program in C", ran([to]), FIRST_OUTPUT)
     script = room.folder / "mine.py"
-    script.write_text(block("python"))
+    script.write_text(first_block(DOCUMENT, "python"))
     said = ran([sys.executable, script], status=1, env={**os.environ, "PYTHONPATH": os.fspath(TOP / "python")})
     same("the program in Python", "DELEGATED RMI_ERROR_INPUT gran_state" in said.splitlines(), True)
     same("its exception", said.splitlines()[-1], "rmm.Refused: granule_delegate: RMI_ERROR_INPUT")
@@ -325,24 +240,14 @@ def of_the_document(room):
 
 def by_pkg_config(room):
     """The first program is linked with the shared library by what pkg-config says."""
-    where = {**os.environ, "PKG_CONFIG_PATH": os.fspath(BUILD), "LD_LIBRARY_PATH": os.fspath(BUILD)}
-    said = ran(["pkg-config", "--cflags", "--libs", "rmm"], env=where).split()
-    source, to = room.folder / "shared.c", room.folder / "shared"
-    source.write_text(block("c"))
-    ran([COMPILER, source, *said, "-o", to])
-    same("the program in C", ran([to], env=where), FIRST_OUTPUT)
+    same("the program in C", LIBRARY.linked(room.folder, first_block(DOCUMENT, "c"), BUILD, BUILD), FIRST_OUTPUT)
 
 
 def installed(room):
     """What `make install-c-library` puts below a folder is enough to link the first program, and for Python."""
-    ran(["make", "-s", "-C", TOP, "install-c-library", f"DESTDIR={room.folder}", "PREFIX=/usr"])
-    below = room.folder / "usr"
-    where = {**os.environ, "PKG_CONFIG_PATH": f"{below}/lib/pkgconfig", "LD_LIBRARY_PATH": f"{below}/lib"}
-    source, to = room.folder / "installed.c", room.folder / "installed"
-    source.write_text(block("c"))
-    ran([COMPILER, source, *ran(["pkg-config", "--cflags", "--libs", "rmm"], env=where).split(), "-o", to])
-    same("the program in C", ran([to], env=where), FIRST_OUTPUT)
-    module = {**os.environ, "PYTHONPATH": f"{below}/share/realmhost/python"}
+    below, module = LIBRARY.install(room.folder)
+    said = LIBRARY.linked(room.folder, first_block(DOCUMENT, "c"), below / "lib/pkgconfig", below / "lib")
+    same("the program in C", said, FIRST_OUTPUT)
     said = ran([sys.executable, "-c", "import rmm; print(rmm.Rmm().version(0x10000).lower)"], env=module)
     same("the program in Python", said, "65536\n")
 
@@ -358,9 +263,8 @@ def sanitized(room):
 
 
 def in_valgrind(room):
-    memcheck = ["valgrind", "--quiet", "--error-exitcode=99", "--leak-check=full", "--show-leak-kinds=all"]
-    ran([*memcheck, room.compiled("handles", as_name="handles_memcheck")])
-    ran([*memcheck, room.compiled("no_memory", *WRAPPED, as_name="no_memory_memcheck")])
+    ran([*MEMCHECK, room.compiled("handles", as_name="handles_memcheck")])
+    ran([*MEMCHECK, room.compiled("no_memory", *WRAPPED, as_name="no_memory_memcheck")])
 
 
 # ---- tests
@@ -372,7 +276,6 @@ def traces(room):
 
 
 PARTS = header, defaults, names, numbers, traces, histories, handles, memory, threads, python, of_the_document
-CXX = os.environ.get("CXX", "c++")
 
 
 pytestmark = [pytest.mark.skipif(not shutil.which(COMPILER), reason=f"there is no C compiler ({COMPILER})"), needs(STATIC, SHARED)]

@@ -36,6 +36,13 @@ NOT_RUN = {
     "make allocations": "it needs a C compiler, and the gate has run the first of it",
     "make memcheck": "it needs valgrind",
     "make fuzz": "it takes minutes, and more inputs take longer",
+    "dpkg": "it is for root, and tests/test_dist.py unpacks the package",
+    "realmhost --version": "tests/test_dist.py runs what is in the packages",
+    "tar -xzf": "tests/test_dist.py runs this block",
+    "cd": "tests/test_dist.py runs this block",
+    "realmview why plans/missing-tables.toml": "tests/test_dist.py runs this block",
+    "rmitrace check traces/vmids.trace": "tests/test_dist.py runs this block",
+    "PYTHONPATH=python python3 examples/drive.py": "tests/test_dist.py runs this block",
     "make install": "it writes outside of the repository",
     "make install-c-library": "it writes outside of the repository, and tests/test_examples.py does the same",
 }

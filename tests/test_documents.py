@@ -41,7 +41,9 @@ STANDS_ON = {
 LIBRARIES = {library for libraries in STANDS_ON.values() for library in libraries} - set(STANDS_ON)
 # Libraries that are no ports but parts of the standard library, and the programs.
 OF_THE_STANDARD, PROGRAMS = {"core", "std_alloc", "std_heap"}, {"realmhost", "rmitrace", "realmview"}
-WORDS = "no one two three four five six seven eight nine ten eleven twelve thirteen fourteen fifteen sixteen seventeen eighteen nineteen twenty".split()
+WORDS = (
+    "no one two three four five six seven eight nine ten eleven twelve thirteen fourteen fifteen sixteen seventeen eighteen nineteen twenty"
+).split()
 FOLDERS = {path.name for path in TOP.iterdir() if path.is_dir() and not path.name.startswith(".")} | {"bin"}
 # Folders with code that is in no crate.
 CODE = ("tests", "bench", "include", "python", "examples")
@@ -317,7 +319,7 @@ def unsafe_lines():
 
 ROW = BELOW_CRATES / "page_arena/src/row.rt"
 COUNTS = {
-    r"proves ([\d,]+) libraries and the three programs": lambda: len({it for program in PROGRAMS for it in below(program) if it in STANDS_ON} - PROGRAMS),
+    r"proves ([\d,]+) libraries and the three programs": lambda: len(set().union(*map(below, PROGRAMS)) & set(STANDS_ON) - PROGRAMS),
     r"CRATE=realm_host` tries ([\d,]+) ": lambda: edits("realm_host"),
     r"tries ([\d,]+) mutants": edits,
     r"definitions \(([\d,]+) lines": lambda: written("specs"),
@@ -328,7 +330,6 @@ COUNTS = {
     r"each of the (\w+) commands and an undo": lambda: variants("host_commands/src/cmd.rt", "Cmd"),
     r"(?:each of|over) the (\w+) (?:acts|operations)\b": lambda: variants("realm_model/src/act.rt", "Act"),
     r"`make test` tries (\w+) mutants?\b": lambda: len(list(BELOW_CRATES.glob("*/must-fail/*.edit"))),
-    r"^## (\w+) examples": lambda: len(list(BELOW_CRATES.glob("example_*"))),
     r"(\w+) plans with random changes get": lambda: CHANGED_PLANS,
 }
 

@@ -28,11 +28,12 @@ import pytest
 
 from differences import same
 from programs import SHARED, STATIC, TOP, needs, parts
+from programs import ran as run
 
 HERE, EXAMPLES, TRACES = TOP / "tests/examples_c", TOP / "examples", TOP / "traces/rmm"
 FLAGS = ["-O1", "-g", "-Wall", "-Wextra", "-Wconversion", "-Wno-sign-conversion", "-Werror", f"-I{TOP}/include"]
 SANITIZERS = ["-fsanitize=address,undefined", "-fno-sanitize-recover=all"]
-COMPILERS, SECONDS, LEAKS = ("gcc", "clang"), 900, 5
+COMPILERS, LEAKS = ("gcc", "clang"), 5
 # Of so many traces and machines one is tried, if all of them would take long.
 EACH = 8
 HOST = [EXAMPLES / "c" / f"{name}.c" for name in ("host", "host_run", "granules", "window")]
@@ -62,15 +63,6 @@ off: 0 granules are in use
 """
 # The RIM after traces/rmm/kvm-boot.trace has made the same realm, page and REC.
 RIM = "3dfd809fc28200386ed791bc6d4dec892afae01d89a16dd888612e84f1673fa8"
-
-
-def run(words, status=0, **how):
-    """Runs a program. Its status has to be this one. Returns what it prints on both streams."""
-    words = [os.fspath(word) for word in words]
-    it = subprocess.run(words, stdout=subprocess.PIPE, stderr=subprocess.STDOUT, timeout=SECONDS, text=True, **how)
-    if it.returncode != status:
-        raise AssertionError(f"{Path(words[0]).name}: status {it.returncode}, and not {status}: {it.stdout[-2000:]}")
-    return it.stdout
 
 
 def judged(log):
@@ -284,13 +276,15 @@ def log(room):
 
 
 def table(room):
-    for path in traces() if room.is_all else traces()[::EACH]:
-        rows = room.folder / "rows.inc"
-        rows.write_text(run([sys.executable, EXAMPLES / "drive.py", "--c", path]))
-        sources = [EXAMPLES / "c/table.c", EXAMPLES / "c/table_rmm.c"]
-        said = run([room.compiled("table", sources, f'-DROWS="{rows}"')])
-        same(f"{path.name}: the end", said.splitlines()[-1].startswith("# 0 of "), True)
-        same(f"{path.name}: that answers are compared", judged(said) > 0, True)
+    """All tables in one program, which is compiled once."""
+    paths, rows = traces() if room.is_all else traces()[::EACH], room.folder / "rows.inc"
+    rows.write_text(run([sys.executable, EXAMPLES / "drive.py", "--c", *paths]))
+    sources = [EXAMPLES / "c/table.c", EXAMPLES / "c/table_rmm.c"]
+    said = run([room.compiled("table", sources, f'-DROWS="{rows}"')])
+    same("the end", said.splitlines()[-1].startswith("# 0 of "), True)
+    same("that the answers of each trace are compared", judged(said) >= len(paths), True)
+    made = [len(re.findall(r"\.compared = 0x[1-9a-f]", it)) for it in re.split(r"^/\* .*\.trace \*/$", rows.read_text(), flags=re.M)[1:]]
+    same("traces whose table compares nothing", (len(made), made.count(0)), (len(paths), 0))
 
 
 # ---- the installed package

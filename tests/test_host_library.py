@@ -5,6 +5,8 @@
   names      no name of the header is one of a hypervisor's: each begins with rhm_ or RHM_
   memory     each allocation of rhm_open is refused in turn; every block is given back, and no other call takes one
   front      random builds in front of the second model of the RMM do what a host alone does
+  statuses   each status of rhm.h comes where rhm.h says, of a host in a state that is made for it
+  history    the history as text, from C and from Python, is the one that was written by hand
   vmm        three builds on three threads boot in front of the RMM for C; each call is refused in turn, and each of the
              abort that follows; the failed build leaves nothing, and the others are as without it
   C++        the header is C++11
@@ -15,122 +17,40 @@
 import os
 import re
 import shutil
-import subprocess
 import sys
 from pathlib import Path
 
 import pytest
 
+from c_programs import BUILD, COMPILER, CXX, FLAGS, MEMCHECK, WRAPPED, Library, first_block, last_line, without_comments
 from differences import same
-from programs import TOP, needs, parts
+from programs import TOP, needs, parts, ran
 
-BUILD, HERE, CRATE = TOP / "build", TOP / "tests/rhm_c", TOP / "crates/rhm_c"
+sys.path.insert(0, os.fspath(TOP / "python"))
+HERE, DOCUMENT = TOP / "tests/rhm_c", "docs/how-to/HOST-C.md"
 STATIC, SHARED, RMM = BUILD / "librhm.a", BUILD / "librhm.so.0", BUILD / "librmm.a"
-HEADER, DOCUMENT = TOP / "include/rhm.h", TOP / "docs/how-to/HOST-C.md"
-COMPILER = os.environ.get("CC", "cc")
-FLAGS = ["-O2", "-Wall", "-Wextra", "-Wconversion", "-Werror", f"-I{TOP}/include"]
-SECONDS = 900
 # Random histories, and those of `make c-test`.
 FEW, MANY = 20, 200
 # What the first program of HOST-C.md prints.
 FIRST_OUTPUT = "RHM_NOT_LEASED 2\n"
-WRAPPED = [f"-Wl,--wrap={it}" for it in ("malloc", "realloc", "free")]
 
 # The types of C, of those in the crate.
-OF_C = {
+LIBRARY = Library("rhm", {
     "u64": "uint64_t", "bool": "bool", "HostHandle": "rhm_handle", "HostSettings": "rhm_settings",
     "RawCommand": "rhm_command", "RawAction": "rhm_action", "RawActions": "rhm_actions", "FirmwareAnswer": "rhm_answer",
     "BuildReading": "rhm_build", "PageReading": "rhm_page", "RealmReading": "rhm_realm", "RecReading": "rhm_rec",
     "RawEvent": "rhm_event",
-}
-
-
-def ran(words, status=0, **how):
-    """What a program prints; its status has to be this one."""
-    words = [os.fspath(word) for word in words]
-    it = subprocess.run(words, stdout=subprocess.PIPE, stderr=subprocess.STDOUT, timeout=SECONDS, **how)
-    if it.returncode != status:
-        said = it.stdout.decode(errors="replace")[-2000:]
-        raise AssertionError(f"{Path(words[0]).name}: status {it.returncode}, and not {status}: {said}")
-    return it.stdout.decode()
-
-
-def last_line(text, form):
-    line = text.splitlines()[-1]
-    if not re.fullmatch(form, line):
-        raise AssertionError(f"the last line is {line!r}, and not {form!r}")
+}, "HostHandle")
 
 
 # ---- header
 
 
-def type_of(kind):
-    """The parameters of C for one of the crate's. A `Global` takes no bytes, so C passes nothing for it."""
-    if kind == "Global":
-        return []
-    it = kind.removeprefix("&mut ").removeprefix("&")
-    if it == kind:
-        return [OF_C[kind]]
-    return [("" if kind.startswith("&mut ") else "const ") + OF_C[it] + " *"]
-
-
-def sources():
-    return [file.read_text() for file in sorted(CRATE.glob("src/*.rt"))]
-
-
-def exported():
-    """The functions that the crate exports: the type of the result, and those of the parameters."""
-    found = {}
-    for text in sources():
-        for name, given, answer in re.findall(r'pub extern "C" fn (\w+)\(([^)]*)\)(?: -> (\w+))?', text):
-            kinds = [it.split(":", 1)[1].strip() for it in given.split(",") if it.strip()]
-            found[name] = (OF_C[answer] if answer else "void", [it for kind in kinds for it in type_of(kind)])
-    return found
-
-
-def without_comments():
-    return re.sub(r"/\*.*?\*/", "", HEADER.read_text(), flags=re.S)
-
-
-def declared():
-    found = {}
-    for answer, name, given in re.findall(r"^(\w+) (rhm_\w+)\(([^)]*)\)\s*RHM_NO_NULL;", without_comments(), re.M):
-        found[name] = (answer, [re.sub(r"\w+$", "", it.strip()).strip() for it in given.split(",")])
-    return found
-
-
-def structures():
-    """The fields of each structure that C writes or reads: those of the crate, and those of the header."""
-    of_crate, of_header = {}, {}
-    for text in sources():
-        for name, body in re.findall(r"^#\[repr\(C\)\].*?^pub struct (\w+) \{\n(.*?)^\}", text, re.S | re.M):
-            if name != "HostHandle" and name in OF_C:
-                fields = re.findall(r"^    pub (\w+): ([^,]+),", body, re.M)
-                of_crate[OF_C[name]] = [(it, re.sub(r"u64|RawAction|bool", lambda m: OF_C[m[0]], kind)) for it, kind in fields]
-    for body, name in re.findall(r"^typedef struct \w+ \{\n(.*?)^\} (\w+);", without_comments(), re.S | re.M):
-        lines = re.findall(r"^    (\w+) (\w+)(?:\[(\d+)\])?;", body, re.M)
-        of_header[name] = [(it, f"[{kind}; {count}]" if count else kind) for kind, it, count in lines]
-    return of_crate, {name: of_header[name] for name in of_crate}
-
-
-def symbols(library, *how):
-    names = re.findall(r" [TW] (\w+)", ran(["nm", "--defined-only", *how, library]))
-    return {it for it in names if not it.startswith("_")}
-
-
 def header(_room):
-    wanted = exported()
-    same("the header", declared(), wanted)
-    same("the number of functions", len(wanted), 19)
-    of_crate, of_header = structures()
-    same("the structures of the header", of_header, of_crate)
-    if shutil.which("nm"):
-        same("what librhm.a exports", {it for it in symbols(STATIC) if it.startswith("rhm_")}, set(wanted))
-        same("what librhm.so.0 exports", symbols(SHARED, "-D"), set(wanted))
-    sys.path.insert(0, os.fspath(TOP / "python"))
+    wanted = LIBRARY.compare(19)
     import rhm
 
-    enums = {name: int(it) for name, it in re.findall(r"(RHM_\w+) = (\d+)", without_comments())}
+    enums = {name: int(it) for name, it in re.findall(r"(RHM_\w+) = (\d+)", without_comments(LIBRARY.header))}
     same("the statuses of the module", [enums[it] for it in rhm.STATUSES], list(range(len(rhm.STATUSES))))
     same("the kinds of the module", [enums[f"RHM_{it.upper()}"] for it in rhm.COMMANDS], list(range(len(rhm.COMMANDS))))
     same("the events of the module", [enums[f"RHM_EVENT_{it.upper()}"] for it in rhm.EVENTS], list(range(len(rhm.EVENTS))))
@@ -139,7 +59,7 @@ def header(_room):
 
 def names(_room):
     """The names that the header gives to a program."""
-    text = without_comments()
+    text = without_comments(LIBRARY.header)
     found = set(re.findall(r"^#define (\w+)", text, re.M)) | set(re.findall(r"^\} (\w+);", text, re.M))
     found |= set(re.findall(r"^\w[\w ]*?[ *]+(\w+)\(", text, re.M))
     for body in re.findall(r"enum \{(.*?)\}", text, re.S):
@@ -175,6 +95,26 @@ def front(room):
     last_line(ran([sys.executable, HERE / "front.py", str(count)]), r"\d{3,} commands, [1-9]\d* refused by the RMM: both hosts agree")
 
 
+def statuses(_room):
+    last_line(ran([sys.executable, HERE / "statuses.py"]), r"[1-9]\d\d statuses are as rhm.h has them")
+
+
+def history(room):
+    hand = (HERE / "history.txt").read_text()
+    same("the text in C", ran([room.compiled(HERE / "history.c", STATIC)]), hand)
+    aux, pages = [7], range(8)
+    steps = [("take", 4), ("fill", 9, 7), ("peek", 9, 5), *[("delegate", page) for page in pages], ("realm", 0, 1, 39)]
+    steps += [("rtt", 2, 0, 2), ("rtt", 3, 0, 3), ("ripas", 0, 2), ("data", 4, 0, 9), ("unknown", 5, 1), ("rec", 6, aux)]
+    steps += [("activate",), ("enter", 0, 0), ("poke", 0, 0, 3, 200, 0), ("exit", 0)]
+    from rhm import Host
+
+    with Host(pages=16, vmids=8, aux=1, history=64, builds=2, base=0x88000000) as host:
+        for step in steps:
+            same(step, host.ask(0, *step).name, "RHM_DONE")
+        same("the abort", host.abort(0).value, 15)
+        same("the text in Python", host.history_text, hand)
+
+
 def vmm(room):
     program = room.vmm()
     said = re.findall(r"build (\d): the realm is ACTIVE, RIM (\w{4})\.\.", ran([program]))
@@ -196,49 +136,34 @@ int main() {
     return is_right && value == 0 ? 0 : 1;
 }
 """)
-    ran([os.environ.get("CXX", "c++"), "-std=c++11", *FLAGS, source, STATIC, "-o", to])
+    ran([CXX, "-std=c++11", *FLAGS, source, STATIC, "-o", to])
     ran([to])
 
 
 # ---- the document
 
 
-def blocks(language):
-    """The blocks of a language in HOST-C.md."""
-    return re.findall(rf"^```{language}\n(.*?)^```$", DOCUMENT.read_text(), re.M | re.S)
-
-
 def of_the_document(room):
     source, to = room.folder / "mine.c", room.folder / "mine"
-    source.write_text(blocks("c")[0])
+    source.write_text(first_block(DOCUMENT, "c"))
     ran([COMPILER, *FLAGS, source, STATIC, "-o", to])
     same("the program in C", ran([to]), FIRST_OUTPUT)
     script = room.folder / "mine.py"
-    script.write_text(blocks("python")[0])
+    script.write_text(first_block(DOCUMENT, "python"))
     said = ran([sys.executable, script], env={**os.environ, "PYTHONPATH": os.fspath(TOP / "python")})
     same("the program in Python", said.splitlines()[-1], "1")
     same("its call", "Action(call 0xc4000151 0x80000000 0x0 0x0 0x0 0x0 0x0)" in said, True)
 
 
 def by_pkg_config(room):
-    where = {**os.environ, "PKG_CONFIG_PATH": os.fspath(BUILD), "LD_LIBRARY_PATH": os.fspath(BUILD)}
-    said = ran(["pkg-config", "--cflags", "--libs", "rhm"], env=where).split()
-    source, to = room.folder / "shared.c", room.folder / "shared"
-    source.write_text(blocks("c")[0])
-    ran([COMPILER, source, *said, "-o", to])
-    same("the program in C", ran([to], env=where), FIRST_OUTPUT)
+    same("the program in C", LIBRARY.linked(room.folder, first_block(DOCUMENT, "c"), BUILD, BUILD), FIRST_OUTPUT)
 
 
 def installed(room):
     """What `make install-c-library` puts below a folder is enough to link the first program, and for Python."""
-    ran(["make", "-s", "-C", TOP, "install-c-library", f"DESTDIR={room.folder}", "PREFIX=/usr"])
-    below = room.folder / "usr"
-    where = {**os.environ, "PKG_CONFIG_PATH": f"{below}/lib/pkgconfig", "LD_LIBRARY_PATH": f"{below}/lib"}
-    source, to = room.folder / "installed.c", room.folder / "installed"
-    source.write_text(blocks("c")[0])
-    ran([COMPILER, source, *ran(["pkg-config", "--cflags", "--libs", "rhm"], env=where).split(), "-o", to])
-    same("the program in C", ran([to], env=where), FIRST_OUTPUT)
-    module = {**os.environ, "PYTHONPATH": f"{below}/share/realmhost/python"}
+    below, module = LIBRARY.install(room.folder)
+    said = LIBRARY.linked(room.folder, first_block(DOCUMENT, "c"), below / "lib/pkgconfig", below / "lib")
+    same("the program in C", said, FIRST_OUTPUT)
     same("the program in Python", ran([sys.executable, "-c", "import rhm; print(rhm.Host().take(0, 1).name)"], env=module), "RHM_DONE\n")
 
 
@@ -252,16 +177,14 @@ def sanitized(room):
 
 
 def in_valgrind(room):
-    memcheck = ["valgrind", "--quiet", "--error-exitcode=99", "--leak-check=full", "--show-leak-kinds=all"]
-    ran([*memcheck, room.vmm(as_name="vmm_memcheck")])
-    ran([*memcheck, room.compiled(HERE / "no_memory.c", STATIC, *WRAPPED, as_name="no_memory_memcheck")])
+    ran([*MEMCHECK, room.vmm(as_name="vmm_memcheck")])
+    ran([*MEMCHECK, room.compiled(HERE / "no_memory.c", STATIC, *WRAPPED, as_name="no_memory_memcheck")])
 
 
 # ---- tests
 
 
-PARTS = header, names, memory, front, vmm, of_the_document
-CXX = os.environ.get("CXX", "c++")
+PARTS = header, names, memory, front, statuses, history, vmm, of_the_document
 
 
 pytestmark = [pytest.mark.skipif(not shutil.which(COMPILER), reason=f"there is no C compiler ({COMPILER})"), needs(STATIC, SHARED, RMM)]

@@ -24,7 +24,7 @@ pytestmark = needs(HOST, VIEW)
 # How many IPA granules a row of each level covers. RMM 1.0, RTT walk, with granules of 4 KiB.
 COVERED = {1: 512 * 512, 2: 512, 3: 1}
 # Each act that has a reverse, by the word of the reverse.
-REVERSED = {"untake": ("take",), "undelegate": ("delegate",), "unrealm": ("realm",), "unrtt": ("rtt",), "undata": ("data", "unknown"), "unrec": ("rec",)}
+REVERSED = {f"un{it}": (it,) for it in ("take", "delegate", "realm", "rtt", "rec")} | {"undata": ("data", "unknown")}
 DATA = re.compile(r'<script id="data" type="application/json">(.*?)</script>', re.S)
 PAIRED = {word for words in REVERSED.values() for word in words}
 # What an event can change, by its word. REALMVIEW.md, Turns.

@@ -10,8 +10,6 @@ completions/ is what tools/completions writes, and bash, fish and zsh, where the
 the words of --help and no others.
 """
 import collections
-import importlib.machinery
-import importlib.util
 import itertools
 import os
 import re
@@ -21,7 +19,7 @@ import subprocess
 import pytest
 
 from help_text import PROGRAMS, program_of, version_of
-from programs import HOST, SECONDS, TOP, TRACER, VIEW, needs
+from programs import HOST, SECONDS, TOP, TRACER, VIEW, module_of, needs
 
 pytestmark = needs(HOST, TRACER, VIEW)
 STATUSES = TOP / "docs/reference/STATUSES.md"
@@ -41,14 +39,6 @@ LISTS = {
     },
     "realmview-history": {"EVENTS": ("REALMVIEW.md", "Event", False)},
 }
-
-
-def module_of(path):
-    """A script as a module."""
-    loader = importlib.machinery.SourceFileLoader(path.name, str(path))
-    module = importlib.util.module_from_spec(importlib.util.spec_from_loader(path.name, loader))
-    loader.exec_module(module)
-    return module
 
 
 def printed(words, **how):
@@ -110,7 +100,8 @@ def of_page(name):
     sections = parts_of(page, "SH")
     commands = parts_of(sections["COMMANDS"], "SS")
     yield "the version", version_of(name) in page.split("\n")[0]
-    yield "the version of CHANGELOG.md", f"\n## {version_of(name).split()[-1]}\n" in (TOP / "CHANGELOG.md").read_text()
+    newest = re.search(r"^## ([\d.]+) - \d{4}-\d\d-\d\d$", (TOP / "CHANGELOG.md").read_text(), re.M)
+    yield "the version of CHANGELOG.md", newest and newest[1], version_of(name).split()[-1]
     yield "the version of include/rmm.pc", f"Version: {version_of(name).split()[-1]}\n" in (TOP / "include/rmm.pc").read_text()
     yield "what the program is", says(sections["DESCRIPTION"], program.said)
     yield "its subcommands", [it.split()[0] for it in commands], [it.name for it in program.commands]

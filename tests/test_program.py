@@ -2,6 +2,7 @@
 
 plans/NAME.toml has the text of its run in plans/NAME.txt: that on standard output, nothing on standard error, status 0.
 So have those of plans/guide/, and of tests/runs/, which show a rule each. Over the plain store (crates/test_memory) the texts are the same.
+That program adds up the results of a script of calls by registers too, for bench/rmm.
 Where NAME.erase-B.txt stands beside it, `--erase B` prints that, and where NAME.run.txt does, `run` prints that.
 tests/faults/NAME.txt is what is wanted of a refusal: a line `status N`, then standard error. Standard output stays empty.
 Beside it NAME.toml is the standard input (none: empty), and NAME.args the arguments, one a line (none: `replay`).
@@ -155,6 +156,24 @@ def test_abort_after_steps(check, build):
     _, plan, text, left = build
     check.all((program.name, replay(plan, program), Ran(0, text, b"")) for program in (HOST, MEMORY))
     check("left out", run(HOST, ["replay", "--erase", "1"], plan), Ran(0, left, b""))
+
+
+# RMI_VERSION, whose two outputs count three and five times, and in the one part a granule that is undelegated twice: the second
+# time is refused. Each result is added to 31 times the sum before.
+SCRIPT = b"""\
+machine 2 1
+smc 3288334672 65536
+part
+smc 3288334673 2147487744
+smc 3288334674 2147487744
+smc 3288334674 2147487744
+"""
+
+
+def test_script_of_calls():
+    """The sum of the results, and the time of the one part."""
+    status, out, err = run(MEMORY, [], SCRIPT)
+    assert (status, out, err[:-1].isdigit(), err[-1:]) == (0, b"%d\n" % ((3 + 5) * 65536 * 31**3 + 1), True, b"\n")
 
 
 # ---- the surroundings

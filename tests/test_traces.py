@@ -2,10 +2,12 @@
 
     files      `check` finds each answer the same, and another one wrong; `answer` repeats the file, with its answers and without
     model      `check` prints of wrong answers what the judge in Python prints of them; so it does of each case of rmm_cases.py
+    block      512 pages become a block, which a host unfolds again; each entry is read
     lines      what is no command, lines that are read alike, comments, long lines, carriage returns
     names      raw lines as named ones: the log of a trace by registers becomes its log by names
     reasons    `why` has below each refused call the checks that the model in Python makes, in its sequence
-    choices    --stop, --only and --skip
+    words      each check of each command has the words of rmm_requirements.py, in all traces
+    choices    --each, --stop, --only and --skip
     around     files, pipes, devices that fail, too little memory, and answers that come at once
     changed    traces with random changes: each answer is that of the second model
 """
@@ -26,8 +28,9 @@ from programs import TOP, TRACER, Ran, named as name_of, needs, run
 from random_plans import examples
 from rmm_cases import AFTER_ENTRY, ALIKE, COMMENTS, ENTRY, NO_COMMANDS, NO_COMMANDS_EITHER, REALM, VERDICTS
 from rmm_logs import FIDS, log_of, paths, raw_calls, without_answers
+from rmm_requirements import REQUIREMENTS
 from second_rmm.bench import Bench
-from second_rmm.command import COMMANDS
+from second_rmm.command import COMMANDS, names_of_checks
 from second_rmm.facts import STATUSES
 from second_rmm.judge import answer_of, report
 from second_rmm.printing import word_text
@@ -46,6 +49,10 @@ def ran(words: str, given: bytes | None = b"", **how: object) -> Ran:
 def differs(name: str, came: Ran, status: int, out: bytes = b"", err: bytes = b"") -> Finding:
     """What differs in an outcome, or none."""
     return differing(name, came, status, out, err)
+
+
+def differs_in(name: str, came: object, wanted: object) -> Finding:
+    return None if came == wanted else f"{name}: {came!r}, wanted: {wanted!r}"
 
 
 def counted(same: int, allowed: int = 0, wrong: int = 0) -> bytes:
@@ -90,6 +97,52 @@ def of_model() -> Iterator[Finding]:
             is_wanted = said[-1] == f"{int(wanted == 'same')} same, {int(wanted == 'allowed')} allowed, {int(wanted == 'wrong')} wrong"
             yield None if is_wanted else f"{question} = {answer} is not {wanted} in Python"
             yield differs(f"{question} = {answer}", ran("check", bytes_of(given)), status, bytes_of(said))
+
+
+# ---- a block
+
+
+def answers_to(*calls: tuple[str, str]) -> Iterator[str]:
+    """Raw lines with their answers, each of a call by name."""
+    for question, answer in calls:
+        name, *operands = question.split(" ")
+        yield " ".join(["smc", hex(COMMANDS[f"rmi_{name}"].fid), *operands]) + f" = {answer}"
+
+
+def of_block() -> Iterator[Finding]:
+    """512 adjacent pages become a block; a host that takes the realm down unfolds it with a spare granule."""
+    rd, pages = "0x80000000", [(hex(0x80200000 + k * 4096), hex(0x200000 + k * 4096)) for k in range(512)]
+    lines = [
+        "platform 0x80000000 1024", *answers_to(*((f"granule_delegate {hex(0x80000000 + k * 4096)}", "0x0") for k in range(5))),
+        "realm_params 0x80020000 s2sz 48 vmid 1 rtt_base 0x80001000 rtt_num_start 1 = done",
+        *answers_to(
+            (f"realm_create {rd} 0x80020000", "0x0"), (f"rtt_create {rd} 0x80002000 0x0 0x1", "0x0"),
+            (f"rtt_create {rd} 0x80003000 0x0 0x2", "0x0"), (f"data_create_unknown {rd} 0x80200000 0x200000", "0x1"),
+            ("granule_delegate 0x80200000", "0x0"), (f"data_create_unknown {rd} 0x80200000 0x200000", "0x204"),
+            ("granule_undelegate 0x80200000", "0x0"), (f"rtt_create {rd} 0x80004000 0x200000 0x3", "0x0"),
+        ),
+    ]
+    for page, ipa in pages:
+        lines += answers_to(
+            (f"granule_delegate {page}", "0x0"), (f"data_create_unknown {rd} {page} {ipa}", "0x0"),
+            (f"data_create_unknown {rd} {rd} {ipa}", "0x1"), (f"rtt_read_entry {rd} {ipa} 0x3", f"0x0 0x3 0x1 {page} 0x0"),
+        )
+    lines += answers_to(
+        (f"rtt_destroy {rd} 0x200000 0x3", "0x304 0x0 0x200000"), (f"rtt_fold {rd} 0x200000 0x3", "0x0 0x80004000"),
+        (f"rtt_read_entry {rd} 0x200000 0x3", "0x0 0x2 0x1 0x80200000 0x0"), (f"rtt_fold {rd} 0x0 0x2", "0x204 0x0"),
+        (f"data_destroy {rd} 0x200000", "0x204 0x0 0x200000"), (f"rtt_create {rd} 0x80004000 0x200000 0x3", "0x0"),
+        (f"rtt_read_entry {rd} 0x205000 0x3", "0x0 0x3 0x1 0x80205000 0x0"),
+    )
+    for page, ipa in pages:
+        freed = f"0x0 {page} {hex(int(ipa, 0) + 4096)}"
+        lines += answers_to((f"data_destroy {rd} {ipa}", freed), (f"granule_undelegate {page}", "0x0"))
+    lines += answers_to(
+        (f"data_destroy {rd} 0x200000", "0x304 0x0 0x400000"), (f"rtt_destroy {rd} 0x200000 0x3", "0x0 0x80004000 0x40000000"),
+        (f"rtt_read_entry {rd} 0x200000 0x3", "0x0 0x2 0x0 0x0 0x2"), (f"rtt_destroy {rd} 0x0 0x2", "0x0 0x80003000 0x8000000000"),
+        (f"rtt_destroy {rd} 0x0 0x1", "0x0 0x80002000 0x1000000000000"), (f"realm_destroy {rd}", "0x0"),
+    )
+    yield differs("check", ran("check", bytes_of(lines)), 0, counted(len(lines) - 1))
+    yield None if report(lines) == ([f"{len(lines) - 1} same, 0 allowed, 0 wrong"], 0) else "the judge in Python says otherwise"
 
 
 # ---- lines
@@ -188,7 +241,7 @@ def last_call(question: str, answer: str) -> tuple[str, list[int]]:
     """The command and the operands of the last call that a question made."""
     kind, *words = question.split(" ")
     if kind == "smc":
-        return FIDS[int(words[0], 0)], [int(it, 0) for it in words[1:]]
+        return FIDS[int(words[0], 0)], [int(it, 0) for it in (*words[1:], *"000000")]
     place = int(answer_of(answer).after or 0)
     name, operands = (words[1], words[2:]) if kind == "repeat" else (kind, words)
     pairs = [[named(part, PSCI_NAMES) for part in it.split("+")] for it in operands]
@@ -199,6 +252,9 @@ def made(bench: Bench, name: str, values: list[int]) -> list[tuple[str, str, str
     """The checks of a refused call that are made: the one that decides, those that fail too, and those that pass."""
     command = COMMANDS[name](bench.machine, *values[: len(COMMANDS[name].operands)])
     words = dict(command.failed(frozenset()))
+    # The program asks of `top_bound` that the base is protected too. It is not where a request has come to the end of that half.
+    if name == "rmi_rtt_set_ripas" and "size" in words and not command.realm.is_protected(command.base):
+        words.setdefault("top_bound", words["size"])
     rows, held = [], set()
     for check in command.checks():
         if held.issuperset(check.after):
@@ -226,6 +282,26 @@ def of_reasons(path: Path) -> Iterator[Finding]:
     yield differing("why", Ran(status, came, err), 0, wanted, b"")
 
 
+def said_of(path: Path) -> Iterator[tuple[str, str, str]]:
+    """Each check that `why` prints for a trace: its command, its name, and its words."""
+    asked = "", ""
+    for line in ran(f"why {path}").out.decode().splitlines():
+        it = REASON.fullmatch(line)
+        if it:
+            yield last_call(*asked)[0], it[2], it[3]
+        else:
+            asked = parts_of(line).question, parts_of(line).answer or ""
+
+
+def of_words() -> Iterator[Finding]:
+    for command in COMMANDS:
+        yield differs_in(f"the checks of {command}", {*REQUIREMENTS[command]}, {*names_of_checks(command)})
+    left = {(command, name): words for command, of in REQUIREMENTS.items() for name, words in of.items()}
+    for command, name, words in {it for path in paths() for it in said_of(path)}:
+        yield differs_in(f"{name} of {command}", words, left.pop((command, name), None))
+    yield f"`why` prints no words of {sorted(left)}" if left else None
+
+
 def of_no_reason() -> Iterator[Finding]:
     wrong = f"{PLATFORM}\nrmi_rec_entre 1\n".encode()
     yield differs("why of no command", ran("why", wrong), 0, wrong[:-1] + b" = no command\n    help: did you mean rmi_rec_enter?\n")
@@ -244,6 +320,14 @@ def of_choices() -> Iterator[Finding]:
         status, out, err = ran(f"check {words}", bytes_of(CHOSEN))
         is_well = status == int(same == 0 or wrong > 0) and out.endswith(counted(same, 0, wrong)) and err == b""
         yield None if is_well else f"check {words}: {status}, {shown(out)}, {shown(err)}"
+    for words in "--each", "--stop --each", "--each --skip rmi_version", "--each --only smc":
+        said, status = report(CHOSEN, "--stop" in words, is_each=True)
+        left_out = {"rmi_version": (3, 4), "smc": (2, 3, 5, 6)}.get(words.split(" ")[-1], ())
+        kept = "".join(f"{it}\n" for it in said[:-1])
+        for number in left_out:
+            kept = re.sub(rf"trace:{number}: .*\n(?:(?!trace:).*\n)*", "", kept)
+        out = ran(f"check {words}", bytes_of(CHOSEN)).out
+        yield differs_in(f"check {words}", out.decode().splitlines()[:-1], kept.splitlines())
     status, out, err = ran("check --only rmi_rec_entre")
     yield None if status == 2 and b"rmi_rec_enter" in err and out == b"" else f"--only of no name: {status}, {shown(err)}"
 
@@ -308,7 +392,8 @@ def of_a_pipe() -> Iterator[Finding]:
 # ---- tests
 
 OF_A_SUBJECT = [it for it in paths() if it.parent.name != "random"]
-ALONE = (of_model, of_lines, of_whole_texts, of_named_lines, of_no_reason, of_choices, of_a_file, of_surroundings, of_a_pipe)
+ALONE = (of_model, of_block, of_lines, of_whole_texts, of_named_lines, of_words, of_no_reason, of_choices, of_a_file, of_surroundings,
+         of_a_pipe)
 
 
 @pytest.mark.parametrize("path", paths(), ids=name_of)

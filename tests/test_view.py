@@ -269,7 +269,8 @@ def test_check_of_the_longest(check):
     check("bytes too many", run(VIEW, ["check"], size), (1, told, b""))
     many = b"order = [" + b"1," * 500000 + b"]\n" + turns
     status, out, err = run(VIEW, ["check"], many)
-    check("the same mistake in each turn", (status, out.count(b"error: build 1 does not exist"), b"\nnote: 499999 more turns name it\n" in out, err), (1, 1, True, b""))
+    found = status, out.count(b"error: build 1 does not exist"), b"\nnote: 499999 more turns name it\n" in out, err
+    check("the same mistake in each turn", found, (1, 1, True, b""))
     many = b"order = [" + b",".join(b"%d" % number for number in range(1, 140001)) + b"]\n" + turns
     status, out, err = run(VIEW, ["check"], many)
     check("another mistake in each turn", (status, out.count(b" does not exist; builds are numbered from 0 and there is 1\n"), err), (1, 140000, b""))
@@ -289,7 +290,8 @@ def test_the_largest_history(check):
     wanted = b"".join(b"%d page 0 UNDELEGATED 0\n" % build for build in range(8)) + b"free 0\n"
     check("a full history", run(VIEW, ["apply"], opening + events), (0, wanted, b""))
     more = opening + events + b"0 peek 0 0 0\n"
-    check("an event more", run(VIEW, ["apply"], more), (1, b"", b"line %d is refused: the build's history must have room for 1 more event; it has room for 0 (HistoryFull)\n" % (8 * 16383 + 2)))
+    refused = b"line %d is refused: the build's history must have room for 1 more event; it has room for 0 (HistoryFull)\n"
+    check("an event more", run(VIEW, ["apply"], more), (1, b"", refused % (8 * 16383 + 2)))
     check("reverses need no room", run(VIEW, ["apply"], opening + events + b"0 untake 0 0\n")[0], 0)
     long = b"history 1 8 8 0 16 1\n0 take 0 " + b"0" * (1 << 24)
     check("a line of 16 MiB", run(VIEW, ["apply"], long), (1, b"", b"line 2 is no event\n"))
@@ -354,7 +356,8 @@ def test_files(check):
     status, wanted, _ = run(VIEW, ["check"], plan)
     check("check FILE", run(VIEW, ["check", path], b"", cwd=TOP), (status, wanted.replace(b"plan:", path.encode() + b":"), b""))
     check("check -", run(VIEW, ["check", "-"], plan), (status, wanted, b""))
-    check("explore FILE", run(VIEW, ["explore", "plans/some-orders.toml"], cwd=TOP), run(VIEW, ["explore"], (TOP / "plans/some-orders.toml").read_bytes()))
+    orders = "plans/some-orders.toml"
+    check("explore FILE", run(VIEW, ["explore", orders], cwd=TOP), run(VIEW, ["explore"], (TOP / orders).read_bytes()))
     _, history, _ = run(VIEW, ["history"], plan)
     with tempfile.NamedTemporaryFile(suffix=".history") as file:
         file.write(history)

@@ -7,24 +7,12 @@ import copy
 import os
 import shutil
 import tempfile
-import threading
 import time
 from concurrent.futures import FIRST_COMPLETED, ThreadPoolExecutor, wait
 
+from progress import Progress
+
 FOLDER = "out/statements"
-
-
-class Progress:
-    """Tells which crate of how many is done, and after how long."""
-
-    def __init__(self, count):
-        self.count, self.done, self.lock, self.start = count, 0, threading.Lock(), time.monotonic()
-
-    def say(self, name, what):
-        with self.lock:
-            self.done += 1
-            minutes, seconds = divmod(int(time.monotonic() - self.start), 60)
-            print(f"[{minutes:2}:{seconds:02}] {self.done:2} of {self.count}  {name}: {what}", flush=True)
 
 
 def libraries_of(crates):
@@ -48,6 +36,16 @@ def is_stamped(crate, made):
         return False
     with open(path, encoding="utf-8") as it:
         return it.read() == crate.stamp()
+
+
+def place_of(crate):
+    """Returns where a program or an archive is built."""
+    return f"{crate.folder}/out/built/" + (f"lib{crate.name}.a" if crate.is_static else crate.name)
+
+
+def is_built(crate):
+    """Returns whether a library is proved as it is now, or a program or an archive built."""
+    return is_stamped(crate, place_of(crate) if crate.is_program or crate.is_static else crate.rlib)
 
 
 def keep(libraries, stamps):
@@ -157,15 +155,16 @@ def prove(toolchain, crate, jobs, nice, failed, progress):
 def prove_all(toolchain, libraries, programs=(), build=None, soon=()):
     """Proves what is not proved yet, and does `build(program, jobs, nice, failed, progress)` for programs, those of the names
     `soon` before others. Returns whether all went well."""
-    left = [it for it in libraries if not is_stamped(it, it.rlib)]
-    progress = Progress(len(left) + len(programs))
+    left = [it for it in libraries if not is_built(it)]
+    lanes = Lanes(toolchain)
+    progress = Progress([it.name for it in [*left, *programs]], lanes.processors)
     if left:
         print(f"{len(left)} of {len(libraries)} libraries have to be proved, those with the most above them first", flush=True)
     work = lambda it, *how: build(it, *how, progress) if it in programs else prove(toolchain, it, *how, progress)
     # Until these are closed, no other rt works in the libraries' folders.
     held = toolchain.library.lock(libraries)
     try:
-        return Lanes(toolchain).run([*left, *programs], work, soon)
+        return lanes.run([*left, *programs], work, soon)
     finally:
         for it in held:
             os.close(it)

@@ -1,9 +1,26 @@
 """What stands beside `rt`: its commands as functions, and the reader of functions that `rt plant` has."""
+import atexit
 import importlib.machinery
 import os
 import shutil
+import subprocess
+import sys
 import threading
 import types
+
+# What `rt version` prints of the toolchain that the repository is written for.
+VERSION = f"{os.path.dirname(os.path.dirname(os.path.realpath(__file__)))}/rattle-toolchain"
+
+
+def check_version(rt="rt"):
+    """Says on standard error, now and once more at the end, if this toolchain is not the one that rattle-toolchain names."""
+    found = subprocess.run([rt, "version"], stdout=subprocess.PIPE, text=True, check=True).stdout.strip()
+    with open(VERSION, encoding="utf-8") as it:
+        named = it.read().strip()
+    if found != named:
+        note = f"note: the toolchain on the PATH is `{found}`, and rattle-toolchain names `{named}`"
+        print(note, file=sys.stderr, flush=True)
+        atexit.register(print, note, file=sys.stderr)
 
 
 class Toolchain:
@@ -18,6 +35,7 @@ class Toolchain:
         for name in ("rt", "rtlib.py", "rt-plant-bodies"):
             if not os.path.isfile(f"{self.folder}/{name}"):
                 raise LookupError(f"{found} is no toolchain's own rt, or of another version: beside it is no {name}")
+        check_version(found)
         self.rt, self.reader = self.load("rt"), self.load("rt-plant-bodies")
         self.library = self.rt.rtlib
         self.library.Crate.stamp = summed_once(self.library.Crate.stamp)

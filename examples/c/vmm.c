@@ -13,7 +13,7 @@
 #include <stdlib.h>
 #include <string.h>
 
-enum { BUILDS = 3, PAGES = 64, BUILD_PAGES = 16, AUX = 2, STEPS = 20, NO_BUILD = -1 };
+enum { BUILDS = 3, PAGES = 64, BUILD_PAGES = 16, AUX = 2, STEPS = 20, IPAS = 3, NO_BUILD = -1 };
 
 #define BASE UINT64_C(0x80000000)
 /* No call is refused. */
@@ -218,12 +218,52 @@ static void close_all(struct vmm *vmm)
 
 /* ---- what is left */
 
-/* A build in the RMM: the state of each of its pages, and its realm. */
+/* The entry of an IPA: the level at which the walk ends, its states, and the number of the page that is mapped. */
+struct entry {
+    uint64_t word;
+    uint64_t level;
+    uint64_t state;
+    uint64_t ripas;
+    uint64_t page;
+};
+
+/* A build in the RMM: the state of each of its pages, and the sum of its words if it is DATA or the host's; its realm,
+ * its REC and its first entries. */
 struct map {
     uint64_t states[BUILD_PAGES];
+    uint64_t sums[BUILD_PAGES];
     rmm_realm realm;
     rmm_rec rec;
+    struct entry entries[IPAS];
 };
+
+static uint64_t sum_of(struct vmm *vmm, uint64_t address)
+{
+    uint64_t sum = 0, word = 0;
+    for (uint64_t k = 0; k < RHM_GRANULE_SIZE / 8; k++)
+        sum += rmm_read_word(&vmm->rmm, address, k, &word) ? word : 0;
+    return sum;
+}
+
+/* The number of the page of a build at an address, or how many it has at most. */
+static uint64_t page_at(struct vmm *vmm, uint64_t build, uint64_t address)
+{
+    rhm_page page = {0, 0};
+    uint64_t k = 0;
+    while (k < BUILD_PAGES && !(rhm_read_page(&vmm->host, build, k, &page) && page.address == address))
+        k++;
+    return k;
+}
+
+static void read_entries(struct vmm *vmm, uint64_t build, uint64_t rd, struct map *map)
+{
+    for (uint64_t k = 0; k < IPAS; k++) {
+        struct entry *it = &map->entries[k];
+        uint64_t desc = 0;
+        it->word = rmm_rtt_read_entry(&vmm->rmm, rd, k * RHM_GRANULE_SIZE, 3, &it->level, &it->state, &desc, &it->ripas);
+        it->page = page_at(vmm, build, desc);
+    }
+}
 
 static void read_map(struct vmm *vmm, uint64_t build, struct map *map)
 {
@@ -232,10 +272,11 @@ static void read_map(struct vmm *vmm, uint64_t build, struct map *map)
     rhm_rec rec = {0, 0};
     memset(map, 0, sizeof *map);
     for (uint64_t k = 0; k < BUILD_PAGES; k++)
-        if (rhm_read_page(&vmm->host, build, k, &page))
-            rmm_read_state(&vmm->rmm, page.address, &map->states[k]);
-    if (rhm_read_realm(&vmm->host, build, &realm))
-        rmm_read_realm(&vmm->rmm, realm.rd, &map->realm);
+        if (rhm_read_page(&vmm->host, build, k, &page) && rmm_read_state(&vmm->rmm, page.address, &map->states[k]) &&
+            (map->states[k] == RMM_DATA || map->states[k] == RMM_UNDELEGATED))
+            map->sums[k] = sum_of(vmm, page.address);
+    if (rhm_read_realm(&vmm->host, build, &realm) && rmm_read_realm(&vmm->rmm, realm.rd, &map->realm))
+        read_entries(vmm, build, realm.rd, map);
     if (rhm_read_rec(&vmm->host, build, 0, &rec))
         rmm_read_rec(&vmm->rmm, rec.address, &map->rec);
     /* (addresses and VMIDs may be others) */

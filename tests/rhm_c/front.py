@@ -4,22 +4,26 @@
 
 The model is in Python, and shares no code with the host. Each command goes to a host in front of it, and to a host that
 has its own model alone. What the one performs the other does, with the same value; what the one refuses the other does.
-After each step the pages of the builds are in the states that the model has. The last line is
+After each step the pages of the builds are in the states that the model has. What a host refuses before the call it refuses
+when it is asked. The text of the history leads to these states too, by bin/realmview if it is built. The last line is
 `N commands, M refused by the RMM: both hosts agree`.
 """
 import random
+import re
+import subprocess
 import sys
 from pathlib import Path
 
 sys.dont_write_bytecode = True
 TOP = Path(__file__).resolve().parent.parent.parent
 sys.path[:0] = [str(TOP / "python"), str(TOP / "tests")]
-from rhm import DONE, GRANULE_STATES, Host
+from rhm import GRANULE_STATES, Host
 from second_rmm.bench import Bench
 
 BASE, PAGES, AUX, BUILDS = 0x80000000, 96, 1, 3
-RMI, NOT_EXPECTED, DIVERGED = 13, 16, 17
+RMI, NOT_EXPECTED = 13, 16
 BLOCK = 4
+VIEW = TOP / "bin/realmview"
 
 
 class Firmware:
@@ -48,7 +52,7 @@ class Firmware:
         elif action.kind == "interrupt":
             self.bench.ask(f"interrupt {at:#x}")
         elif action.kind == "guest_spin":
-            # (an entry that is refused may name no REC, and leaves its step to the next one)
+            # (an entry that is refused leaves its step to the next one)
             self.bench.ask(f"guest {at:#x} spin")
         return None
 
@@ -101,13 +105,12 @@ class History:
         one = self.front.run(build, *step, perform=self.firmware.perform)
         other = self.alone.ask(build, *step)
         self.commands += 1
+        if not isinstance(before, list):
+            wanted(before.status, other.status)
         if other.status == RMI and isinstance(before, list):
+            # (what makes no call is refused before)
             self.refused += 1
-            if self.firmware.answer is None:
-                # (an exit, say, is no call: the model alone refuses it)
-                wanted((one.status, one.value), (DIVERGED, other.value))
-            else:
-                wanted((one.status, self.firmware.answer), (NOT_EXPECTED, other.value))
+            wanted((one.status, self.firmware.answer), (NOT_EXPECTED, other.value))
         else:
             wanted((one.status, one.value), (other.status, 0 if isinstance(before, tuple) else other.value))
 
@@ -118,12 +121,24 @@ class History:
             self.command(build, step)
         wanted(self.front.free_count, self.alone.free_count)
 
-    def check(self):
-        """The pages of each build have the states that the model has."""
+    def states(self):
+        """The state of each page of each build."""
         for build in range(BUILDS):
             for page in range(self.front.read_build(build)["page_count"]):
                 it = self.front.read_page(build, page)
-                wanted(self.firmware.state(it["address"]), GRANULE_STATES[it["state"]])
+                yield build, page, it["address"], GRANULE_STATES[it["state"]]
+
+    def check(self):
+        """The pages of each build have the states that the model has."""
+        for _, _, address, state in self.states():
+            wanted(self.firmware.state(address), state)
+
+    def check_text(self):
+        """The text of the history leads to these states."""
+        text = self.front.history_text.encode()
+        said = subprocess.run([VIEW, "apply"], input=text, stdout=subprocess.PIPE, check=True).stdout.decode()
+        found = re.findall(r"^(\d) page (\d+) (\w+)", said, re.M)
+        wanted(found, [(str(build), str(page), state) for build, page, _, state in self.states()])
 
 
 def play(seed):
@@ -133,6 +148,8 @@ def play(seed):
         build = rng.choice([it for it, steps in left.items() if steps])
         history.step(build, left[build].pop(0))
         history.check()
+    if VIEW.exists():
+        history.check_text()
     return history
 
 

@@ -73,6 +73,8 @@ static void smc(rmm_handle *handle)
 {
     rmm_registers registers = {n[0], n[1], n[2], n[3], n[4], n[5], n[6]};
     rmm_smc(handle, &registers);
+    if (registers.x5 != n[5] || registers.x6 != n[6])
+        printf("X5 or X6 is another: ");
     printf("%" PRIx64 " %" PRIx64 " %" PRIx64 " %" PRIx64 " %" PRIx64, registers.x0, registers.x1, registers.x2,
            registers.x3, registers.x4);
 }

@@ -7,7 +7,7 @@ sys.path.insert(0, str(Path(__file__).resolve().parent.parent))
 from second_rmm.bench import Bench
 from second_rmm.judge import report
 
-USAGE = "usage: second_rmm answer < TRACE\n       second_rmm check [--stop] < TRACE\n"
+USAGE = "usage: second_rmm answer < TRACE\n       second_rmm check [--each] [--stop] < TRACE\n"
 
 
 def main(words: list[str]) -> int:
@@ -18,8 +18,8 @@ def main(words: list[str]) -> int:
         for line in lines:
             sys.stdout.buffer.write((bench.line(line) + "\n").encode(errors="surrogateescape"))
         return 0
-    if words in (["check"], ["check", "--stop"]):
-        said, status = report(lines, words[1:] == ["--stop"])
+    if words[:1] == ["check"] and {*words[1:]} <= {"--each", "--stop"}:
+        said, status = report(lines, "--stop" in words, is_each="--each" in words)
         sys.stdout.buffer.write("".join(f"{it}\n" for it in said).encode(errors="surrogateescape"))
         return status
     sys.stderr.write(USAGE)

@@ -10,7 +10,7 @@ from collections.abc import Iterable, Iterator
 from typing import NamedTuple
 
 from .bench import Bench
-from .command import COMMANDS, names_of_checks
+from .command import COMMANDS, Outcome, names_of_checks
 from .facts import STATUSES, word_of
 from .printing import NAMES
 from .reading import parts_of
@@ -96,11 +96,26 @@ def is_name(written: str, here: str, command: str) -> bool:
     return not written or written == here or bool(here) and is_unsure and is_known
 
 
-def is_same(written: str, here: str, question: str) -> bool:
+def is_register(written: str) -> bool:
+    """Whether a text can be that of a register: a number, with or without a mask, or `-`."""
+    masked = MASKED.fullmatch(written)
+    return written == "-" or number(masked[1] if masked else written) is not None
+
+
+def are_registers(written: list[str], here: list[str], outputs: tuple[str, ...], outcome: Outcome | None) -> bool:
+    """Whether X0 is the same, and each register in which the call returns an output. The standard says nothing of others."""
+    returned = [outcome is not None and name in outcome.outputs for name in outputs]
+    is_compared = [True, *returned, *[False] * len(written)]
+    ours = [*here, *["0x0"] * len(written)]
+    return all(is_register(a) and (is_value(a, b) or not it) for a, b, it in zip(written, ours, is_compared))
+
+
+def is_same(written: str, here: str, question: str, outcome: Outcome | None = None) -> bool:
     kind = question.split(" ")[0]
     if kind == "smc":
-        registers, ours = written.split(" "), here.split(" ")
-        return len(registers) <= len(ours) and are_values(registers, ours[: len(registers)])
+        fid = number(question.split(" ")[1])
+        outputs = next((it.outputs for it in COMMANDS.values() if it.fid == fid), ())
+        return are_registers(written.split(" "), here.split(" "), outputs, outcome)
     if kind not in (*COMMANDS, "repeat", "interrupt"):
         return are_values(written.split(" "), here.split(" "))
     theirs, ours = answer_of(written), answer_of(here)
@@ -132,7 +147,7 @@ def judged(bench: Bench, question: str, written: str | None) -> tuple[str, str]:
     here = bench.ask(question) or ""
     if here == NO_COMMAND or written == NO_COMMAND:
         return SAME if here == written else WRONG, here
-    if written is None or is_same(written, here, question):
+    if written is None or is_same(written, here, question, bench.outcome):
         return SAME, here
     return ALLOWED if is_allowed(written, bench, question) else WRONG, here
 
@@ -158,13 +173,17 @@ def judge(lines: Iterable[str], bench: Bench | None = None) -> Iterator[Judged]:
             yield Judged(place, line, verdict, here)
 
 
-def report(lines: Iterable[str], is_stopped: bool = False, name: str = "trace") -> tuple[list[str], int]:
+def report(
+    lines: Iterable[str], is_stopped: bool = False, name: str = "trace", is_each: bool = False
+) -> tuple[list[str], int]:
     """The report on a trace, and its status: 0 if something is the same, and nothing wrong."""
     counts, findings = {SAME: 0, ALLOWED: 0, WRONG: 0}, []
     for it in judge(lines):
         counts[it.verdict] += 1
+        if it.verdict != SAME or is_each:
+            findings.append(f"{name}:{it.number}: {it.verdict}")
         if it.verdict != SAME:
-            findings += [f"{name}:{it.number}: {it.verdict}", it.line, f"here: {it.here or 'no answer'}"]
+            findings += [it.line, f"here: {it.here or 'no answer'}"]
         if is_stopped and it.verdict == WRONG:
             break
     same, allowed, wrong = counts.values()

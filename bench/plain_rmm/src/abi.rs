@@ -60,6 +60,7 @@ pub struct Settings {
     pub shows_target_alone: bool,
     pub takes_shareability: bool,
     pub checks_params: bool,
+    pub checks_gic: bool,
 }
 
 impl Default for Settings {
@@ -85,6 +86,7 @@ impl Default for Settings {
             shows_target_alone: false,
             takes_shareability: false,
             checks_params: false,
+            checks_gic: false,
         }
     }
 }

@@ -3,7 +3,7 @@ use crate::abi::{
     Answer, Checked, ERROR_INPUT, ERROR_REALM, ERROR_REC, ERROR_SYSTEM_OFF, RUNNING, SUCCESS, check,
 };
 use crate::entry::Ripas;
-use crate::granules::{Granules, word_in};
+use crate::granules::{Granules, Page, word_in};
 use crate::guest::{Came, Exit, Reason, Step, StepResult, call};
 use crate::objects::{LastExit, NO_REQUEST, Psci, Realm, RealmState, RipasRequest};
 
@@ -20,7 +20,23 @@ fn ripas_result(asked: &RipasRequest, flags: u64) -> StepResult {
     }
 }
 
+/// Whether a host may set gicv3_hcr and the list registers as a run page has them.
+fn may_set_gic(lrs: u8, page: &Page) -> bool {
+    let hcr = word_in(page, 96);
+    let fits = |k: usize| {
+        let lr = word_in(page, 97 + k);
+        if k <= usize::from(lrs) { lr >> 61 & 1 == 0 } else { lr == 0 }
+    };
+    hcr & 0x3F01 == 0 && hcr < 0x8000 && (0..16).all(fits)
+}
+
 impl Granules {
+    /// Words of one granule's page become words of another one's.
+    fn copy_words(&mut self, from: usize, first: usize, to: usize, place: usize, count: usize) {
+        let (to, from) = self.page_pair(to, from);
+        to[8 * place..8 * (place + count)].copy_from_slice(&from[8 * first..8 * (first + count)]);
+    }
+
     fn owner_realm(&self, g: usize) -> Option<(usize, &Realm)> {
         let rd = usize::from(self.granule(g).owner?);
         match &self.granule(rd).state {
@@ -41,6 +57,9 @@ impl Granules {
         self.page_mut(run)[2048..].fill(0);
         for (place, word) in exit.words() {
             self.set_word(run, place, word);
+        }
+        if self.settings.checks_gic {
+            self.copy_words(g, 192, run, 352, 17);
         }
     }
 
@@ -68,14 +87,16 @@ impl Granules {
         } else if flags & EMULATE_MMIO != 0 {
             let gpr0 = self.gpr(run, 0);
             let step = self.first_step(g, self.rec(g));
-            let is_read = matches!(step, Step::Read { .. });
-            self.end_step(g, if is_read { StepResult::Read(gpr0 & 0xFF) } else { StepResult::Done });
+            let result = match step {
+                Step::Read { size, .. } => StepResult::Read(size.low(gpr0)),
+                _ => StepResult::Done,
+            };
+            self.end_step(g, result);
         }
     }
 
     fn answer_host_call(&mut self, g: usize, run: usize) {
-        let (to, from) = self.page_pair(g, run);
-        to[..8 * 31].copy_from_slice(&from[512..512 + 8 * 31]);
+        self.copy_words(run, 64, g, 0, 31);
         self.push_result(g, StepResult::Returned(self.gpr(run, 0)));
     }
 
@@ -105,19 +126,19 @@ impl Granules {
     fn perform_access(&mut self, g: usize, step: Step) -> Came {
         let Some((_, realm)) = self.owner_realm(g) else { return Came::Spin };
         let came = match step {
-            Step::Write { ipa, value } => self.access(realm, ipa, Some(value)),
-            Step::Read { ipa } => self.access(realm, ipa, None),
+            Step::Write { ipa, value, size } => self.access(realm, ipa, size, Some(size.low(value))),
+            Step::Read { ipa, size } => self.access(realm, ipa, size, None),
             Step::Fetch { ipa } => self.fetch(realm, ipa),
             _ => return Came::Spin,
         };
         match (came, step) {
             (Err(came), _) => came,
-            (Ok(granule), Step::Write { ipa, value }) => {
-                self.page_mut(granule)[ipa as usize % 4096] = value;
+            (Ok(granule), Step::Write { ipa, value, size }) => {
+                size.write(self.page_mut(granule), ipa, value);
                 Came::Result(StepResult::Done)
             }
-            (Ok(granule), Step::Read { ipa }) => {
-                Came::Result(StepResult::Read(u64::from(self.page(granule)[ipa as usize % 4096])))
+            (Ok(granule), Step::Read { ipa, size }) => {
+                Came::Result(StepResult::Read(size.read(self.page(granule), ipa)))
             }
             (Ok(_), _) => Came::Result(StepResult::Done),
         }
@@ -183,6 +204,7 @@ impl Granules {
         }
         check(!rec.is_running && rec.is_runnable, ERROR_REC)?;
         check(flags & EMULATE_MMIO == 0 || rec.exit == LastExit::EmulatableAbort, ERROR_REC)?;
+        check(!self.settings.checks_gic || may_set_gic(self.settings.lrs, self.page(run)), ERROR_REC)?;
         check(!rec.is_pending(), ERROR_REC)?;
         let last = rec.exit;
         let rec = self.rec_mut(g);
@@ -190,6 +212,9 @@ impl Granules {
         rec.run = address;
         rec.exit = LastExit::Other;
         rec.result_count = 0;
+        if self.settings.checks_gic {
+            self.copy_words(run, 96, g, 192, 17);
+        }
         self.answer_exit(g, last, run, flags);
         if self.run(g, flags) { Ok(SUCCESS) } else { Ok(Answer { word: RUNNING, ..SUCCESS }) }
     }

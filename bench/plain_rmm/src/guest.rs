@@ -1,7 +1,7 @@
 //! Guests of RECs: the steps that they perform.
 use crate::abi::Settings;
 use crate::entry::{Entry, Ripas, entry_size};
-use crate::granules::Granules;
+use crate::granules::{Granules, Page, word_in};
 use crate::objects::{LastExit, Psci, Realm, Rec, RipasRequest, is_mpidr, rec_number};
 
 /// The most steps that a guest can be given, and the most results that it keeps.
@@ -15,10 +15,19 @@ const PSCI_INVALID_PARAMETERS: u64 = -2i64 as u64;
 const PSCI_ALREADY_ON: u64 = -4i64 as u64;
 const PSCI_INVALID_ADDRESS: u64 = -9i64 as u64;
 
+/// The size of an access.
+#[derive(Clone, Copy)]
+pub enum AccessSize {
+    Byte,
+    Halfword,
+    Word,
+    Doubleword,
+}
+
 #[derive(Clone, Copy)]
 pub enum Step {
-    Write { ipa: u64, value: u8 },
-    Read { ipa: u64 },
+    Write { ipa: u64, value: u64, size: AccessSize },
+    Read { ipa: u64, size: AccessSize },
     Fetch { ipa: u64 },
     HostCall { imm: u64, gprs: [u64; 3] },
     SetRipas { base: u64, top: u64, ripas: u64, flags: u64 },
@@ -81,11 +90,60 @@ pub enum Queued {
     NoRec,
 }
 
+impl AccessSize {
+    /// The size of that many bytes; a number that is no size is read as one byte.
+    fn of(bytes: u64) -> AccessSize {
+        match bytes {
+            2 => AccessSize::Halfword,
+            4 => AccessSize::Word,
+            8 => AccessSize::Doubleword,
+            _ => AccessSize::Byte,
+        }
+    }
+
+    /// SAS of a data abort, at its place in ESR_EL2.
+    fn syndrome(self) -> u64 {
+        (self as u64) << 22
+    }
+
+    /// The low bytes of a value: as many as an access has.
+    pub fn low(self, value: u64) -> u64 {
+        match self {
+            AccessSize::Byte => value & 0xFF,
+            AccessSize::Halfword => value & 0xFFFF,
+            AccessSize::Word => value & 0xFFFF_FFFF,
+            AccessSize::Doubleword => value,
+        }
+    }
+
+    /// The value that an access at an address reads from its page.
+    pub fn read(self, page: &Page, ipa: u64) -> u64 {
+        let at = ipa as usize % 4096;
+        match self {
+            AccessSize::Byte => u64::from(page[at]),
+            AccessSize::Halfword => u64::from(u16::from_le_bytes(page[at & !1..][..2].try_into().unwrap())),
+            AccessSize::Word => u64::from(u32::from_le_bytes(page[at & !3..][..4].try_into().unwrap())),
+            AccessSize::Doubleword => word_in(page, at / 8),
+        }
+    }
+
+    /// Writes a value by an access at an address of its page.
+    pub fn write(self, page: &mut Page, ipa: u64, value: u64) {
+        let at = ipa as usize % 4096;
+        match self {
+            AccessSize::Byte => page[at] = value as u8,
+            AccessSize::Halfword => page[at & !1..][..2].copy_from_slice(&(value as u16).to_le_bytes()),
+            AccessSize::Word => page[at & !3..][..4].copy_from_slice(&(value as u32).to_le_bytes()),
+            AccessSize::Doubleword => page[at & !7..][..8].copy_from_slice(&value.to_le_bytes()),
+        }
+    }
+}
+
 impl Step {
     pub fn of([kind, a, b, c, d]: [u64; 5]) -> Step {
         match kind {
-            0 => Step::Write { ipa: a, value: b as u8 },
-            1 => Step::Read { ipa: a },
+            0 => Step::Write { ipa: a, value: b, size: AccessSize::of(c) },
+            1 => Step::Read { ipa: a, size: AccessSize::of(b) },
             2 => Step::HostCall { imm: a, gprs: [b, c, d] },
             3 => Step::SetRipas { base: a, top: b, ripas: c, flags: d },
             4 => Step::CpuOn { target: a, entry_point: b, context: c },
@@ -195,14 +253,21 @@ impl Granules {
     }
 
     /// The granule at an unprotected address; `written` is what the guest writes there.
-    fn unprotected_access(&self, entry: Entry, level: u8, ipa: u64, written: Option<u8>) -> Result<usize, Came> {
+    fn unprotected_access(
+        &self,
+        entry: Entry,
+        level: u8,
+        ipa: u64,
+        size: AccessSize,
+        written: Option<u64>,
+    ) -> Result<usize, Came> {
         let wnr = if written.is_some() { 0x40 } else { 0 };
         let emulatable = |class: u64| {
             let exit = Exit {
-                esr: class + wnr + u64::from(level),
+                esr: class + size.syndrome() + wnr + u64::from(level),
                 far: ipa & 0xFFF,
                 hpfar: ipa >> 12 << 4,
-                gprs: [u64::from(written.unwrap_or(0)), 0, 0, 0],
+                gprs: [written.unwrap_or(0), 0, 0, 0],
                 ..Exit::only(Reason::Sync)
             };
             Came::Exit(exit, LastExit::EmulatableAbort)
@@ -218,7 +283,7 @@ impl Granules {
         })
     }
 
-    pub fn access(&self, realm: &Realm, ipa: u64, written: Option<u8>) -> Result<usize, Came> {
+    pub fn access(&self, realm: &Realm, ipa: u64, size: AccessSize, written: Option<u64>) -> Result<usize, Came> {
         if !realm.is_in_space(ipa) {
             return Err(Came::Result(StepResult::Sea));
         }
@@ -227,7 +292,7 @@ impl Granules {
         if realm.is_protected(ipa) {
             self.protected_access(0x9000_0000, entry, found.level, ipa)
         } else {
-            self.unprotected_access(entry, found.level, ipa, written)
+            self.unprotected_access(entry, found.level, ipa, size, written)
         }
     }
 

@@ -31,6 +31,7 @@ fn open(n: &[u64; 12]) -> Option<Granules> {
         takes_shareability: is(7),
         data_needs_ram: is(8),
         checks_params: is(9),
+        checks_gic: is(10),
         bps: n[7] as u8,
         wps: n[8] as u8,
         lrs: n[9] as u8,
@@ -110,10 +111,6 @@ fn reading(rmm: &Granules, kind: &str, address: u64) -> Option<String> {
 }
 
 fn guest(rmm: &mut Granules, n: &[u64; 12]) -> &'static str {
-    // (an access of more bytes than one is not known)
-    if n[1] == 0 && n[4] != 1 || n[1] == 1 && n[3] != 1 || n[6] != 0 {
-        return "unknown";
-    }
     match rmm.queue(n[0], [n[1], n[2], n[3], n[4], n[5]]) {
         Queued::Queued => "queued",
         Queued::Full => "full",

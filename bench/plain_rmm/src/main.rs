@@ -2,7 +2,7 @@
 //! as states and pages, tables as 512 words in pages, measurements by SHA-256 or SHA-512. It makes each check of all 23
 //! commands.
 //!
-//! `plain_rmm` reads a script as `crates/test_rmm_speed` does, and prints the same sum. `plain_rmm lines` performs the
+//! `plain_rmm` reads a script as `crates/test_memory` does, and prints the same sum. `plain_rmm lines` performs the
 //! raw operations of `tests/rmm_lines.py`, so that `tests/rmm_program.py` tries it by the traces.
 mod abi;
 mod enter;

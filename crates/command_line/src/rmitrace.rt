@@ -17,9 +17,12 @@ pub struct NameSet {
     pub places: [bool; 256],
 }
 
-/// The lines that a check compares, and whether it stops at the first that is wrong.
+/// The lines that a check compares, and what it prints of them.
 #[derive(Clone, Copy)]
 pub struct Comparison {
+    /// Whether each line that is compared gets its verdict, also one that is the same.
+    pub is_each: bool,
+    /// Whether the check stops at the first line that is wrong.
     pub stops: bool,
     /// The names of which a line has to have one, if any are given.
     pub only: Option<NameSet>,
@@ -59,7 +62,10 @@ const CHECK: &str = "Compare the answers of a trace, and print each that is not 
 const CHECK_EXAMPLES: &str = "Examples:
   rmitrace check traces/rmm/kvm-boot.trace
   rmitrace check --stop --skip rmi_rec_enter firmware.trace
+  rmitrace check --each firmware.trace | grep -c same
   rmitrace answer traces/rmm/kvm-boot.trace | rmitrace check";
+
+const EACH_HELP: &str = "Print the verdict on each line that is compared";
 
 const STOP_HELP: &str = "Stop at the first line that is wrong";
 
@@ -98,6 +104,7 @@ const RMITRACE: Program = Program {
             examples: CHECK_EXAMPLES,
             file: FILE,
             options: &[
+                Opt::Flag("each", EACH_HELP),
                 Opt::Flag("stop", STOP_HELP),
                 Opt::Names("only", ONLY_HELP),
                 Opt::Names("skip", SKIP_HELP),
@@ -205,6 +212,7 @@ fn names_by(alloc: Global, check: &ArgMatches, option: &str) -> Result<Option<Na
 // The lines that a check is to compare, by the words that were matched.
 fn compared_by(alloc: Global, check: &ArgMatches) -> Result<Comparison, Error> {
     Ok(Comparison {
+        is_each: check.get_flag("each"),
         stops: check.get_flag("stop"),
         only: names_by(alloc, check, "only")?,
         skip: names_by(alloc, check, "skip")?,

@@ -21,12 +21,12 @@ use Rattle.realm_host.specs.Call.{Undo}
 use Rattle.realm_host.specs.Refusals.{is_newest_running, refusal_of}
 use Rattle.realm_host.proofs.Checked.{named_are}
 use Rattle.realm_host.proofs.UndoAnswers.{no_build_there, nothing_there, rec_runs, not_refused}
-use Rattle.rhm_c.specs.Prepared.{allocated_before, act_before, actions_of_act, unless_refused, actions_asked, newest_back, actions_of_back, actions_back}
+use Rattle.rhm_c.specs.Prepared.{allocated_before, act_before, actions_or_refusal, unless_refused, actions_asked, newest_back, actions_of_back, actions_back}
 
 module _ (place : Place) (host : HostView) (build run : ℕ) (cmd : Cmd) where
   asked_by : (refusal : Option Refusal) → first_that_holds (checks_of (summary_of host) build cmd) ≡ refusal
-      → actions_asked place host build run cmd ≡ unless_refused refusal (actions_of_act place host build run cmd (act_before host build cmd))
-  asked_by refusal e = ap (λ (o : Option Refusal). unless_refused o (actions_of_act place host build run cmd (act_before host build cmd))) e
+      → actions_asked place host build run cmd ≡ unless_refused refusal (actions_or_refusal place host build run cmd (act_before host build cmd))
+  asked_by refusal e = ap (λ (o : Option Refusal). unless_refused o (actions_or_refusal place host build run cmd (act_before host build cmd))) e
 
   -- a refusal of the host's own
   pub asked_refused : (refusal : Refusal) → first_that_holds (checks_of (summary_of host) build cmd) ≡ Some refusal → Err refusal ≡ actions_asked place host build run cmd
@@ -39,9 +39,9 @@ module _ (place : Place) (host : HostView) (build run : ℕ) (cmd : Cmd) where
   -- the operations for the command's operation, if there is one
   pub asked_passed : (granules : List ℕ) (act : Option Act) (result : Result (ArrayVec HostAction) Refusal)
       → first_that_holds (checks_of (summary_of host) build cmd) ≡ None → AreFound (summary_of host) build cmd granules
-      → act ≡ act_of cmd granules (allocated_before host build) → result ≡ actions_of_act place host build run cmd act → result ≡ actions_asked place host build run cmd
+      → act ≡ act_of cmd granules (allocated_before host build) → result ≡ actions_or_refusal place host build run cmd act → result ≡ actions_asked place host build run cmd
   asked_passed granules act result none found act_is is =
-      is ∙ ap (λ (o : Option Act). actions_of_act place host build run cmd o) (act_is ∙ act_found granules found) ∙ sym (asked_by None none)
+      is ∙ ap (λ (o : Option Act). actions_or_refusal place host build run cmd o) (act_is ∙ act_found granules found) ∙ sym (asked_by None none)
 
 module _ (place : Place) (host : HostView) (build : ℕ) where
   back_by : (refusal : Option Refusal) → refusal_of host build Undo ≡ refusal

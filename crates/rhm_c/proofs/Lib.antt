@@ -1,3 +1,4 @@
 pub mod Asked
+pub mod Decided
 pub mod Handles
 pub mod Values

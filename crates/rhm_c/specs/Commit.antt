@@ -1,5 +1,5 @@
 -- Commands and undos that are committed, after the answer of the RMM in front of the host.
-use Rattle.std.specs.Prelude.{◌≡◌, ℕ, ◌==◌, ◌%◌, ◌-◌, ◌^◌, ◌&&◌, ◌||◌, Bool, true, false, Option, Some, None, Result, Ok, Err, if◌then◌else◌}
+use Rattle.std.specs.Prelude.{◌≡◌, ℕ, ◌==◌, ◌%◌, ◌-◌, ◌^◌, ◌||◌, Bool, true, List, Option, Some, None, Result, Ok, Err, if◌then◌else◌}
 use Rattle.std.specs.List.{list_all}
 use Rattle.arrayvec.specs.ArrayVec.{ArrayVec}
 use Rattle.realm_model.specs.Rmi.{result_word}
@@ -22,19 +22,26 @@ use Rattle.rhm_c.specs.declared.commit.FirmwareAnswer.{FirmwareAnswer}
 
 -- ---- the answers that are expected
 
-abbrev pub is_output : Option ℕ → ℕ → Bool
-is_output (Some known) x1 = known == x1
-is_output None x1 = true
+-- X0 says that the call was performed. After an entry it may also say that the REC still runs.
+abbrev pub is_performed : ℕ → HostAction → Bool
+is_performed x0 (Calls call x1) = x0 == 0
+is_performed x0 (Enter rec run) = x0 == 0 || x0 == 2 ^ 64 - 2
+is_performed x0 _ = true
 
--- A call succeeds, with the output that is known. An entry of a REC has succeeded, or the REC still runs.
-abbrev pub is_expected : FirmwareAnswer → HostAction → Bool
-is_expected answer (Calls call x1) = answer.x0 == 0 && is_output x1 answer.x1
-is_expected answer (Enter rec run) = answer.x0 == 0 || answer.x0 == 2 ^ 64 - 2
-is_expected answer _ = true
+-- X1 is the output of the call, if that is known
+abbrev pub is_output : ℕ → HostAction → Bool
+is_output x1 (Calls call (Some known)) = x1 == known
+is_output x1 _ = true
+
+-- The RMM has performed the calls, with the outputs that are known; or 16, it has not performed them, or 18, there is
+-- another output.
+abbrev pub checked_answer : FirmwareAnswer → List HostAction → Result (Unit {0}) CallAnswer
+checked_answer answer actions =
+    if list_all (is_performed answer.x0) actions then (if list_all (is_output answer.x1) actions then Ok tt else Err (only 18)) else Err (only 16)
 
 -- a call can be committed, or the answer to it
 abbrev pub committable : FirmwareAnswer → Result (ArrayVec HostAction) Refusal → Result (Unit {0}) CallAnswer
-committable answer (Ok actions) = if list_all (is_expected answer) actions.items then Ok tt else Err (only 16)
+committable answer (Ok actions) = checked_answer answer actions.items
 committable answer (Err refusal) = Err (refused_as refusal)
 
 -- ---- calls that are committed

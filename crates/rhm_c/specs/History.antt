@@ -1,5 +1,5 @@
 -- The history of a host as C has it.
-use Rattle.std.specs.Prelude.{ℕ, ◌^◌, length, Option, Some, None, option_map, slice_get}
+use Rattle.std.specs.Prelude.{ℕ, ◌^◌, List, length, map, replicate, Option, Some, None, option_map, slice_get}
 use Rattle.granule_addr.specs.declared.width.Root.{Root}
 use Rattle.realm_model.specs.declared.act.Act.{Act}
 use Rattle.realm_model.specs.declared.act.Act.TheVariants.{Take, UnTake, Fill, Peek, Delegate, Undelegate, Realm, UnRealm, Activate}
@@ -7,6 +7,7 @@ use Rattle.realm_model.specs.declared.act.Act.TheVariants.{Rtt, UnRtt, Ripas, Da
 use Rattle.realm_model.specs.declared.act.Event.{Event}
 use Rattle.history_calls.specs.Frame.{Place, address}
 use Rattle.host_ledger.specs.View.{HostView}
+use Rattle.rhm_c.specs.Action.{padded}
 use Rattle.rhm_c.specs.declared.history.RawEvent.{RawEvent}
 use Rattle.rhm_c.specs.declared.placed_host.PlacedHost.{PlacedHost}
 
@@ -27,6 +28,7 @@ plain_event kind = record {
   offset = 0;
   value = 0;
   vmid = 0;
+  aux = replicate 16 0;
 }
 
 abbrev pub on_granule : Place → ℕ → ℕ → RawEvent
@@ -35,6 +37,11 @@ on_granule place kind granule = record (plain_event kind) { granule = address pl
 abbrev pub realm_event : Place → ℕ → ℕ → Root → ℕ → RawEvent
 realm_event place kind rd root vmid =
     record (on_granule place kind rd) { second = address place root.first; width = root.width; vmid = vmid }
+
+-- a REC that is created or removed, with the addresses of its auxiliary granules
+abbrev pub rec_change : Place → ℕ → ℕ → List ℕ → ℕ → RawEvent
+rec_change place kind granule auxiliaries number =
+    record (on_granule place kind granule) { rec = number; count = length auxiliaries; aux = padded (map (address place) auxiliaries) }
 
 abbrev pub page_event : Place → Act → RawEvent
 page_event place (Take order first) = record (on_granule place 0 first) { count = 2 ^ order }
@@ -58,8 +65,8 @@ table_event place act = page_event place act
 
 -- An operation as C has it. An Activate has the kind 8.
 abbrev pub act_event : Place → Act → RawEvent
-act_event place (Rec granule auxiliaries number) = record (on_granule place 15 granule) { rec = number; count = length auxiliaries.items }
-act_event place (UnRec granule auxiliaries number) = record (on_granule place 16 granule) { rec = number; count = length auxiliaries.items }
+act_event place (Rec granule auxiliaries number) = rec_change place 15 granule auxiliaries.items number
+act_event place (UnRec granule auxiliaries number) = rec_change place 16 granule auxiliaries.items number
 act_event place (Enter number) = record (plain_event 17) { rec = number }
 act_event place (Exit number) = record (plain_event 18) { rec = number }
 act_event place (Poke number ipa offset value) = record (plain_event 19) { rec = number; ipa = ipa; offset = offset; value = value }

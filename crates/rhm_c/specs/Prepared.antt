@@ -1,34 +1,36 @@
 -- The operations of a host on an RMM for a command, or for an undo, that is not performed yet.
-use Rattle.std.specs.Prelude.{◌≡◌, ℕ, [], Bool, true, false, not, Option, Some, None, Result, Ok, Err, unwrap_or, option_and_then}
+use Rattle.std.specs.Prelude.{◌≡◌, ℕ, [], Bool, true, false, Option, Some, None, Result, Ok, Err, unwrap_or, option_map, option_and_then, if◌then◌else◌}
 use Rattle.std.specs.List.{last_or}
 use Rattle.arrayvec.specs.ArrayVec.{ArrayVec}
 use Rattle.realm_model.specs.declared.act.Act.{Act}
 use Rattle.realm_model.specs.declared.act.RealmAndRec.{RealmAndRec}
-use Rattle.realm_model.specs.declared.act.Act.TheVariants.{Fill, Peek as PeekAct}
+use Rattle.realm_model.specs.declared.states.GranuleState.{GranuleState}
 use Rattle.realm_model.specs.declared.states.GranuleState.TheVariants.{Undelegated}
 use Rattle.realm_model.specs.Act.{reverse_of}
-use Rattle.realm_model.specs.Command.Check.{error_input}
+use Rattle.realm_model.specs.Command.Check.{error_input, error_rec, is_ready}
+use Rattle.realm_model.specs.Machine.{cell_at}
 use Rattle.realm_model.specs.Places.{rd_of, rec_named, rec_granule}
 use Rattle.realm_model.specs.Running.{next_number}
 use Rattle.realm_model.specs.World.{realm_of}
 use Rattle.host_commands.specs.declared.cmd.Cmd.{Cmd}
-use Rattle.host_commands.specs.declared.cmd.Cmd.TheVariants.{Take, Peek}
+use Rattle.host_commands.specs.declared.cmd.Cmd.TheVariants.{Take, Fill, Peek, Enter, Exit, Poke}
 use Rattle.host_commands.specs.declared.refusal.Refusal.{Refusal}
 use Rattle.host_commands.specs.declared.refusal.Refusal.TheVariants.{NothingToUndo, Rmi}
 use Rattle.host_commands.specs.declared.reply.Allocated.{Allocated}
 use Rattle.host_commands.specs.Acts.{act_of}
 use Rattle.host_commands.specs.Checks.{checks_of, first_that_holds}
 use Rattle.host_ledger.specs.Summary.{summary_of}
-use Rattle.host_ledger.specs.View.{HostView, world_of, open_of}
+use Rattle.host_ledger.specs.View.{HostView, world_of, open_of, granule_of_page}
 use Rattle.host_ledger.specs.Vmids.{lowest_vmid}
 use Rattle.history_calls.specs.declared.action.HostAction.{HostAction}
 use Rattle.history_calls.specs.Actions.{actions_of}
 use Rattle.history_calls.specs.Frame.{Place}
 use Rattle.realm_host.specs.Allocation.{granules_named, act_asked}
-use Rattle.realm_host.specs.Call.{Undo}
-use Rattle.realm_host.specs.Readings.{granule_at}
+use Rattle.realm_host.specs.Answer.{IsActOf}
+use Rattle.realm_host.specs.Call.{Ask, Undo}
+use Rattle.realm_host.specs.Readings.{rec_at}
 use Rattle.realm_host.specs.Refusals.{refusal_of}
-use Rattle.realm_host.specs.declared.reading.GranuleView.{GranuleView}
+use Rattle.realm_objects.specs.Attributes.{RecAttributes}
 
 -- ---- an operation of a build
 
@@ -71,35 +73,75 @@ abbrev pub without_act : Cmd → Result (ArrayVec HostAction) Refusal
 without_act (Take order) = Ok (record { items = [] })
 without_act _ = Err (Rmi error_input)
 
--- the hypervisor may access the granule: it is UNDELEGATED
-abbrev pub is_accessible : Option GranuleView → Bool
-is_accessible (Some view) = elim view.state [ Undelegated ↦ true | _ ↦ false ]
-is_accessible None = false
+-- ---- refusals of the model that need no answer of an RMM
 
--- a write or a read of the hypervisor would fault
-abbrev pub would_fault : HostView → Act → Bool
-would_fault host (Fill granule value) = not (is_accessible (granule_at (world_of host) granule))
-would_fault host (PeekAct granule offset byte) = not (is_accessible (granule_at (world_of host) granule))
-would_fault host _ = false
+-- the hypervisor accesses a page only if its granule is UNDELEGATED
+abbrev pub access_refusal : Option GranuleState → Option Refusal
+access_refusal (Some state) = elim state [ Undelegated ↦ None | _ ↦ Some (Rmi error_input) ]
+access_refusal None = Some (Rmi error_input)
 
--- an operation that would fault is an input error
-abbrev pub unless_fault : Place → HostView → ℕ → ℕ → Act → Bool → Result (ArrayVec HostAction) Refusal
-unless_fault place host build run act true = Err (Rmi error_input)
-unless_fault place host build run act false = Ok (actions_for place host build run act)
+-- no call names a REC that there is not
+abbrev pub entry_refusal : Option (ℕ × RecAttributes) → Option Refusal
+entry_refusal (Some rec) = None
+entry_refusal None = Some (Rmi error_input)
 
-abbrev pub actions_of_act : Place → HostView → ℕ → ℕ → Cmd → Option Act → Result (ArrayVec HostAction) Refusal
-actions_of_act place host build run cmd (Some act) = unless_fault place host build run act (would_fault host act)
-actions_of_act place host build run cmd None = without_act cmd
+-- only a REC that runs stops running
+abbrev pub exit_refusal : Option (ℕ × RecAttributes) → Option Refusal
+exit_refusal (Some rec) = if is_ready rec.1.state then Some (Rmi error_rec) else None
+exit_refusal None = Some (Rmi error_input)
+
+-- the state of a page of a build
+abbrev pub state_of_leased : HostView → ℕ → ℕ → Option GranuleState
+state_of_leased host build page = option_map (λ g. (cell_at (world_of host).machine g).state) (granule_of_page host build page)
+
+-- The refusal of a command that makes no call, or that names a REC which the realm has not.
+abbrev pub refused_before : HostView → ℕ → Cmd → Option Refusal
+refused_before host build (Fill page value) = access_refusal (state_of_leased host build page)
+refused_before host build (Peek page offset) = access_refusal (state_of_leased host build page)
+refused_before host build (Enter number) = entry_refusal (rec_at (world_of host) build number)
+refused_before host build (Exit number) = exit_refusal (rec_at (world_of host) build number)
+refused_before host build (Poke number ipa offset value) = entry_refusal (rec_at (world_of host) build number)
+refused_before host build _ = None
+
+-- ---- the operations for a command
 
 -- a refusal, or what comes without one
 abbrev pub unless_refused : Option Refusal → Result (ArrayVec HostAction) Refusal → Result (ArrayVec HostAction) Refusal
 unless_refused (Some refusal) actions = Err refusal
 unless_refused None actions = actions
 
--- The operations on the RMM for a command; or the host's own refusal, before it calls the RMM.
+abbrev pub actions_of_act : Place → HostView → ℕ → ℕ → Cmd → Option Act → Result (ArrayVec HostAction) Refusal
+actions_of_act place host build run cmd (Some act) = Ok (actions_for place host build run act)
+actions_of_act place host build run cmd None = without_act cmd
+
+-- the operations, or the refusal of the model that comes before
+abbrev pub actions_or_refusal : Place → HostView → ℕ → ℕ → Cmd → Option Act → Result (ArrayVec HostAction) Refusal
+actions_or_refusal place host build run cmd act = unless_refused (refused_before host build cmd) (actions_of_act place host build run cmd act)
+
+-- The operations on the RMM for a command; or the refusal of the host, or of its model, that comes before the call.
 abbrev pub actions_asked : Place → HostView → ℕ → ℕ → Cmd → Result (ArrayVec HostAction) Refusal
 actions_asked place host build run cmd =
-    unless_refused (first_that_holds (checks_of (summary_of host) build cmd)) (actions_of_act place host build run cmd (act_before host build cmd))
+    unless_refused (first_that_holds (checks_of (summary_of host) build cmd)) (actions_or_refusal place host build run cmd (act_before host build cmd))
+
+-- ---- theorems of commands
+
+-- A command is refused before its call as the host that is asked for it refuses it.
+abbrev pub IsRefusedAsAsked : Place → HostView → ℕ → ℕ → Cmd → Type 0
+IsRefusedAsAsked place host build run cmd =
+    (refusal : Refusal) → actions_asked place host build run cmd ≡ Err refusal → refusal_of host build (Ask cmd) ≡ Some refusal
+
+-- a command other than a Take that makes no call
+abbrev pub makes_no_call : Cmd → Bool
+makes_no_call (Fill page value) = true
+makes_no_call (Peek page offset) = true
+makes_no_call (Exit number) = true
+makes_no_call _ = false
+
+-- Once it is prepared, the host that is asked for it does not refuse it.
+abbrev pub IsDecidedBefore : Place → HostView → ℕ → ℕ → Cmd → Type 0
+IsDecidedBefore place host build run cmd =
+    makes_no_call cmd ≡ true → (actions : ArrayVec HostAction) → actions_asked place host build run cmd ≡ Ok actions
+    → refusal_of host build (Ask cmd) ≡ None
 
 -- ---- an undo
 
@@ -114,3 +156,8 @@ actions_of_back place host build None = Err NothingToUndo
 -- The operations on the RMM for an undo, or its refusal.
 abbrev pub actions_back : Place → HostView → ℕ → Result (ArrayVec HostAction) Refusal
 actions_back place host build = unless_refused (refusal_of host build Undo) (actions_of_back place host build (newest_back host build))
+
+-- An undo is prepared as the host performs it: with the host's refusal, or for the operation that the host records.
+pub record IsUndoPrepared (place : Place) (host : HostView) (build : ℕ) : Type 0 where
+  pub refused : (refusal : Refusal) → refusal_of host build Undo ≡ Some refusal → actions_back place host build ≡ Err refusal
+  pub performed : (act : Act) → refusal_of host build Undo ≡ None → IsActOf host build Undo act → actions_back place host build ≡ Ok (actions_for place host build 0 act)

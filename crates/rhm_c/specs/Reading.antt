@@ -55,6 +55,10 @@ rec_state_number Running = 1
 
 -- ---- builds
 
+-- a fact as a number: 1 if it holds
+abbrev pub flag : Bool → ℕ
+flag holds = if holds then 1 else 0
+
 -- the number of operations that were open at a mark; 0 without one
 abbrev pub mark_length : Option Mark → ℕ
 mark_length (Some mark) = mark.length
@@ -65,8 +69,8 @@ build_seen host build = record {
   page_count = length (pages_of_build host build);
   open_count = length (open_of host build);
   mark = mark_length (mark_of host build);
-  has_mark = is_some (mark_of host build);
-  is_aborting = is_aborting host build;
+  has_mark = flag (is_some (mark_of host build));
+  is_aborting = flag (is_aborting host build);
 }
 
 -- a build of the host

@@ -1,8 +1,10 @@
 -- Undos, aborts, marks and ways back of a build that is named by its number.
-use Rattle.std.specs.Prelude.{◌≡◌, ℕ, Option, Some, None, Result, Ok, Err}
+use Rattle.std.specs.Prelude.{◌≡◌, ℕ, Option, Some, None, Result, Ok, Err, unwrap_or}
 use Rattle.host_commands.specs.declared.refusal.Refusal.{Refusal}
 use Rattle.host_commands.specs.declared.refusal.Refusal.TheVariants.{NothingToUndo}
+use Rattle.host_commands.specs.Checks.{build_checks, first_that_holds}
 use Rattle.host_ledger.specs.declared.mark.Mark.{Mark}
+use Rattle.host_ledger.specs.Summary.{summary_of}
 use Rattle.host_ledger.specs.View.{HostView, mark_of}
 use Rattle.realm_host.specs.Abort.{IsBegun, IsAbortAnswer}
 use Rattle.realm_host.specs.Call.{Undo}
@@ -46,10 +48,14 @@ pub record IsMarkedHere (old : HostView) (build : ℕ) (given : CallAnswer) (new
   pub is_result : IsMarked old build result new
   pub given_is : given ≡ marked_as result
 
+-- A build without a mark has nothing to undo. That there is no such build, or that it is in abort, comes first.
+abbrev pub refusal_without_mark : HostView → ℕ → Refusal
+refusal_without_mark host build = unwrap_or (first_that_holds (build_checks (summary_of host) build)) NothingToUndo
+
 -- a way back to the mark that is kept
 abbrev pub IsBackTo : Option Mark → HostView → ℕ → CallAnswer → HostView → Type 0
 IsBackTo (Some mark) old build given new = IsCountedAs (λ host of result after. IsBackAnswer host of mark result after) old build given new
-IsBackTo None old build given new = IsOnly old (refused_as NothingToUndo) given new
+IsBackTo None old build given new = IsOnly old (refused_as (refusal_without_mark old build)) given new
 
 abbrev pub IsBackHere : HostView → ℕ → CallAnswer → HostView → Type 0
 IsBackHere old build given new = IsBackTo (mark_of old build) old build given new

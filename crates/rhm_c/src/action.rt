@@ -91,8 +91,8 @@ fn address_at(auxiliaries: &[u64], place: usize) -> u64
     }
 }
 
-// The addresses of auxiliary granules, and zeros after them.
-fn padded(auxiliaries: &[u64]) -> [u64; 16]
+/// The addresses of auxiliary granules, and zeros after them.
+pub(crate) fn padded(auxiliaries: &[u64]) -> [u64; 16]
     ensures { result ≡ shown.padded auxiliaries.now }
 {
     let mut aux = [0; 16];

@@ -4,13 +4,13 @@ ghost use Rattle.realm_model.specs.Act.{reverse_of};
 ghost use Rattle.realm_model.specs.Running.{next_number};
 ghost use Rattle.realm_model.specs.World.{realm_of};
 ghost use Rattle.host_ledger.specs.View.{world_of};
-ghost use Rattle.realm_host.specs.Readings.{granule_at};
+ghost use Rattle.realm_host.specs.Readings.{rec_at};
 ghost use Rattle.rhm_c.specs.Prepared as prepared;
 
 use crate::placed_host::PlainHost;
 use arrayvec::ArrayVec;
 use build_journal::reverse_of;
-use granule_addr::{BuildId, Gran, RecNo, Vmid};
+use granule_addr::{BuildId, RecNo, Vmid};
 use history_calls::{Frame, HostAction, MOST_ACTIONS, actions_of};
 use host_commands::{Allocated, Cmd, Refusal, act_of, check_needs};
 use realm_host::GranuleState;
@@ -82,45 +82,79 @@ fn without_act(cmd: &Cmd) -> Result<Actions, Refusal>
     }
 }
 
-// Whether a write or a read of the hypervisor would fault: the granule is not UNDELEGATED.
-fn would_fault(host: &PlainHost, act: &Act) -> bool
-    ensures { result ≡ prepared.would_fault host.now act.now }
+// The refusal of an access to a page whose granule has this state.
+fn access_refusal(state: Option<GranuleState>) -> Option<Refusal>
+    ensures { result ≡ prepared.access_refusal state }
 {
-    match act {
-        Act::Fill { granule, .. } | Act::Peek { granule, .. } => !is_accessible(host, *granule),
-        _ => false,
+    match state {
+        Some(GranuleState::Undelegated) => None,
+        _ => Some(Refusal::Rmi(Rmi::INPUT)),
     }
 }
 
-// Whether the hypervisor may access a granule.
-fn is_accessible(host: &PlainHost, granule: Gran) -> bool
-    ensures { result ≡ prepared.is_accessible (granule_at (world_of host.now) granule) }
+// The refusal of an entry of a REC that there is not.
+fn entry_refusal(host: &PlainHost, build: BuildId, number: RecNo) -> Option<Refusal>
+    ensures { result ≡ prepared.entry_refusal (rec_at (world_of host.now) build number) }
 {
-    match host.granule_view(granule) {
-        Some(view) => matches!(view.state, GranuleState::Undelegated),
-        None => false,
+    match host.rec(build, number) {
+        Some(_) => None,
+        None => Some(Refusal::Rmi(Rmi::INPUT)),
     }
 }
 
-// The operations for an operation of a build that the hypervisor can perform.
-fn actions_unless_fault(
+// The refusal of the exit of a REC that does not run.
+fn exit_refusal(host: &PlainHost, build: BuildId, number: RecNo) -> Option<Refusal>
+    ensures { result ≡ prepared.exit_refusal (rec_at (world_of host.now) build number) }
+{
+    match host.rec(build, number) {
+        Some((_, rec)) => {
+            if rec.is_ready() {
+                Some(Refusal::Rmi(Rmi::REC))
+            } else {
+                None
+            }
+        }
+        None => Some(Refusal::Rmi(Rmi::INPUT)),
+    }
+}
+
+// The refusal of the model that needs no answer of an RMM.
+fn refused_before(host: &PlainHost, build: BuildId, cmd: &Cmd) -> Option<Refusal>
+    ensures { result ≡ prepared.refused_before host.now build cmd.now }
+{
+    match cmd {
+        Cmd::Fill { page, .. } | Cmd::Peek { page, .. } => {
+            access_refusal(host.page_state(build, *page))
+        }
+        Cmd::Enter { number } | Cmd::Poke { number, .. } => entry_refusal(host, build, *number),
+        Cmd::Exit { number } => exit_refusal(host, build, *number),
+        _ => None,
+    }
+}
+
+// The operations for a command, by its operation, if it has one.
+fn actions_of_act(
     frame: Frame,
     host: &PlainHost,
     build: BuildId,
     run: u16,
-    act: &Act,
+    cmd: &Cmd,
+    act: Option<Act>,
 ) -> Result<Actions, Refusal>
     requires there { build < host.now.limits.builds }
     requires run { run < 64 }
-    ensures { result ≡ prepared.unless_fault frame host.now build run act.now (prepared.would_fault host.now act.now) }
+    ensures { result ≡ prepared.actions_or_refusal frame host.now build run cmd.now act }
 {
-    if would_fault(host, act) {
-        return Err(Refusal::Rmi(Rmi::INPUT));
+    if let Some(refusal) = refused_before(host, build, cmd) {
+        return Err(refusal);
     }
-    Ok(actions_for(frame, host, build, run, act))
+    match act {
+        Some(act) => Ok(actions_for(frame, host, build, run, &act)),
+        None => without_act(cmd),
+    }
 }
 
-/// The operations for a command, or the refusal that the host gives before it calls the RMM.
+/// The operations for a command, or the refusal that comes before the RMM is called.
 pub(crate) fn actions_asked(
     frame: Frame,
     host: &PlainHost,
@@ -135,10 +169,8 @@ pub(crate) fn actions_asked(
         Ok(granules) => granules,
         Err(refusal) => return Err(refusal),
     };
-    match act_of(cmd, &granules, allocated(host, build)) {
-        Some(act) => actions_unless_fault(frame, host, build, run, &act),
-        None => without_act(cmd),
-    }
+    let act = act_of(cmd, &granules, allocated(host, build));
+    actions_of_act(frame, host, build, run, cmd, act)
 }
 
 // The operations for the reverse of an operation, which has one if it is open.

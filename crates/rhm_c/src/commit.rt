@@ -29,39 +29,65 @@ pub struct FirmwareAnswer {
 // The X0 after an entry of a REC that runs on, as the RMM by registers of this repository has it.
 const RUNNING: u64 = 0xFFFF_FFFF_FFFF_FFFE;
 
-// The statuses of an answer that is not expected, of a call that this RMM refuses, and of a build that there is not.
+// The statuses of a call that the RMM has not performed, of one that the model refuses, of one with another output, and
+// of a build that there is not.
 const NOT_EXPECTED: u64 = 16;
 
 const DIVERGED: u64 = 17;
 
+const OTHER_OUTPUT: u64 = 18;
+
 const NO_BUILD: u64 = 1;
 
-// Whether X1 is the output that is known.
-fn is_output(known: Option<u64>, x1: u64) -> bool
-    ensures { result ≡ commits.is_output known x1 }
-{
-    match known {
-        Some(known) => known == x1,
-        None => true,
-    }
-}
-
-// Whether an RMM that performs an operation answers so.
-fn is_expected(action: &HostAction, answer: &FirmwareAnswer) -> bool
-    ensures { result ≡ commits.is_expected answer.now action.now }
+// Whether this X0 says that the RMM has performed an operation.
+fn is_performed(action: &HostAction, x0: u64) -> bool
+    ensures { result ≡ commits.is_performed x0 action.now }
 {
     match action {
-        HostAction::Call { x1, .. } => answer.x0 == 0 && is_output(*x1, answer.x1),
-        HostAction::Enter { .. } => answer.x0 == 0 || answer.x0 == RUNNING,
+        HostAction::Call { .. } => x0 == 0,
+        HostAction::Enter { .. } => x0 == 0 || x0 == RUNNING,
         _ => true,
     }
 }
 
-// Whether the answer is expected of each of the operations.
-fn are_expected(actions: &[HostAction], answer: &FirmwareAnswer) -> bool
-    ensures { result ≡ list_all (commits.is_expected answer.now) actions.now }
+// Whether this X1 is the output of an operation, if it has one that is known.
+fn is_output(action: &HostAction, x1: u64) -> bool
+    ensures { result ≡ commits.is_output x1 action.now }
 {
-    actions.iter().all(|action| is_expected(action, answer))
+    match action {
+        HostAction::Call {
+            x1: Some(known),
+            ..
+        } => x1 == *known,
+        _ => true,
+    }
+}
+
+// Whether this X0 says that the RMM has performed each of the operations.
+fn are_performed(actions: &[HostAction], x0: u64) -> bool
+    ensures { result ≡ list_all (commits.is_performed x0) actions.now }
+{
+    actions.iter().all(|action| is_performed(action, x0))
+}
+
+// Whether this X1 is the output of each of the operations that has one.
+fn are_outputs(actions: &[HostAction], x1: u64) -> bool
+    ensures { result ≡ list_all (commits.is_output x1) actions.now }
+{
+    actions.iter().all(|action| is_output(action, x1))
+}
+
+// Whether an answer says that the RMM has performed the operations, with these outputs; or the answer to it.
+fn check_answer(actions: &[HostAction], answer: &FirmwareAnswer) -> Result<(), CallAnswer>
+    ensures { result ≡ commits.checked_answer answer.now actions.now }
+{
+    if !are_performed(actions, answer.x0) {
+        return Err(only(NOT_EXPECTED));
+    }
+    if !are_outputs(actions, answer.x1) {
+        return Err(only(OTHER_OUTPUT));
+    }
+    Ok(())
 }
 
 // Whether a call that was prepared can be committed; or the answer to it.
@@ -69,13 +95,7 @@ fn check(prepared: Result<Actions, Refusal>, answer: &FirmwareAnswer) -> Result<
     ensures { result ≡ commits.committable answer.now prepared }
 {
     match prepared {
-        Ok(actions) => {
-            if are_expected(actions.as_slice(), answer) {
-                Ok(())
-            } else {
-                Err(only(NOT_EXPECTED))
-            }
-        }
+        Ok(actions) => check_answer(actions.as_slice(), answer),
         Err(refusal) => Err(refused(&refusal)),
     }
 }
@@ -155,9 +175,9 @@ fn commit_undo(
 /// Commits a command of a build that was prepared: the RMM has answered with these registers. If the answer is the
 /// expected one, performs the command as `rhm_ask` does, and returns 0.
 ///
-/// Else nothing changes. 16 is an answer that is not expected: X0 is not RMI_SUCCESS, or X1 not the output that the
-/// host knows. 17 says that this RMM refuses the call that was performed there, with the result word in `value`. All
-/// other numbers are those of `rhm_ask`.
+/// Else nothing changes. 16: the RMM has not performed the call, since X0 is not RMI_SUCCESS. 18: it has, and X1 is not the
+/// output that the host knows. 17: it has, and the model refuses the call, with the result word in `value`. All other
+/// numbers are those of `rhm_ask`.
 #[unsafe(no_mangle)]
 pub extern "C" fn rhm_commit(
     alloc: Global,

@@ -1,12 +1,15 @@
 //! The history of a host, event by event.
-ghost use Rattle.std.specs.Prelude.{◌≡◌};
+ghost use Rattle.std.specs.Prelude.{◌≡◌, map};
+ghost use Rattle.history_calls.specs.Frame as frames;
 ghost use Rattle.rhm_c.specs.History as histories;
 ghost use Rattle.rhm_c.specs.Reading.{IsRead, of_handle};
 
 use crate::HostHandle;
+use crate::action::padded;
 use crate::placed_host::PlainHost;
 use crate::reading::report;
-use granule_addr::{Gran, Root, Vmid};
+use arrayvec::ArrayVec;
+use granule_addr::{Gran, RecNo, Root, Vmid};
 use history_calls::Frame;
 use realm_model::{Act, Event};
 use std::alloc::Global;
@@ -14,7 +17,7 @@ use std::alloc::Global;
 /// An event: its build, its kind, and its operands. Those that its kind has not are 0.
 ///
 /// `granule` is the address of the granule that the operation names first, and `second` that of the first starting table
-/// or of the source. `count` is a number of granules or of IPA granules.
+/// or of the source. `count` is a number of granules or of IPA granules. `aux` has the addresses of a REC's auxiliaries.
 #[repr(C)]
 #[derive(Clone, Copy)]
 pub struct RawEvent {
@@ -30,6 +33,7 @@ pub struct RawEvent {
     pub offset: u64,
     pub value: u64,
     pub vmid: u64,
+    pub aux: [u64; 16],
 }
 
 // An operation of a kind, without operands.
@@ -49,6 +53,7 @@ fn plain(kind: u64) -> RawEvent
         offset: 0,
         value: 0,
         vmid: 0,
+        aux: [0; 16],
     }
 }
 
@@ -71,6 +76,35 @@ fn on_realm(frame: Frame, kind: u64, rd: Gran, root: Root, vmid: Vmid) -> RawEve
         width: u64::from(root.width.number()),
         vmid: u64::from(vmid.number()),
         ..on_granule(frame, kind, rd)
+    }
+}
+
+// The addresses of granules.
+fn addresses(frame: Frame, granules: &ArrayVec<Gran, 16>) -> ArrayVec<u64, 16>
+    ensures { result.items ≡ map (frames.address frame) granules.now.items }
+{
+    let mut addresses = ArrayVec::new();
+    for granule in granules.as_slice() {
+        addresses.push(frame.address(*granule));
+    }
+    addresses
+}
+
+// A REC that is created or removed.
+fn on_rec(
+    frame: Frame,
+    kind: u64,
+    granule: Gran,
+    auxiliaries: &ArrayVec<Gran, 16>,
+    number: RecNo,
+) -> RawEvent
+    ensures { result ≡ histories.rec_change frame kind granule auxiliaries.now.items number }
+{
+    RawEvent {
+        rec: u64::from(number.number()),
+        count: auxiliaries.len() as u64,
+        aux: padded(addresses(frame, auxiliaries).as_slice()),
+        ..on_granule(frame, kind, granule)
     }
 }
 
@@ -166,20 +200,12 @@ fn act_event(frame: Frame, act: &Act) -> RawEvent
             granule,
             auxiliaries,
             number,
-        } => RawEvent {
-            rec: u64::from(number.number()),
-            count: auxiliaries.len() as u64,
-            ..on_granule(frame, 15, *granule)
-        },
+        } => on_rec(frame, 15, *granule, auxiliaries, *number),
         Act::UnRec {
             granule,
             auxiliaries,
             number,
-        } => RawEvent {
-            rec: u64::from(number.number()),
-            count: auxiliaries.len() as u64,
-            ..on_granule(frame, 16, *granule)
-        },
+        } => on_rec(frame, 16, *granule, auxiliaries, *number),
         Act::Enter { number } => RawEvent {
             rec: u64::from(number.number()),
             ..plain(17)

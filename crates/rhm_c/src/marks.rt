@@ -2,7 +2,7 @@
 ghost use Rattle.std.specs.Prelude.{◌≡◌};
 ghost use Rattle.rhm_c.specs.Command.{build_in};
 ghost use Rattle.rhm_c.specs.Answer.{IsOnHandle};
-ghost use Rattle.rhm_c.specs.Undoing.{IsOfBuild, IsMarkedHere, IsBackHere};
+ghost use Rattle.rhm_c.specs.Undoing.{IsOfBuild, IsMarkedHere, IsBackHere, refusal_without_mark};
 
 use crate::HostHandle;
 use crate::answer::{CallAnswer, closed, counted, done, only, refused};
@@ -10,7 +10,7 @@ use crate::asking::given;
 use crate::command::build_of;
 use crate::placed_host::PlainHost;
 use granule_addr::BuildId;
-use host_commands::Refusal;
+use host_commands::{Refusal, check_build};
 use std::alloc::Global;
 
 // The status of a build that there is not.
@@ -26,13 +26,23 @@ fn mark(host: &mut PlainHost, build: BuildId) -> CallAnswer
     }
 }
 
+// The refusal of a way back of a build that has no mark.
+fn refusal_without_mark(host: &PlainHost, build: BuildId) -> Refusal
+    ensures { result ≡ refusal_without_mark host.now build }
+{
+    match check_build(host.ledger(), build) {
+        Ok(()) => Refusal::NothingToUndo,
+        Err(refusal) => refusal,
+    }
+}
+
 // Undoes what a build has opened above its mark.
 fn roll_back(host: &mut PlainHost, build: BuildId) -> CallAnswer
     ensures { IsBackHere host.old build result host.new }
 {
     match host.kept_mark(build) {
         Some(mark) => counted(&host.rollback_to(build, mark)),
-        None => refused(&Refusal::NothingToUndo),
+        None => refused(&refusal_without_mark(host, build)),
     }
 }
 
@@ -81,7 +91,8 @@ pub extern "C" fn rhm_mark(
 /// Undoes at once what a build has opened above its mark, the newest first. Returns 0, with the number of operations in
 /// `value`. The mark stays.
 ///
-/// Else nothing changes: 1, 2, 7 and 8 are the refusals, and 14 a closed handle. 7 comes if the build has no mark.
+/// Else nothing changes: 1, 2, 7 and 8 are the refusals, of which the first that holds comes, and 14 a closed handle. 7
+/// comes if the build has no mark.
 #[unsafe(no_mangle)]
 pub extern "C" fn rhm_roll_back(
     alloc: Global,

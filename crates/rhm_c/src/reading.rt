@@ -12,15 +12,15 @@ use realm_host::{GranuleState, Mark, RealmState, RecState};
 use std::alloc::Global;
 
 /// A build: the numbers of its pages and of its open operations, and whether it is in abort. `mark` is the number of
-/// operations that were open at its mark, if it has one.
+/// operations that were open at its mark, if it has one. What is a fact is 1 if it holds, and 0 if not.
 #[repr(C)]
 #[derive(Drop)]
 pub struct BuildReading {
     pub page_count: u64,
     pub open_count: u64,
     pub mark: u64,
-    pub has_mark: bool,
-    pub is_aborting: bool,
+    pub has_mark: u64,
+    pub is_aborting: u64,
 }
 
 /// A page of a build: the address and the state of its granule.
@@ -110,6 +110,13 @@ fn mark_length(mark: Option<Mark>) -> u64
     }
 }
 
+// A fact as a number.
+fn flag(holds: bool) -> u64
+    ensures { result ≡ readings.flag holds }
+{
+    if holds { 1 } else { 0 }
+}
+
 // A build that there may be.
 fn build_at(host: &PlainHost, build: u64) -> Option<BuildReading>
     ensures { result ≡ readings.build_reading build host.now }
@@ -123,8 +130,8 @@ fn build_at(host: &PlainHost, build: u64) -> Option<BuildReading>
         page_count: u64::from(host.page_count(build)),
         open_count: host.open_acts(build).len() as u64,
         mark: mark_length(mark),
-        has_mark: mark.is_some(),
-        is_aborting: host.is_aborting(build),
+        has_mark: flag(mark.is_some()),
+        is_aborting: flag(host.is_aborting(build)),
     })
 }
 

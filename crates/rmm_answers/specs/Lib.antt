@@ -11,6 +11,7 @@ pub mod Places
 pub mod Platform
 pub mod Put
 pub mod Reading
+pub mod Registers
 pub mod Replies
 pub mod Rounds
 pub mod Words

@@ -1,18 +1,23 @@
 -- Answers to questions.
-use Rattle.std.specs.Prelude.{ℕ, ◌&&◌, Bool, true, false, List, [], ◌∷◌, Option, Some, None, ◌==◌}
+use Rattle.std.specs.Prelude.{ℕ, ◌&&◌, Bool, true, false, if◌then◌else◌, List, [], ◌∷◌, Option, Some, None, ◌==◌}
 use Rattle.std.specs.Str.{bytes_eq}
 use Rattle.std.specs.List.{slice_split}
 use Rattle.hex.specs.Hex.{encode_lower}
 use Rattle.rmm_trace.specs.declared.compare.TheConstants.{UNSURE}
 use Rattle.rmm_trace.specs.declared.word.Atom.TheVariants.{Name}
 use Rattle.rmm_trace.specs.declared.word.TraceWord.{TraceWord}
-use Rattle.rmm_trace.specs.Compare.{is_same}
+use Rattle.rmm_trace.specs.declared.place.TheConstants.{SMC}
+use Rattle.rmm_trace.specs.Access.{operand_at}
+use Rattle.rmm_trace.specs.Compare.{is_same, rest_of}
 use Rattle.rmm_trace.specs.Sentences.{sentence_text, words_in}
 use Rattle.rmm_answers.specs.declared.place.TheConstants.{NO, COMMAND}
 use Rattle.rmm_answers.specs.declared.reply.Digest.{Digest}
 use Rattle.rmm_answers.specs.declared.reply.Digest.TheVariants.{Sha256, Sha512}
 use Rattle.rmm_answers.specs.declared.reply.TraceReply.{TraceReply}
+use Rattle.rmm_answers.specs.Outputs.{command_place}
 use Rattle.rmm_answers.specs.Put.{◌▷◌, put_word}
+use Rattle.rmm_answers.specs.Registers.{are_registers}
+use Rattle.rmm_answers.specs.Words.{first_place}
 
 -- an answer that is words, and refuses no call
 abbrev pub of_words : List TraceWord → TraceReply
@@ -51,8 +56,14 @@ is_unanswered reply = is_none_left reply.words.items && is_absent reply.rim
 abbrev pub reply_text : TraceReply → List ℕ
 reply_text reply = text_by reply.rim reply.words.items
 
+-- The answer that is written to a question is ours: that to a raw call by its registers.
+abbrev pub is_same_answer : List TraceWord → List TraceWord → List TraceWord → Bool
+is_same_answer question written ours =
+    if first_place question == SMC then are_registers (command_place (operand_at (rest_of question) 0 0)) written ours
+    else is_same UNSURE question written ours
+
 abbrev pub are_same : List TraceWord → Option (List TraceWord) → List TraceWord → Bool
-are_same question (Some written) ours = is_same UNSURE question written ours
+are_same question (Some written) ours = is_same_answer question written ours
 are_same question None ours = false
 
 -- the words that a text is are the same as ours

@@ -7,7 +7,7 @@ use crate::{TraceMachine, TraceReply};
 use rmi_abi::Word;
 use rmm_checks::{CheckOutcome, EvaluatedCheck, EvaluatedChecks};
 use rmm_trace::place::{DASH, RMI_SUCCESS};
-use rmm_trace::{Atom, TraceWord, read_words};
+use rmm_trace::{Atom, Sentence, TraceWord, read_words};
 
 /// The verdict on an answer that is written: ours, a refusal by another check, or neither.
 #[derive(Clone, Copy, Debug, PartialEq, Eq)]
@@ -133,17 +133,19 @@ fn is_text_allowed(checks: Option<EvaluatedChecks>, written: &[u8]) -> bool
 /// The verdict on an answer that is written to a question, by our reply and the machine after it.
 ///
 /// Both refuse the call if the answer is allowed, so both machines are those before it. A right word with another check
-/// or another output is wrong. Checks are evaluated only if the answer is not ours.
+/// or another output is wrong. Checks are evaluated only if the answer is not ours. The words of the answer are read into
+/// `words`, which a caller keeps: a sentence that is made for each answer costs more than the comparison.
 #[tactic(auto, unfolding(crate::specs::Judging::judged))]
 pub fn judge(
     machine: &TraceMachine,
     question: &[TraceWord],
     written: &[u8],
     reply: &TraceReply,
+    words: &mut Sentence,
 ) -> Verdict
     ensures { result ≡ judging.judged machine.now question.now written.now reply.now }
 {
-    if reply.is_written(question, written) {
+    if reply.is_written(question, written, words) {
         return Verdict::Same;
     }
     if is_text_allowed(machine.checks(question, reply), written) {

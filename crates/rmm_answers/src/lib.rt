@@ -1,6 +1,6 @@
 //! The answers of an RMM to the questions of a trace.
 //!
-//! A question is words that `rmm_trace::parse` accepts. Each is performed on the machine of the trace: a call by
+//! A question is words that `RmmTraceLine::parse` accepts. Each is performed on the machine of the trace: a call by
 //! registers, a load or a store of the host, a step of a guest, or a reading. The answer is words too, so it is compared
 //! with a written one word by word, and printed in one way.
 //!
@@ -14,7 +14,7 @@
 //! | `reading` | readings that no host has |
 //! | `reply`, `put`, `place` | answers, the words that they are made of, and the places of their names |
 //! | `words` | the words of a question |
-//! | `judging` | the verdict on an answer that is written |
+//! | `judging`, `registers` | the verdict on an answer that is written |
 //! | `law` | theorems: names of places, tables by name, and refusals that change nothing |
 //! | `naming` | raw calls and their answers by names |
 //!
@@ -36,6 +36,7 @@ pub mod place;
 mod platform;
 mod put;
 mod reading;
+mod registers;
 mod reply;
 mod rounds;
 mod words;
@@ -45,4 +46,5 @@ pub use judging::{Verdict, is_allowed, judge};
 pub use machine::TraceMachine;
 pub use naming::{named_answer, named_question};
 pub use outputs::OUTPUTS;
+pub use platform::{is_platform, open_platform};
 pub use reply::{Digest, TraceReply};

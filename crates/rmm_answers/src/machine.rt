@@ -2,16 +2,15 @@
 ghost use Rattle.std.specs.Prelude.{◌≡◌, None, OnOk, OnErr, option_and_then};
 ghost use Rattle.rmm_answers.specs.Answering as specs;
 ghost use Rattle.rmm_answers.specs.Platform.{machine_of_platform};
+ghost use Rattle.rmm_trace.specs.Compare.{rest_of};
 
 use crate::answering::{answer_on, checks_on};
-use crate::platform::open;
+use crate::platform::{is_platform, open_platform};
 use crate::reply::TraceReply;
-use crate::words::{first_place, rest};
 use page_arena::PlainStore;
 use rmm::Rmm;
 use rmm_checks::EvaluatedChecks;
 use rmm_trace::TraceWord;
-use rmm_trace::place::PLATFORM;
 use std::alloc::{AllocError, Global};
 use std::marker::Model;
 
@@ -46,13 +45,13 @@ impl TraceMachine {
     fn open(
         &mut self,
         alloc: Global,
-        words: &[TraceWord],
+        question: &[TraceWord],
         reply: &mut TraceReply,
     ) -> Result<(), AllocError>
-        ensures ok { OnOk result ((reply.new, self.new) ≡ specs.after_opening (machine_of_platform words.now) self.old) }
+        ensures ok { OnOk result ((reply.new, self.new) ≡ specs.after_opening (machine_of_platform (rest_of question.now)) self.old) }
         ensures err { OnErr result (self.new ≡ self.old) }
     {
-        match open(alloc, words)? {
+        match open_platform(alloc, question)? {
             Some(rmm) => {
                 self.rmm = Some(rmm);
                 reply.clear();
@@ -84,8 +83,8 @@ impl TraceMachine {
         ensures ok { OnOk result ((reply.new, self.new) ≡ specs.answered question.now self.old) }
         ensures err { OnErr result (self.new ≡ self.old) }
     {
-        if first_place(question) == PLATFORM {
-            return self.open(alloc, rest(question), reply);
+        if is_platform(question) {
+            return self.open(alloc, question, reply);
         }
         self.answer_here(question, reply);
         Ok(())

@@ -98,7 +98,7 @@ fn has_top(place: usize) -> bool
 
 // Whether a command returns an output beside a result in X0.
 #[tactic(auto, unfolding(crate::specs::Outputs::is_returned))]
-fn is_returned(place: usize, x0: u64, name: usize) -> bool
+pub(crate) fn is_returned(place: usize, x0: u64, name: usize) -> bool
     ensures { result ≡ specs.is_returned place x0 name }
 {
     if name == NO_OUTPUT {

@@ -1,9 +1,12 @@
 //! Platforms: the settings that words are.
-ghost use Rattle.std.specs.Prelude.{◌≡◌, ◌<◌, ◌≤◌, IfOk, Some, replicate};
+ghost use Rattle.std.specs.Prelude.{◌≡◌, ◌<◌, ◌≤◌, ◌==◌, IfOk, Some, replicate};
 ghost use Rattle.granule_addr.specs.Page.{zero_page};
 ghost use Rattle.rmm_granules.specs.Inside.{platform_machine};
+ghost use Rattle.rmm_trace.specs.Compare.{rest_of};
 ghost use Rattle.rmm_answers.specs.Platform as platforms;
+ghost use Rattle.rmm_answers.specs.Words.{first_place};
 
+use crate::words::{first_place, rest};
 use page_arena::{BuildError, PlainStore};
 use rmi_abi::{Layout, Platform, RmmSettings};
 use rmm::Rmm;
@@ -11,7 +14,7 @@ use rmm_granules::Granules;
 use rmm_trace::place::{
     ALL, ANY_RIPAS, AUX, BLOCK_LEVEL, BPS, CHANGE, CHECKED, DATA_FLAGS, DATA_RIPAS, DESC_SH, GIC,
     GIVEN, INIT_DESTROYED, LAYOUT, LIVE_TOP, LOOSE, LRS, MAX_RECS_ORDER, MEASURE_REC, NONE, PARAMS,
-    PSCI_ARGS, REL0, RUNNABLE, S2SZ, SECURE, VMID_BITS, WPS, ZERO,
+    PLATFORM, PSCI_ARGS, REL0, RUNNABLE, S2SZ, SECURE, VMID_BITS, WPS, ZERO,
 };
 use rmm_trace::{Atom, TraceWord, after_name, operand};
 use std::alloc::{AllocError, Global};
@@ -97,12 +100,9 @@ fn open_granules(
     }
 }
 
-// The fresh RMM of a platform. None comes if this RMM has no such platform: 1 to 4,096 granules below 2^47.
+// The fresh RMM of a platform, by the words after its name.
 #[tactic(auto, unfolding(crate::specs::Platform::machine_of_platform))]
-pub(crate) fn open(
-    alloc: Global,
-    words: &[TraceWord],
-) -> Result<Option<Rmm<PlainStore>>, AllocError>
+fn open(alloc: Global, words: &[TraceWord]) -> Result<Option<Rmm<PlainStore>>, AllocError>
     ensures { IfOk result (λ rmm. rmm ≡ platforms.machine_of_platform words.now) }
 {
     let count = operand(words, 1, 0);
@@ -113,4 +113,21 @@ pub(crate) fn open(
         Some(platform) => open_granules(alloc, platform, count as u16),
         None => Ok(None),
     }
+}
+
+/// Whether a question is a platform, which opens a fresh machine.
+pub fn is_platform(question: &[TraceWord]) -> bool
+    ensures { result ≡ (first_place question.now == PLATFORM) }
+{
+    first_place(question) == PLATFORM
+}
+
+/// The fresh RMM of a platform. None comes if this RMM has no such platform: 1 to 4,096 granules below 2^47.
+pub fn open_platform(
+    alloc: Global,
+    question: &[TraceWord],
+) -> Result<Option<Rmm<PlainStore>>, AllocError>
+    ensures { IfOk result (λ rmm. rmm ≡ platforms.machine_of_platform (rest_of question.now)) }
+{
+    open(alloc, rest(question))
 }

@@ -3,9 +3,13 @@ ghost use Rattle.std.specs.Prelude.{◌≡◌, ◌++◌, OnErr, OnOk};
 ghost use Rattle.std.specs.Str.{bytes_eq};
 ghost use Rattle.rmm_answers.specs.Replies as replies;
 
+use crate::outputs::command_place;
 use crate::place::{COMMAND, NO};
 use crate::put::put;
-use rmm_trace::{Atom, Sentence, TraceWord, is_same, read_words, sha256_text, sha512_text};
+use crate::registers::are_registers;
+use crate::words::{first_place, rest};
+use rmm_trace::place::SMC;
+use rmm_trace::{Atom, Sentence, TraceWord, is_same, operand, read_into, sha256_text, sha512_text};
 use std::alloc::AllocError;
 
 /// The digest that a realm's initial measurement is.
@@ -47,14 +51,31 @@ impl Digest {
     }
 }
 
-// Whether the words that a text is are the same as ours.
-fn are_words(question: &[TraceWord], written: &[u8], ours: &[TraceWord]) -> bool
+// Whether an answer that is written to a question is ours: that to a raw call by its registers.
+fn is_same_answer(question: &[TraceWord], written: &[TraceWord], ours: &[TraceWord]) -> bool
+    ensures { result ≡ replies.is_same_answer question.now written.now ours.now }
+{
+    if first_place(question) == SMC {
+        are_registers(command_place(operand(rest(question), 0, 0)), written, ours)
+    } else {
+        is_same(question, written, ours)
+    }
+}
+
+// Whether the words that a text is are the same as ours. They are read into `words`.
+fn are_words(
+    question: &[TraceWord],
+    written: &[u8],
+    ours: &[TraceWord],
+    words: &mut Sentence,
+) -> bool
     ensures { result ≡ replies.are_words question.now written.now ours.now }
 {
-    match read_words(written) {
-        Some(words) => is_same(question, words.as_slice(), ours),
-        None => false,
+    words.clear();
+    if !read_into(written, words) {
+        return false;
     }
+    is_same_answer(question, words.as_slice(), ours)
 }
 
 impl TraceReply {
@@ -69,8 +90,8 @@ impl TraceReply {
         }
     }
 
-    // Makes the answer none.
-    pub(crate) fn clear(&mut self)
+    /// Makes the answer none.
+    pub fn clear(&mut self)
         ensures { self.new ≡ replies.no_answer }
     {
         self.words.clear();
@@ -95,14 +116,14 @@ impl TraceReply {
         self.words.is_empty() && self.rim.is_none()
     }
 
-    /// Whether an answer that is written to a question is this one.
+    /// Whether an answer that is written to a question is this one. Its words are read into `words`.
     #[tactic(auto, unfolding(crate::specs::Replies::is_written))]
-    pub fn is_written(&self, question: &[TraceWord], written: &[u8]) -> bool
+    pub fn is_written(&self, question: &[TraceWord], written: &[u8], words: &mut Sentence) -> bool
         ensures { result ≡ replies.is_written question.now written.now self.now }
     {
         match &self.rim {
             Some(digest) => digest.is_text(written),
-            None => are_words(question, written, self.words.as_slice()),
+            None => are_words(question, written, self.words.as_slice(), words),
         }
     }
 }

@@ -15,7 +15,7 @@ use Rattle.rmm_model.specs.declared.rec.LastExit.TheVariants.{EmulatableAbort}
 use Rattle.rmm_model.specs.declared.step.StepOutcome.{StepOutcome}
 use Rattle.rmm_model.specs.declared.step.StepOutcome.TheVariants.{Exit as IsExit}
 use Rattle.rmm_model.specs.Entry.{descriptor_of, is_assigned_ns}
-use Rattle.rmm_model.specs.Granule.{realm_of}
+use Rattle.rmm_model.specs.Granule.{of_realm, realm_of}
 use Rattle.rmm_model.specs.Host.{is_host_page}
 use Rattle.rmm_model.specs.Level.{entry_size, entry_index}
 use Rattle.rmm_model.specs.Machine.{Machine, granule_at, page_in, is_inside, number_of}
@@ -23,15 +23,16 @@ use Rattle.rmm_model.specs.Realm.{IsServed, is_in_space, is_protected}
 use Rattle.rmm_model.specs.Step.{of_access, emulatable, access, protected_access, unprotected_access, host_access, is_memory, may_access, found_or_sea}
 use Rattle.rmm_model.specs.Table.{entry_in_page}
 use Rattle.rmm_model.specs.Walk.{entry_at, granule_named, walk}
-use Rattle.rmm_laws.specs.Role.{Used, used, page_count, entry_uses, uses, IsProper, LeadsInside}
+use Rattle.rmm_laws.specs.Role.{Used, used, page_count, entry_uses, uses, IsLinked, LeadsInside}
 use Rattle.rmm_laws.proofs.Entries.{named_inside}
+use Rattle.rmm_laws.proofs.Orders.{is_memory_state}
 use Rattle.rmm_laws.proofs.Plain.{host_inside, host_plain}
 use Rattle.rmm_laws.proofs.Walks.{IsPlace, walk_ends, uses-entry, right, entry_index-few, entry_size-positive}
-use Rattle.rmm_laws.proofs.Writes.{is_user, taken_inside}
+use Rattle.rmm_laws.proofs.Writes.{taken_inside}
 
--- a granule is one of the machine that uses nothing, of a realm or of the host
+-- a granule is memory of the machine, of a realm or of the host
 abbrev pub IsPlainAt : Machine → ℕ → ℕ → Type 0
-IsPlainAt m rd h = (h < length m.granules) × (is_user (granule_at m h).state ≡ false) × (((granule_at m h).owner ≡ Some rd) ⊎ ((granule_at m h).state ≡ Undelegated))
+IsPlainAt m rd h = (h < length m.granules) × (is_memory_state (granule_at m h).state ≡ true) × ((granule_at m h ≡ of_realm rd Data) ⊎ ((granule_at m h).state ≡ Undelegated))
 
 -- the page of an offset is one of an entry
 page_below : (level offset : ℕ) → offset < entry_size level → offset / 4096 < page_count level
@@ -54,7 +55,7 @@ named_number m address h is =
     (λ (never : is_inside m address ≡ false). (let s : None ≡ Some h = sym (cond-false (is_inside m address) (Some (number_of m address)) None never) ∙ is in absurd (cc)))
     (cases_Bool (is_inside m address))
 
-module _ (m : Machine) (proper : IsProper m) (rd : ℕ) (realm : RmmRealm) (is : (granule_at m rd).state ≡ Rd realm) (ipa : ℕ) where
+module _ (m : Machine) (proper : IsLinked m) (rd : ℕ) (realm : RmmRealm) (is : (granule_at m rd).state ≡ Rd realm) (ipa : ℕ) where
   -- a page of a mapping
   by_memory : (place : RttWalk) (i offset h : ℕ) (entry : RmmRttEntry) → IsPlace m proper rd ipa place → i < 512 → entry_in_page (page_in m place.table) i ≡ entry → LeadsInside m entry
       → is_memory entry ≡ true → offset < entry_size place.level → granule_named m (descriptor_of entry + offset) ≡ Some h → IsPlainAt m rd h
@@ -72,7 +73,7 @@ module _ (m : Machine) (proper : IsProper m) (rd : ℕ) (realm : RmmRealm) (is :
       let it : granule_at m (first + k) ≡ record { state = Data; owner = Some rd } = sym (ap (λ (u : Used). u.attributes) (right m proper place.table i k (used Data (Some rd) 0 (first + k)) gives)) in
       let there : granule_at m h ≡ record { state = Data; owner = Some rd } = ap (granule_at m) here ∙ it in
       let is_data : (granule_at m h).state ≡ Data = ap (λ (r : RmmGranule). r.state) there in
-      (taken_inside m h (λ free. cc), ap is_user is_data, inl (ap (λ (r : RmmGranule). r.owner) there))
+      (taken_inside m h (λ free. cc), ap is_memory_state is_data, inl there)
   by_memory place i offset h _ place_is lt entry_is leads memory within named = absurd (cc)
 
   -- what is accessed
@@ -87,7 +88,7 @@ module _ (m : Machine) (proper : IsProper m) (rd : ℕ) (realm : RmmRealm) (is :
   by_host : (address : ℕ) → IsPlainIfOk (host_access m address ipa)
   by_host address =
       cond_both (is_host_page m address) _ _ IsPlainIfOk
-      (λ host. (host_inside m address host, ap is_user (host_plain m address host), inr (host_plain m address host)))
+      (λ host. (host_inside m address host, ap is_memory_state (host_plain m address host), inr (host_plain m address host)))
       (λ never. tt)
 
   by_unprotected : (entry : RmmRttEntry) (level : ℕ) (writes : Bool) (size : AccessSize) (value : ℕ) → IsPlainIfOk (unprotected_access m entry level ipa writes size value)

@@ -8,7 +8,7 @@ use Rattle.rmm_model.specs.declared.granule.RmmGranuleState.TheVariants.{Data}
 use Rattle.rmm_model.specs.declared.realm.RttWalk.{RttWalk}
 use Rattle.rmm_model.specs.Level.{entry_size, entry_index}
 use Rattle.rmm_model.specs.Machine.{Machine, is_inside, number_of}
-use Rattle.rmm_laws.specs.Role.{Used, used, page_count, entry_uses, IsProper, IsBegin}
+use Rattle.rmm_laws.specs.Role.{Used, used, page_count, entry_uses, IsLinked, IsBegin}
 use Rattle.rmm_laws.proofs.Entries.{named_inside}
 use Rattle.rmm_laws.proofs.Uses.{IsMore, has_user_at}
 use Rattle.rmm_laws.proofs.Walks.{IsPlace, entry_index-few}
@@ -83,7 +83,7 @@ sizes (suc (suc (suc l))) few = absurd (omega arith)
 
 -- ---- a block of memory at a place
 
-module _ (m : Machine) (proper : IsProper m) (rd ipa : ℕ) (place : RttWalk) (end : IsPlace m proper rd ipa place) (ripas : RmmRipas) (a : ℕ) (few : place.level ≤ 2) where
+module _ (m : Machine) (proper : IsLinked m) (rd ipa : ℕ) (place : RttWalk) (end : IsPlace m proper rd ipa place) (ripas : RmmRipas) (a : ℕ) (few : place.level ≤ 2) where
   abbrev t : ℕ
   t = place.table
 

@@ -1,6 +1,6 @@
 -- Guests and their RECs keep the roles of granules: steps, entries, exits and interrupts.
 use Rattle.std.proofs.Common.{◌≡◌, ◌≢◌, ℕ, zero, suc, ◌+◌, ◌*◌, ◌/◌, ◌%◌, ◌^◌, ◌<◌, ◌==◌, inl, inr, ◌&&◌, Bool, true, false, length, Option, Some, None, Result, Ok, Err, refl, sym, ap, subst, ◌∙◌, ⊎_elim, arith, ◌⊎◌}
-use Rattle.std.specs.Prelude.{IfSome, nat_lt, if◌then◌else◌}
+use Rattle.std.specs.Prelude.{IfSome, not, is_none, nat_lt, if◌then◌else◌}
 use Rattle.std.proofs.lemmas.Bool.{cases_eq, eqb-true, cond_both, and_parts}
 use Rattle.std.proofs.lemmas.List.{length-set}
 use Rattle.page_arena.specs.Word.{page_with_word}
@@ -12,7 +12,7 @@ use Rattle.rmm_model.specs.declared.access.AccessSize.{AccessSize}
 use Rattle.rmm_model.specs.declared.access.AccessSize.TheVariants.{Byte, Halfword, Word, Doubleword}
 use Rattle.rmm_model.specs.declared.granule.RmmGranule.{RmmGranule}
 use Rattle.rmm_model.specs.declared.granule.RmmGranuleState.{RmmGranuleState}
-use Rattle.rmm_model.specs.declared.granule.RmmGranuleState.TheVariants.{Undelegated, Rd, Rec as IsRec}
+use Rattle.rmm_model.specs.declared.granule.RmmGranuleState.TheVariants.{Undelegated, Rd, Rec as IsRec, Data}
 use Rattle.rmm_model.specs.declared.realm.RmmRealm.{RmmRealm}
 use Rattle.rmm_model.specs.declared.rec.LastExit.{LastExit}
 use Rattle.rmm_model.specs.declared.rec.LastExit.TheVariants.{Other, HostCall, RipasChange, EmulatableAbort, UnprotectedAbort, SystemRegister}
@@ -28,7 +28,7 @@ use Rattle.rmm_model.specs.declared.step.StepResult.{StepResult}
 use Rattle.rmm_model.specs.declared.step.StepResult.TheVariants.{Sea}
 use Rattle.rmm_model.specs.declared.step.StepWords.{StepWords}
 use Rattle.rmm_model.specs.Access.{low_bytes, with_byte, with_two_bytes, with_four_bytes, with_value}
-use Rattle.rmm_model.specs.Granule.{realm_of}
+use Rattle.rmm_model.specs.Granule.{of_realm, realm_of, rec_of}
 use Rattle.rmm_model.specs.Guest.{rec_in, is_rec_named, first_step, past_step, with_result, with_step, queued}
 use Rattle.rmm_model.specs.Host.{is_host_page}
 use Rattle.rmm_model.specs.Machine.{Machine, granule_at, page_in, is_aligned, is_inside, number_of, state_at, with_word}
@@ -37,17 +37,20 @@ use Rattle.rmm_model.specs.Step.{access, after_write, is_exit}
 use Rattle.rmm_model.specs.Command.Operand.{rec_at}
 use Rattle.rmm_model.specs.Command.PsciComplete.{is_same_owner, request_checks, psci_complete, with_rec, with_target}
 use Rattle.rmm_model.specs.Command.RecEnter.{rec_enter, owner_realm, realm_by, with_realm_off, with_system_off, with_copied, with_gprs, with_gic, with_exit_gic, with_exit_words, with_exit, after_exit, with_step_ended, with_psci_result, emulated, with_host_answer, after_entry, step_outcome, with_exit_of, after_step, with_step_passed, after_step_in, after_first_step, first_step_outcome, continued, after_steps, runs_at, interrupted}
-use Rattle.rmm_laws.specs.Apart.{Touches}
-use Rattle.rmm_laws.specs.Role.{IsProper}
+use Rattle.rmm_laws.specs.Apart.{Touches, realm_of_rec}
+use Rattle.rmm_laws.specs.Owner.{is_rd}
+use Rattle.rmm_laws.specs.Proper.{IsProper}
+use Rattle.rmm_laws.specs.Role.{IsLinked}
 use Rattle.rmm_laws.proofs.Accesses.{IsPlainAt, IsPlainIfOk, accessed}
 use Rattle.rmm_laws.proofs.PageWords.{length-page_with_word, length-with_words_from}
-use Rattle.rmm_laws.proofs.Passed.{Passed, yes_from, realm_of-is, rec_of-some, rec_of-there}
+use Rattle.rmm_laws.proofs.Orders.{is_memory_state, owner_is, rd_of}
+use Rattle.rmm_laws.proofs.Passed.{Passed, yes_from, some_same, realm_of-is, rec_of-some, rec_of-there, rec_named-is}
 use Rattle.rmm_laws.proofs.Plain.{host_inside, host_plain}
 use Rattle.rmm_laws.proofs.Recs.{IsGoing, going_first, going_rec, going_word, going_words, going_plain, going_realm}
 use Rattle.rmm_laws.proofs.Touching.{IsMine}
-use Rattle.rmm_laws.proofs.Writes.{is_user, granule_at-other}
+use Rattle.rmm_laws.proofs.Writes.{granule_at-other}
 
-module _ (o : Machine) (w : Option ℕ) where
+module _ (o : Machine) (w : ℕ) where
   -- ---- results
 
   going_result : (g : ℕ) (m : Machine) (r : StepResult) → IsGoing o w g m → IsGoing o w g (with_result m g r)
@@ -95,14 +98,14 @@ module _ (o : Machine) (w : Option ℕ) where
 
   -- ---- exits
 
-  going_exit_gic : (g h : ℕ) (m : Machine) → IsGoing o w g m → h < length m.granules → is_user (granule_at m h).state ≡ false → IsMine m (Some w) h → IsGoing o w g (with_exit_gic m g h)
+  going_exit_gic : (g h : ℕ) (m : Machine) → IsGoing o w g m → h < length m.granules → is_memory_state (granule_at m h).state ≡ true → IsMine m (Some w) h → IsGoing o w g (with_exit_gic m g h)
   unfolding with_exit_gic with_copied
   going_exit_gic g h m going inside plain mine =
       cond_both m.settings.checks_gic _ m (IsGoing o w g)
       (λ sure. going_plain o w g h m _ going inside (length-with_words_from 352 _ (page_in m h) (going.proper.sound.whole h inside) 17 (omega arith)) plain mine)
       (λ never. going)
 
-  going_exit_words : (g h : ℕ) (m : Machine) (exit : RecExit) → IsGoing o w g m → h < length m.granules → is_user (granule_at m h).state ≡ false → IsMine m (Some w) h → IsGoing o w g (with_exit_gic (with_exit_words m h exit) g h)
+  going_exit_words : (g h : ℕ) (m : Machine) (exit : RecExit) → IsGoing o w g m → h < length m.granules → is_memory_state (granule_at m h).state ≡ true → IsMine m (Some w) h → IsGoing o w g (with_exit_gic (with_exit_words m h exit) g h)
   unfolding with_exit_words
   going_exit_words g h m exit going inside plain mine =
       going_exit_gic g h _ (going_plain o w g h m _ going inside (length-with_words_from 256 (exit_word exit) (page_in m h) (going.proper.sound.whole h inside) 256 (omega arith)) plain mine) inside plain mine
@@ -110,7 +113,7 @@ module _ (o : Machine) (w : Option ℕ) where
   going_with_exit : (g address : ℕ) (m : Machine) (exit : RecExit) → IsGoing o w g m → IsGoing o w g (with_exit m g address exit)
   going_with_exit g address m exit going =
       cond_both (is_host_page m address) _ m (IsGoing o w g)
-      (λ host. going_exit_words g (number_of m address) m exit going (host_inside m address host) (ap is_user (host_plain m address host)) (inr (inl (host_plain m address host))))
+      (λ host. going_exit_words g (number_of m address) m exit going (host_inside m address host) (ap is_memory_state (host_plain m address host)) (inr (inl (host_plain m address host))))
       (λ never. going)
 
   going_exit : (g : ℕ) (m : Machine) (exit : RecExit) (last : LastExit) → IsGoing o w g m → IsGoing o w g (after_exit m g exit last)
@@ -120,11 +123,11 @@ module _ (o : Machine) (w : Option ℕ) where
   -- ---- accesses
 
   -- a granule that a guest of a realm writes
-  plain_mine : (m : Machine) (rd h : ℕ) → Some rd ≡ w → ((granule_at m h).owner ≡ Some rd) ⊎ ((granule_at m h).state ≡ Undelegated) → IsMine m (Some w) h
-  plain_mine m rd h named (inl is) = inl (inr (is ∙ named))
+  plain_mine : (m : Machine) (rd h : ℕ) → rd ≡ w → (granule_at m h ≡ of_realm rd Data) ⊎ ((granule_at m h).state ≡ Undelegated) → IsMine m (Some w) h
+  plain_mine m rd h named (inl is) = inl (inr (ap (λ (r : RmmGranule). r.owner) is ∙ ap (λ (x : ℕ). Some x) named))
   plain_mine m rd h named (inr free) = inr (inl free)
 
-  module _ (rd : ℕ) (named : Some rd ≡ w) where
+  module _ (rd : ℕ) (named : rd ≡ w) where
     going_byte : (g h offset value : ℕ) (m : Machine) → IsGoing o w g m → IsPlainAt m rd h → IsGoing o w g (with_byte m h offset value)
     going_byte g h offset value m going plain =
         going_plain o w g h m _ going plain.0 (length-set (page_in m h) offset (value % 2 ^ 8) ∙ going.proper.sound.whole h plain.0) plain.1 (plain_mine m rd h named plain.2)
@@ -155,25 +158,25 @@ module _ (o : Machine) (w : Option ℕ) where
 
   -- ---- steps
 
-  served : (m : Machine) (rd : ℕ) (realm : RmmRealm) → IsProper m → (granule_at m rd).state ≡ Rd realm → IsServed (length m.granules) realm
+  served : (m : Machine) (rd : ℕ) (realm : RmmRealm) → IsLinked m → (granule_at m rd).state ≡ Rd realm → IsServed (length m.granules) realm
   served m rd realm proper is = subst (λ (s : RmmGranuleState). IfSome (realm_of s) (IsServed (length m.granules))) is (proper.sound.tables.each rd)
 
-  going_realm_off : (g rd : ℕ) (m : Machine) (there : Option RmmRealm) → Some rd ≡ w → realm_of (granule_at m rd).state ≡ there → IsGoing o w g m → IsGoing o w g (with_realm_off m rd there)
+  going_realm_off : (g rd : ℕ) (m : Machine) (there : Option RmmRealm) → rd ≡ w → realm_of (granule_at m rd).state ≡ there → IsGoing o w g m → IsGoing o w g (with_realm_off m rd there)
   going_realm_off g rd m (Some realm) named is going =
       let there = realm_of-is (granule_at m rd).state realm is in
       let s = served m rd realm going.proper there in
-      going_realm o w g rd m realm _ going named there refl refl refl (record { few = s.few; inside = s.inside; most = s.most; level = s.level; width = s.width; served = s.served })
+      going_realm o w g rd m realm _ going named there refl refl refl refl (record { few = s.few; inside = s.inside; most = s.most; level = s.level; width = s.width; served = s.served })
   going_realm_off g rd m None named is going = going
 
-  going_off : (g : ℕ) (m : Machine) (owner : Option ℕ) → owner ≡ w → IsGoing o w g m → IsGoing o w g (with_system_off m owner)
-  going_off g m (Some rd) named going = going_realm_off g rd m (realm_of (granule_at m rd).state) named refl going
+  going_off : (g : ℕ) (m : Machine) (owner : Option ℕ) → owner ≡ Some w → IsGoing o w g m → IsGoing o w g (with_system_off m owner)
+  going_off g m (Some rd) named going = going_realm_off g rd m (realm_of (granule_at m rd).state) (some_same named) refl going
   going_off g m None named going = going
 
   going_exit_of : (g : ℕ) (m : Machine) (step : GuestStep) (exits : Bool) → IsGoing o w g m → IsGoing o w g (with_exit_of m g step exits)
   going_exit_of g m step true going = going_rec o w g m _ going
   going_exit_of g m step false going = going
 
-  going_step : (g rd : ℕ) (m : Machine) (realm : RmmRealm) → Some rd ≡ w → (granule_at m rd).state ≡ Rd realm → (step : GuestStep) (outcome : StepOutcome) → IsGoing o w g m → IsGoing o w g (after_step m realm g step outcome)
+  going_step : (g rd : ℕ) (m : Machine) (realm : RmmRealm) → rd ≡ w → (granule_at m rd).state ≡ Rd realm → (step : GuestStep) (outcome : StepOutcome) → IsGoing o w g m → IsGoing o w g (after_step m realm g step outcome)
   unfolding after_step
   going_step g rd m realm named is (Write ipa value size) outcome going =
       going_write rd named g m realm is ipa value size going (access m realm ipa true size (low_bytes size value)) (accessed m going.proper rd realm is ipa true size (low_bytes size value))
@@ -189,9 +192,9 @@ module _ (o : Machine) (w : Option ℕ) where
   going_passed g m Spins going = going_past g m going
 
   -- the realm of a REC is that of an RD
-  going_step_by : (g flags : ℕ) (m : Machine) (owner : Option ℕ) (there : Option RmmRealm) → owner ≡ w → realm_by m owner ≡ there → IsGoing o w g m → IsGoing o w g (after_step_in m there g flags)
+  going_step_by : (g flags : ℕ) (m : Machine) (owner : Option ℕ) (there : Option RmmRealm) → owner ≡ Some w → realm_by m owner ≡ there → IsGoing o w g m → IsGoing o w g (after_step_in m there g flags)
   going_step_by g flags m (Some rd) (Some realm) named is going =
-      going_passed g _ (step_outcome m realm g flags (first_step m g)) (going_step g rd m realm named (realm_of-is (granule_at m rd).state realm is) (first_step m g) (step_outcome m realm g flags (first_step m g)) going)
+      going_passed g _ (step_outcome m realm g flags (first_step m g)) (going_step g rd m realm (some_same named) (realm_of-is (granule_at m rd).state realm is) (first_step m g) (step_outcome m realm g flags (first_step m g)) going)
   going_step_by g flags m None (Some realm) named is going = absurd (cc)
   going_step_by g flags m owner None named is going = going
 
@@ -218,7 +221,7 @@ module _ (o : Machine) (w : Option ℕ) where
   going_target g m rec _ begins going = going
 
   -- a REC beside one that has other attributes
-  still_rec : (g h : ℕ) (m : Machine) (rec old : RmmRec) → IsGoing o w g m → (granule_at m h).state ≡ IsRec old → (granule_at m h).owner ≡ w → IsMine o (Some w) h → IsGoing o w h (with_rec m g rec)
+  still_rec : (g h : ℕ) (m : Machine) (rec old : RmmRec) → IsGoing o w g m → (granule_at m h).state ≡ IsRec old → (granule_at m h).owner ≡ Some w → IsMine o (Some w) h → IsGoing o w h (with_rec m g rec)
   still_rec g h m rec old going is owned mine =
       ⊎_elim
       (λ (same : h ≡ g). subst (λ (x : ℕ). IsGoing o w x (with_rec m g rec)) (sym same) (going_rec o w g m rec going))
@@ -226,6 +229,7 @@ module _ (o : Machine) (w : Option ℕ) where
       let still = granule_at-other m g h (record (granule_at m g) { state = IsRec rec }) other in
       record {
         proper = (going_rec o w g m rec going).proper;
+        ordered = (going_rec o w g m rec going).ordered;
         rec = old;
         is = ap (λ (r : RmmGranule). r.state) still ∙ is;
         touches = (going_rec o w g m rec going).touches;
@@ -249,20 +253,39 @@ module _ (o : Machine) (w : Option ℕ) where
 
 -- ---- commands
 
+-- the RD of a REC's realm
+rd_of_rec_is : (m : Machine) (g : ℕ) (rec : RmmRec) → IsProper m → (granule_at m g).state ≡ IsRec rec → (rd : ℕ) × ((granule_at m g).owner ≡ Some rd) × (is_rd (granule_at m rd).state ≡ true)
+rd_of_rec_is m g rec proper is = owner_is m (granule_at m g).owner (rd_of m g proper.ordered (IsRec rec) is refl)
+
+-- a REC that a call names, and what the call touches
+rec_there : (m n : Machine) (address w : ℕ) → not (is_aligned address) ≡ false → not (is_inside m address) ≡ false → is_none (rec_of (state_at m address)) ≡ false
+    → (granule_at m (number_of m address)).owner ≡ Some w → Touches m n (Some w) → Touches m n (realm_of_rec m address)
+rec_there m n address w aligned inside is owned touches =
+    subst (λ (o : Option ℕ). Touches m n o) (sym (rec_named-is m address aligned inside is ∙ owned)) touches
+
 module _ (rec address : ℕ) (m : Machine) (proper : IsProper m) (ok : Passed (rec_enter rec address m).checks) where
-  entry_going : IsGoing m (granule_at m (number_of m rec)).owner (number_of m rec) (rec_enter rec address m).machine
+  entered_is : (granule_at m (number_of m rec)).state ≡ IsRec (rec_at m rec)
+  unfolding rec_enter
+  entered_is = rec_of-some (state_at m rec) ok.1.1.1.1.1.0
+
+  abbrev of_entered : (rd : ℕ) × ((granule_at m (number_of m rec)).owner ≡ Some rd) × (is_rd (granule_at m rd).state ≡ true)
+  of_entered = rd_of_rec_is m (number_of m rec) (rec_at m rec) proper entered_is
+
+  entry_going : IsGoing m of_entered.0 (number_of m rec) (rec_enter rec address m).machine
   unfolding rec_enter
   entry_going =
-      let g : ℕ = number_of m rec in
-      let w : Option ℕ = (granule_at m g).owner in
       let flags : ℕ = flags_in (page_in m (number_of m address)) in
-      going_steps m w 16 g flags (after_entry m g address flags) (going_entry m w g address flags m (going_first g m (rec_at m rec) proper (rec_of-some (state_at m rec) ok.1.1.1.1.1.0)))
+      let g : ℕ = number_of m rec in
+      let first = going_first g of_entered.0 m (rec_at m rec) proper entered_is of_entered.1 in
+      going_steps m of_entered.0 16 g flags (after_entry m g address flags) (going_entry m of_entered.0 g address flags m first)
 
   pub entered : IsProper (rec_enter rec address m).machine
-  entered = entry_going.proper
+  entered = record { linked = entry_going.proper; ordered = entry_going.ordered }
 
-  pub entered_touches : Touches m (rec_enter rec address m).machine (Some (granule_at m (number_of m rec)).owner)
-  entered_touches = entry_going.touches
+  pub entered_touches : Touches m (rec_enter rec address m).machine (realm_of_rec m rec)
+  unfolding rec_enter
+  entered_touches =
+      rec_there m (rec_enter rec address m).machine rec of_entered.0 ok.1.1.1.0 ok.1.1.1.1.0 ok.1.1.1.1.1.0 of_entered.1 entry_going.touches
 
 pub same_owner : (a b : Option ℕ) → is_same_owner a b ≡ true → a ≡ b
 same_owner (Some a) (Some b) is = ap (λ (x : ℕ). Some x) (eqb-true a b is)
@@ -271,41 +294,60 @@ same_owner (Some a) None is = absurd (cc)
 same_owner None (Some b) is = absurd (cc)
 
 module _ (calling target status : ℕ) (m : Machine) (proper : IsProper m) (ok : Passed (psci_complete calling target status m).checks) where
-  target_going : IsGoing m (granule_at m (number_of m calling)).owner (number_of m target) (psci_complete calling target status m).machine
+  caller_is : (granule_at m (number_of m calling)).state ≡ IsRec (rec_at m calling)
+  unfolding psci_complete
+  caller_is = rec_of-some (state_at m calling) ok.1.1.1.0
+
+  abbrev of_caller : (rd : ℕ) × ((granule_at m (number_of m calling)).owner ≡ Some rd) × (is_rd (granule_at m rd).state ≡ true)
+  of_caller = rd_of_rec_is m (number_of m calling) (rec_at m calling) proper caller_is
+
+  target_going : IsGoing m of_caller.0 (number_of m target) (psci_complete calling target status m).machine
   unfolding psci_complete request_checks
   target_going =
       let g : ℕ = number_of m calling in
       let h : ℕ = number_of m target in
-      let w : Option ℕ = (granule_at m g).owner in
-      let is = rec_of-some (state_at m calling) ok.1.1.1.0 in
       let also = rec_of-some (state_at m target) ok.1.1.1.1.1.1.0 in
-      let owned : (granule_at m h).owner ≡ w = sym (same_owner w (granule_at m h).owner (yes_from (is_same_owner w (granule_at m h).owner) ok.1.1.1.1.1.1.1.1.0)) in
-      going_target m w h _ (rec_at m target) (rec_at m calling).psci _ (still_rec m w g h m _ (rec_at m target) (going_first g m (rec_at m calling) proper is) also owned (inl (inr owned)))
+      let same = same_owner (granule_at m g).owner (granule_at m h).owner (yes_from (is_same_owner (granule_at m g).owner (granule_at m h).owner) ok.1.1.1.1.1.1.1.1.0) in
+      let owned : (granule_at m h).owner ≡ Some of_caller.0 = sym same ∙ of_caller.1 in
+      going_target m of_caller.0 h _ (rec_at m target) (rec_at m calling).psci _
+      (still_rec m of_caller.0 g h m _ (rec_at m target) (going_first g of_caller.0 m (rec_at m calling) proper caller_is of_caller.1) also owned (inl (inr owned)))
 
   pub completed : IsProper (psci_complete calling target status m).machine
-  completed = target_going.proper
+  completed = record { linked = target_going.proper; ordered = target_going.ordered }
 
-  pub completed_touches : Touches m (psci_complete calling target status m).machine (Some (granule_at m (number_of m calling)).owner)
-  completed_touches = target_going.touches
+  pub completed_touches : Touches m (psci_complete calling target status m).machine (realm_of_rec m calling)
+  unfolding psci_complete
+  completed_touches =
+      rec_there m (psci_complete calling target status m).machine calling of_caller.0 ok.1.0 ok.1.1.0 ok.1.1.1.0 of_caller.1 target_going.touches
 
 -- ---- interrupts, and steps that guests are given
 
-named : (m : Machine) (address : ℕ) → IsProper m → is_rec_named m address ≡ true → IsGoing m (granule_at m (number_of m address)).owner (number_of m address) m
-named m address proper is =
-    let some = (and_parts (is_aligned address && is_inside m address) _ is).1 in
-    going_first (number_of m address) m (rec_at m address) proper (rec_of-there (state_at m address) some)
+module _ (m : Machine) (address : ℕ) (proper : IsProper m) (is : is_rec_named m address ≡ true) where
+  named_is : (granule_at m (number_of m address)).state ≡ IsRec (rec_at m address)
+  named_is = rec_of-there (state_at m address) (and_parts (is_aligned address && is_inside m address) _ is).1
+
+  abbrev of_named : (rd : ℕ) × ((granule_at m (number_of m address)).owner ≡ Some rd) × (is_rd (granule_at m rd).state ≡ true)
+  of_named = rd_of_rec_is m (number_of m address) (rec_at m address) proper named_is
+
+  named : IsGoing m of_named.0 (number_of m address) m
+  named = going_first (number_of m address) of_named.0 m (rec_at m address) proper named_is of_named.1
 
 pub interrupt_kept : (m : Machine) (address : ℕ) → IsProper m → IsProper (interrupted m address).1
 unfolding interrupted
 interrupt_kept m address proper =
     cond_both (runs_at m address) _ _ (λ (p : Option Answer × Machine). IsProper p.1)
-    (λ runs. (going_exit m (granule_at m (number_of m address)).owner (number_of m address) m (only_reason Irq) Other (named m address proper (and_parts (is_rec_named m address) _ runs).0)).proper)
+    (λ runs.
+    let is = (and_parts (is_rec_named m address) _ runs).0 in
+    let going = going_exit m (of_named m address proper is).0 (number_of m address) m (only_reason Irq) Other (named m address proper is) in
+    record { linked = going.proper; ordered = going.ordered })
     (λ never. proper)
 
 pub given_kept : (m : Machine) (address : ℕ) (words : StepWords) → IsProper m → IsProper (queued m address words).1
 given_kept m address words proper =
     cond_both (is_rec_named m address) _ _ (λ (p : Queued × Machine). IsProper p.1)
     (λ is. cond_both (nat_lt (rec_in m (number_of m address)).step_count 16) _ _ (λ (p : Queued × Machine). IsProper p.1)
-    (λ few. (going_given m (granule_at m (number_of m address)).owner (number_of m address) m words (named m address proper is)).proper)
+    (λ few.
+    let going = going_given m (of_named m address proper is).0 (number_of m address) m words (named m address proper is) in
+    record { linked = going.proper; ordered = going.ordered })
     (λ full. proper))
     (λ never. proper)

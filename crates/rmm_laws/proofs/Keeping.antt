@@ -8,7 +8,7 @@ use Rattle.rmm_model.specs.Granule.{realm_of}
 use Rattle.rmm_model.specs.Machine.{Machine, granule_at, page_in, with_granule, with_page}
 use Rattle.rmm_model.specs.Realm.{IsServed}
 use Rattle.rmm_model.specs.Table.{entry_in_page}
-use Rattle.rmm_laws.specs.Role.{has_user, used_at, state_uses, uses, IsSound, IsProper, LeadsInside}
+use Rattle.rmm_laws.specs.Role.{has_user, used_at, state_uses, uses, IsSound, IsLinked, LeadsInside}
 use Rattle.rmm_laws.proofs.Uses.{IsAlike, kept_roles}
 use Rattle.rmm_laws.proofs.Writes.{granule_at-same, granule_at-other, page_in-same, page_in-other, uses-same, leads-same, used_at-same, state_uses-same, sound-with_granule, sound-with_page}
 
@@ -32,7 +32,7 @@ module _ (m n : Machine) (kept : IsKept m n) where
   alike level g (inl same) = inl (used_at-same m n kept.settings kept.count level level g same refl)
   alike level g (inr plain) = inr plain
 
-  pub keep_proper : IsProper m → IsProper n
+  pub keep_proper : IsLinked m → IsLinked n
   keep_proper proper = record {
     sound = kept.sound;
     level = proper.level;
@@ -44,7 +44,7 @@ module _ (m n : Machine) (kept : IsKept m n) where
 
 -- ---- another page
 
-module _ (m : Machine) (g : ℕ) (page : List ℕ) (proper : IsProper m) (inside : g < length m.granules) (whole : length page ≡ 4096)
+module _ (m : Machine) (g : ℕ) (page : List ℕ) (proper : IsLinked m) (inside : g < length m.granules) (whole : length page ≡ 4096)
     (same : (owner : Option ℕ) (level i part : ℕ) → state_uses m (granule_at m g).state owner level page g i part ≡ state_uses m (granule_at m g).state owner level (page_in m g) g i part)
     (leads : (granule_at m g).state ≡ Rtt → (i : ℕ) → i < 512 → LeadsInside m (entry_in_page page i)) where
   there : page_in (with_page m g page) g ≡ page
@@ -74,12 +74,12 @@ module _ (m : Machine) (g : ℕ) (page : List ℕ) (proper : IsProper m) (inside
         (cases_eq table g);
   }
 
-  pub keep_page : IsProper (with_page m g page)
+  pub keep_page : IsLinked (with_page m g page)
   keep_page = keep_proper m (with_page m g page) page_kept proper
 
 -- ---- other attributes
 
-module _ (m : Machine) (g : ℕ) (kept : RmmGranule) (proper : IsProper m) (inside : g < length m.granules)
+module _ (m : Machine) (g : ℕ) (kept : RmmGranule) (proper : IsLinked m) (inside : g < length m.granules)
     (before : has_user (granule_at m g).state ≡ false) (after : has_user kept.state ≡ false)
     (same : (level : ℕ) (page : List ℕ) (i part : ℕ) → state_uses m kept.state kept.owner level page g i part ≡ state_uses m (granule_at m g).state (granule_at m g).owner level page g i part)
     (served : IfSome (realm_of kept.state) (IsServed (length m.granules))) where
@@ -114,5 +114,5 @@ module _ (m : Machine) (g : ℕ) (kept : RmmGranule) (proper : IsProper m) (insi
     inside = λ table i is lt. proper.inside table i is lt;
   }
 
-  pub keep_granule : IsProper (with_granule m g kept)
+  pub keep_granule : IsLinked (with_granule m g kept)
   keep_granule = keep_proper m (with_granule m g kept) granule_kept proper

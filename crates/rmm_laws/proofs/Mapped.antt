@@ -17,7 +17,7 @@ use Rattle.rmm_model.specs.Machine.{Machine, granule_at, page_in, with_granule, 
 use Rattle.rmm_model.specs.Realm.{IsServed}
 use Rattle.rmm_model.specs.Table.{entry_in_page}
 use Rattle.rmm_model.specs.Walk.{entry_at, with_entry}
-use Rattle.rmm_laws.specs.Role.{Used, used, used_at, has_user, level_in, entry_uses, state_uses, uses, IsSound, IsProper, LeadsInside}
+use Rattle.rmm_laws.specs.Role.{Used, used, used_at, has_user, level_in, entry_uses, state_uses, uses, IsSound, IsLinked, LeadsInside}
 use Rattle.rmm_laws.proofs.Entries.{entry-same, entry-other, sound-with_entry}
 use Rattle.rmm_laws.proofs.OneMore.{IsOneMore, one_more_proper, one_less_proper}
 use Rattle.rmm_laws.proofs.Walks.{IsPlace, entry_index-few}
@@ -25,7 +25,7 @@ use Rattle.rmm_laws.proofs.Writes.{taken_inside, granule_at-same, granule_at-oth
 
 -- ---- one more
 
-module _ (m : Machine) (proper : IsProper m) (rd ipa : ℕ) (place : RttWalk) (place_is : IsPlace m proper rd ipa place)
+module _ (m : Machine) (proper : IsLinked m) (rd ipa : ℕ) (place : RttWalk) (place_is : IsPlace m proper rd ipa place)
     (g : ℕ) (inside : g < length m.granules) (free : (granule_at m g).state ≡ Delegated)
     (state : RmmGranuleState) (content : List ℕ) (whole : length content ≡ 4096) (entry : RmmRttEntry) where
   abbrev t : ℕ
@@ -164,7 +164,7 @@ module _ (m : Machine) (proper : IsProper m) (rd ipa : ℕ) (place : RttWalk) (p
       was_state : (granule_at new_machine g).state ≡ Rtt → state ≡ Rtt
       was_state is = sym (ap (λ (r : RmmGranule). r.state) now) ∙ is
 
-      pub mapped : IsProper new_machine
+      pub mapped : IsLinked new_machine
       mapped = one_more_proper m new_machine proper level_after t i g one_more new_sound
           (λ is. subst (λ (l : ℕ). l ≤ 3) (sym level_now) (few (was_state is)))
           (subst (LeadsInside m) (sym entry_now) leads)
@@ -172,7 +172,7 @@ module _ (m : Machine) (proper : IsProper m) (rd ipa : ℕ) (place : RttWalk) (p
 
 -- ---- one less
 
-module _ (m : Machine) (proper : IsProper m) (rd ipa : ℕ) (place : RttWalk) (place_is : IsPlace m proper rd ipa place) (g : ℕ) (left : RmmRttEntry) where
+module _ (m : Machine) (proper : IsLinked m) (rd ipa : ℕ) (place : RttWalk) (place_is : IsPlace m proper rd ipa place) (g : ℕ) (left : RmmRttEntry) where
   abbrev here : ℕ
   here = place.table
 
@@ -260,5 +260,5 @@ module _ (m : Machine) (proper : IsProper m) (rd ipa : ℕ) (place : RttWalk) (p
         entries = λ j lt ne. sym (entry_other j lt ne);
       }
 
-      pub unmapped : IsProper freed
+      pub unmapped : IsLinked freed
       unmapped = one_less_proper freed m proper here at g one_less freed_sound (subst (LeadsInside m) (sym entry_then) leads)

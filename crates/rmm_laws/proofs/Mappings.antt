@@ -34,7 +34,7 @@ use Rattle.rmm_model.specs.Command.RttInitRipas.{rtt_init_ripas, init_changeable
 use Rattle.rmm_model.specs.Command.RttMapUnprotected.{rtt_map_unprotected, is_descriptor, has_attributes}
 use Rattle.rmm_model.specs.Command.RttSetRipas.{rtt_set_ripas, ripas_request_checks, set_changeable, is_rec_of}
 use Rattle.rmm_model.specs.Command.RttUnmapUnprotected.{rtt_unmap_unprotected}
-use Rattle.rmm_laws.specs.Role.{Used, used, used_at, has_user, page_count, entry_uses, state_uses, IsProper, LeadsInside}
+use Rattle.rmm_laws.specs.Role.{Used, used, used_at, has_user, page_count, entry_uses, state_uses, IsLinked, LeadsInside}
 use Rattle.rmm_laws.proofs.Entries.{number_inside, address_few, begins, named_inside, entry-same, entry-other}
 use Rattle.rmm_laws.proofs.EntryWords.{entry_of-entry_word, entry_word-fits, descriptor-few}
 use Rattle.rmm_laws.proofs.Keeping.{keep_page}
@@ -47,7 +47,7 @@ use Rattle.rmm_laws.proofs.Writes.{is_user, uses-plain, taken_inside, page_in-sa
 
 -- ---- places
 
-pub served : (m : Machine) (rd : ℕ) (realm : RmmRealm) → IsProper m → (granule_at m rd).state ≡ Rd realm → IsServed (length m.granules) realm
+pub served : (m : Machine) (rd : ℕ) (realm : RmmRealm) → IsLinked m → (granule_at m rd).state ≡ Rd realm → IsServed (length m.granules) realm
 served m rd realm proper is = subst (λ (s : RmmGranuleState). IfSome (realm_of s) (IsServed (length m.granules))) is (proper.sound.tables.each rd)
 
 half : (s ipa : ℕ) → ipa < 2 ^ (s - 1) → ipa < 2 ^ s
@@ -69,7 +69,7 @@ protected_within realm ipa sure = half realm.s2sz ipa (ltb-true _ _ sure)
 
 -- ---- one table's page
 
-module _ (m : Machine) (t : ℕ) (page : List ℕ) (proper : IsProper m) (is : (granule_at m t).state ≡ Rtt) (whole : length page ≡ 4096)
+module _ (m : Machine) (t : ℕ) (page : List ℕ) (proper : IsLinked m) (is : (granule_at m t).state ≡ Rtt) (whole : length page ≡ 4096)
     (same : (owner : Option ℕ) (level j k : ℕ) → j < 512 → entry_uses m owner level (entry_in_page page j) k ≡ entry_uses m owner level (entry_in_page (page_in m t) j) k)
     (leads : (j : ℕ) → j < 512 → LeadsInside m (entry_in_page page j)) where
   by_index : (owner : Option ℕ) (level j k : ℕ)
@@ -80,7 +80,7 @@ module _ (m : Machine) (t : ℕ) (page : List ℕ) (proper : IsProper m) (is : (
       (λ (past : 512 ≤ j). cond-false _ _ _ (le-ltb j 512 past) ∙ sym (cond-false _ _ _ (le-ltb j 512 past)))
       (cases_lt j 512)
 
-  pub keep_table_page : IsProper (with_page m t page)
+  pub keep_table_page : IsLinked (with_page m t page)
   keep_table_page =
       keep_page m t page proper (taken_inside m t (λ free. cc)) whole
       (λ owner level j k.
@@ -90,7 +90,7 @@ module _ (m : Machine) (t : ℕ) (page : List ℕ) (proper : IsProper m) (is : (
       (λ table. leads)
 
 -- an entry in place of one that uses the same
-module _ (m : Machine) (t i : ℕ) (entry : RmmRttEntry) (proper : IsProper m) (is : (granule_at m t).state ≡ Rtt) (index : i < 512) (fits : descriptor_of entry < 2 ^ 48)
+module _ (m : Machine) (t i : ℕ) (entry : RmmRttEntry) (proper : IsLinked m) (is : (granule_at m t).state ≡ Rtt) (index : i < 512) (fits : descriptor_of entry < 2 ^ 48)
     (same : (owner : Option ℕ) (level k : ℕ) → entry_uses m owner level entry k ≡ entry_uses m owner level (entry_in_page (page_in m t) i) k) (leads : LeadsInside m entry) where
   abbrev page : List ℕ
   page = page_with_word (page_in m t) i (entry_word entry)
@@ -107,7 +107,7 @@ module _ (m : Machine) (t i : ℕ) (entry : RmmRttEntry) (proper : IsProper m) (
   entry_beside : (j : ℕ) → j < 512 → j ≢ i → entry_in_page page j ≡ entry_in_page (page_in m t) j
   entry_beside j lt ne = sym (ap (λ (p : List ℕ). entry_in_page p j) there) ∙ entry-other m t i entry proper.sound t_in index j lt ne
 
-  pub keep_entry : IsProper (with_word m t i (entry_word entry))
+  pub keep_entry : IsLinked (with_word m t i (entry_word entry))
   keep_entry =
       keep_table_page m t page proper is (length-page_with_word (page_in m t) i (entry_word entry) (proper.sound.whole t t_in) index)
       (λ owner level j k lt. ⊎_elim
@@ -137,7 +137,7 @@ assigned_ns_uses m owner level k _ is = absurd (cc)
 
 -- ---- mappings of the host's
 
-module _ (m : Machine) (proper : IsProper m) (rd ipa level : ℕ) (realm : RmmRealm) (is : (granule_at m rd).state ≡ Rd realm) (within : ipa < 2 ^ realm.s2sz) (least : realm.start_level ≤ level) where
+module _ (m : Machine) (proper : IsLinked m) (rd ipa level : ℕ) (realm : RmmRealm) (is : (granule_at m rd).state ≡ Rd realm) (within : ipa < 2 ^ realm.s2sz) (least : realm.start_level ≤ level) where
   abbrev place : RttWalk
   place = walk m realm ipa level
 
@@ -148,7 +148,7 @@ module _ (m : Machine) (proper : IsProper m) (rd ipa level : ℕ) (realm : RmmRe
   place_table = ap (λ (r : RmmGranule). r.state) place_is.table
 
   keep_free_entry : (entry : RmmRttEntry) → descriptor_of entry < 2 ^ 48 → ((owner : Option ℕ) (l k : ℕ) → entry_uses m owner l entry k ≡ None)
-      → ((owner : Option ℕ) (l k : ℕ) → entry_uses m owner l (entry_at m (walk m realm ipa level) ipa) k ≡ None) → LeadsInside m entry → IsProper (with_entry m (walk m realm ipa level) ipa entry)
+      → ((owner : Option ℕ) (l k : ℕ) → entry_uses m owner l (entry_at m (walk m realm ipa level) ipa) k ≡ None) → LeadsInside m entry → IsLinked (with_entry m (walk m realm ipa level) ipa entry)
   unfolding entry_at
   keep_free_entry entry fits new old leads =
       keep_entry m place.table (entry_index place.level ipa) entry proper place_table (entry_index-few place.level ipa) fits
@@ -157,7 +157,7 @@ module _ (m : Machine) (proper : IsProper m) (rd ipa level : ℕ) (realm : RmmRe
 pub unprotected_within : (realm : RmmRealm) (ipa : ℕ) → is_unprotected realm ipa ≡ true → ipa < 2 ^ realm.s2sz
 unprotected_within realm ipa sure = ltb-true _ _ (and_parts _ _ sure).1
 
-pub host_mapped : (rd ipa level desc : ℕ) (m : Machine) → IsProper m → Passed (rtt_map_unprotected rd ipa level desc m).checks → IsProper (rtt_map_unprotected rd ipa level desc m).machine
+pub host_mapped : (rd ipa level desc : ℕ) (m : Machine) → IsLinked m → Passed (rtt_map_unprotected rd ipa level desc m).checks → IsLinked (rtt_map_unprotected rd ipa level desc m).machine
 unfolding rtt_map_unprotected is_descriptor
 host_mapped rd ipa level desc m proper ok =
     let realm : RmmRealm = realm_at m rd in
@@ -171,7 +171,7 @@ host_mapped rd ipa level desc m proper ok =
     keep_free_entry m proper (number_of m rd) ipa level realm is within least (AssignedNs desc) fits (λ owner l k. refl)
     (λ owner l k. unassigned_ns_uses m owner l k (entry_at m (walk m realm ipa level) ipa) free) tt
 
-pub host_unmapped : (rd ipa level : ℕ) (m : Machine) → IsProper m → Passed (rtt_unmap_unprotected rd ipa level m).checks → IsProper (rtt_unmap_unprotected rd ipa level m).machine
+pub host_unmapped : (rd ipa level : ℕ) (m : Machine) → IsLinked m → Passed (rtt_unmap_unprotected rd ipa level m).checks → IsLinked (rtt_unmap_unprotected rd ipa level m).machine
 unfolding rtt_unmap_unprotected
 host_unmapped rd ipa level m proper ok =
     let realm : RmmRealm = realm_at m rd in
@@ -222,7 +222,7 @@ change_count-few m changeable found base top =
     let most = first_fixed-most changeable (page_in m found.table) below first in
     omega arith
 
-module _ (m : Machine) (t first count : ℕ) (ripas : RmmRipas) (proper : IsProper m) (is : (granule_at m t).state ≡ Rtt) (few : first + count ≤ 512) where
+module _ (m : Machine) (t first count : ℕ) (ripas : RmmRipas) (proper : IsLinked m) (is : (granule_at m t).state ≡ Rtt) (few : first + count ≤ 512) where
   abbrev new_word : ℕ → ℕ
   new_word j = entry_word (entry_with_ripas ripas (entry_in_page (page_in m t) j))
 
@@ -252,7 +252,7 @@ module _ (m : Machine) (t first count : ℕ) (ripas : RmmRipas) (proper : IsProp
       (λ (low : first ≤ j). ⊎_elim (λ (high : j < first + count). inl (low, high)) (λ (past : first + count ≤ j). inr (inr past)) (cases_lt j (first + count)))
       (cases_lt j first)
 
-  pub keep_ripas : IsProper (with_ripas_from m t first ripas count)
+  pub keep_ripas : IsLinked (with_ripas_from m t first ripas count)
   unfolding with_ripas_from
   keep_ripas =
       keep_table_page m t ripas_page proper is (length-with_words_from first new_word (page_in m t) whole_page count few)
@@ -266,7 +266,7 @@ module _ (m : Machine) (t first count : ℕ) (ripas : RmmRipas) (proper : IsProp
       (λ (kept : (j < first) ⊎ (first + count ≤ j)). subst (LeadsInside m) (sym (entry_kept j lt kept)) (proper.inside t j is lt))
       (changed_or_kept j))
 
-pub ripas_inited : (rd base top : ℕ) (m : Machine) → IsProper m → Passed (rtt_init_ripas rd base top m).checks → IsProper (rtt_init_ripas rd base top m).machine
+pub ripas_inited : (rd base top : ℕ) (m : Machine) → IsLinked m → Passed (rtt_init_ripas rd base top m).checks → IsLinked (rtt_init_ripas rd base top m).machine
 unfolding rtt_init_ripas with_ripas_from range_checks
 ripas_inited rd base top m proper ok =
     let realm : RmmRealm = realm_at m rd in
@@ -282,7 +282,7 @@ pub owned_protected : (realm : RmmRealm) (b c : Bool) (base : ℕ) → not b ≡
 owned_protected realm b c base owns is =
     ⊎_elim (λ (never : not b ≡ true). absurd (both_ways (not b) owns never)) (λ (sure : is_protected realm base ≡ true). sure) (or_cases (not b) (is_protected realm base) (and_parts c (not b || is_protected realm base) is).1)
 
-pub ripas_set : (rd rec base top : ℕ) (m : Machine) → IsProper m → Passed (rtt_set_ripas rd rec base top m).checks → IsProper (rtt_set_ripas rd rec base top m).machine
+pub ripas_set : (rd rec base top : ℕ) (m : Machine) → IsLinked m → Passed (rtt_set_ripas rd rec base top m).checks → IsLinked (rtt_set_ripas rd rec base top m).machine
 unfolding rtt_set_ripas with_ripas_from ripas_request_checks
 ripas_set rd rec base top m proper ok =
     let realm : RmmRealm = realm_at m rd in
@@ -296,7 +296,7 @@ ripas_set rd rec base top m proper ok =
     let kept = keep_ripas m found.table (entry_index found.level base) (change_count m changeable found base top) (rec_at m rec).ripas.ripas proper table (change_count-few m changeable found base top) in
     keep_rec _ (number_of m rec) (rec_at m rec) _ kept rec_is
 
-pub activated : (rd : ℕ) (m : Machine) → IsProper m → Passed (realm_activate rd m).checks → IsProper (realm_activate rd m).machine
+pub activated : (rd : ℕ) (m : Machine) → IsLinked m → Passed (realm_activate rd m).checks → IsLinked (realm_activate rd m).machine
 unfolding realm_activate
 activated rd m proper ok =
     let is = realm_of-some (state_at m rd) ok.1.1.0 in
@@ -321,13 +321,13 @@ page_first m owner ripas address g named =
 page_others : (m : Machine) (owner : Option ℕ) (ripas : RmmRipas) (address k : ℕ) → k ≢ 0 → entry_uses m owner 3 (Assigned ripas address) k ≡ None
 page_others m owner ripas address k rest = page_uses m owner ripas address k ∙ cond-false _ _ _ (le-ltb k 1 (omega arith))
 
-module _ (m : Machine) (proper : IsProper m) (rd target ipa : ℕ) (is : (granule_at m (number_of m rd)).state ≡ Rd (realm_at m rd)) (inside : is_inside m target ≡ true) (aligned : target % 4096 ≡ 0)
+module _ (m : Machine) (proper : IsLinked m) (rd target ipa : ℕ) (is : (granule_at m (number_of m rd)).state ≡ Rd (realm_at m rd)) (inside : is_inside m target ≡ true) (aligned : target % 4096 ≡ 0)
     (free : state_at m target ≡ Delegated) (protected : is_protected (realm_at m rd) ipa ≡ true) (reaches : (walk m (realm_at m rd) ipa 3).level ≡ 3)
     (vacant : is_unassigned (entry_at m (walk m (realm_at m rd) ipa 3) ipa) ≡ true) (content : List ℕ) (whole : length content ≡ 4096) (ripas : RmmRipas) where
   abbrev found : RttWalk
   found = walk m (realm_at m rd) ipa 3
 
-  memory_mapped : IsProper (with_entry (with_granule (with_page m (number_of m target) content) (number_of m target) (of_realm (number_of m rd) Data)) (walk m (realm_at m rd) ipa 3) ipa (Assigned ripas target))
+  memory_mapped : IsLinked (with_entry (with_granule (with_page m (number_of m target) content) (number_of m target) (of_realm (number_of m rd) Data)) (walk m (realm_at m rd) ipa 3) ipa (Assigned ripas target))
   memory_mapped =
       let s = served m (number_of m rd) (realm_at m rd) proper is in
       let end = place_is m proper (number_of m rd) ipa 3 (realm_at m rd) is (protected_within (realm_at m rd) ipa protected) s.level in
@@ -343,7 +343,7 @@ module _ (m : Machine) (proper : IsProper m) (rd target ipa : ℕ) (is : (granul
       (begins m target proper.sound inside aligned)
       (λ table. absurd (cc))
 
-pub data_made : (rd target ipa source flags : ℕ) (m : Machine) → IsProper m → Passed (data_create rd target ipa source flags m).checks → IsProper (data_create rd target ipa source flags m).machine
+pub data_made : (rd target ipa source flags : ℕ) (m : Machine) → IsLinked m → Passed (data_create rd target ipa source flags m).checks → IsLinked (data_create rd target ipa source flags m).machine
 unfolding data_create source_checks target_checks
 data_made rd target ipa source flags m proper ok =
     let realm : RmmRealm = realm_at m rd in
@@ -365,7 +365,7 @@ data_made rd target ipa source flags m proper ok =
     keep_realm _ (number_of m rd) realm _ kept still refl refl refl
     (subst (λ (n : ℕ). IsServed n (with_rim realm (rim_with_data realm ipa flags content))) (sym count) (record { few = s.few; inside = s.inside; most = s.most; level = s.level; width = s.width; served = s.served }))
 
-pub unknown_made : (rd target ipa : ℕ) (m : Machine) → IsProper m → Passed (data_create_unknown rd target ipa m).checks → IsProper (data_create_unknown rd target ipa m).machine
+pub unknown_made : (rd target ipa : ℕ) (m : Machine) → IsLinked m → Passed (data_create_unknown rd target ipa m).checks → IsLinked (data_create_unknown rd target ipa m).machine
 unfolding data_create_unknown
 unknown_made rd target ipa m proper ok =
     let realm : RmmRealm = realm_at m rd in
@@ -389,7 +389,7 @@ pub some_of : (o : Option ℕ) → is_some o ≡ true → o ≡ Some (unwrap_or 
 some_of (Some g) is = refl
 some_of None is = absurd (cc)
 
-pub data_gone : (rd ipa : ℕ) (m : Machine) → IsProper m → Passed (data_destroy rd ipa m).checks → IsProper (data_destroy rd ipa m).machine
+pub data_gone : (rd ipa : ℕ) (m : Machine) → IsLinked m → Passed (data_destroy rd ipa m).checks → IsLinked (data_destroy rd ipa m).machine
 unfolding data_destroy entry_at
 data_gone rd ipa m proper ok =
     let realm : RmmRealm = realm_at m rd in

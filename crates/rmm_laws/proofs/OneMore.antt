@@ -8,7 +8,7 @@ use Rattle.rmm_model.specs.declared.granule.RmmGranuleState.{RmmGranuleState}
 use Rattle.rmm_model.specs.declared.granule.RmmGranuleState.TheVariants.{Delegated, Rtt}
 use Rattle.rmm_model.specs.Machine.{Machine, granule_at, page_in}
 use Rattle.rmm_model.specs.Table.{entry_in_page}
-use Rattle.rmm_laws.specs.Role.{has_user, used_at, entry_uses, state_uses, uses, IsSound, IsProper, LeadsInside}
+use Rattle.rmm_laws.specs.Role.{has_user, used_at, entry_uses, state_uses, uses, IsSound, IsLinked, LeadsInside}
 use Rattle.rmm_laws.proofs.Uses.{IsMore, added, removed}
 use Rattle.rmm_laws.proofs.Writes.{is_user, uses-same, uses-plain, used_at-same, entry_uses-same, leads-same}
 
@@ -134,7 +134,7 @@ module _ (m n : Machine) (before after : ℕ → ℕ) (t i g : ℕ) (step : IsOn
 
 -- ---- one more
 
-module _ (m n : Machine) (proper : IsProper m) (after : ℕ → ℕ) (t i g : ℕ) (step : IsOneMore m n proper.level after t i g) (sound : IsSound n)
+module _ (m n : Machine) (proper : IsLinked m) (after : ℕ → ℕ) (t i g : ℕ) (step : IsOneMore m n proper.level after t i g) (sound : IsSound n)
     (few : (granule_at n g).state ≡ Rtt → after g ≤ 3) (leads : LeadsInside m (entry_in_page (page_in n t) i))
     (below : (granule_at n g).state ≡ Rtt → (j : ℕ) → j < 512 → LeadsInside m (entry_in_page (page_in n g) j)) where
   leads_now : (table j : ℕ) → (granule_at n table).state ≡ Rtt → j < 512 → LeadsInside m (entry_in_page (page_in n table) j)
@@ -154,7 +154,7 @@ module _ (m n : Machine) (proper : IsProper m) (after : ℕ → ℕ) (t i g : �
       (cases_eq table t))
       (cases_eq table g)
 
-  pub one_more_proper : IsProper n
+  pub one_more_proper : IsLinked n
   one_more_proper = record {
     sound = sound;
     level = after;
@@ -168,7 +168,7 @@ module _ (m n : Machine) (proper : IsProper m) (after : ℕ → ℕ) (t i g : �
 
 -- ---- one less
 
-module _ (m n : Machine) (proper : IsProper n) (t i g : ℕ) (step : IsOneMore m n proper.level proper.level t i g) (sound : IsSound m)
+module _ (m n : Machine) (proper : IsLinked n) (t i g : ℕ) (step : IsOneMore m n proper.level proper.level t i g) (sound : IsSound m)
     (leads : LeadsInside n (entry_in_page (page_in m t) i)) where
   still : (h : ℕ) → (granule_at m h).state ≡ Rtt → (granule_at n h).state ≡ Rtt
   still h is = ap (λ (r : RmmGranule). r.state) (step.beside h (other_table m n proper.level proper.level t i g step h is)) ∙ is
@@ -186,7 +186,7 @@ module _ (m n : Machine) (proper : IsProper n) (t i g : ℕ) (step : IsOneMore m
       subst (λ p. LeadsInside n (entry_in_page p j)) (step.pages table (other_table m n proper.level proper.level t i g step table is) other) (proper.inside table j (still table is) lt))
       (cases_eq table t)
 
-  pub one_less_proper : IsProper m
+  pub one_less_proper : IsLinked m
   one_less_proper = record {
     sound = sound;
     level = proper.level;

@@ -1,16 +1,17 @@
 -- Commands that are refused, and commands whose checks have all passed.
-use Rattle.std.proofs.Common.{◌≡◌, ◌++◌, List, [], ◌∷◌, Bool, true, false, Option, Some, None, refl, sym, ap, ◌∙◌, ⊎_elim, unwrap_or}
+use Rattle.std.proofs.Common.{◌≡◌, ℕ, ◌&&◌, ◌++◌, List, [], ◌∷◌, Bool, true, false, Option, Some, None, refl, sym, ap, ◌∙◌, ⊎_elim, unwrap_or}
 use Rattle.std.specs.Prelude.{is_none, is_some, not}
-use Rattle.std.proofs.lemmas.Bool.{cases_Bool, cond-true, cond-false}
+use Rattle.std.proofs.lemmas.Bool.{cases_Bool, and_from, cond-true, cond-false}
 use Rattle.rmm_model.specs.declared.answer.FailedCondition.{FailedCondition}
 use Rattle.rmm_model.specs.declared.granule.RmmGranuleState.{RmmGranuleState}
 use Rattle.rmm_model.specs.declared.granule.RmmGranuleState.TheVariants.{Undelegated, Delegated, Rd, Rec as IsRec}
 use Rattle.rmm_model.specs.declared.realm.RmmRealm.{RmmRealm}
 use Rattle.rmm_model.specs.Check.{Check, Command, first_failing, decided, outcome}
 use Rattle.rmm_model.specs.Granule.{is_undelegated, is_delegated, realm_of, rec_of}
-use Rattle.rmm_model.specs.Machine.{Machine}
+use Rattle.rmm_model.specs.Machine.{Machine, granule_at, is_aligned, is_inside, number_of, state_at}
 use Rattle.rmm_model.specs.Realm.{no_realm}
 use Rattle.rmm_model.specs.Rec.{no_rec}
+use Rattle.rmm_laws.specs.Apart.{rd_named, realm_of_rec}
 
 -- no check fails
 abbrev pub Passed : List Check → Type 0
@@ -72,3 +73,24 @@ rec_of-there _ is = absurd (cc)
 pub realm_of-is : (s : RmmGranuleState) (realm : RmmRealm) → realm_of s ≡ Some realm → s ≡ Rd realm
 realm_of-is (Rd other) realm is = (let same : other ≡ realm = cc in ap Rd same)
 realm_of-is _ realm is = absurd (cc)
+
+-- ---- RDs and RECs that calls name
+
+pub some_same : {a b : ℕ} → Some a ≡ Some b → a ≡ b
+some_same is = cc
+
+not_none : {X : Type 0} (o : Option X) → is_none o ≡ false → is_some o ≡ true
+not_none (Some x) is = refl
+not_none None is = absurd (cc)
+
+pub rd_named-is : (m : Machine) (rd : ℕ) → not (is_aligned rd) ≡ false → not (is_inside m rd) ≡ false → is_none (realm_of (state_at m rd)) ≡ false → rd_named m rd ≡ Some (number_of m rd)
+rd_named-is m rd aligned inside is =
+    cond-true _ _ _
+    (and_from (is_aligned rd && is_inside m rd) (is_some (realm_of (state_at m rd)))
+    (and_from (is_aligned rd) (is_inside m rd) (yes_from (is_aligned rd) aligned) (yes_from (is_inside m rd) inside)) (not_none (realm_of (state_at m rd)) is))
+
+pub rec_named-is : (m : Machine) (rec : ℕ) → not (is_aligned rec) ≡ false → not (is_inside m rec) ≡ false → is_none (rec_of (state_at m rec)) ≡ false → realm_of_rec m rec ≡ (granule_at m (number_of m rec)).owner
+rec_named-is m rec aligned inside is =
+    cond-true _ _ _
+    (and_from (is_aligned rec && is_inside m rec) (is_some (rec_of (state_at m rec)))
+    (and_from (is_aligned rec) (is_inside m rec) (yes_from (is_aligned rec) aligned) (yes_from (is_inside m rec) inside)) (not_none (rec_of (state_at m rec)) is))

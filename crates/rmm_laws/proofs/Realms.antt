@@ -13,21 +13,19 @@ use Rattle.rmm_model.specs.declared.granule.RmmGranuleState.{RmmGranuleState}
 use Rattle.rmm_model.specs.declared.granule.RmmGranuleState.TheVariants.{Delegated, Rd, Rtt}
 use Rattle.rmm_model.specs.declared.realm.RmmRealm.{RmmRealm}
 use Rattle.rmm_model.specs.Entry.{entry_of, entry_word}
-use Rattle.rmm_model.specs.Granule.{of_no_realm, of_realm, is_delegated, realm_of}
+use Rattle.rmm_model.specs.Granule.{of_no_realm, of_realm, realm_of}
 use Rattle.rmm_model.specs.Level.{entry_size}
-use Rattle.rmm_model.specs.Machine.{Machine, granule_at, granule_count, page_in, is_inside, number_of, state_at, with_granule, with_page, with_blank, with_vmid}
+use Rattle.rmm_model.specs.Machine.{Machine, granule_at, page_in, is_inside, number_of, with_granule, with_page, with_blank, with_vmid}
 use Rattle.rmm_model.specs.Realm.{IsServed, is_protected, is_start, start_count}
 use Rattle.rmm_model.specs.Table.{entry_in_page, has_live}
-use Rattle.rmm_model.specs.Command.Operand.{realm_at}
-use Rattle.rmm_model.specs.Command.RealmCreate.{realm_create, params_at, params_checks, is_supported, is_start_table, are_delegated, can_start, realm_for, start_entry, start_page, with_tables}
-use Rattle.rmm_model.specs.Command.RealmDestroy.{realm_destroy, has_live_table, is_realm_live, without_tables}
-use Rattle.rmm_laws.specs.Role.{Used, used, used_at, has_user, level_in, state_uses, uses, IsSound, IsProper, LeadsInside}
+use Rattle.rmm_model.specs.Command.RealmCreate.{is_supported, is_start_table, are_delegated, realm_for, start_entry, start_page, with_tables}
+use Rattle.rmm_model.specs.Command.RealmDestroy.{has_live_table, without_tables}
+use Rattle.rmm_laws.specs.Role.{Used, used, used_at, has_user, level_in, state_uses, uses, IsSound, IsLinked, LeadsInside}
 use Rattle.rmm_laws.proofs.Children.{is_free, free_leads, free_word, empty_table, unused_free}
-use Rattle.rmm_laws.proofs.Entries.{number_inside}
 use Rattle.rmm_laws.proofs.EntryWords.{entry_word-fits}
 use Rattle.rmm_laws.proofs.Keeping.{keep_proper}
 use Rattle.rmm_laws.proofs.PageWords.{length-with_words, word_of_page-with_words}
-use Rattle.rmm_laws.proofs.Passed.{Passed, yes_from, is_delegated-true, realm_of-some}
+use Rattle.rmm_laws.proofs.Passed.{is_delegated-true}
 use Rattle.rmm_laws.proofs.Uses.{IsMore, added, removed}
 use Rattle.rmm_laws.proofs.Walks.{right, table_right, entry_size-positive}
 use Rattle.rmm_laws.proofs.Writes.{is_user, granule_at-same, granule_at-other, page_in-same, page_in-other, uses-same, uses-plain, used_at-same, leads-same, sound-with_granule, sound-with_page, taken_inside}
@@ -38,7 +36,7 @@ or_none false b none = (refl, none)
 
 -- ---- the VMIDs of a machine are in no role
 
-vmid_kept : (m : Machine) (vmid : ℕ) (is_used : Bool) → IsProper m → IsProper (with_vmid m vmid is_used)
+pub vmid_kept : (m : Machine) (vmid : ℕ) (is_used : Bool) → IsLinked m → IsLinked (with_vmid m vmid is_used)
 vmid_kept m vmid is_used proper =
     let n : Machine = with_vmid m vmid is_used in
     keep_proper m n (record {
@@ -59,13 +57,13 @@ vmid_kept m vmid is_used proper =
 -- ---- a realm with its starting tables
 
 -- a granule is no starting table of a realm
-abbrev NoStart : RmmRealm → ℕ → Type 0
+abbrev pub NoStart : RmmRealm → ℕ → Type 0
 NoStart realm g = (i : ℕ) → i < realm.table_count → g ≢ realm.first_table + i
 
-abbrev IsStart : RmmRealm → ℕ → Type 0
+abbrev pub IsStart : RmmRealm → ℕ → Type 0
 IsStart realm g = (i : ℕ) × (i < realm.table_count) × (g ≡ realm.first_table + i)
 
-start_or_none : (realm : RmmRealm) (g : ℕ) → IsStart realm g ⊎ NoStart realm g
+pub start_or_none : (realm : RmmRealm) (g : ℕ) → IsStart realm g ⊎ NoStart realm g
 start_or_none realm g =
     ⊎_elim
     (λ (below : g < realm.first_table). inr (λ i lt same. omega arith))
@@ -76,7 +74,7 @@ start_or_none realm g =
     (cases_lt g realm.first_table)
 
 -- Granules are DELEGATED in one machine, and in the other the RD of a realm and its starting tables, which use nothing.
-record IsRealm (p q : Machine) (before after : ℕ → ℕ) (rd : ℕ) (realm : RmmRealm) : Type 0 where
+pub record IsRealm (p q : Machine) (before after : ℕ → ℕ) (rd : ℕ) (realm : RmmRealm) : Type 0 where
   pub settings : q.settings ≡ p.settings
   pub count : length q.granules ≡ length p.granules
   pub rd_free : (granule_at p rd).state ≡ Delegated
@@ -104,7 +102,7 @@ module _ (p q : Machine) (before after : ℕ → ℕ) (rd : ℕ) (realm : RmmRea
       sym (ap (λ (r : RmmGranule). record { number = g; attributes = r; level = level_in r.state (after g) }) (step.made i lt)
       ∙ ap (λ (l : ℕ). record { number = g; attributes = of_realm rd Rtt; level = l }) (step.level i lt))
 
-  start_uses : (i j k : ℕ) → i < realm.table_count → uses q after (realm.first_table + i) j k ≡ None
+  pub start_uses : (i j k : ℕ) → i < realm.table_count → uses q after (realm.first_table + i) j k ≡ None
   unfolding uses
   start_uses i j k lt =
       let g : ℕ = realm.first_table + i in
@@ -176,11 +174,11 @@ module _ (p q : Machine) (before after : ℕ → ℕ) (rd : ℕ) (realm : RmmRea
       ))
       (start_or_none realm g)
 
-module _ (p q : Machine) (proper : IsProper p) (after : ℕ → ℕ) (rd : ℕ) (realm : RmmRealm) (step : IsRealm p q proper.level after rd realm) (sound : IsSound q) (few : realm.start_level ≤ 3) where
+module _ (p q : Machine) (proper : IsLinked p) (after : ℕ → ℕ) (rd : ℕ) (realm : RmmRealm) (step : IsRealm p q proper.level after rd realm) (sound : IsSound q) (few : realm.start_level ≤ 3) where
   still_table : (g : ℕ) → (granule_at q g).state ≡ Rtt → g ≢ rd → NoStart realm g → (granule_at p g).state ≡ Rtt
   still_table g is other none = sym (ap (λ (r : RmmGranule). r.state) (step.beside g other none).0) ∙ is
 
-  realm_made : IsProper q
+  realm_made : IsLinked q
   realm_made = record {
     sound = sound;
     level = after;
@@ -199,7 +197,7 @@ module _ (p q : Machine) (proper : IsProper p) (after : ℕ → ℕ) (rd : ℕ) 
         (table_cases p q proper.level after rd realm step table is);
   }
 
-module _ (p q : Machine) (proper : IsProper q) (rd : ℕ) (realm : RmmRealm) (step : IsRealm p q proper.level proper.level rd realm) (sound : IsSound p) where
+module _ (p q : Machine) (proper : IsLinked q) (rd : ℕ) (realm : RmmRealm) (step : IsRealm p q proper.level proper.level rd realm) (sound : IsSound p) where
   other_table : (g : ℕ) → (granule_at p g).state ≡ Rtt → (g ≢ rd) × NoStart realm g
   other_table g is = (
     λ same. (
@@ -215,7 +213,7 @@ module _ (p q : Machine) (proper : IsProper q) (rd : ℕ) (realm : RmmRealm) (st
   table_still : (g : ℕ) → (granule_at p g).state ≡ Rtt → (granule_at q g).state ≡ Rtt
   table_still g is = let other = other_table g is in ap (λ (r : RmmGranule). r.state) (step.beside g other.0 other.1).0 ∙ is
 
-  realm_gone : IsProper p
+  realm_gone : IsLinked p
   realm_gone = record {
     sound = sound;
     level = proper.level;
@@ -244,17 +242,17 @@ unfolding start_page
 length-start_page realm k = length-with_words (λ (i : ℕ). entry_word (start_entry realm (k * 512 + i))) zero_page (length-page_of 0) 512 (lit≤ tt)
 
 module _ (m : Machine) (rd : ℕ) (realm : RmmRealm) where
-  made_count : (k : ℕ) → length (with_tables m rd realm k).granules ≡ length m.granules
+  pub made_count : (k : ℕ) → length (with_tables m rd realm k).granules ≡ length m.granules
   unfolding with_tables
   made_count zero = refl
   made_count (suc k) = length-set (with_tables m rd realm k).granules (realm.first_table + k) (of_realm rd Rtt) ∙ made_count k
 
-  made_settings : (k : ℕ) → (with_tables m rd realm k).settings ≡ m.settings
+  pub made_settings : (k : ℕ) → (with_tables m rd realm k).settings ≡ m.settings
   unfolding with_tables
   made_settings zero = refl
   made_settings (suc k) = made_settings k
 
-  made_other : (k g : ℕ) → ((i : ℕ) → i < k → g ≢ realm.first_table + i) → (granule_at (with_tables m rd realm k) g ≡ granule_at m g) × (page_in (with_tables m rd realm k) g ≡ page_in m g)
+  pub made_other : (k g : ℕ) → ((i : ℕ) → i < k → g ≢ realm.first_table + i) → (granule_at (with_tables m rd realm k) g ≡ granule_at m g) × (page_in (with_tables m rd realm k) g ≡ page_in m g)
   unfolding with_tables
   made_other zero g none = (refl, refl)
   made_other (suc k) g none =
@@ -264,7 +262,7 @@ module _ (m : Machine) (rd : ℕ) (realm : RmmRealm) where
       )
 
   module _ (sound : IsSound m) (inside : realm.first_table + realm.table_count ≤ length m.granules) where
-    made_sound : (k : ℕ) → k ≤ realm.table_count → IsSound (with_tables m rd realm k)
+    pub made_sound : (k : ℕ) → k ≤ realm.table_count → IsSound (with_tables m rd realm k)
     unfolding with_tables
     made_sound zero few = sound
     made_sound (suc k) few =
@@ -272,7 +270,7 @@ module _ (m : Machine) (rd : ℕ) (realm : RmmRealm) where
         sound-with_page (with_granule (with_tables m rd realm k) (realm.first_table + k) (of_realm rd Rtt)) (realm.first_table + k) (start_page realm k) (length-start_page realm k)
         (sound-with_granule (with_tables m rd realm k) (realm.first_table + k) (of_realm rd Rtt) (omega arith) tt (made_sound k (omega arith)))
 
-    made_tables : (k i : ℕ) → k ≤ realm.table_count → i < k
+    pub made_tables : (k i : ℕ) → k ≤ realm.table_count → i < k
         → (granule_at (with_tables m rd realm k) (realm.first_table + i) ≡ of_realm rd Rtt) × (page_in (with_tables m rd realm k) (realm.first_table + i) ≡ start_page realm i)
     unfolding with_tables
     made_tables zero i few lt = absurd (omega arith)
@@ -313,7 +311,7 @@ ceiling n d some =
     let rest = mod_below (n + (d - 1)) d some in
     omega arith
 
-fits : (m : Machine) (p : RealmParams) → IsSound m → is_supported m.settings p ≡ true → is_start p.s2sz p.rtt_level_start p.rtt_num_start ≡ true
+pub fits : (m : Machine) (p : RealmParams) → IsSound m → is_supported m.settings p ≡ true → is_start p.s2sz p.rtt_level_start p.rtt_num_start ≡ true
     → number_of m p.rtt_base + p.rtt_num_start ≤ length m.granules → IsServed (length m.granules) (realm_for m p)
 unfolding is_start start_count realm_for
 fits m p sound supported start inside =
@@ -334,7 +332,7 @@ fits m p sound supported start inside =
       served = subst (λ (n : ℕ). 2 ^ p.s2sz ≤ n * (512 * entry_size p.rtt_level_start)) (sym same) (ceiling (2 ^ p.s2sz) (512 * entry_size p.rtt_level_start) some);
     }
 
-module _ (m : Machine) (proper : IsProper m) (rd : ℕ) (realm : RmmRealm) (fit : IsServed (length m.granules) realm) (rd_in : rd < length m.granules) (rd_free : (granule_at m rd).state ≡ Delegated)
+module _ (m : Machine) (proper : IsLinked m) (rd : ℕ) (realm : RmmRealm) (fit : IsServed (length m.granules) realm) (rd_in : rd < length m.granules) (rd_free : (granule_at m rd).state ≡ Delegated)
     (apart : (i : ℕ) → i < realm.table_count → realm.first_table + i ≢ rd) (free : (i : ℕ) → i < realm.table_count → (granule_at m (realm.first_table + i)).state ≡ Delegated) where
   abbrev tables : Machine
   tables = with_tables m rd realm realm.table_count
@@ -342,10 +340,10 @@ module _ (m : Machine) (proper : IsProper m) (rd : ℕ) (realm : RmmRealm) (fit 
   abbrev new : Machine
   new = with_granule tables rd (of_no_realm (Rd realm))
 
-  abbrev levels : ℕ → ℕ
+  abbrev pub levels : ℕ → ℕ
   levels g = if nat_le realm.first_table g && nat_lt g (realm.first_table + realm.table_count) then realm.start_level else proper.level g
 
-  count_is : length tables.granules ≡ length m.granules
+  pub count_is : length tables.granules ≡ length m.granules
   count_is = made_count m rd realm realm.table_count
 
   level_of_start : (i : ℕ) → i < realm.table_count → levels (realm.first_table + i) ≡ realm.start_level
@@ -362,7 +360,7 @@ module _ (m : Machine) (proper : IsProper m) (rd : ℕ) (realm : RmmRealm) (fit 
       (cases_lt g realm.first_table) in
       cond-false (nat_le realm.first_table g && nat_lt g (realm.first_table + realm.table_count)) realm.start_level (proper.level g) out
 
-  is_realm : IsRealm m new proper.level levels rd realm
+  pub is_realm : IsRealm m new proper.level levels rd realm
   is_realm = record {
     settings = made_settings m rd realm realm.table_count;
     count = length-set tables.granules rd (of_no_realm (Rd realm)) ∙ count_is;
@@ -382,11 +380,11 @@ module _ (m : Machine) (proper : IsProper m) (rd : ℕ) (realm : RmmRealm) (fit 
       sound-with_granule tables rd (of_no_realm (Rd realm)) (let c = count_is in omega arith) (subst (λ (n : ℕ). IsServed n realm) (sym count_is) fit)
       (made_sound m rd realm proper.sound fit.inside realm.table_count (omega arith))
 
-  realm_there : IsProper new
+  pub realm_there : IsLinked new
   realm_there = realm_made m new proper levels rd realm is_realm new_sound fit.level
 
 -- an address that is none of a starting table's is another granule than each of them
-not_start : (m : Machine) (p : RealmParams) (rd i : ℕ) → is_start_table p rd ≡ false → is_inside m rd ≡ true → is_inside m p.rtt_base ≡ true → rd % 4096 ≡ 0 → p.rtt_base % 4096 ≡ 0
+pub not_start : (m : Machine) (p : RealmParams) (rd i : ℕ) → is_start_table p rd ≡ false → is_inside m rd ≡ true → is_inside m p.rtt_base ≡ true → rd % 4096 ≡ 0 → p.rtt_base % 4096 ≡ 0
     → m.settings.base % 4096 ≡ 0 → i < p.rtt_num_start → number_of m p.rtt_base + i ≢ number_of m rd
 unfolding is_inside number_of
 not_start m p rd i none rd_in in_base aligned base_aligned machine lt same =
@@ -397,46 +395,27 @@ not_start m p rd i none rd_in in_base aligned base_aligned machine lt same =
     let offset : (rd - p.rtt_base) % 4096 ≡ 0 = omega arith in
     both_ways (is_start_table p rd) none (and_from _ _ (and_from _ _ (le-leb p.rtt_base rd from) (lt-ltb _ _ to)) (eq-eqb _ _ offset))
 
-multiple : (base n : ℕ) → base % (n * 4096) ≡ 0 → 0 < n → base % 4096 ≡ 0
+pub multiple : (base n : ℕ) → base % (n * 4096) ≡ 0 → 0 < n → base % 4096 ≡ 0
 multiple base n is some =
     let whole = div-add-mod' base (n * 4096) in
     let q : ℕ = base / (n * 4096) in
     let multiple_is : base ≡ q * n * 4096 = grind arith in
     omega arith
 
-pub realm_created : (rd params : ℕ) (m : Machine) → IsProper m → Passed (realm_create rd params m).checks → IsProper (realm_create rd params m).machine
-unfolding realm_create params_checks can_start realm_for
-realm_created rd params m proper ok =
-    let p : RealmParams = params_at m params in
-    let supported : is_supported m.settings p ≡ true = yes_from (is_supported m.settings p) ok.1.1.1.1.0 in
-    let start : is_start p.s2sz p.rtt_level_start p.rtt_num_start ≡ true = yes_from _ ok.1.1.1.1.1.0 in
-    let base : p.rtt_base % (p.rtt_num_start * 4096) ≡ 0 = eqb-true _ _ (yes_from _ ok.1.1.1.1.1.1.0) in
-    let alias = ok.1.1.1.1.1.1.1.0 in
-    let aligned : rd % 4096 ≡ 0 = eqb-true _ _ (yes_from _ ok.1.1.1.1.1.1.1.1.0) in
-    let rd_inside : is_inside m rd ≡ true = yes_from (is_inside m rd) ok.1.1.1.1.1.1.1.1.1.0 in
-    let rd_is = is_delegated-true (state_at m rd) (yes_from (is_delegated (state_at m rd)) ok.1.1.1.1.1.1.1.1.1.1.0) in
-    let starts = and_parts _ (are_delegated m (number_of m p.rtt_base) p.rtt_num_start) (yes_from _ ok.1.1.1.1.1.1.1.1.1.1.1.0) in
-    let range = and_parts (is_inside m p.rtt_base) (nat_le (number_of m p.rtt_base + p.rtt_num_start) (granule_count m)) starts.0 in
-    let fit = fits m p proper.sound supported start (leb-true _ _ range.1) in
-    vmid_kept _ p.vmid true
-    (realm_there m proper (number_of m rd) (realm_for m p) fit (number_inside m rd rd_inside) rd_is
-    (λ i lt. not_start m p rd i alias rd_inside range.0 aligned (multiple p.rtt_base p.rtt_num_start base (omega arith)) proper.sound.platform.base_aligned lt)
-    (λ i lt. all_delegated m (number_of m p.rtt_base) p.rtt_num_start i starts.1 lt))
-
 -- ---- the command RMI_REALM_DESTROY
 
 module _ (m : Machine) (realm : RmmRealm) where
-  gone_count : (k : ℕ) → length (without_tables m realm k).granules ≡ length m.granules
+  pub gone_count : (k : ℕ) → length (without_tables m realm k).granules ≡ length m.granules
   unfolding without_tables
   gone_count zero = refl
   gone_count (suc k) = length-set (without_tables m realm k).granules (realm.first_table + k) (of_no_realm Delegated) ∙ gone_count k
 
-  gone_settings : (k : ℕ) → (without_tables m realm k).settings ≡ m.settings
+  pub gone_settings : (k : ℕ) → (without_tables m realm k).settings ≡ m.settings
   unfolding without_tables
   gone_settings zero = refl
   gone_settings (suc k) = gone_settings k
 
-  gone_other : (k g : ℕ) → ((i : ℕ) → i < k → g ≢ realm.first_table + i) → (granule_at (without_tables m realm k) g ≡ granule_at m g) × (page_in (without_tables m realm k) g ≡ page_in m g)
+  pub gone_other : (k g : ℕ) → ((i : ℕ) → i < k → g ≢ realm.first_table + i) → (granule_at (without_tables m realm k) g ≡ granule_at m g) × (page_in (without_tables m realm k) g ≡ page_in m g)
   unfolding without_tables
   gone_other zero g none = (refl, refl)
   gone_other (suc k) g none =
@@ -446,7 +425,7 @@ module _ (m : Machine) (realm : RmmRealm) where
       )
 
   module _ (sound : IsSound m) (inside : realm.first_table + realm.table_count ≤ length m.granules) where
-    gone_sound : (k : ℕ) → k ≤ realm.table_count → IsSound (without_tables m realm k)
+    pub gone_sound : (k : ℕ) → k ≤ realm.table_count → IsSound (without_tables m realm k)
     unfolding without_tables
     gone_sound zero few = sound
     gone_sound (suc k) few =
@@ -454,22 +433,29 @@ module _ (m : Machine) (realm : RmmRealm) where
         sound-with_page (with_granule (without_tables m realm k) (realm.first_table + k) (of_no_realm Delegated)) (realm.first_table + k) zero_page (length-page_of 0)
         (sound-with_granule (without_tables m realm k) (realm.first_table + k) (of_no_realm Delegated) (omega arith) tt (gone_sound k (omega arith)))
 
-    gone_tables : (k i : ℕ) → k ≤ realm.table_count → i < k → (granule_at (without_tables m realm k) (realm.first_table + i)).state ≡ Delegated
+    pub gone_tables : (k i : ℕ) → k ≤ realm.table_count → i < k
+        → (granule_at (without_tables m realm k) (realm.first_table + i) ≡ of_no_realm Delegated) × (page_in (without_tables m realm k) (realm.first_table + i) ≡ zero_page)
     unfolding without_tables
     gone_tables zero i few lt = absurd (omega arith)
     gone_tables (suc k) i few lt =
         let count = gone_count k in
+        let pages = (gone_sound k (omega arith)).pages in
         let before : Machine = without_tables m realm k in
+        let marked : Machine = with_granule before (realm.first_table + k) (of_no_realm Delegated) in
+        let last : Machine = with_page marked (realm.first_table + k) zero_page in
         ⊎_elim
         (λ (same : i ≡ k).
-        subst (λ (x : ℕ). (granule_at (with_granule before (realm.first_table + k) (of_no_realm Delegated)) (realm.first_table + x)).state ≡ Delegated) (sym same)
-        (ap (λ (r : RmmGranule). r.state) (granule_at-same before (realm.first_table + k) (of_no_realm Delegated) (omega arith))))
+        subst (λ (x : ℕ). (granule_at last (realm.first_table + x) ≡ of_no_realm Delegated) × (page_in last (realm.first_table + x) ≡ zero_page)) (sym same)
+        (granule_at-same before (realm.first_table + k) (of_no_realm Delegated) (omega arith), page_in-same marked (realm.first_table + k) zero_page (omega arith)))
         (λ (ne : i ≢ k).
-        ap (λ (r : RmmGranule). r.state) (granule_at-other before (realm.first_table + k) (realm.first_table + i) (of_no_realm Delegated) (λ at. ne (omega arith)))
-        ∙ gone_tables k i (omega arith) (omega arith))
+        let rest = gone_tables k i (omega arith) (omega arith) in
+        let apart : realm.first_table + i ≢ realm.first_table + k = λ at. ne (omega arith) in (
+          granule_at-other before (realm.first_table + k) (realm.first_table + i) (of_no_realm Delegated) apart ∙ rest.0,
+          page_in-other marked (realm.first_table + k) (realm.first_table + i) zero_page apart ∙ rest.1,
+        ))
         (cases_eq i k)
 
-none_live : (m : Machine) (first count i : ℕ) → has_live_table m first count ≡ false → i < count → has_live (page_in m (first + i)) ≡ false
+pub none_live : (m : Machine) (first count i : ℕ) → has_live_table m first count ≡ false → i < count → has_live (page_in m (first + i)) ≡ false
 unfolding has_live_table
 none_live m first zero i none lt = absurd (omega arith)
 none_live m first (suc count) zero none lt =
@@ -479,11 +465,11 @@ none_live m first (suc count) (suc i) none lt =
     let next : first + 1 + i ≡ first + suc i = omega arith in
     subst (λ (x : ℕ). has_live (page_in m x) ≡ false) next (none_live m (first + 1) count i (or_none (has_live (page_in m first)) (has_live_table m (first + 1) count) none).1 (omega arith))
 
-module _ (m : Machine) (proper : IsProper m) (rd : ℕ) (realm : RmmRealm) (is : (granule_at m rd).state ≡ Rd realm) (dead : has_live_table m realm.first_table realm.table_count ≡ false) where
+module _ (m : Machine) (proper : IsLinked m) (rd : ℕ) (realm : RmmRealm) (is : (granule_at m rd).state ≡ Rd realm) (dead : has_live_table m realm.first_table realm.table_count ≡ false) where
   fit : IsServed (length m.granules) realm
   fit = subst (λ (s : RmmGranuleState). IfSome (realm_of s) (IsServed (length m.granules))) is (proper.sound.tables.each rd)
 
-  rd_in : rd < length m.granules
+  pub rd_in : rd < length m.granules
   rd_in = taken_inside m rd (λ free. cc)
 
   -- a starting table
@@ -508,10 +494,10 @@ module _ (m : Machine) (proper : IsProper m) (rd : ℕ) (realm : RmmRealm) (is :
   abbrev gone : Machine
   gone = with_blank cleared rd Delegated
 
-  cleared_count : length cleared.granules ≡ length m.granules
+  pub cleared_count : length cleared.granules ≡ length m.granules
   cleared_count = gone_count m realm realm.table_count
 
-  was_realm : IsRealm gone m proper.level proper.level rd realm
+  pub was_realm : IsRealm gone m proper.level proper.level rd realm
   was_realm = record {
     settings = sym (gone_settings m realm realm.table_count);
     count = sym (length-set cleared.granules rd (of_no_realm Delegated) ∙ cleared_count);
@@ -519,7 +505,7 @@ module _ (m : Machine) (proper : IsProper m) (rd : ℕ) (realm : RmmRealm) (is :
     rd_made = is;
     free = λ i lt.
         ap (λ (r : RmmGranule). r.state) (granule_at-other cleared rd (realm.first_table + i) (of_no_realm Delegated) (rd_apart i lt))
-        ∙ gone_tables m realm proper.sound fit.inside realm.table_count i (omega arith) lt;
+        ∙ ap (λ (r : RmmGranule). r.state) (gone_tables m realm proper.sound fit.inside realm.table_count i (omega arith) lt).0;
     made = λ i lt. (start_is i lt).0;
     level = λ i lt. (start_is i lt).1;
     empty = λ i j lt few. unused_free (page_in m (realm.first_table + i)) (none_live m realm.first_table realm.table_count i dead lt) j few;
@@ -536,13 +522,5 @@ module _ (m : Machine) (proper : IsProper m) (rd : ℕ) (realm : RmmRealm) (is :
       sound-with_page (with_granule cleared rd (of_no_realm Delegated)) rd zero_page (length-page_of 0)
       (sound-with_granule cleared rd (of_no_realm Delegated) (let c = cleared_count in let r = rd_in in omega arith) tt (gone_sound m realm proper.sound fit.inside realm.table_count (omega arith)))
 
-  no_realm_there : IsProper gone
+  pub no_realm_there : IsLinked gone
   no_realm_there = realm_gone gone m proper rd realm was_realm gone_is_sound
-
-pub realm_destroyed : (rd : ℕ) (m : Machine) → IsProper m → Passed (realm_destroy rd m).checks → IsProper (realm_destroy rd m).machine
-unfolding realm_destroy is_realm_live
-realm_destroyed rd m proper ok =
-    let realm : RmmRealm = realm_at m rd in
-    let is = realm_of-some (state_at m rd) ok.1.1.0 in
-    let dead = (or_none (nat_lt 0 realm.rec_count) (has_live_table m realm.first_table realm.table_count) ok.1.1.1.0).1 in
-    vmid_kept _ realm.vmid false (no_realm_there m proper (number_of m rd) realm is dead)

@@ -1,7 +1,8 @@
--- RMI_REC_CREATE and RMI_REC_DESTROY keep the roles of granules.
+-- RMI_REC_CREATE keeps the roles and the owners of granules.
 use Rattle.std.proofs.Common.{◌≡◌, ◌≢◌, ℕ, zero, suc, ◌+◌, ◌-◌, ◌*◌, ◌%◌, ◌^◌, ◌<◌, ◌≤◌, ◌⊎◌, inl, inr, ◌==◌, ◌&&◌, Bool, true, false, not, List, length, Option, Some, None, option_map, unwrap_or, refl, sym, ap, subst, ◌∙◌, ⊎_elim, arith}
-use Rattle.std.specs.Prelude.{nat_le, nat_lt, is_some, if◌then◌else◌, IfSome}
-use Rattle.std.proofs.lemmas.Bool.{cases_eq, cases_lt, cond-true, cond-false, and_parts, and_from, and_cases, ltb-true, eqb-true, eq-eqb, ne_eqb, le-leb, lt-ltb, le-ltb, both_ways, not-true}
+use Rattle.std.specs.Prelude.{nat_le, nat_lt, is_some, cond, if◌then◌else◌, IfSome}
+use Rattle.std.specs.List.{count_by}
+use Rattle.std.proofs.lemmas.Bool.{cases_eq, cases_lt, cond-true, cond-false, and_left, and_parts, and_from, and_cases, ltb-true, eqb-true, eq-eqb, ne_eqb, le-leb, lt-ltb, le-ltb, both_ways, not-true}
 use Rattle.std.proofs.lemmas.List.{length-set}
 use Rattle.granule_addr.specs.Page.{zero_page}
 use Rattle.page_arena.specs.Pages.{length-page_of}
@@ -12,141 +13,34 @@ use Rattle.rmm_model.specs.declared.granule.RmmGranuleState.{RmmGranuleState}
 use Rattle.rmm_model.specs.declared.granule.RmmGranuleState.TheVariants.{Delegated, Rd, Rec as IsRec, RecAux, Rtt}
 use Rattle.rmm_model.specs.declared.realm.RmmRealm.{RmmRealm}
 use Rattle.rmm_model.specs.declared.rec.RmmRec.{RmmRec}
-use Rattle.rmm_model.specs.Granule.{of_no_realm, of_realm, is_delegated, realm_of}
-use Rattle.rmm_model.specs.Machine.{Machine, granule_at, page_in, is_aligned, is_inside, number_of, state_at, with_granule, with_blank}
+use Rattle.rmm_model.specs.Granule.{of_no_realm, of_realm, is_delegated, realm_of, rec_of}
+use Rattle.rmm_model.specs.Machine.{Machine, granule_at, page_in, is_aligned, is_inside, number_of, state_at, with_granule}
+use Rattle.rmm_model.specs.Level.{entry_size}
 use Rattle.rmm_model.specs.Realm.{IsServed}
 use Rattle.rmm_model.specs.Rec.{aux_of, new_rec}
 use Rattle.rmm_model.specs.Table.{entry_in_page}
 use Rattle.rmm_model.specs.Walk.{granule_named}
-use Rattle.rmm_model.specs.Command.Auxiliary.{with_wiped_if, aux_granule, with_aux}
-use Rattle.rmm_model.specs.Command.Operand.{realm_at, rec_at}
+use Rattle.rmm_model.specs.Command.Auxiliary.{with_aux}
+use Rattle.rmm_model.specs.Command.Operand.{realm_at}
 use Rattle.rmm_model.specs.Command.RecCreate.{rec_create, all_from, is_apart, can_be_aux, aux_checks, rec_word, rec_page, with_created_rec}
-use Rattle.rmm_model.specs.Command.RecDestroy.{rec_destroy, with_one_less, without_rec_of, without_rec}
-use Rattle.rmm_laws.specs.Apart.{IsSameAt, Touches}
-use Rattle.rmm_laws.specs.Role.{Used, used, used_at, has_user, level_in, state_uses, uses, IsSound, IsProper, LeadsInside}
-use Rattle.rmm_laws.proofs.Accesses.{named_number}
+use Rattle.rmm_laws.specs.Apart.{Touches, rd_named}
+use Rattle.rmm_laws.specs.Owner.{is_rd, is_owner, IsOrderly, IsOrderlyAt, is_rec_in, IsOrdered}
+use Rattle.rmm_laws.specs.Proper.{IsProper}
+use Rattle.rmm_laws.specs.Role.{Used, used, used_at, has_user, level_in, state_uses, uses, IsSound, IsLinked, IsBegin, LeadsInside}
 use Rattle.rmm_laws.proofs.Entries.{number_inside, address_few, begins, named_inside}
+use Rattle.rmm_laws.proofs.Orders.{is_counter, counted, plain_in, total-set, total-alike, orderly_same, orderly_but}
 use Rattle.rmm_laws.proofs.PageWords.{length-with_words, word_of_page-with_words}
-use Rattle.rmm_laws.proofs.Passed.{Passed, yes_from, is_delegated-true, realm_of-some, realm_of-is, rec_of-some}
-use Rattle.rmm_laws.proofs.Recs.{IsGoing, going_first, going_inside, going_realm, keep_realm}
-use Rattle.rmm_laws.proofs.Touching.{IsMine, mine_before, touch_blank, touch_page, touch_granule, untouched}
+use Rattle.rmm_laws.proofs.Passed.{Passed, yes_from, some_same, is_delegated-true, realm_of-some, rd_named-is}
+use Rattle.rmm_laws.proofs.Recs.{keep_realm}
+use Rattle.rmm_laws.proofs.Touching.{touch_page, touch_granule, untouched}
 use Rattle.rmm_laws.proofs.Uses.{IsMore, added, removed}
-use Rattle.rmm_laws.proofs.Walks.{right, one_place}
-use Rattle.rmm_laws.proofs.Writes.{is_user, granule_at-same, granule_at-other, page_in-same, page_in-other, named-same, uses-same, uses-plain, used_at-same, leads-same, sound-with_granule, sound-with_page}
-
-some_of : (o : Option ℕ) → is_some o ≡ true → o ≡ Some (unwrap_or o 0)
-some_of (Some h) is = refl
-some_of None is = absurd (cc)
-
-none_of : (o : Option ℕ) → is_some o ≡ false → o ≡ None
-none_of (Some h) is = absurd (cc)
-none_of None is = refl
-
-some_same : {a b : ℕ} → Some a ≡ Some b → a ≡ b
-some_same is = cc
-
-either_same : (b : Bool) (o : Option Used) → (if b then o else o) ≡ o
-either_same true o = refl
-either_same false o = refl
-
-is_or_not : (o : Option ℕ) (h : ℕ) → (o ≡ Some h) ⊎ (o ≢ Some h)
-is_or_not (Some x) h = ⊎_elim (λ (same : x ≡ h). inl (ap (λ (y : ℕ). Some y) same)) (λ (other : x ≢ h). inr (λ is. other (some_same is))) (cases_eq x h)
-is_or_not None h = inr (λ is. cc)
-
--- ---- numbers that are among the first of a list
-
--- whether one of the first names is that of a granule
-first_named : (named : ℕ → Option ℕ) (h count : ℕ) → ((i : ℕ) × (i < count) × (named i ≡ Some h)) ⊎ ((i : ℕ) → i < count → named i ≢ Some h)
-first_named named h zero = inr (λ i lt is. omega arith)
-first_named named h (suc count) =
-    ⊎_elim
-    (λ (is : named count ≡ Some h). inl (count, omega arith, is))
-    (λ (not : named count ≢ Some h).
-    ⊎_elim
-    (λ (before : (i : ℕ) × (i < count) × (named i ≡ Some h)). let lt = before.1 in inl (before.0, omega arith, before.2))
-    (λ (none : (i : ℕ) → i < count → named i ≢ Some h).
-    inr (λ i lt is. ⊎_elim (λ (same : i ≡ count). not (sym (ap named same) ∙ is)) (λ (other : i ≢ count). none i (omega arith) is) (cases_eq i count)))
-    (first_named named h count))
-    (is_or_not (named count) h)
-
--- ---- granules that are wiped one after another
-
-module _ (m : Machine) (g : ℕ) (kept : RmmGranule) (served : (n : ℕ) → IfSome (realm_of kept.state) (IsServed n)) where
-  -- the granule that word k of the auxiliary granules names
-  abbrev named : ℕ → Option ℕ
-  named k = granule_named m (aux_of (page_in m g) k)
-
-  -- a machine in which the first of these are wiped
-  record IsWiped (k : ℕ) (n : Machine) : Type 0 where
-    pub settings : n.settings ≡ m.settings
-    pub count : length n.granules ≡ length m.granules
-    pub sound : IsSound n
-    pub other : (x : ℕ) → ((i : ℕ) → i < k → named i ≢ Some x) → (granule_at n x ≡ granule_at m x) × (page_in n x ≡ page_in m x)
-    pub hit : (i h : ℕ) → i < k → named i ≡ Some h → granule_at n h ≡ kept
-
-  wiped_more : (k : ℕ) (n : Machine) (o : Option ℕ) → named k ≡ o → IsWiped k n → IsWiped (suc k) (with_wiped_if n o kept)
-  wiped_more k n (Some h) is wiped =
-      let count = wiped.count in
-      let there = named_number m (aux_of (page_in m g) k) h is in
-      let within = number_inside m (aux_of (page_in m g) k) there.0 in
-      let same : h ≡ number_of m (aux_of (page_in m g) k) = there.1 in
-      let inside : h < length n.granules = omega arith in
-      let marked : Machine = with_granule n h kept in
-      record {
-        settings = wiped.settings;
-        count = length-set n.granules h kept ∙ count;
-        sound = sound-with_page marked h zero_page (length-page_of 0) (sound-with_granule n h kept inside (served (length n.granules)) wiped.sound);
-        other = λ x none.
-            let apart : x ≢ h = λ (at : x ≡ h). none k (omega arith) (is ∙ ap (λ (y : ℕ). Some y) (sym at)) in
-            let rest = wiped.other x (λ i lt. none i (omega arith)) in
-            (granule_at-other n h x kept apart ∙ rest.0, page_in-other marked h x zero_page apart ∙ rest.1);
-        hit = λ i x lt at. ⊎_elim
-            (λ (here : x ≡ h). ap (granule_at marked) here ∙ granule_at-same n h kept inside)
-            (λ (apart : x ≢ h).
-            let before : i ≢ k = λ last. apart (some_same (sym at ∙ ap named last ∙ is)) in
-            granule_at-other n h x kept apart ∙ wiped.hit i x (omega arith) at)
-            (cases_eq x h);
-      }
-  wiped_more k n None is wiped = record {
-    settings = wiped.settings;
-    count = wiped.count;
-    sound = wiped.sound;
-    other = λ x none. wiped.other x (λ i lt. none i (omega arith));
-    hit = λ i h lt at. ⊎_elim
-        (λ (last : i ≡ k). let never : None ≡ Some h = sym is ∙ sym (ap named last) ∙ at in absurd (cc))
-        (λ (before : i ≢ k). wiped.hit i h (omega arith) at)
-        (cases_eq i k);
-  }
-
-  all_wiped : (k : ℕ) → IsSound m → ((i : ℕ) → i < k → named i ≢ Some g) → IsWiped k (with_aux m g kept k)
-  unfolding with_aux
-  all_wiped zero sound apart = record { settings = refl; count = refl; sound = sound; other = λ x none. (refl, refl); hit = λ i h lt at. absurd (omega arith) }
-  all_wiped (suc k) sound apart =
-      let n : Machine = with_aux m g kept k in
-      let before = all_wiped k sound (λ i lt. apart i (omega arith)) in
-      let page = (before.other g (λ i lt. apart i (omega arith))).1 in
-      let same : aux_granule n g k ≡ named k = named-same m n before.settings before.count (aux_of (page_in n g) k) ∙ ap (λ (p : List ℕ). granule_named m (aux_of p k)) page in
-      subst (λ (o : Option ℕ). IsWiped (suc k) (with_wiped_if n o kept)) (sym same) (wiped_more k n (named k) refl before)
-
--- granules of the realm, or of none, that are wiped
-touch_wiped : (o m : Machine) (named_realm : Option (Option ℕ)) (g : ℕ) (kept : RmmGranule) (served : (n : ℕ) → IfSome (realm_of kept.state) (IsServed n)) (k : ℕ) (n : Machine) → Touches o m named_realm → IsWiped m g kept served k n
-    → ((i h : ℕ) → i < k → granule_named m (aux_of (page_in m g) i) ≡ Some h → IsMine o named_realm h) → Touches o n named_realm
-touch_wiped o m named_realm g kept served k n before wiped mine = record {
-  each = λ x. ⊎_elim
-      (λ (aux : (i : ℕ) × (i < k) × (granule_named m (aux_of (page_in m g) i) ≡ Some x)). inr (mine aux.0 x aux.1 aux.2))
-      (λ (none : (i : ℕ) → i < k → granule_named m (aux_of (page_in m g) i) ≢ Some x).
-      let same = wiped.other x none in
-      ⊎_elim
-      (λ (was : IsSameAt o m x). inl (same.0 ∙ was.0, same.1 ∙ was.1))
-      (λ (own : IsMine o named_realm x). inr own)
-      (before.each x))
-      (first_named (λ i. granule_named m (aux_of (page_in m g) i)) x k);
-}
+use Rattle.rmm_laws.proofs.Wiping.{some_of, none_of, either_same, first_named, IsWiped, all_wiped, all_total, touch_wiped}
+use Rattle.rmm_laws.proofs.Writes.{is_user, granule_at-same, granule_at-other, page_in-same, page_in-other, named-same, uses-same, uses-plain, used_at-same, leads-same, begin-same, taken_inside, sound-with_granule, sound-with_page}
 
 -- ---- a REC with its auxiliary granules
 
 -- Granules are DELEGATED in one machine, and in the other a REC and its auxiliary granules.
-record IsRecMade (p q : Machine) (owner : Option ℕ) (g : ℕ) : Type 0 where
+pub record IsRecMade (p q : Machine) (owner : Option ℕ) (g : ℕ) : Type 0 where
   pub settings : q.settings ≡ p.settings
   pub count : length q.granules ≡ length p.granules
   pub rec : RmmRec
@@ -266,8 +160,8 @@ module _ (p q : Machine) (level : ℕ → ℕ) (owner : Option ℕ) (g : ℕ) (s
       (λ (table : (granule_at p t).state ≡ Rtt). let r : (granule_at p t).state ≡ Delegated = step.aux_free i t lt at in cc)
       is)
 
-module _ (p q : Machine) (proper : IsProper p) (owner : Option ℕ) (g : ℕ) (step : IsRecMade p q owner g) (sound : IsSound q) where
-  rec_made : IsProper q
+module _ (p q : Machine) (proper : IsLinked p) (owner : Option ℕ) (g : ℕ) (step : IsRecMade p q owner g) (sound : IsSound q) where
+  pub rec_made : IsLinked q
   rec_made = record {
     sound = sound;
     level = proper.level;
@@ -279,8 +173,8 @@ module _ (p q : Machine) (proper : IsProper p) (owner : Option ℕ) (g : ℕ) (s
         (subst (λ (page : List ℕ). LeadsInside p (entry_in_page page j)) (sym same.1) (proper.inside t j (sym (ap (λ (r : RmmGranule). r.state) same.0) ∙ is) lt));
   }
 
-module _ (p q : Machine) (proper : IsProper q) (owner : Option ℕ) (g : ℕ) (step : IsRecMade p q owner g) (sound : IsSound p) where
-  rec_gone : IsProper p
+module _ (p q : Machine) (proper : IsLinked q) (owner : Option ℕ) (g : ℕ) (step : IsRecMade p q owner g) (sound : IsSound p) where
+  pub rec_gone : IsLinked p
   rec_gone = record {
     sound = sound;
     level = proper.level;
@@ -320,7 +214,7 @@ rec_aux page i lt few =
 
 -- ---- the command RMI_REC_CREATE
 
-module _ (m : Machine) (proper : IsProper m) (owner rec : ℕ) (realm : RmmRealm) (rd_is : (granule_at m owner).state ≡ Rd realm) (rec_in : is_inside m rec ≡ true) (rec_aligned : rec % 4096 ≡ 0)
+module _ (m : Machine) (proper : IsLinked m) (owner rec : ℕ) (realm : RmmRealm) (rd_is : (granule_at m owner).state ≡ Rd realm) (rec_in : is_inside m rec ≡ true) (rec_aligned : rec % 4096 ≡ 0)
     (rec_free : state_at m rec ≡ Delegated) (page : List ℕ)
     (aligned : (i : ℕ) → i < m.settings.aux → aux_in page i % 4096 ≡ 0) (inside : (i : ℕ) → i < m.settings.aux → is_inside m (aux_in page i) ≡ true)
     (free : (i : ℕ) → i < m.settings.aux → (granule_at m (number_of m (aux_in page i))).state ≡ Delegated)
@@ -428,169 +322,192 @@ module _ (m : Machine) (proper : IsProper m) (owner rec : ℕ) (realm : RmmRealm
       cc)).0
       ∙ granule_at-other m g owner (of_realm owner (IsRec new)) owner_not_g
 
+  -- owners and counts
+  aux_count : length all.granules ≡ length m.granules
+  aux_count = wiped.count ∙ one_count
+
+  beside_all : (h : ℕ) → h ≢ g → ((i : ℕ) → i < m.settings.aux → granule_named one (aux_of (page_in one g) i) ≢ Some h) → (granule_at all h ≡ granule_at m h) × (page_in all h ≡ page_in m h)
+  beside_all h ne none =
+      let same = wiped.other h none in
+      (same.0 ∙ granule_at-other m g h (of_realm owner (IsRec new)) ne, same.1 ∙ page_in-other marked g h (rec_page page) ne)
+
+  owner_rd : is_rd (granule_at all owner).state ≡ true
+  owner_rd = ap (λ (r : RmmGranule). is_rd r.state) owner_still ∙ ap is_rd rd_is
+
+  -- an RD is neither the REC nor an auxiliary granule
+  not_rd : (h : ℕ) → is_rd (granule_at m h).state ≡ true → (h ≢ g) × ((i : ℕ) → i < m.settings.aux → granule_named one (aux_of (page_in one g) i) ≢ Some h)
+  not_rd h sure = (
+    λ same. both_ways (is_rd (granule_at m h).state) (ap (λ (x : ℕ). is_rd (granule_at m x).state) same ∙ ap is_rd rec_free) sure,
+    λ i lt is. both_ways (is_rd (granule_at m h).state) (ap (λ (x : ℕ). is_rd (granule_at m x).state) (some_same (sym is ∙ aux_named i lt)) ∙ ap is_rd (free i lt)) sure,
+  )
+
+  aux_begins : (k : ℕ) → k < all.settings.aux → IsBegin all (aux_of (page_in all g) k)
+  aux_begins k lt =
+      let within = below k lt in
+      let few = proper.sound.platform.aux in
+      let address = address_few m (aux_in page k) proper.sound (inside k within) in
+      let word : aux_of (page_in all g) k ≡ aux_in page k = ap (λ (p : List ℕ). aux_of p k) ((wiped.other g not_g).1 ∙ one_page) ∙ rec_aux page k (omega arith) (omega arith) in
+      subst (IsBegin all) (sym word) (begin-same m all wiped.settings aux_count (aux_in page k) (begins m (aux_in page k) proper.sound (inside k within) (aligned k within)))
+
+  orderly_all : IsOrdered m → (h : ℕ) → IsOrderlyAt all h
+  orderly_all ordered h =
+      ⊎_elim
+      (λ (here : h ≡ g).
+      subst (λ (x : ℕ). IsOrderlyAt all x) (sym here) (subst (λ (r : RmmGranule). IsOrderly all r.state r.owner (page_in all g)) (sym is_made.made) (owner_rd, aux_begins)))
+      (λ (apart_from : h ≢ g). ⊎_elim
+      (λ (aux : (i : ℕ) × (i < m.settings.aux) × (granule_named one (aux_of (page_in one g) i) ≡ Some h)).
+      subst (λ (r : RmmGranule). IsOrderly all r.state r.owner (page_in all h)) (sym (wiped.hit aux.0 h aux.1 aux.2)) owner_rd)
+      (λ (none : (i : ℕ) → i < m.settings.aux → granule_named one (aux_of (page_in one g) i) ≢ Some h).
+      let same = beside_all h apart_from none in
+      orderly_same m all wiped.settings aux_count h same.0 same.1
+      (λ x owns sure. let other_rd = not_rd x sure in ap (λ (r : RmmGranule). is_rd r.state) (beside_all x other_rd.0 other_rd.1).0 ∙ sure) (ordered.each h))
+      (first_named (λ i. granule_named one (aux_of (page_in one g) i)) h m.settings.aux))
+      (cases_eq h g)
+
+  -- one REC more of that realm
+  total_then : (x : ℕ) → count_by (is_rec_in x) all.granules ≡ count_by (is_rec_in x) m.granules + cond (owner == x) 1 0
+  total_then x =
+      let now : ℕ = count_by (is_rec_in x) one.granules in
+      let none : ℕ = cond (is_rec_in x (granule_at m g)) 1 0 in
+      let zero_is : none ≡ 0 = ap (λ (b : Bool). cond b 1 0) (plain_in (granule_at m g) x (ap is_counter rec_free)) in
+      let sum : now + none ≡ count_by (is_rec_in x) m.granules + cond (owner == x) 1 0 = total-set m g (of_realm owner (IsRec new)) x g_in in
+      all_total one g (of_realm owner RecAux) (λ n. tt) refl one_sound x m.settings.aux not_g
+      (λ i h lt is.
+      let apart_from : h ≢ g = λ same. not_g i lt (is ∙ ap (λ (y : ℕ). Some y) same) in
+      ap (λ (r : RmmGranule). is_counter r.state) (granule_at-other m g h (of_realm owner (IsRec new)) apart_from)
+      ∙ ap (λ (y : ℕ). is_counter (granule_at m y).state) (some_same (sym is ∙ aux_named i lt)) ∙ ap is_counter (free i lt))
+      ∙ (let left : now ≡ now + none = omega arith in left ∙ sum)
+
+  owner_in : owner < length all.granules
+  owner_in = let s = owner_rd in taken_inside all owner (λ none. (let never : is_rd (granule_at all owner).state ≡ false = ap is_rd none in both_ways (is_rd (granule_at all owner).state) never s))
+
+  module _ (ordered : IsOrdered m) (next : RmmRealm) (one_more : next.rec_count ≡ realm.rec_count + 1) where
+    abbrev full : Machine
+    full = with_granule all owner (of_no_realm (Rd next))
+
+    owner_now : granule_at full owner ≡ of_no_realm (Rd next)
+    owner_now = granule_at-same all owner (of_no_realm (Rd next)) owner_in
+
+    same_total : (x : ℕ) → count_by (is_rec_in x) full.granules ≡ count_by (is_rec_in x) all.granules
+    same_total x =
+        let state : (granule_at all owner).state ≡ Rd realm = ap (λ (r : RmmGranule). r.state) owner_still ∙ rd_is in
+        total-alike all owner (of_no_realm (Rd next)) x owner_in
+        (sym (and_left (is_some (rec_of (granule_at all owner).state)) (is_owner x (granule_at all owner).owner) (ap (λ (s : RmmGranuleState). is_some (rec_of s)) state)))
+
+    recs_then : (x : ℕ) (some_realm : RmmRealm) → (granule_at full x).state ≡ Rd some_realm → some_realm.rec_count ≡ count_by (is_rec_in x) full.granules
+    recs_then x some_realm is =
+        let total = same_total x ∙ total_then x in
+        ⊎_elim
+        (λ (here : x ≡ owner).
+        let both : Rd some_realm ≡ Rd next = sym is ∙ ap (λ (y : ℕ). (granule_at full y).state) here ∙ ap (λ (r : RmmGranule). r.state) owner_now in
+        let counts : some_realm.rec_count ≡ next.rec_count = some_same (ap counted both) in
+        let before : realm.rec_count ≡ count_by (is_rec_in x) m.granules = ordered.recs owner realm rd_is ∙ ap (λ (y : ℕ). count_by (is_rec_in y) m.granules) (sym here) in
+        let one_is : cond (owner == x) 1 0 ≡ 1 = ap (λ (b : Bool). cond b 1 0) (eq-eqb owner x (sym here)) in
+        counts ∙ one_more ∙ ap (λ (n : ℕ). n + 1) before ∙ ap (λ (n : ℕ). count_by (is_rec_in x) m.granules + n) (sym one_is) ∙ sym total)
+        (λ (apart_from : x ≢ owner).
+        let still : (granule_at all x).state ≡ Rd some_realm = sym (ap (λ (r : RmmGranule). r.state) (granule_at-other all owner x (of_no_realm (Rd next)) apart_from)) ∙ is in
+        let none_is : cond (owner == x) 1 0 ≡ 0 = ap (λ (b : Bool). cond b 1 0) (ne_eqb owner x (λ same. apart_from (sym same))) in
+        let plus : (n : ℕ) → n + 0 ≡ n = λ n. omega arith in
+        let none_more : count_by (is_rec_in x) m.granules + cond (owner == x) 1 0 ≡ count_by (is_rec_in x) m.granules =
+        ap (λ (n : ℕ). count_by (is_rec_in x) m.granules + n) none_is ∙ plus (count_by (is_rec_in x) m.granules) in
+        let not_rec : x ≢ g = λ same. (let rec_is : (granule_at all x).state ≡ IsRec is_made.rec = ap (λ (y : ℕ). (granule_at all y).state) same ∙ ap (λ (r : RmmGranule). r.state) is_made.made in cc) in
+        let not_aux : (i : ℕ) → i < m.settings.aux → granule_named one (aux_of (page_in one g) i) ≢ Some x =
+        λ i lt at. (let aux_is : (granule_at all x).state ≡ RecAux = ap (λ (r : RmmGranule). r.state) (wiped.hit i x lt at) in cc) in
+        ordered.recs x some_realm (sym (ap (λ (r : RmmGranule). r.state) (beside_all x not_rec not_aux).0) ∙ still) ∙ sym (total ∙ none_more))
+        (cases_eq x owner)
+
+    pub created_ordered : IsOrdered (with_granule (with_aux (with_created_rec m owner (number_of m rec) page) (number_of m rec) (of_realm owner RecAux) m.settings.aux) owner (of_no_realm (Rd next)))
+    created_ordered = record {
+      each = orderly_but all full refl (length-set all.granules owner (of_no_realm (Rd next))) owner (λ h ne. (granule_at-other all owner h (of_no_realm (Rd next)) ne, refl))
+          (λ sure. ap (λ (r : RmmGranule). is_rd r.state) owner_now)
+          (subst (λ (r : RmmGranule). IsOrderly full r.state r.owner (page_in full owner)) (sym owner_now) refl) (orderly_all ordered);
+      recs = recs_then;
+    }
+
   pub created : (next : RmmRealm) → next.table_count ≡ realm.table_count → next.first_table ≡ realm.first_table → next.start_level ≡ realm.start_level → IsServed (length m.granules) next
-      → IsProper (with_granule (with_aux (with_created_rec m owner (number_of m rec) page) (number_of m rec) (of_realm owner RecAux) m.settings.aux) owner (of_no_realm (Rd next)))
+      → IsLinked (with_granule (with_aux (with_created_rec m owner (number_of m rec) page) (number_of m rec) (of_realm owner RecAux) m.settings.aux) owner (of_no_realm (Rd next)))
   created next tables first level served =
       keep_realm all owner realm next (rec_made m all proper (Some owner) g is_made wiped.sound) (ap (λ (r : RmmGranule). r.state) owner_still ∙ rd_is) tables first level
       (subst (λ (n : ℕ). IsServed n next) (sym (wiped.count ∙ one_count)) served)
 
-  pub created_touches : (next : RmmRealm) → Touches m (with_granule (with_aux (with_created_rec m owner (number_of m rec) page) (number_of m rec) (of_realm owner RecAux) m.settings.aux) owner (of_no_realm (Rd next))) (Some (Some owner))
+  pub created_touches : (next : RmmRealm) → Touches m (with_granule (with_aux (with_created_rec m owner (number_of m rec) page) (number_of m rec) (of_realm owner RecAux) m.settings.aux) owner (of_no_realm (Rd next))) (Some owner)
   created_touches next =
-      touch_granule m all (Some (Some owner)) owner (of_no_realm (Rd next))
-      (touch_wiped m one (Some (Some owner)) g (of_realm owner RecAux) (λ n. tt) m.settings.aux all
-      (touch_page m marked (Some (Some owner)) g (rec_page page) (touch_granule m m (Some (Some owner)) g (of_realm owner (IsRec new)) (untouched m (Some (Some owner))) (inr (inr rec_free))) (inr (inr rec_free)))
+      touch_granule m all (Some owner) owner (of_no_realm (Rd next))
+      (touch_wiped m one (Some owner) g (of_realm owner RecAux) (λ n. tt) m.settings.aux all
+      (touch_page m marked (Some owner) g (rec_page page) (touch_granule m m (Some owner) g (of_realm owner (IsRec new)) (untouched m (Some owner)) (inr (inr rec_free))) (inr (inr rec_free)))
       wiped
       (λ i h lt is. inr (inr (ap (λ (x : ℕ). (granule_at m x).state) (some_same (sym is ∙ aux_named i lt)) ∙ free i lt))))
       (inl (inl refl))
 
-pub rec_created : (rd rec params : ℕ) (m : Machine) → IsProper m → Passed (rec_create rd rec params m).checks → IsProper (rec_create rd rec params m).machine
-unfolding rec_create aux_checks
-rec_created rd rec params m proper ok =
-    let page : List ℕ = page_in m (number_of m params) in
-    let rec_aligned : rec % 4096 ≡ 0 = eqb-true _ _ (yes_from (is_aligned rec) ok.1.1.1.0) in
-    let rec_in : is_inside m rec ≡ true = yes_from (is_inside m rec) ok.1.1.1.1.0 in
-    let rec_free = is_delegated-true (state_at m rec) (yes_from (is_delegated (state_at m rec)) ok.1.1.1.1.1.0) in
-    let is = realm_of-some (state_at m rd) ok.1.1.1.1.1.1.1.1.0 in
-    let aligned = yes_from _ ok.1.1.1.1.1.1.1.1.1.1.0 in
-    let inside = yes_from _ ok.1.1.1.1.1.1.1.1.1.1.1.0 in
-    let alias = yes_from _ ok.1.1.1.1.1.1.1.1.1.1.1.1.0 in
-    let free = yes_from _ ok.1.1.1.1.1.1.1.1.1.1.1.1.1.0 in
-    let s : IsServed (length m.granules) (realm_at m rd) = subst (λ (s : RmmGranuleState). IfSome (realm_of s) (IsServed (length m.granules))) is (proper.sound.tables.each (number_of m rd)) in
-    created m proper (number_of m rd) rec (realm_at m rd) is rec_in rec_aligned rec_free page
-    (λ i lt. eqb-true _ _ (all_at (λ k. is_aligned (aux_in page k)) m.settings.aux i aligned lt))
-    (λ i lt. all_at (λ k. is_inside m (aux_in page k)) m.settings.aux i inside lt)
-    (λ i lt. is_delegated-true _ (and_parts (is_inside m (aux_in page i)) _ (all_at (λ k. can_be_aux m (aux_in page k)) m.settings.aux i free lt)).1)
-    (λ i lt same. both_ways (aux_in page i == rec) (not-true _ (and_parts _ _ (all_at (is_apart rec page) m.settings.aux i alias lt)).0) (eq-eqb _ _ same))
-    (λ i j lt before same.
-    both_ways (aux_in page j == aux_in page i)
-    (not-true _ (all_at (λ k. not (aux_in page k == aux_in page i)) i j (and_parts _ _ (all_at (is_apart rec page) m.settings.aux i alias lt)).1 before)) (eq-eqb _ _ same))
-    _ refl refl refl (record { few = s.few; inside = s.inside; most = s.most; level = s.level; width = s.width; served = s.served })
+-- the checks of RMI_REC_CREATE, as facts
+module _ (rd rec params : ℕ) (m : Machine) (proper : IsProper m) (ok : Passed (rec_create rd rec params m).checks) where
+  abbrev params_page : List ℕ
+  params_page = page_in m (number_of m params)
 
-pub rec_created_touches : (rd rec params : ℕ) (m : Machine) → IsProper m → Passed (rec_create rd rec params m).checks → Touches m (rec_create rd rec params m).machine (Some (Some (number_of m rd)))
-unfolding rec_create aux_checks
-rec_created_touches rd rec params m proper ok =
-    let page : List ℕ = page_in m (number_of m params) in
-    let rec_aligned : rec % 4096 ≡ 0 = eqb-true _ _ (yes_from (is_aligned rec) ok.1.1.1.0) in
-    let rec_in : is_inside m rec ≡ true = yes_from (is_inside m rec) ok.1.1.1.1.0 in
-    let rec_free = is_delegated-true (state_at m rec) (yes_from (is_delegated (state_at m rec)) ok.1.1.1.1.1.0) in
-    let is = realm_of-some (state_at m rd) ok.1.1.1.1.1.1.1.1.0 in
-    let aligned = yes_from _ ok.1.1.1.1.1.1.1.1.1.1.0 in
-    let inside = yes_from _ ok.1.1.1.1.1.1.1.1.1.1.1.0 in
-    let alias = yes_from _ ok.1.1.1.1.1.1.1.1.1.1.1.1.0 in
-    let free = yes_from _ ok.1.1.1.1.1.1.1.1.1.1.1.1.1.0 in
-    created_touches m proper (number_of m rd) rec (realm_at m rd) is rec_in rec_aligned rec_free page
-    (λ i lt. eqb-true _ _ (all_at (λ k. is_aligned (aux_in page k)) m.settings.aux i aligned lt))
-    (λ i lt. all_at (λ k. is_inside m (aux_in page k)) m.settings.aux i inside lt)
-    (λ i lt. is_delegated-true _ (and_parts (is_inside m (aux_in page i)) _ (all_at (λ k. can_be_aux m (aux_in page k)) m.settings.aux i free lt)).1)
-    (λ i lt same. both_ways (aux_in page i == rec) (not-true _ (and_parts _ _ (all_at (is_apart rec page) m.settings.aux i alias lt)).0) (eq-eqb _ _ same))
-    (λ i j lt before same.
-    both_ways (aux_in page j == aux_in page i)
-    (not-true _ (all_at (λ k. not (aux_in page k == aux_in page i)) i j (and_parts _ _ (all_at (is_apart rec page) m.settings.aux i alias lt)).1 before)) (eq-eqb _ _ same))
-    _
+  rec_begins : (rec % 4096 ≡ 0) × (is_inside m rec ≡ true) × (state_at m rec ≡ Delegated)
+  unfolding rec_create
+  rec_begins = (
+    eqb-true _ _ (yes_from (is_aligned rec) ok.1.1.1.0),
+    yes_from (is_inside m rec) ok.1.1.1.1.0,
+    is_delegated-true (state_at m rec) (yes_from (is_delegated (state_at m rec)) ok.1.1.1.1.1.0),
+  )
 
--- ---- the command RMI_REC_DESTROY
+  rd_there : (granule_at m (number_of m rd)).state ≡ Rd (realm_at m rd)
+  unfolding rec_create
+  rd_there = realm_of-some (state_at m rd) ok.1.1.1.1.1.1.1.1.0
 
-module _ (o : Machine) (w : Option ℕ) (m : Machine) (g aux : ℕ) (going : IsGoing o w g m) (aux_is : m.settings.aux ≡ aux) where
-  proper : IsProper m
-  proper = going.proper
+  aux_aligned : (i : ℕ) → i < m.settings.aux → aux_in params_page i % 4096 ≡ 0
+  unfolding rec_create aux_checks
+  aux_aligned i lt = eqb-true _ _ (all_at (λ k. is_aligned (aux_in (page_in m (number_of m params)) k)) m.settings.aux i (yes_from _ ok.1.1.1.1.1.1.1.1.1.1.0) lt)
 
-  abbrev owner : Option ℕ
-  owner = (granule_at m g).owner
+  aux_inside : (i : ℕ) → i < m.settings.aux → is_inside m (aux_in params_page i) ≡ true
+  unfolding rec_create aux_checks
+  aux_inside i lt = all_at (λ k. is_inside m (aux_in (page_in m (number_of m params)) k)) m.settings.aux i (yes_from _ ok.1.1.1.1.1.1.1.1.1.1.1.0) lt
 
-  abbrev called : ℕ → Option ℕ
-  called i = granule_named m (aux_of (page_in m g) i)
+  aux_free : (i : ℕ) → i < m.settings.aux → (granule_at m (number_of m (aux_in params_page i))).state ≡ Delegated
+  unfolding rec_create aux_checks
+  aux_free i lt =
+      is_delegated-true _
+      (and_parts (is_inside m (aux_in params_page i)) _ (all_at (λ k. can_be_aux m (aux_in (page_in m (number_of m params)) k)) m.settings.aux i (yes_from _ ok.1.1.1.1.1.1.1.1.1.1.1.1.1.0) lt)).1
 
-  gives : (i h : ℕ) → i < aux → called i ≡ Some h → uses m proper.level g i 0 ≡ Some (used RecAux owner 0 h)
-  unfolding uses
-  gives i h lt is =
-      ap (λ (s : RmmGranuleState). state_uses m s owner (proper.level g) (page_in m g) g i 0) going.is
-      ∙ cond-true _ _ _ (and_from (nat_lt i m.settings.aux) (0 == 0) (lt-ltb i m.settings.aux (subst (λ (n : ℕ). i < n) (sym aux_is) lt)) refl)
-      ∙ ap (option_map (used RecAux owner 0)) is
+  aux_apart : (i : ℕ) → i < m.settings.aux → is_apart rec params_page i ≡ true
+  unfolding rec_create aux_checks
+  aux_apart i lt = all_at (is_apart rec (page_in m (number_of m params))) m.settings.aux i (yes_from _ ok.1.1.1.1.1.1.1.1.1.1.1.1.0) lt
 
-  aux_there : (i h : ℕ) → i < aux → called i ≡ Some h → granule_at m h ≡ record { state = RecAux; owner = owner }
-  aux_there i h lt is = sym (ap (λ (u : Used). u.attributes) (right m proper g i 0 (used RecAux owner 0 h) (gives i h lt is)))
+  aux_other : (i : ℕ) → i < m.settings.aux → aux_in params_page i ≢ rec
+  aux_other i lt same = both_ways (aux_in params_page i == rec) (not-true _ (and_parts _ _ (aux_apart i lt)).0) (eq-eqb _ _ same)
 
-  not_self : (i : ℕ) → i < aux → called i ≢ Some g
-  not_self i lt is =
-      let s : (granule_at m g).state ≡ RecAux = ap (λ (r : RmmGranule). r.state) (aux_there i g lt is) in
-      let r = going.is in
-      cc
+  aux_distinct : (i j : ℕ) → i < m.settings.aux → j < i → aux_in params_page j ≢ aux_in params_page i
+  aux_distinct i j lt before same =
+      both_ways (aux_in params_page j == aux_in params_page i)
+      (not-true _ (all_at (λ k. not (aux_in (page_in m (number_of m params)) k == aux_in (page_in m (number_of m params)) i)) i j (and_parts _ _ (aux_apart i lt)).1 before)) (eq-eqb _ _ same)
 
-  abbrev cleared : Machine
-  cleared = with_aux m g (of_no_realm Delegated) aux
+  still_served : (next : RmmRealm) → next.first_table ≡ (realm_at m rd).first_table → next.table_count ≡ (realm_at m rd).table_count → next.start_level ≡ (realm_at m rd).start_level → next.s2sz ≡ (realm_at m rd).s2sz
+      → IsServed (length m.granules) next
+  still_served next first count level width =
+      let s : IsServed (length m.granules) (realm_at m rd) = subst (λ (s : RmmGranuleState). IfSome (realm_of s) (IsServed (length m.granules))) rd_there (proper.linked.sound.tables.each (number_of m rd)) in
+      record {
+        few = s.few;
+        inside = subst (λ (n : ℕ). n + next.table_count ≤ length m.granules) (sym first) (subst (λ (n : ℕ). (realm_at m rd).first_table + n ≤ length m.granules) (sym count) s.inside);
+        most = subst (λ (n : ℕ). n ≤ 16) (sym count) s.most;
+        level = subst (λ (n : ℕ). n ≤ 3) (sym level) s.level;
+        width = subst (λ (n : ℕ). n ≤ 48) (sym width) s.width;
+        served = subst (λ (w : ℕ). 2 ^ w ≤ next.table_count * (512 * entry_size next.start_level)) (sym width)
+            (subst (λ (n : ℕ). 2 ^ (realm_at m rd).s2sz ≤ n * (512 * entry_size next.start_level)) (sym count)
+            (subst (λ (l : ℕ). 2 ^ (realm_at m rd).s2sz ≤ (realm_at m rd).table_count * (512 * entry_size l)) (sym level) s.served));
+      }
 
-  abbrev gone : Machine
-  gone = with_blank cleared g Delegated
-
-  clean : IsWiped m g (of_no_realm Delegated) (λ n. tt) aux cleared
-  clean = all_wiped m g (of_no_realm Delegated) (λ n. tt) aux proper.sound not_self
-
-  g_there : g < length cleared.granules
-  g_there = let c = clean.count in let i = going_inside o w g m going in omega arith
-
-  lower : (i : ℕ) → i < m.settings.aux → i < aux
-  lower i lt = subst (λ (n : ℕ). i < n) aux_is lt
-
-  was_made : IsRecMade gone m owner g
-  was_made = record {
-    settings = sym clean.settings;
-    count = sym (length-set cleared.granules g (of_no_realm Delegated) ∙ clean.count);
-    rec = going.rec;
-    free = ap (λ (r : RmmGranule). r.state) (granule_at-same cleared g (of_no_realm Delegated) g_there);
-    made = ap (λ (s : RmmGranuleState). record { state = s; owner = owner }) going.is;
-    aux_free = λ i h lt is.
-        let apart : h ≢ g = λ same. not_self i (lower i lt) (is ∙ ap (λ (x : ℕ). Some x) same) in
-        ap (λ (r : RmmGranule). r.state) (granule_at-other cleared g h (of_no_realm Delegated) apart ∙ clean.hit i h (lower i lt) is);
-    aux_made = λ i h lt is. aux_there i h (lower i lt) is;
-    apart = λ i j h lt also is at. (one_place m proper g i 0 g j 0 (used RecAux owner 0 h) (used RecAux owner 0 h) (gives i h (lower i lt) is) (gives j h (lower j also) at) refl).1;
-    beside = λ h ne none.
-        let same = clean.other h (λ i lt. none i (subst (λ (n : ℕ). i < n) (sym aux_is) lt)) in (
-          sym (granule_at-other cleared g h (of_no_realm Delegated) ne ∙ same.0),
-          sym (page_in-other (with_granule cleared g (of_no_realm Delegated)) g h zero_page ne ∙ same.1),
-        );
+  pub rec_created : IsProper (rec_create rd rec params m).machine
+  unfolding rec_create
+  rec_created = record {
+    linked = created m proper.linked (number_of m rd) rec (realm_at m rd) rd_there rec_begins.1 rec_begins.0 rec_begins.2 params_page aux_aligned aux_inside aux_free aux_other aux_distinct
+        _ refl refl refl (still_served _ refl refl refl refl);
+    ordered = created_ordered m proper.linked (number_of m rd) rec (realm_at m rd) rd_there rec_begins.1 rec_begins.0 rec_begins.2 params_page aux_aligned aux_inside aux_free aux_other aux_distinct
+        proper.ordered _ refl;
   }
 
-  gone_sound : IsSound gone
-  gone_sound = sound-with_page (with_granule cleared g (of_no_realm Delegated)) g zero_page (length-page_of 0) (sound-with_granule cleared g (of_no_realm Delegated) g_there tt clean.sound)
-
-  destroyed : IsProper gone
-  destroyed = rec_gone gone m proper owner g was_made gone_sound
-
-module _ (o : Machine) (w : Option ℕ) where
-  without_by : (g rd : ℕ) (m : Machine) (there : Option RmmRealm) → Some rd ≡ w → realm_of (granule_at m rd).state ≡ there → IsGoing o w g m → IsGoing o w g (without_rec_of m rd there) × ((without_rec_of m rd there).settings ≡ m.settings)
-  without_by g rd m (Some realm) named is going =
-      let there = realm_of-is (granule_at m rd).state realm is in
-      let s : IsServed (length m.granules) realm = subst (λ (t : RmmGranuleState). IfSome (realm_of t) (IsServed (length m.granules))) there (going.proper.sound.tables.each rd) in
-      (going_realm o w g rd m realm (with_one_less realm) going named there refl refl refl (record { few = s.few; inside = s.inside; most = s.most; level = s.level; width = s.width; served = s.served }), refl)
-  without_by g rd m None named is going = (going, refl)
-
-  without : (g : ℕ) (m : Machine) (owner : Option ℕ) → owner ≡ w → IsGoing o w g m → IsGoing o w g (without_rec m owner) × ((without_rec m owner).settings ≡ m.settings)
-  without g m (Some rd) named going = without_by g rd m (realm_of (granule_at m rd).state) named refl going
-  without g m None named going = (going, refl)
-
-module _ (rec : ℕ) (m : Machine) (proper : IsProper m) (ok : Passed (rec_destroy rec m).checks) where
-  abbrev here : ℕ
-  here = number_of m rec
-
-  abbrev holder : Option ℕ
-  holder = (granule_at m (number_of m rec)).owner
-
-  rest : IsGoing m holder here (without_rec m holder) × ((without_rec m holder).settings ≡ m.settings)
-  unfolding rec_destroy
-  rest = without m holder here m holder refl (going_first here m (rec_at m rec) proper (rec_of-some (state_at m rec) ok.1.1.0))
-
-  pub rec_destroyed : IsProper (rec_destroy rec m).machine
-  unfolding rec_destroy
-  rec_destroyed = destroyed m holder (without_rec m holder) here m.settings.aux rest.0 (ap (λ (s : RmmSettings). s.aux) rest.1)
-
-  -- what it touches: the REC, its auxiliary granules, and the RD
-  pub destroyed_touches : Touches m (rec_destroy rec m).machine (Some holder)
-  unfolding rec_destroy
-  destroyed_touches =
-      let k : Machine = without_rec m holder in
-      let aux : ℕ = m.settings.aux in
-      let count = ap (λ (s : RmmSettings). s.aux) rest.1 in
-      touch_blank m (with_aux k here (of_no_realm Delegated) aux) (Some holder) here Delegated
-      (touch_wiped m k (Some holder) here (of_no_realm Delegated) (λ n. tt) aux (with_aux k here (of_no_realm Delegated) aux) rest.0.touches (clean m holder k here aux rest.0 count)
-      (λ i h lt is. mine_before m k (Some holder) h rest.0.touches (inl (inr (ap (λ (r : RmmGranule). r.owner) (aux_there m holder k here aux rest.0 count i h lt is) ∙ rest.0.owned)))))
-      (inl (inr refl))
+  pub rec_created_touches : Touches m (rec_create rd rec params m).machine (rd_named m rd)
+  unfolding rec_create
+  rec_created_touches =
+      subst (λ (o : Option ℕ). Touches m (rec_create rd rec params m).machine o) (sym (rd_named-is m rd ok.1.1.1.1.1.1.0 ok.1.1.1.1.1.1.1.0 ok.1.1.1.1.1.1.1.1.0))
+      (created_touches m proper.linked (number_of m rd) rec (realm_at m rd) rd_there rec_begins.1 rec_begins.0 rec_begins.2 params_page aux_aligned aux_inside aux_free aux_other aux_distinct _)

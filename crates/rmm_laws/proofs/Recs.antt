@@ -1,12 +1,12 @@
 -- Writes of RECs that keep their auxiliary granules.
-use Rattle.std.proofs.Common.{◌≡◌, ◌≢◌, ℕ, ◌+◌, ◌<◌, ◌≤◌, ◌⊎◌, inl, inr, ◌==◌, ◌&&◌, false, List, length, Option, Some, None, option_map, refl, sym, ap, ◌∙◌, ⊎_elim, arith}
+use Rattle.std.proofs.Common.{true, ◌≡◌, ◌≢◌, ℕ, ◌+◌, ◌<◌, ◌≤◌, ◌⊎◌, inl, inr, ◌==◌, ◌&&◌, false, List, length, Option, Some, None, option_map, refl, sym, ap, ◌∙◌, ⊎_elim, arith}
 use Rattle.std.specs.Prelude.{nat_lt, if◌then◌else◌}
 use Rattle.std.proofs.lemmas.Bool.{cases_lt, and_left, le-ltb, cond-false}
 use Rattle.page_arena.specs.Word.{page_with_word}
 use Rattle.page_arena.specs.Words.{word_of_page-page_with_word_other}
 use Rattle.rmm_model.specs.declared.granule.RmmGranule.{RmmGranule}
 use Rattle.rmm_model.specs.declared.granule.RmmGranuleState.{RmmGranuleState}
-use Rattle.rmm_model.specs.declared.granule.RmmGranuleState.TheVariants.{Rd, Rec as IsRec, RecAux, Rtt}
+use Rattle.rmm_model.specs.declared.granule.RmmGranuleState.TheVariants.{Undelegated, Rd, Rec as IsRec, RecAux, Data, Rtt}
 use Rattle.rmm_model.specs.declared.realm.RmmRealm.{RmmRealm}
 use Rattle.rmm_model.specs.declared.rec.RmmRec.{RmmRec}
 use Rattle.rmm_model.specs.Granule.{of_no_realm}
@@ -16,19 +16,28 @@ use Rattle.rmm_model.specs.Rec.{aux_of}
 use Rattle.rmm_model.specs.Table.{with_words_from}
 use Rattle.rmm_model.specs.Walk.{granule_named}
 use Rattle.rmm_model.specs.Command.PsciComplete.{with_rec}
-use Rattle.rmm_laws.specs.Role.{used, has_user, state_uses, IsProper}
+use Rattle.rmm_laws.specs.Owner.{IsOrdered}
+use Rattle.rmm_laws.specs.Proper.{IsProper}
+use Rattle.rmm_laws.specs.Role.{used, has_user, state_uses, IsLinked}
 use Rattle.rmm_laws.proofs.Keeping.{keep_page, keep_granule}
+use Rattle.rmm_laws.proofs.Orders.{is_memory_state, ordered_realm, ordered_rec, ordered_rec_page, ordered_memory}
 use Rattle.rmm_laws.proofs.PageWords.{length-page_with_word, length-with_words_from, word_of_page-with_words_from_other}
 use Rattle.rmm_laws.proofs.Plain.{keep_plain_page}
 use Rattle.rmm_laws.specs.Apart.{Touches}
 use Rattle.rmm_laws.proofs.Touching.{IsMine, untouched, mine_before, touch_granule, touch_page}
 use Rattle.rmm_laws.proofs.Writes.{is_user, granule_at-same, granule_at-other, taken_inside}
 
+-- memory uses nothing
+pub memory_plain : (s : RmmGranuleState) → is_memory_state s ≡ true → is_user s ≡ false
+memory_plain Data is = refl
+memory_plain Undelegated is = refl
+memory_plain _ is = absurd (cc)
+
 -- ---- RDs
 
 -- an RD of a realm whose starting tables are the same
-pub keep_realm : (m : Machine) (rd : ℕ) (realm other : RmmRealm) → IsProper m → (granule_at m rd).state ≡ Rd realm → other.table_count ≡ realm.table_count → other.first_table ≡ realm.first_table
-    → other.start_level ≡ realm.start_level → IsServed (length m.granules) other → IsProper (with_granule m rd (of_no_realm (Rd other)))
+pub keep_realm : (m : Machine) (rd : ℕ) (realm other : RmmRealm) → IsLinked m → (granule_at m rd).state ≡ Rd realm → other.table_count ≡ realm.table_count → other.first_table ≡ realm.first_table
+    → other.start_level ≡ realm.start_level → IsServed (length m.granules) other → IsLinked (with_granule m rd (of_no_realm (Rd other)))
 keep_realm m rd realm other proper is count first level served =
     keep_granule m rd (of_no_realm (Rd other)) proper (taken_inside m rd (λ free. cc)) (ap has_user is) refl
     (λ l page i part.
@@ -41,7 +50,7 @@ keep_realm m rd realm other proper is count first level served =
 -- ---- RECs
 
 -- a REC with other attributes
-pub keep_rec : (m : Machine) (g : ℕ) (old rec : RmmRec) → IsProper m → (granule_at m g).state ≡ IsRec old → IsProper (with_rec m g rec)
+pub keep_rec : (m : Machine) (g : ℕ) (old rec : RmmRec) → IsLinked m → (granule_at m g).state ≡ IsRec old → IsLinked (with_rec m g rec)
 keep_rec m g old rec proper is =
     keep_granule m g (record (granule_at m g) { state = IsRec rec }) proper (taken_inside m g (λ free. cc)) (ap has_user is) refl
     (λ level page i part. sym (ap (λ (s : RmmGranuleState). state_uses m s (granule_at m g).owner level page g i part) is))
@@ -60,8 +69,8 @@ same_aux m rec owner level page other g i part few same =
     (cases_lt i m.settings.aux)
 
 -- a REC whose page names the same auxiliary granules
-pub keep_rec_page : (m : Machine) (g : ℕ) (rec : RmmRec) (page : List ℕ) → IsProper m → (granule_at m g).state ≡ IsRec rec → length page ≡ 4096
-    → ((k : ℕ) → k < 16 → aux_of page k ≡ aux_of (page_in m g) k) → IsProper (with_page m g page)
+pub keep_rec_page : (m : Machine) (g : ℕ) (rec : RmmRec) (page : List ℕ) → IsLinked m → (granule_at m g).state ≡ IsRec rec → length page ≡ 4096
+    → ((k : ℕ) → k < 16 → aux_of page k ≡ aux_of (page_in m g) k) → IsLinked (with_page m g page)
 keep_rec_page m g rec page proper is whole same =
     keep_page m g page proper (taken_inside m g (λ free. cc)) whole
     (λ owner level i part.
@@ -72,20 +81,21 @@ keep_rec_page m g rec page proper is whole same =
 
 -- ---- machines in which a granule is a REC
 
--- A granule is a REC of an owner, after writes that touched granules of that owner or of no realm.
-pub record IsGoing (o : Machine) (w : Option ℕ) (g : ℕ) (m : Machine) : Type 0 where
-  pub proper : IsProper m
+-- A granule is a REC of the realm of an RD, after writes that touched granules of that realm or of none.
+pub record IsGoing (o : Machine) (w : ℕ) (g : ℕ) (m : Machine) : Type 0 where
+  pub proper : IsLinked m
+  pub ordered : IsOrdered m
   pub rec : RmmRec
   pub is : (granule_at m g).state ≡ IsRec rec
   pub touches : Touches o m (Some w)
-  pub owned : (granule_at m g).owner ≡ w
+  pub owned : (granule_at m g).owner ≡ Some w
   pub mine : IsMine o (Some w) g
 
 -- a REC before any write
-pub going_first : (g : ℕ) (m : Machine) (rec : RmmRec) → IsProper m → (granule_at m g).state ≡ IsRec rec → IsGoing m (granule_at m g).owner g m
-going_first g m rec proper is = record { proper = proper; rec = rec; is = is; touches = untouched m (Some (granule_at m g).owner); owned = refl; mine = inl (inr refl) }
+pub going_first : (g w : ℕ) (m : Machine) (rec : RmmRec) → IsProper m → (granule_at m g).state ≡ IsRec rec → (granule_at m g).owner ≡ Some w → IsGoing m w g m
+going_first g w m rec proper is owned = record { proper = proper.linked; ordered = proper.ordered; rec = rec; is = is; touches = untouched m (Some w); owned = owned; mine = inl (inr owned) }
 
-module _ (o : Machine) (w : Option ℕ) where
+module _ (o : Machine) (w : ℕ) where
   pub going_inside : (g : ℕ) (m : Machine) → IsGoing o w g m → g < length m.granules
   going_inside g m going = let is = going.is in taken_inside m g (λ free. cc)
 
@@ -95,6 +105,7 @@ module _ (o : Machine) (w : Option ℕ) where
       let now = granule_at-same m g kept (going_inside g m going) in
       record {
         proper = keep_rec m g going.rec rec going.proper going.is;
+        ordered = ordered_rec m g going.rec rec (going_inside g m going) going.is going.ordered;
         rec = rec;
         is = ap (λ (r : RmmGranule). r.state) now;
         touches = touch_granule o m (Some w) g kept going.touches going.mine;
@@ -103,14 +114,17 @@ module _ (o : Machine) (w : Option ℕ) where
       }
 
   pub going_page : (g : ℕ) (m : Machine) (page : List ℕ) → IsGoing o w g m → length page ≡ 4096 → ((k : ℕ) → k < 16 → aux_of page k ≡ aux_of (page_in m g) k) → IsGoing o w g (with_page m g page)
-  going_page g m page going whole same = record {
-    proper = keep_rec_page m g going.rec page going.proper going.is whole same;
-    rec = going.rec;
-    is = going.is;
-    touches = touch_page o m (Some w) g page going.touches going.mine;
-    owned = going.owned;
-    mine = going.mine;
-  }
+  going_page g m page going whole same =
+      let few = going.proper.sound.platform.aux in
+      record {
+        proper = keep_rec_page m g going.rec page going.proper going.is whole same;
+        ordered = ordered_rec_page m g going.rec page going.is (λ k lt. same k (omega arith)) going.ordered;
+        rec = going.rec;
+        is = going.is;
+        touches = touch_page o m (Some w) g page going.touches going.mine;
+        owned = going.owned;
+        mine = going.mine;
+      }
 
   -- a word of the REC's page that names no auxiliary granule
   pub going_word : (g : ℕ) (m : Machine) (i word : ℕ) → IsGoing o w g m → i < 512 → (i < 32) ⊎ (48 ≤ i) → IsGoing o w g (with_word m g i word)
@@ -126,10 +140,12 @@ module _ (o : Machine) (w : Option ℕ) where
       (λ k lt. word_of_page-with_words_from_other first f (page_in m g) whole count (32 + k) within (omega arith)
       (⊎_elim (λ (low : first + count ≤ 32). inr (omega arith)) (λ (high : 48 ≤ first). inl (omega arith)) beside))
 
-  -- the page of a granule that uses nothing
-  pub going_plain : (g h : ℕ) (m : Machine) (page : List ℕ) → IsGoing o w g m → h < length m.granules → length page ≡ 4096 → is_user (granule_at m h).state ≡ false → IsMine m (Some w) h → IsGoing o w g (with_page m h page)
-  going_plain g h m page going inside whole plain mine = record {
-    proper = keep_plain_page m h page going.proper inside whole plain;
+  -- a page of memory
+  pub going_plain : (g h : ℕ) (m : Machine) (page : List ℕ) → IsGoing o w g m → h < length m.granules → length page ≡ 4096 → is_memory_state (granule_at m h).state ≡ true → IsMine m (Some w) h
+      → IsGoing o w g (with_page m h page)
+  going_plain g h m page going inside whole memory mine = record {
+    proper = keep_plain_page m h page going.proper inside whole (memory_plain (granule_at m h).state memory);
+    ordered = ordered_memory m h page memory going.ordered;
     rec = going.rec;
     is = going.is;
     touches = touch_page o m (Some w) h page going.touches (mine_before o m (Some w) h going.touches mine);
@@ -138,9 +154,9 @@ module _ (o : Machine) (w : Option ℕ) where
   }
 
   -- the realm of an RD
-  pub going_realm : (g rd : ℕ) (m : Machine) (realm other : RmmRealm) → IsGoing o w g m → Some rd ≡ w → (granule_at m rd).state ≡ Rd realm → other.table_count ≡ realm.table_count → other.first_table ≡ realm.first_table
-      → other.start_level ≡ realm.start_level → IsServed (length m.granules) other → IsGoing o w g (with_granule m rd (of_no_realm (Rd other)))
-  going_realm g rd m realm other going named is count first level served =
+  pub going_realm : (g rd : ℕ) (m : Machine) (realm other : RmmRealm) → IsGoing o w g m → rd ≡ w → (granule_at m rd).state ≡ Rd realm → other.table_count ≡ realm.table_count → other.first_table ≡ realm.first_table
+      → other.start_level ≡ realm.start_level → other.rec_count ≡ realm.rec_count → IsServed (length m.granules) other → IsGoing o w g (with_granule m rd (of_no_realm (Rd other)))
+  going_realm g rd m realm other going named is count first level recs served =
       let apart : g ≢ rd = λ same. (
       let states : (granule_at m g).state ≡ (granule_at m rd).state = ap (λ (k : ℕ). (granule_at m k).state) same in
       let rec_is = going.is in
@@ -148,6 +164,7 @@ module _ (o : Machine) (w : Option ℕ) where
       let still = granule_at-other m rd g (of_no_realm (Rd other)) apart in
       record {
         proper = keep_realm m rd realm other going.proper is count first level served;
+        ordered = ordered_realm m rd realm other (taken_inside m rd (λ free. cc)) is recs going.ordered;
         rec = going.rec;
         is = ap (λ (r : RmmGranule). r.state) still ∙ going.is;
         touches = touch_granule o m (Some w) rd (of_no_realm (Rd other)) going.touches (inl (inl named));

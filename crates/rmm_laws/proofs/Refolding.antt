@@ -12,7 +12,7 @@ use Rattle.rmm_model.specs.Level.{entry_size, entry_index}
 use Rattle.rmm_model.specs.Machine.{Machine, granule_at, page_in, is_inside, number_of, with_blank}
 use Rattle.rmm_model.specs.Table.{entry_in_page, has_parts}
 use Rattle.rmm_model.specs.Walk.{with_entry}
-use Rattle.rmm_laws.specs.Role.{Used, used, used_at, has_user, page_count, entry_uses, uses, IsProper, IsBegin, LeadsInside}
+use Rattle.rmm_laws.specs.Role.{Used, used, used_at, has_user, page_count, entry_uses, uses, IsLinked, IsBegin, LeadsInside}
 use Rattle.rmm_laws.proofs.Blocks.{cut, cut_there, cut_beside, cut_more, sizes, block_uses, block_end, child_uses, child_end}
 use Rattle.rmm_laws.proofs.Children.{is_free, part_word}
 use Rattle.rmm_laws.proofs.Entries.{number_inside, address_few}
@@ -24,7 +24,7 @@ use Rattle.rmm_laws.proofs.Uses.{IsMore, removed}
 use Rattle.rmm_laws.proofs.Walks.{IsPlace, uses-entry, entry_index-few}
 use Rattle.rmm_laws.proofs.Writes.{taken_inside, uses-same, uses-plain, entry_uses-same, used_at-same, leads-same, is_user}
 
-module _ (m : Machine) (proper : IsProper m) (rd ipa level : ℕ) (place : RttWalk) (end : IsPlace m proper rd ipa place) (one_below : place.level + 1 ≡ level) (most : level ≤ 3)
+module _ (m : Machine) (proper : IsLinked m) (rd ipa level : ℕ) (place : RttWalk) (end : IsPlace m proper rd ipa place) (one_below : place.level + 1 ≡ level) (most : level ≤ 3)
     (g : ℕ) (below : IsPlace m proper rd ipa (record { table = g; level = place.level + 1 })) (apart : place.table ≢ g)
     (one : uses m proper.level place.table (entry_index place.level ipa) 0 ≡ Some (used_at m proper.level g))
     (only : (k : ℕ) → k ≢ 0 → uses m proper.level place.table (entry_index place.level ipa) k ≡ None)
@@ -191,7 +191,7 @@ module _ (m : Machine) (proper : IsProper m) (rd ipa level : ℕ) (place : RttWa
       subst (λ (p : List ℕ). LeadsInside m (entry_in_page p j)) (sym (page_other m proper rd ipa place end g (Assigned ripas a) in_machine apart fits x (not_freed x now) other)) (proper.inside x j (still x now) lt))
       (cases_eq x t)
 
-  folded_proper : IsProper n
+  folded_proper : IsLinked n
   folded_proper = record {
     sound = freed_sound m proper rd ipa place end g (Assigned ripas a) in_machine apart fits;
     level = proper.level;
@@ -201,11 +201,11 @@ module _ (m : Machine) (proper : IsProper m) (rd ipa level : ℕ) (place : RttWa
     inside = λ x j now lt. leads-same m n refl count_then (entry_in_page (page_in n x) j) (leads_then x j now lt);
   }
 
-pub block_folded : (m : Machine) (proper : IsProper m) (rd ipa level : ℕ) (place : RttWalk) (end : IsPlace m proper rd ipa place) → place.level + 1 ≡ level → level ≤ 3 → (g : ℕ)
+pub block_folded : (m : Machine) (proper : IsLinked m) (rd ipa level : ℕ) (place : RttWalk) (end : IsPlace m proper rd ipa place) → place.level + 1 ≡ level → level ≤ 3 → (g : ℕ)
     → IsPlace m proper rd ipa (record { table = g; level = place.level + 1 }) → place.table ≢ g
     → uses m proper.level place.table (entry_index place.level ipa) 0 ≡ Some (used_at m proper.level g) → ((k : ℕ) → k ≢ 0 → uses m proper.level place.table (entry_index place.level ipa) k ≡ None)
     → (first : RmmRttEntry) → entry_in_page (page_in m g) 0 ≡ first → is_table first ≡ false → is_free first ≡ false → has_parts (page_in m g) first level 512 0 ≡ true
-    → IsProper (with_blank (with_entry m place ipa first) g Delegated)
+    → IsLinked (with_blank (with_entry m place ipa first) g Delegated)
 block_folded m proper rd ipa level place end one_below most g below apart one only (Assigned ripas a) is not_table block parts = folded_proper m proper rd ipa level place end one_below most g below apart one only ripas a is parts
 block_folded m proper rd ipa level place end one_below most g below apart one only (Table a) is not_table block parts = absurd (cc)
 block_folded m proper rd ipa level place end one_below most g below apart one only (Unassigned ripas) is not_table block parts = absurd (cc)

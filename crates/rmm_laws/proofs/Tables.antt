@@ -20,7 +20,7 @@ use Rattle.rmm_model.specs.Command.Operand.{realm_at}
 use Rattle.rmm_model.specs.Command.RttCreate.{rtt_create}
 use Rattle.rmm_model.specs.Command.RttDestroy.{rtt_destroy, left_entry}
 use Rattle.rmm_model.specs.Command.RttFold.{rtt_fold, is_homogeneous, is_aligned_above}
-use Rattle.rmm_laws.specs.Role.{Used, used, used_at, has_user, entry_uses, state_uses, uses, IsProper}
+use Rattle.rmm_laws.specs.Role.{Used, used, used_at, has_user, entry_uses, state_uses, uses, IsLinked}
 use Rattle.rmm_laws.proofs.Children.{is_free, free_uses, free_leads, empty_table, children_free, length-children, unused_free, parts_free}
 use Rattle.rmm_laws.proofs.Entries.{number_inside, address_few, begins, named_inside}
 use Rattle.rmm_laws.proofs.EntryWords.{descriptor-few}
@@ -37,7 +37,7 @@ use Rattle.rmm_laws.proofs.Writes.{taken_inside}
 others_none : (m : Machine) (owner : Option ℕ) (level address k : ℕ) → k ≢ 0 → entry_uses m owner level (Table address) k ≡ None
 others_none m owner level address k rest = cond-false (k == 0) _ _ (ne_eqb k 0 rest)
 
-pub table_made : (rd rtt ipa level : ℕ) (m : Machine) → IsProper m → Passed (rtt_create rd rtt ipa level m).checks → IsProper (rtt_create rd rtt ipa level m).machine
+pub table_made : (rd rtt ipa level : ℕ) (m : Machine) → IsLinked m → Passed (rtt_create rd rtt ipa level m).checks → IsLinked (rtt_create rd rtt ipa level m).machine
 unfolding rtt_create
 table_made rd rtt ipa level m proper ok =
     let realm : RmmRealm = realm_at m rd in
@@ -76,7 +76,7 @@ by_table m owner level k (Table address) g named rest = others_none m owner leve
 by_table m owner level k _ g named rest = absurd (cc)
 
 -- the table that an entry of a place leads to, and that is no more used
-module _ (m : Machine) (proper : IsProper m) (rd ipa : ℕ) (place : RttWalk) (end : IsPlace m proper rd ipa place) (g : ℕ) (named : table_below m (entry_at m place ipa) ≡ Some g) where
+module _ (m : Machine) (proper : IsLinked m) (rd ipa : ℕ) (place : RttWalk) (end : IsPlace m proper rd ipa place) (g : ℕ) (named : table_below m (entry_at m place ipa) ≡ Some g) where
   gives : uses m proper.level place.table (entry_index place.level ipa) 0 ≡ Some (used Rtt (Some rd) (place.level + 1) g)
   unfolding entry_at
   gives =
@@ -100,7 +100,7 @@ module _ (m : Machine) (proper : IsProper m) (rd ipa : ℕ) (place : RttWalk) (e
       omega arith
 
   pub table_removed : (left : RmmRttEntry) → is_free left ≡ true → descriptor_of left < 2 ^ 48 → ((j : ℕ) → j < 512 → is_free (entry_in_page (page_in m g) j) ≡ true)
-      → IsProper (with_blank (with_entry m place ipa left) g Delegated)
+      → IsLinked (with_blank (with_entry m place ipa left) g Delegated)
   unfolding uses
   table_removed left free fits all =
       unmapped m proper rd ipa place end g left (taken_inside m g (λ none. (let b = below_is in cc))) apart fits (ap has_user below_is) (free_leads m left free)
@@ -113,10 +113,10 @@ first_few : (page : List ℕ) → descriptor_of (entry_in_page page 0) < 2 ^ 48
 unfolding entry_in_page
 first_few page = descriptor-few (word_of_page page 0)
 
-free_left : (realm : RmmRealm) (ipa : ℕ) → (is_free (left_entry realm ipa) ≡ true) × (descriptor_of (left_entry realm ipa) < 2 ^ 48)
+pub free_left : (realm : RmmRealm) (ipa : ℕ) → (is_free (left_entry realm ipa) ≡ true) × (descriptor_of (left_entry realm ipa) < 2 ^ 48)
 free_left realm ipa = cond_both (is_protected realm ipa) _ _ (λ (e : RmmRttEntry). (is_free e ≡ true) × (descriptor_of e < 2 ^ 48)) (λ sure. (refl, omega arith)) (λ never. (refl, omega arith))
 
-pub table_gone : (rd ipa level : ℕ) (m : Machine) → IsProper m → Passed (rtt_destroy rd ipa level m).checks → IsProper (rtt_destroy rd ipa level m).machine
+pub table_gone : (rd ipa level : ℕ) (m : Machine) → IsLinked m → Passed (rtt_destroy rd ipa level m).checks → IsLinked (rtt_destroy rd ipa level m).machine
 unfolding rtt_destroy
 table_gone rd ipa level m proper ok =
     let realm : RmmRealm = realm_at m rd in
@@ -132,7 +132,7 @@ table_gone rd ipa level m proper ok =
     table_removed m proper (number_of m rd) ipa place end (unwrap_or (table_below m parent) 0) named (left_entry realm ipa) left.0 left.1
     (unused_free (page_in m (unwrap_or (table_below m parent) 0)) ok.1.1.1.1.1.1.1.1.0)
 
-pub table_folded : (rd ipa level : ℕ) (m : Machine) → IsProper m → Passed (rtt_fold rd ipa level m).checks → IsProper (rtt_fold rd ipa level m).machine
+pub table_folded : (rd ipa level : ℕ) (m : Machine) → IsLinked m → Passed (rtt_fold rd ipa level m).checks → IsLinked (rtt_fold rd ipa level m).machine
 unfolding rtt_fold is_homogeneous entry_at
 table_folded rd ipa level m proper ok =
     let realm : RmmRealm = realm_at m rd in

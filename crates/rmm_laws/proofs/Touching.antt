@@ -9,24 +9,24 @@ use Rattle.rmm_laws.specs.Apart.{IsOfRealm, IsSpare, IsSameAt, Touches}
 use Rattle.rmm_laws.proofs.Writes.{granule_at-other, page_in-other}
 
 -- a granule of the realm that a call is on, or of none
-abbrev pub IsMine : Machine → Option (Option ℕ) → ℕ → Type 0
+abbrev pub IsMine : Machine → Option ℕ → ℕ → Type 0
 IsMine m named g = IsOfRealm m named g ⊎ IsSpare m g
 
-same_of_realm : (o m : Machine) (named : Option (Option ℕ)) (h : ℕ) → granule_at m h ≡ granule_at o h → IsOfRealm m named h → IsOfRealm o named h
+same_of_realm : (o m : Machine) (named : Option ℕ) (h : ℕ) → granule_at m h ≡ granule_at o h → IsOfRealm m named h → IsOfRealm o named h
 same_of_realm o m (Some rd) h same (inl is) = inl is
 same_of_realm o m (Some rd) h same (inr is) = inr (sym (ap (λ (r : RmmGranule). r.owner) same) ∙ is)
 same_of_realm o m None h same is = is
 
-same_mine : (o m : Machine) (named : Option (Option ℕ)) (h : ℕ) → granule_at m h ≡ granule_at o h → IsMine m named h → IsMine o named h
+same_mine : (o m : Machine) (named : Option ℕ) (h : ℕ) → granule_at m h ≡ granule_at o h → IsMine m named h → IsMine o named h
 same_mine o m named h same (inl own) = inl (same_of_realm o m named h same own)
 same_mine o m named h same (inr (inl free)) = inr (inl (sym (ap (λ (r : RmmGranule). r.state) same) ∙ free))
 same_mine o m named h same (inr (inr free)) = inr (inr (sym (ap (λ (r : RmmGranule). r.state) same) ∙ free))
 
-pub untouched : (m : Machine) (named : Option (Option ℕ)) → Touches m m named
+pub untouched : (m : Machine) (named : Option ℕ) → Touches m m named
 untouched m named = record { each = λ g. inl (refl, refl) }
 
 -- a machine that is as another one at each granule but one
-pub touched : (m k n : Machine) (named : Option (Option ℕ)) (x : ℕ) → Touches m k named → IsMine m named x → ((g : ℕ) → g ≢ x → IsSameAt k n g) → Touches m n named
+pub touched : (m k n : Machine) (named : Option ℕ) (x : ℕ) → Touches m k named → IsMine m named x → ((g : ℕ) → g ≢ x → IsSameAt k n g) → Touches m n named
 touched m k n named x before mine same = record {
   each = λ g. ⊎_elim
       (λ (here : g ≡ x). inr (subst (λ (y : ℕ). IsMine m named y) (sym here) mine))
@@ -38,17 +38,17 @@ touched m k n named x before mine same = record {
       (cases_eq g x);
 }
 
-pub touch_granule : (m k : Machine) (named : Option (Option ℕ)) (x : ℕ) (kept : RmmGranule) → Touches m k named → IsMine m named x → Touches m (with_granule k x kept) named
+pub touch_granule : (m k : Machine) (named : Option ℕ) (x : ℕ) (kept : RmmGranule) → Touches m k named → IsMine m named x → Touches m (with_granule k x kept) named
 touch_granule m k named x kept before mine = touched m k (with_granule k x kept) named x before mine (λ g other. (granule_at-other k x g kept other, refl))
 
-pub touch_page : (m k : Machine) (named : Option (Option ℕ)) (x : ℕ) (page : List ℕ) → Touches m k named → IsMine m named x → Touches m (with_page k x page) named
+pub touch_page : (m k : Machine) (named : Option ℕ) (x : ℕ) (page : List ℕ) → Touches m k named → IsMine m named x → Touches m (with_page k x page) named
 touch_page m k named x page before mine = touched m k (with_page k x page) named x before mine (λ g other. (refl, page_in-other k x g page other))
 
-pub touch_blank : (m k : Machine) (named : Option (Option ℕ)) (x : ℕ) (state : RmmGranuleState) → Touches m k named → IsMine m named x → Touches m (with_blank k x state) named
+pub touch_blank : (m k : Machine) (named : Option ℕ) (x : ℕ) (state : RmmGranuleState) → Touches m k named → IsMine m named x → Touches m (with_blank k x state) named
 touch_blank m k named x state before mine = touch_page m (with_granule k x (of_no_realm state)) named x _ (touch_granule m k named x (of_no_realm state) before mine) mine
 
 -- what is of the realm after writes that touched the realm alone was so before
-pub mine_before : (o m : Machine) (named : Option (Option ℕ)) (h : ℕ) → Touches o m named → IsMine m named h → IsMine o named h
+pub mine_before : (o m : Machine) (named : Option ℕ) (h : ℕ) → Touches o m named → IsMine m named h → IsMine o named h
 mine_before o m named h touches mine =
     ⊎_elim
     (λ (same : IsSameAt o m h). same_mine o m named h same.0 mine)

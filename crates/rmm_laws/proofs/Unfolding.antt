@@ -16,7 +16,7 @@ use Rattle.rmm_model.specs.Level.{entry_size, entry_index}
 use Rattle.rmm_model.specs.Machine.{Machine, granule_at, page_in, is_inside, number_of, with_granule, with_page}
 use Rattle.rmm_model.specs.Table.{entry_in_page, children_page}
 use Rattle.rmm_model.specs.Walk.{entry_at, with_entry}
-use Rattle.rmm_laws.specs.Role.{Used, used, used_at, has_user, page_count, entry_uses, uses, IsProper, IsBegin, LeadsInside}
+use Rattle.rmm_laws.specs.Role.{Used, used, used_at, has_user, page_count, entry_uses, uses, IsLinked, IsBegin, LeadsInside}
 use Rattle.rmm_laws.proofs.Blocks.{cut, cut_there, cut_beside, cut_more, sizes, block_uses, block_end, child_begin, child_uses, child_end}
 use Rattle.rmm_laws.proofs.Children.{is_free, length-children}
 use Rattle.rmm_laws.proofs.Entries.{number_inside, address_few, begins, named_inside}
@@ -29,7 +29,7 @@ use Rattle.rmm_laws.proofs.Uses.{IsMore, has_user_at, added}
 use Rattle.rmm_laws.proofs.Walks.{IsPlace, right, uses-entry, entry_index-few}
 use Rattle.rmm_laws.proofs.Writes.{taken_inside, uses-same, uses-plain, entry_uses-same, used_at-same, leads-same, is_user}
 
-module _ (m : Machine) (proper : IsProper m) (rd rtt ipa level : ℕ) (place : RttWalk) (end : IsPlace m proper rd ipa place) (one_below : place.level + 1 ≡ level) (most : level ≤ 3)
+module _ (m : Machine) (proper : IsLinked m) (rd rtt ipa level : ℕ) (place : RttWalk) (end : IsPlace m proper rd ipa place) (one_below : place.level + 1 ≡ level) (most : level ≤ 3)
     (inside : is_inside m rtt ≡ true) (aligned : rtt % 4096 ≡ 0) (free : (granule_at m (number_of m rtt)).state ≡ Delegated) (ripas : RmmRipas) (a : ℕ) (is : entry_at m place ipa ≡ Assigned ripas a) where
   abbrev t : ℕ
   t = place.table
@@ -236,7 +236,7 @@ module _ (m : Machine) (proper : IsProper m) (rd rtt ipa level : ℕ) (place : R
       (cases_eq x t))
       (cases_eq x g)
 
-  unfolded_proper : IsProper n
+  unfolded_proper : IsLinked n
   unfolded_proper = record {
     sound = new_sound m proper rd ipa place end g in_machine free Rtt content page_long (Table rtt) tt fits;
     level = after;
@@ -251,9 +251,9 @@ module _ (m : Machine) (proper : IsProper m) (rd rtt ipa level : ℕ) (place : R
     inside = λ x j now lt. leads-same m n refl new_count (entry_in_page (page_in n x) j) (leads_now x j now lt);
   }
 
-pub block_made : (m : Machine) (proper : IsProper m) (rd rtt ipa level : ℕ) (place : RttWalk) (end : IsPlace m proper rd ipa place) → place.level + 1 ≡ level → level ≤ 3
+pub block_made : (m : Machine) (proper : IsLinked m) (rd rtt ipa level : ℕ) (place : RttWalk) (end : IsPlace m proper rd ipa place) → place.level + 1 ≡ level → level ≤ 3
     → is_inside m rtt ≡ true → rtt % 4096 ≡ 0 → (granule_at m (number_of m rtt)).state ≡ Delegated → (parent : RmmRttEntry) → entry_at m place ipa ≡ parent → is_table parent ≡ false → is_free parent ≡ false
-    → IsProper (with_entry (with_granule (with_page m (number_of m rtt) (children_page parent level)) (number_of m rtt) (of_realm rd Rtt)) place ipa (Table rtt))
+    → IsLinked (with_entry (with_granule (with_page m (number_of m rtt) (children_page parent level)) (number_of m rtt) (of_realm rd Rtt)) place ipa (Table rtt))
 block_made m proper rd rtt ipa level place end below most inside aligned free (Assigned ripas a) is not_table block = unfolded_proper m proper rd rtt ipa level place end below most inside aligned free ripas a is
 block_made m proper rd rtt ipa level place end below most inside aligned free (Table a) is not_table block = absurd (cc)
 block_made m proper rd rtt ipa level place end below most inside aligned free (Unassigned ripas) is not_table block = absurd (cc)

@@ -18,7 +18,7 @@ use Rattle.rmm_model.specs.Machine.{Machine, granule_at, page_in}
 use Rattle.rmm_model.specs.Realm.{IsServed}
 use Rattle.rmm_model.specs.Table.{entry_in_page}
 use Rattle.rmm_model.specs.Walk.{entry_at, table_below, walk_from, start_of, walk}
-use Rattle.rmm_laws.specs.Role.{Used, used, used_at, level_in, entry_uses, state_uses, uses, IsUsed, HasNoUser, IsProper}
+use Rattle.rmm_laws.specs.Role.{Used, used, used_at, level_in, entry_uses, state_uses, uses, IsUsed, HasNoUser, IsLinked}
 use Rattle.rmm_laws.specs.Walk.{IsTableOf}
 
 pub entry_index-few : (level ipa : ℕ) → entry_index level ipa < 512
@@ -29,14 +29,14 @@ pub entry_size-positive : (level : ℕ) → 0 < entry_size level
 unfolding entry_size
 entry_size-positive level = grind (arith, nat_tests)
 
-start_inside : (level ipa width count : ℕ) → ipa < 2 ^ width → 2 ^ width ≤ count * (512 * entry_size level) → start_offset level ipa < count
+pub start_inside : (level ipa width count : ℕ) → ipa < 2 ^ width → 2 ^ width ≤ count * (512 * entry_size level) → start_offset level ipa < count
 unfolding start_offset
 start_inside level ipa width count within served =
     let size : ℕ = entry_size level in
     let below : ipa < count * 512 * size = grind arith in
     div_below (ipa / size) 512 count (omega arith) (div_below ipa size (count * 512) (entry_size-positive level) below)
 
-module _ (m : Machine) (proper : IsProper m) where
+module _ (m : Machine) (proper : IsLinked m) where
   abbrev level_of : ℕ → ℕ
   level_of = proper.level
 

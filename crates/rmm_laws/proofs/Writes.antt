@@ -88,7 +88,7 @@ module _ (m n : Machine) (settings : n.settings ≡ m.settings) (count : length 
       ∙ ap (λ (p : List ℕ). state_uses m (granule_at m g).state (granule_at m g).owner (after g) p g i part) page
       ∙ ap (λ (l : ℕ). state_uses m (granule_at m g).state (granule_at m g).owner l (page_in m g) g i part) level
 
-  begin-same : (address : ℕ) → IsBegin m address → IsBegin n address
+  pub begin-same : (address : ℕ) → IsBegin m address → IsBegin n address
   begin-same address is = (
     inside-same address ∙ is.0,
     is.1 ∙ sym (ap (λ (k : ℕ). n.settings.base + k * 4096) (number-same address) ∙ ap (λ (s : RmmSettings). s.base + number_of m address * 4096) settings),

@@ -1,5 +1,7 @@
--- Refusals: of calls, of steps that a guest is given, and of accesses of a guest.
-use Rattle.std.specs.Prelude.{◌≢◌, ℕ, ◌-◌, ◌^◌}
+-- Refusals: of calls, of steps that a guest is given, of interrupts, and of accesses of a guest.
+use Rattle.std.specs.Prelude.{◌≡◌, ◌≢◌, ℕ, ◌-◌, ◌^◌, ◌⊎◌, true, false, Option, Some}
+use Rattle.rmi_abi.specs.declared.call.Call.{Call}
+use Rattle.rmi_abi.specs.declared.call.Call.TheVariants.{RecEnter}
 use Rattle.rmm_model.specs.declared.step.GuestStep.{GuestStep}
 use Rattle.rmm_model.specs.declared.step.GuestStep.TheVariants.{Write, Read, Fetch}
 use Rattle.rmm_model.specs.declared.step.Queued.{Queued}
@@ -7,10 +9,23 @@ use Rattle.rmm_model.specs.declared.step.Queued.TheVariants.{Queued as IsQueued}
 use Rattle.rmm_model.specs.declared.step.StepOutcome.{StepOutcome}
 use Rattle.rmm_model.specs.declared.step.StepOutcome.TheVariants.{Result as IsResult}
 use Rattle.rmm_model.specs.declared.step.StepResult.TheVariants.{Done}
+use Rattle.rmm_model.specs.Guest.{rec_in, is_rec_named}
+use Rattle.rmm_model.specs.Machine.{Machine, number_of}
+use Rattle.rmm_model.specs.Rec.{is_running}
+use Rattle.rmm_model.specs.Command.Operand.{rec_at}
 
 -- X0 refuses a call: it is neither RMI_SUCCESS nor the word of a REC that runs on
 abbrev pub IsRefused : ℕ → Type 0
 IsRefused x0 = (x0 ≢ 0) × (x0 ≢ 2 ^ 64 - 2)
+
+-- a call enters a REC, which is RUNNING in the machine after it
+abbrev pub IsRecEnter : Machine → Machine → Option Call → Type 0
+IsRecEnter m n (Some (RecEnter rec run)) = is_running (rec_in n (number_of m rec)).state ≡ true
+IsRecEnter m n _ = ⊥
+
+-- no REC begins at an address, or it does not run
+abbrev pub IsNotRunning : Machine → ℕ → Type 0
+IsNotRunning m address = (is_rec_named m address ≡ false) ⊎ (is_running (rec_at m address).state ≡ false)
 
 -- a guest was not given a step: it has 16 already, or there is no REC
 abbrev pub IsNotQueued : Queued → Type 0

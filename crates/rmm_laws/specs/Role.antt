@@ -106,7 +106,7 @@ LeadsInside m (Assigned ripas address) = IsBegin m address
 LeadsInside m _ = Unit {0}
 
 -- Each granule has one role, tables are of level 3 at most, and their entries lead to granules of the machine.
-pub record IsProper (m : Machine) : Type 0 where
+pub record IsLinked (m : Machine) : Type 0 where
   pub sound : IsSound m
   pub level : ℕ → ℕ
   pub roles : (granule : ℕ) → HasOneRole (uses m level) (used_at m level) granule

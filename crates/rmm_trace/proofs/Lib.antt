@@ -7,6 +7,7 @@ pub mod Words
 pub mod Sentences
 pub mod Printed
 pub mod Signs
+pub mod Skipped
 pub mod Trims
 pub mod Compared
 pub mod Operands

@@ -1,5 +1,5 @@
 -- The place of a text among texts, and the text at a place.
-use Rattle.std.proofs.Common.{◌≡◌, ℕ, zero, suc, ◌+◌, ◌<◌, ◌≤◌, List, [], ◌∷◌, length, map, get_or, drop, Bool, true, cond, Some, None, Bor, refl, sym, ap, ◌∙◌, arith, drop-cons}
+use Rattle.std.proofs.Common.{◌≡◌, ℕ, zero, suc, ◌+◌, ◌<◌, ◌≤◌, List, [], ◌∷◌, length, map, get_or, drop, Bool, true, cond, Option, Some, None, Bor, refl, sym, ap, ◌∙◌, arith, drop-cons}
 use Rattle.std.proofs.Math.ListN.{drop_of_length-le}
 use Rattle.std.specs.List.{position_from}
 use Rattle.rmm_trace.specs.Names.{nth_text}
@@ -8,14 +8,14 @@ use Rattle.rmm_trace.specs.Names.{nth_text}
 abbrev pub seen : List (Bor (List ℕ)) → List (List ℕ)
 seen ts = map (λ (t : Bor (List ℕ)). t.now) ts
 
-pub place_here : (p : List ℕ → Bool) (ts : List (Bor (List ℕ))) (i : ℕ) (d : Bor (List ℕ)) → i < length ts → p ((get_or ts i d).now) ≡ true
-    → position_from p i (seen (drop i ts)) ≡ position_from p 0 (seen ts) → Some i ≡ position_from p 0 (seen ts)
-place_here p ts i d within test so_far =
+pub place_here : (p : List ℕ → Bool) (ts : List (Bor (List ℕ))) (i : ℕ) (d : Bor (List ℕ)) (all : Option ℕ) → i < length ts → p ((get_or ts i d).now) ≡ true
+    → position_from p i (seen (drop i ts)) ≡ all → Some i ≡ all
+place_here p ts i d all within test so_far =
     let is = drop-cons ts i d within in
     sym (ap (λ xs. position_from p i (seen xs)) is ∙ ap (λ (b : Bool). cond b (Some i) (position_from p (i + 1) (seen (drop (suc i) ts)))) test) ∙ so_far
 
-pub place_none : (p : List ℕ → Bool) (ts : List (Bor (List ℕ))) (i : ℕ) → length ts ≤ i → position_from p i (seen (drop i ts)) ≡ position_from p 0 (seen ts) → None ≡ position_from p 0 (seen ts)
-place_none p ts i past so_far = sym (ap (λ xs. position_from p i (seen xs)) (drop_of_length-le ts past)) ∙ so_far
+pub place_none : (p : List ℕ → Bool) (ts : List (Bor (List ℕ))) (i : ℕ) (all : Option ℕ) → length ts ≤ i → position_from p i (seen (drop i ts)) ≡ all → None ≡ all
+place_none p ts i all past so_far = sym (ap (λ xs. position_from p i (seen xs)) (drop_of_length-le ts past)) ∙ so_far
 
 pub text_here : (ts : List (Bor (List ℕ))) (i : ℕ) (d : Bor (List ℕ)) → i < length ts → (get_or ts i d).now ≡ nth_text i (seen ts)
 text_here [] i d within = absurd (omega arith)

@@ -7,10 +7,10 @@ use Rattle.arrayvec.specs.ArrayVec.{ArrayVec}
 use Rattle.rmm_trace.specs.declared.word.TraceWord.{TraceWord}
 use Rattle.rmm_trace.specs.declared.grammar.Group.{Group}
 use Rattle.rmm_trace.specs.declared.grammar.Place.{Place}
-use Rattle.rmm_trace.specs.declared.line.RmmTraceLine.TheVariants.{Question, Neither}
+use Rattle.rmm_trace.specs.declared.line.LineKind.TheVariants.{Neither}
 use Rattle.rmm_trace.specs.Words.{word_text, IsWord}
 use Rattle.rmm_trace.specs.Sentences.{spaced, sentence_text, IsSentence}
-use Rattle.rmm_trace.specs.Lines.{before_trimmed, trimmed, bare_text, before_answer, answer_in, is_question, as_question, question_in, as_line, line_of_question, line_in}
+use Rattle.rmm_trace.specs.Lines.{before_trimmed, trimmed, bare_text, before_answer, answer_in, is_question, as_question, question_in, question_of, without_words, as_line, line_of_question, line_in}
 use Rattle.rmm_trace.proofs.Cuts.{lacks, lacks-append, before_lacking}
 use Rattle.rmm_trace.proofs.Texts.{is_return, is_space, is_hash, is_sign}
 use Rattle.rmm_trace.proofs.Words.{word_lacks, word_some}
@@ -124,14 +124,14 @@ question_back groups start ws is accepted =
     ap (option_and_then (as_question groups start)) (sentence_back ws is) ∙ ap (λ (t : Bool). cond t (Some (record { items = ws })) None) accepted
 
 line_of_some : (groups : List Group) (start : Place) (text : List ℕ) (bytes : ℕ) (question : ArrayVec TraceWord) → 0 < length text → bytes ≤ 65536 → question_in groups start text ≡ Some question
-    → line_of_question groups start text bytes ≡ Question question
+    → line_of_question groups start text bytes ≡ question_of question
 line_of_some groups start [] bytes question some short is = absurd (omega arith)
 line_of_some groups start (b ∷ bs) bytes question some short is =
     let test : ltb 65536 bytes ≡ false = le-ltb 65536 bytes short in
-    ap (λ (t : Bool). cond t Neither (as_line (question_in groups start (b ∷ bs)))) test ∙ ap as_line is
+    ap (λ (t : Bool). cond t (without_words Neither) (as_line (question_in groups start (b ∷ bs)))) test ∙ ap as_line is
 
 pub question_line : (groups : List Group) (start : Place) (ws : List TraceWord) → IsSentence ws → is_question groups start ws ≡ true → length (sentence_text ws) ≤ 65536
-    → line_in groups start (sentence_text ws) ≡ Question (record { items = ws })
+    → line_in groups start (sentence_text ws) ≡ question_of (record { items = ws })
 question_line groups start ws is accepted short =
     let text = sentence_text ws in
     let bare : bare_text text ≡ text = ap trimmed (before_lacking 35 text (lacks_hash ws)) ∙ trimmed-sentence ws is in
@@ -149,7 +149,7 @@ answered_bare ws vs is_v =
 
 pub answered_line : (groups : List Group) (start : Place) (ws vs : List TraceWord) → IsSentence ws → IsSentence vs → is_question groups start ws ≡ true
     → length (sentence_text ws ++ (codes " = " ++ sentence_text vs)) ≤ 65536
-    → line_in groups start (sentence_text ws ++ (codes " = " ++ sentence_text vs)) ≡ Question (record { items = ws })
+    → line_in groups start (sentence_text ws ++ (codes " = " ++ sentence_text vs)) ≡ question_of (record { items = ws })
 answered_line groups start ws vs is is_v accepted short =
     let text = sentence_text ws ++ (codes " = " ++ sentence_text vs) in
     ap (λ t. line_of_question groups start (before_answer t) (length text)) (answered_bare ws vs is_v)

@@ -1,7 +1,8 @@
 -- Where a text is cut at its answer.
-use Rattle.std.proofs.Common.{◌≡◌, ℕ, suc, ◌<◌, ◌+◌, List, [], ◌∷◌, ◌++◌, length, get_or, take, drop, Bool, true}
+use Rattle.std.proofs.Common.{◌≡◌, ℕ, suc, ◌<◌, ◌+◌, List, [], ◌∷◌, ◌++◌, length, get_or, take, drop, Bool, true, eqb, refl}
 use Rattle.std.proofs.Common.{false, cond, nat_eq, codes, Some, sym, ap, ◌∙◌, add-one, append_assoc, append-nil, drop-cons, drop-drop, length-drop, ◌-◌, arith}
 use Rattle.std.proofs.Math.Seq.{take-suc}
+use Rattle.std.proofs.lemmas.Bool.{eqb-false, ne_eqb}
 use Rattle.std.proofs.lemmas.List.{take_all}
 use Rattle.std.specs.List.{starts_with}
 use Rattle.rmm_trace.specs.Lines.{before_answer, answer_in}
@@ -45,3 +46,10 @@ answer_here text at within test passed =
 -- what a slice from a place on holds
 pub rest_from : (text : List ℕ) (at : ℕ) → take (length text - at) (drop at text) ≡ drop at text
 rest_from text at = take_all (length text - at) (drop at text) (omega (arith, length-drop at text))
+
+-- a sign begins with a space
+other_byte : (b : ℕ) (bs : List ℕ) → eqb b 32 ≡ false → begins (b ∷ bs) ≡ false
+other_byte b bs apart = let other : eqb 32 b ≡ false = ne_eqb 32 b (λ e. eqb-false b 32 apart (sym e)) in rw other refl
+
+pub no_space_no_sign : (text : List ℕ) (at : ℕ) → at < length text → eqb (get_or text at 0) 32 ≡ false → begins (drop at text) ≡ false
+no_space_no_sign text at within apart = ap begins (drop-cons text at 0 within) ∙ other_byte (get_or text at 0) (drop (suc at) text) apart

@@ -1,7 +1,7 @@
 -- An answer that is written, compared with ours. What is not written is not compared.
-use Rattle.std.specs.Prelude.{ℕ, ◌-◌, ◌==◌, nat_le, nat_lt, Bool, true, false, not, ◌&&◌, ◌||◌, if◌then◌else◌, List, [], ◌∷◌, length, Option, Some, None, bit_and}
+use Rattle.std.specs.Prelude.{ℕ, ◌-◌, ◌==◌, nat_le, nat_lt, Bool, true, false, not, ◌&&◌, ◌||◌, if◌then◌else◌, List, [], ◌∷◌, length, Option, Some, None, is_some, bit_and}
 use Rattle.std.specs.List.{list_any, list_all, onto_first}
-use Rattle.rmm_trace.specs.declared.place.TheConstants.{DASH, EMPTY, FILL, FIRST_CHECK, GPRS, INTERRUPT, PLATFORM, PSCI_DENIED, PSCI_SUCCESS, REPEAT, RMI_SUCCESS, SMC, SYNC, UNASSIGNED}
+use Rattle.rmm_trace.specs.declared.place.TheConstants.{DASH, EMPTY, FILL, FIRST_CHECK, GPRS, INTERRUPT, PLATFORM, PSCI_DENIED, PSCI_SUCCESS, REPEAT, RMI_SUCCESS, SYNC, UNASSIGNED}
 use Rattle.rmm_trace.specs.declared.word.Atom.{Atom}
 use Rattle.rmm_trace.specs.declared.word.Atom.TheVariants.{Name, Decimal, Hexadecimal}
 use Rattle.rmm_trace.specs.declared.word.TraceWord.{TraceWord}
@@ -47,6 +47,13 @@ is_dash _ = false
 -- `-` is each value
 abbrev pub is_same_value : TraceWord → TraceWord → Bool
 is_same_value written ours = is_dash written.value || is_same_atom (mask_of written.mask) written.value ours.value
+
+-- a number, or `-`, with no comma after it
+abbrev pub is_register : TraceWord → Bool
+is_register w = not w.is_listed && (is_dash w.value || is_some (atom_number w.value))
+
+abbrev pub is_same_register : TraceWord → TraceWord → Bool
+is_same_register written ours = is_register written && is_same_value written ours
 
 abbrev pub zero_word : TraceWord
 zero_word = record { value = Decimal 0; mask = None; step = None; is_listed = false }
@@ -145,11 +152,11 @@ command_in (w ∷ []) = place_of w.value
 command_in (w ∷ times ∷ []) = place_of w.value
 command_in (w ∷ times ∷ call ∷ ws) = if place_of w.value == REPEAT then place_of call.value else place_of w.value
 
--- calls and fills are compared by their parts, registers as far as they are written, and all others word by word
+-- calls and fills are compared by their parts, and all others word by word
 abbrev pub is_same_by : ℕ → Bool → List TraceWord → List TraceWord → Bool
 is_same_by kind are_checks_compared written ours =
     if nat_lt kind PLATFORM || kind == INTERRUPT || kind == FILL then are_parts are_checks_compared written ours
-    else (if not (kind == SMC) && not (length written == length ours) then false else are_first written ours)
+    else (length written == length ours && are_first written ours)
 
 abbrev pub is_same : List (ℕ × ℕ) → List TraceWord → List TraceWord → List TraceWord → Bool
 is_same pairs question written ours =

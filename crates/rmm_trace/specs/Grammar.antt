@@ -1,5 +1,5 @@
 -- The grammar of questions: a question is groups of words, each a name and its values.
-use Rattle.std.specs.Prelude.{ℕ, ◌+◌, ◌-◌, ◌%◌, ◌==◌, nat_le, nat_lt, Bool, false, not, ◌&&◌, ◌||◌, if◌then◌else◌, List, [], ◌∷◌, Option, Some, None, is_some, option_and_then, bit_and, bit_or}
+use Rattle.std.specs.Prelude.{ℕ, ◌+◌, ◌-◌, ◌%◌, ◌==◌, nat_le, nat_lt, Bool, true, false, not, ◌&&◌, ◌||◌, if◌then◌else◌, List, [], ◌∷◌, Option, Some, None, is_some, option_and_then, bit_and, bit_or}
 use Rattle.rmm_trace.specs.declared.word.Atom.{Atom}
 use Rattle.rmm_trace.specs.declared.word.Atom.TheVariants.{Name, Decimal, Hexadecimal}
 use Rattle.rmm_trace.specs.declared.word.TraceWord.{TraceWord}
@@ -28,6 +28,11 @@ is_row context name group = group.name == name && not (bit_and group.contexts co
 abbrev pub row_of : ℕ → ℕ → List Group → Option Group
 row_of context name [] = None
 row_of context name (group ∷ groups) = if is_row context name group then Some group else row_of context name groups
+
+-- the place that was gone on to, if one could
+abbrev pub if_place : Bool → Place → Option Place
+if_place true it = Some it
+if_place false it = None
 
 -- the place at the begin of a group, if no group came that it excludes
 abbrev pub enter : Place → Group → Option Place

@@ -6,7 +6,8 @@ use Rattle.rmm_trace.specs.declared.word.TraceWord.{TraceWord}
 use Rattle.rmm_trace.specs.declared.grammar.Group.{Group}
 use Rattle.rmm_trace.specs.declared.grammar.Place.{Place}
 use Rattle.rmm_trace.specs.declared.line.RmmTraceLine.{RmmTraceLine}
-use Rattle.rmm_trace.specs.declared.line.RmmTraceLine.TheVariants.{Remark, Question, Neither}
+use Rattle.rmm_trace.specs.declared.line.LineKind.{LineKind}
+use Rattle.rmm_trace.specs.declared.line.LineKind.TheVariants.{Remark, Question, Neither}
 use Rattle.rmm_trace.specs.Cuts.{before_mark}
 use Rattle.rmm_trace.specs.Sentences.{words_in}
 use Rattle.rmm_trace.specs.Consistent.{is_consistent}
@@ -50,13 +51,20 @@ as_question groups start ws = if is_question groups start ws then Some (record {
 abbrev pub question_in : List Group → Place → List ℕ → Option (ArrayVec TraceWord)
 question_in groups start text = option_and_then (as_question groups start) (words_in 64 (slice_split (λ b. b == 32) text))
 
+abbrev pub without_words : LineKind → RmmTraceLine
+without_words kind = record { kind = kind; words = record { items = [] } }
+
+abbrev pub question_of : ArrayVec TraceWord → RmmTraceLine
+question_of words = record { kind = Question; words = words }
+
 abbrev pub as_line : Option (ArrayVec TraceWord) → RmmTraceLine
-as_line (Some words) = Question words
-as_line None = Neither
+as_line (Some words) = question_of words
+as_line None = without_words Neither
 
 abbrev pub line_of_question : List Group → Place → List ℕ → ℕ → RmmTraceLine
-line_of_question groups start [] bytes = Remark
-line_of_question groups start (b ∷ bs) bytes = if nat_lt 65536 bytes then Neither else as_line (question_in groups start (b ∷ bs))
+line_of_question groups start [] bytes = without_words Remark
+line_of_question groups start (b ∷ bs) bytes =
+    if nat_lt 65536 bytes then without_words Neither else as_line (question_in groups start (b ∷ bs))
 
 abbrev pub line_in : List Group → Place → List ℕ → RmmTraceLine
 line_in groups start line = line_of_question groups start (before_answer (bare_text line)) (length line)

@@ -1,5 +1,5 @@
 -- Sentences: words with one space between two.
-use Rattle.std.specs.Prelude.{ℕ, zero, suc, ◌<◌, ◌≤◌, List, [], ◌∷◌, ◌++◌, length, Option, Some, None, option_map, option_and_then}
+use Rattle.std.specs.Prelude.{ℕ, zero, suc, ◌<◌, ◌≤◌, Bool, true, false, List, [], ◌∷◌, ◌++◌, length, Option, Some, None, option_map, option_and_then}
 use Rattle.std.specs.List.{flat_map, AllByRecursion}
 use Rattle.rmm_trace.specs.declared.word.TraceWord.{TraceWord}
 use Rattle.rmm_trace.specs.Words.{word_text, word_in, IsWord}
@@ -17,6 +17,11 @@ abbrev pub words_in : ℕ → List (List ℕ) → Option (List TraceWord)
 words_in most [] = Some []
 words_in zero (text ∷ texts) = None
 words_in (suc most) (text ∷ texts) = option_and_then (λ w. option_map (λ ws. w ∷ ws) (words_in most texts)) (word_in text)
+
+-- the words that were read, if all could be
+abbrev pub if_read : Bool → List TraceWord → Option (List TraceWord)
+if_read true ws = Some ws
+if_read false ws = None
 
 -- a sentence that can be written
 pub record IsSentence (ws : List TraceWord) : Type 0 where

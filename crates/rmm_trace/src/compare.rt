@@ -5,7 +5,7 @@ ghost use Rattle.rmm_trace.specs.Compare.{is_name_among, ordinal, atom_number, m
 ghost use Rattle.rmm_trace.specs.Compare.{is_dash, is_same_value, is_check, starts_check, ends_part, is_open};
 ghost use Rattle.rmm_trace.specs.Compare.{first_of, rest_of, are_values, parts, is_same_name, is_same_part, has_part};
 ghost use Rattle.rmm_trace.specs.Compare.{are_parts, are_first, is_pair, check_in, is_unsure, place_of, command_in};
-ghost use Rattle.rmm_trace.specs.Compare.{is_same_by, is_same};
+ghost use Rattle.rmm_trace.specs.Compare.{is_register, is_same_register, is_same_by, is_same};
 
 use crate::place::{
     CHECK_AUX_BOUND, CHECK_BASE_ALIGN, CHECK_BASE_BOUND, CHECK_BASE_GRAN_ALIGN, CHECK_DESC_BOUND,
@@ -14,7 +14,7 @@ use crate::place::{
     CHECK_TOP_GRAN_ALIGN, CHECK_VERSION, DASH, EMPTY, FILL, FIRST_CHECK, GPRS, INTERRUPT, PLATFORM,
     PSCI_DENIED, PSCI_SUCCESS, REPEAT, RMI_DATA_CREATE, RMI_PSCI_COMPLETE, RMI_REC_CREATE,
     RMI_RTT_FOLD, RMI_RTT_INIT_RIPAS, RMI_RTT_MAP_UNPROTECTED, RMI_RTT_SET_RIPAS, RMI_SUCCESS,
-    RMI_VERSION, SMC, SYNC, UNASSIGNED,
+    RMI_VERSION, SYNC, UNASSIGNED,
 };
 use crate::word::{Atom, TraceWord};
 
@@ -106,6 +106,20 @@ fn is_same_value(written: TraceWord, ours: TraceWord) -> bool
     is_dash(written.value) || is_same_atom(mask_of(written.mask), written.value, ours.value)
 }
 
+/// Whether a word can be written in the place of a register: a number or `-`, with no comma after it.
+pub fn is_register(word: TraceWord) -> bool
+    ensures { result ≡ is_register word }
+{
+    !word.is_listed && (is_dash(word.value) || atom_number(word.value).is_some())
+}
+
+/// Whether a register that is written is ours.
+pub fn is_same_register(written: TraceWord, ours: TraceWord) -> bool
+    ensures { result ≡ is_same_register written ours }
+{
+    is_register(written) && is_same_value(written, ours)
+}
+
 const ZERO: TraceWord = TraceWord {
     value: Atom::Decimal(0),
     mask: None,
@@ -113,8 +127,8 @@ const ZERO: TraceWord = TraceWord {
     is_listed: false,
 };
 
-// The first word and the others; 0 if there is none.
-fn split_word(words: &[TraceWord]) -> (TraceWord, &[TraceWord])
+/// The first word and the others; 0 if there is none.
+pub fn split_word(words: &[TraceWord]) -> (TraceWord, &[TraceWord])
     ensures first { result.0 ≡ first_of words.now }
     ensures rest { result.1.now ≡ rest_of words.now }
 {
@@ -380,10 +394,7 @@ fn is_same_by(
     if kind < PLATFORM || kind == INTERRUPT || kind == FILL {
         return are_parts(are_checks_compared, written, ours);
     }
-    if kind != SMC && written.len() != ours.len() {
-        return false;
-    }
-    are_first(written, ours)
+    written.len() == ours.len() && are_first(written, ours)
 }
 
 fn is_same_with(
@@ -399,10 +410,9 @@ fn is_same_with(
     is_same_by(command, !has_unsure, written, ours)
 }
 
-/// Whether an answer to a question that is written is ours.
+/// Whether an answer that is written to a question is ours. A raw call is no question here.
 ///
-/// Calls are compared by their parts, raw calls by the registers that are written, and others word by word. A name of a
-/// check that is unsure is not compared.
+/// Calls are compared by their parts, and others word by word. A name of a check that is unsure is not compared.
 pub fn is_same(question: &[TraceWord], written: &[TraceWord], ours: &[TraceWord]) -> bool
     ensures { result ≡ is_same UNSURE question.now written.now ours.now }
 {

@@ -1,7 +1,8 @@
 //! The grammar of questions, by a table: the groups of words that a question is.
 ghost use Rattle.std.specs.Prelude.{◌≡◌, Some};
+ghost use Rattle.std.specs.Option.{option_copied};
 ghost use Rattle.rmm_trace.specs.Grammar.{is_number_of, is_of_kind, kind_at, row_of};
-ghost use Rattle.rmm_trace.specs.Grammar.{enter, opened, next, is_complete, accepts};
+ghost use Rattle.rmm_trace.specs.Grammar.{if_place, enter, opened, next, is_complete, accepts};
 
 use crate::word::{Atom, TraceWord};
 
@@ -53,8 +54,8 @@ pub struct Place {
 /// The context of the operands that may have a step.
 pub const REPEATED: u64 = 2;
 
-fn is_number_of(kind: ValueKind, number: u64) -> bool
-    ensures { result ≡ is_number_of kind number }
+fn is_number_of(kind: &ValueKind, number: u64) -> bool
+    ensures { result ≡ is_number_of kind.now number }
 {
     if number < kind.least || kind.most < number {
         return false;
@@ -66,8 +67,8 @@ fn is_number_of(kind: ValueKind, number: u64) -> bool
 }
 
 /// Whether an atom is a value of a kind.
-pub fn is_of_kind(kind: ValueKind, atom: Atom) -> bool
-    ensures { result ≡ is_of_kind kind atom }
+pub fn is_of_kind(kind: &ValueKind, atom: Atom) -> bool
+    ensures { result ≡ is_of_kind kind.now atom }
 {
     match atom {
         Atom::Name(name) => { kind.first_name <= name && name - kind.first_name < kind.name_count }
@@ -77,94 +78,96 @@ pub fn is_of_kind(kind: ValueKind, atom: Atom) -> bool
 }
 
 // The kind of a value by how many come before it.
-fn kind_at(group: Group, count: usize) -> ValueKind
-    ensures { result ≡ kind_at group count }
+fn kind_at(group: &Group, count: usize) -> &ValueKind
+    ensures { result.now ≡ kind_at group.now count }
 {
     match count {
-        0 => group.first,
-        1 => group.second,
-        2 => group.third,
-        _ => group.others,
+        0 => &group.first,
+        1 => &group.second,
+        2 => &group.third,
+        _ => &group.others,
     }
 }
 
 // The first group of a name in a context.
-fn row_of(groups: &[Group], context: u64, name: usize) -> Option<Group>
-    ensures { result ≡ row_of context name groups.now }
+fn row_of(groups: &[Group], context: u64, name: usize) -> Option<&Group>
+    ensures { option_copied result ≡ row_of context name groups.now }
 {
     for group in groups {
         if group.name == name && group.contexts & context != 0 {
-            return Some(*group);
+            return Some(group);
         }
     }
     None
 }
 
-// The place at the begin of a group, if no group came that it excludes.
-fn enter(it: Place, group: Group) -> Option<Place>
-    ensures { result ≡ enter it group }
-{
-    if it.seen & group.excludes != 0 {
-        return None;
+impl Place {
+    // Goes to the begin of a group; it returns whether no group came that this one excludes.
+    fn enter(&mut self, group: &Group) -> bool
+        ensures { if_place result self.new ≡ enter self.old group.now }
+    {
+        if self.seen & group.excludes != 0 {
+            return false;
+        }
+        self.context = self.group.opens;
+        self.group = *group;
+        self.count = 0;
+        self.seen |= group.bit;
+        true
     }
-    Some(Place {
-        group,
-        context: it.group.opens,
-        count: 0,
-        seen: it.seen | group.bit,
-    })
+
+    // Goes on with the name of a group; it returns whether there is one.
+    fn open(&mut self, groups: &[Group], atom: Atom) -> bool
+        ensures { if_place result self.new ≡ opened groups.now self.old atom }
+    {
+        let Atom::Name(name) = atom else {
+            return false;
+        };
+        match row_of(groups, self.group.opens, name) {
+            Some(group) => self.enter(group),
+            None => false,
+        }
+    }
+
+    // Goes on with a word; it returns whether a question may.
+    fn advance(&mut self, groups: &[Group], word: &TraceWord) -> bool
+        ensures { if_place result self.new ≡ next groups.now self.old word.now }
+    {
+        if word.is_listed || word.mask.is_some() {
+            return false;
+        }
+        if word.step.is_some() && self.context != REPEATED {
+            return false;
+        }
+        if self.count < self.group.most
+            && is_of_kind(kind_at(&self.group, self.count), word.value)
+        {
+            self.count += 1;
+            return true;
+        }
+        if word.step.is_some() || self.count < self.group.least {
+            return false;
+        }
+        self.open(groups, word.value)
+    }
+
+    // Whether a question may end here.
+    fn is_complete(&self) -> bool
+        ensures { result ≡ is_complete self.now }
+    {
+        self.group.is_last && self.group.least <= self.count
+    }
 }
 
-// The place after the name of a group.
-fn opened(groups: &[Group], it: Place, atom: Atom) -> Option<Place>
-    ensures { result ≡ opened groups.now it atom }
-{
-    match atom {
-        Atom::Name(name) => enter(it, row_of(groups, it.group.opens, name)?),
-        Atom::Decimal(_) => None,
-        Atom::Hexadecimal(_) => None,
-    }
-}
-
-// The place after a word.
-fn next(groups: &[Group], it: Place, word: TraceWord) -> Option<Place>
-    ensures { result ≡ next groups.now it word }
-{
-    if word.is_listed || word.mask.is_some() {
-        return None;
-    }
-    if word.step.is_some() && it.context != REPEATED {
-        return None;
-    }
-    if it.count < it.group.most && is_of_kind(kind_at(it.group, it.count), word.value) {
-        return Some(Place {
-            count: it.count + 1,
-            ..it
-        });
-    }
-    if word.step.is_some() || it.count < it.group.least {
-        return None;
-    }
-    opened(groups, it, word.value)
-}
-
-// Whether a question may end at a place.
-fn is_complete(it: Place) -> bool
-    ensures { result ≡ is_complete it }
-{
-    it.group.is_last && it.group.least <= it.count
-}
-
-/// Whether words go on from a place to the end of a question.
+/// Whether words go on from a place to the end of a question. One place is kept, and changed by each word.
 pub fn accepts(groups: &[Group], start: Place, words: &[TraceWord]) -> bool
     ensures { result ≡ accepts groups.now (Some start) words.now }
 {
     let mut it = start;
     for word in words {
-        let Some(after) = next(groups, it, *word) else {
+        if !it.advance(groups, word) {
             return false;
-        };
-        it = after;
+        }
     }
-    is_complete(it)
+    it.is_complete()
 }

@@ -4,10 +4,9 @@ ghost use Rattle.hex.specs.Hex.{encode_lower, IsBytes};
 ghost use Rattle.std.specs.List.{slice_split};
 ghost use Rattle.rmm_trace.specs.declared.grammar.Group.{Group};
 ghost use Rattle.rmm_trace.specs.declared.grammar.Place.{Place};
-ghost use Rattle.rmm_trace.specs.declared.line.RmmTraceLine.TheVariants.{Question};
 ghost use Rattle.rmm_trace.specs.declared.word.TraceWord.{TraceWord};
 ghost use Rattle.rmm_trace.specs.Commands.{are_commands_named};
-ghost use Rattle.rmm_trace.specs.Lines.{bare_text, answer_in, is_question, line_in};
+ghost use Rattle.rmm_trace.specs.Lines.{bare_text, answer_in, is_question, question_of, line_in};
 ghost use Rattle.rmm_trace.specs.Places.{are_places_named};
 ghost use Rattle.rmm_trace.specs.Sentences.{sentence_text, words_in, IsSentence};
 
@@ -27,7 +26,7 @@ pub fn printed_questions_are_read_back()
     ensures { (groups : List Group) (start : Place) (ws : List TraceWord)
         → IsSentence ws → is_question groups start ws ≡ true
         → length (sentence_text ws) ≤ 65536
-        → line_in groups start (sentence_text ws) ≡ Question (record { items = ws }) }
+        → line_in groups start (sentence_text ws) ≡ question_of (record { items = ws }) }
 {}
 
 /// A line that is a question's text and an answer's is that question.
@@ -36,7 +35,7 @@ pub fn answered_questions_are_read_back()
         → IsSentence ws → IsSentence vs → is_question groups start ws ≡ true
         → length (sentence_text ws ++ (codes " = " ++ sentence_text vs)) ≤ 65536
         → line_in groups start (sentence_text ws ++ (codes " = " ++ sentence_text vs))
-        ≡ Question (record { items = ws }) }
+        ≡ question_of (record { items = ws }) }
 {}
 
 /// The answer's text in a line that is a question's text and an answer's is that answer's.

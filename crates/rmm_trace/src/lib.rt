@@ -38,7 +38,7 @@ mod word;
 
 pub use access::{FUNCTIONS, after_name, call_registers, operand};
 pub use answer::{RUNS_ON, index_of, output_atom, plain, push_word, status_of};
-pub use compare::{UNSURE, atom_number, is_same};
+pub use compare::{UNSURE, atom_number, is_register, is_same, is_same_register, split_word};
 pub use consistent::is_consistent;
 pub use cut::cut_at;
 pub use digest::{sha256_text, sha512_text};
@@ -48,8 +48,8 @@ pub use law::{
     places_are_of_their_names, printed_answers_are_read_back, printed_questions_are_read_back,
     printed_words_are_read_back, sentences_are_injective,
 };
-pub use line::{MOST_LINE, RmmTraceLine, cut_line, parse, read_question};
+pub use line::{LineKind, MOST_LINE, RmmTraceLine, cut_line};
 pub use name::{find_name, name_text};
-pub use sentence::{MOST_WORDS, Sentence, SentenceText, read_words};
+pub use sentence::{MOST_WORDS, Sentence, SentenceText, read_into, read_words};
 pub use table::{GROUPS, START};
 pub use word::{Atom, TraceWord};

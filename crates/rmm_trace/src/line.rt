@@ -1,27 +1,38 @@
 //! Lines of a trace, without the line feed that ends them.
-ghost use Rattle.std.specs.Prelude.{◌≡◌};
+ghost use Rattle.std.specs.Prelude.{◌≡◌, ◌+◌, ◌<◌, ◌≤◌, true, nat_eq, length, drop, codes};
+ghost use Rattle.std.specs.List.{starts_with};
 ghost use Rattle.std.specs.Option.{option_copied};
-ghost use Rattle.rmm_trace.specs.Lines.{is_blank, trimmed, bare_text, before_answer};
-ghost use Rattle.rmm_trace.specs.Lines.{answer_in, question_in, line_in, is_question};
+ghost use Rattle.rmm_trace.specs.Lines.{is_blank, trimmed, bare_text, before_answer, answer_in};
+ghost use Rattle.rmm_trace.specs.Lines.{is_question, question_in, as_line, without_words, line_of_question, line_in};
+ghost use Rattle.rmm_trace.specs.declared.line.LineKind.TheVariants.{Remark};
 
 use crate::consistent::is_consistent;
 use crate::cut::cut_at;
 use crate::grammar::{Group, Place, accepts};
-use crate::sentence::{Sentence, read_words};
+use crate::sentence::{Sentence, read_into};
 use crate::table::{GROUPS, START};
 use crate::word::TraceWord;
 
 /// The most bytes of a line that is a question.
 pub const MOST_LINE: usize = 65_536;
 
-/// A line of a trace.
-#[derive(Drop)]
-pub enum RmmTraceLine {
+/// The kinds of lines.
+#[derive(Clone, Copy, Debug, PartialEq, Eq)]
+pub enum LineKind {
     /// A comment, or an empty line.
     Remark,
-    Question(Sentence),
+    Question,
     /// No command.
     Neither,
+}
+
+/// A line of a trace: its kind, and the words of its question.
+///
+/// It is kept from line to line, and filled where it stays.
+#[derive(Drop)]
+pub struct RmmTraceLine {
+    pub kind: LineKind,
+    pub words: Sentence,
 }
 
 // Whether a byte is a space or a carriage return.
@@ -52,13 +63,25 @@ fn bare(line: &[u8]) -> &[u8]
     trim_end(cut_at(line, b'#').0)
 }
 
+// Whether the sign of an answer begins at a place. Most bytes are no space.
+fn is_sign_at(text: &[u8], at: usize) -> bool
+    requires { at < length text.now }
+    ensures sign { result ≡ starts_with nat_eq (drop at text.now) (codes " = ") }
+    ensures fits { result ≡ true → at + 3 ≤ length text.now }
+{
+    if text[at] != b' ' {
+        return false;
+    }
+    text[at..].starts_with(b" = ")
+}
+
 // A text cut at its first ` = `.
 fn cut_sign(text: &[u8]) -> (&[u8], Option<&[u8]>)
     ensures before { result.0.now ≡ before_answer text.now }
     ensures answer { option_copied result.1 ≡ answer_in text.now }
 {
     for at in 0..text.len() {
-        if text[at..].starts_with(b" = ") {
+        if is_sign_at(text, at) {
             return (&text[..at], Some(&text[at + 3..]));
         }
     }
@@ -80,45 +103,62 @@ fn is_question(groups: &[Group], start: Place, words: &[TraceWord]) -> bool
     accepts(groups, start, words) && is_consistent(words)
 }
 
-// The question that a text is, by a grammar.
-fn question_by(groups: &[Group], start: Place, text: &[u8]) -> Option<Sentence>
-    ensures { result ≡ question_in groups.now start text.now }
-{
-    let words = read_words(text)?;
-    if is_question(groups, start, words.as_slice()) {
-        Some(words)
-    } else {
-        None
+impl RmmTraceLine {
+    /// A remark.
+    pub fn new() -> RmmTraceLine
+        ensures { result ≡ without_words Remark }
+    {
+        RmmTraceLine {
+            kind: LineKind::Remark,
+            words: Sentence::new(),
+        }
     }
-}
 
-// What a line is, by a grammar.
-fn line_by(groups: &[Group], start: Place, line: &[u8]) -> RmmTraceLine
-    ensures { result ≡ line_in groups.now start line.now }
-{
-    let (question, _) = cut_line(line);
-    if question.is_empty() {
-        return RmmTraceLine::Remark;
+    // Makes it a line without words.
+    fn clear(&mut self, kind: LineKind)
+        ensures { self.new ≡ without_words kind }
+    {
+        self.words.clear();
+        self.kind = kind;
     }
-    if line.len() > MOST_LINE {
-        return RmmTraceLine::Neither;
-    }
-    match question_by(groups, start, question) {
-        Some(question) => RmmTraceLine::Question(question),
-        None => RmmTraceLine::Neither,
-    }
-}
 
-/// The question that a text is. It takes no memory.
-pub fn read_question(text: &[u8]) -> Option<Sentence>
-    ensures { result ≡ question_in GROUPS START text.now }
-{
-    question_by(&GROUPS, START, text)
-}
+    // Makes it the question that a text is, by a grammar; no command if the text is none.
+    fn fill(&mut self, groups: &[Group], start: Place, text: &[u8])
+        ensures { self.new ≡ as_line (question_in groups.now start text.now) }
+    {
+        self.clear(LineKind::Question);
+        if !read_into(text, &mut self.words) {
+            self.clear(LineKind::Neither);
+            return;
+        }
+        if !is_question(groups, start, self.words.as_slice()) {
+            self.clear(LineKind::Neither);
+        }
+    }
 
-/// What a line is. A question in more than `MOST_LINE` bytes is no command. It takes no memory.
-pub fn parse(line: &[u8]) -> RmmTraceLine
-    ensures { result ≡ line_in GROUPS START line.now }
-{
-    line_by(&GROUPS, START, line)
+    // Makes it the line of a question's text and of so many bytes, by a grammar.
+    fn fill_by(&mut self, groups: &[Group], start: Place, question: &[u8], bytes: usize)
+        ensures { self.new ≡ line_of_question groups.now start question.now bytes }
+    {
+        if question.is_empty() {
+            self.clear(LineKind::Remark);
+        } else if bytes > MOST_LINE {
+            self.clear(LineKind::Neither);
+        } else {
+            self.fill(groups, start, question);
+        }
+    }
+
+    /// Makes it what a line is, and returns the text of the answer that is written in it, if there is one. It takes no
+    /// memory.
+    ///
+    /// A question in more than `MOST_LINE` bytes is no command.
+    pub fn parse<'a>(&mut self, line: &'a [u8]) -> Option<&'a [u8]>
+        ensures line { self.new ≡ line_in GROUPS START line.now }
+        ensures written { option_copied result ≡ answer_in (bare_text line.now) }
+    {
+        let (question, written) = cut_line(line);
+        self.fill_by(&GROUPS, START, question, line.len());
+        written
+    }
 }

@@ -1,8 +1,10 @@
 //! Names: the words of traces that are no numbers.
-ghost use Rattle.std.specs.Prelude.{◌≡◌, map};
+ghost use Rattle.std.specs.Prelude.{◌≡◌, map, drop};
 ghost use Rattle.std.specs.List.{position_from};
 ghost use Rattle.std.specs.Str.{bytes_eq};
 ghost use Rattle.rmm_trace.specs.Names.{names, nth_text};
+
+use crate::place::{FIRST_CHECK, RMI_SUCCESS};
 
 // The names, each once.
 const NAMES: [&str; 256] = [
@@ -275,12 +277,12 @@ const NAMES: [&str; 256] = [
     "(status)",
 ];
 
-// The place of a text among texts.
-fn place_of(texts: &[&str], text: &[u8]) -> Option<usize>
-    ensures { result ≡ position_from (bytes_eq text.now) 0 (map (λ t. t.now) texts.now) }
+// The place of a text among texts from a place on.
+fn place_from(texts: &[&str], first: usize, text: &[u8]) -> Option<usize>
+    ensures { result ≡ position_from (bytes_eq text.now) first (map (λ t. t.now) (drop first texts.now)) }
 {
-    for (place, it) in texts.iter().enumerate() {
-        if text == it.as_bytes() {
+    for place in first..texts.len() {
+        if text == texts[place].as_bytes() {
             return Some(place);
         }
     }
@@ -297,11 +299,17 @@ fn text_at<'a>(texts: &[&'a str], place: usize) -> &'a str
     }
 }
 
-/// The place of a text among the names.
+/// The place of a text among the names. Names of checks and of results are after the others, and begin otherwise.
 pub fn find_name(text: &[u8]) -> Option<usize>
     ensures { result ≡ position_from (bytes_eq text.now) 0 names }
 {
-    place_of(&NAMES, text)
+    if text.starts_with(b"(") {
+        return place_from(&NAMES, FIRST_CHECK, text);
+    }
+    if text.starts_with(b"R") {
+        return place_from(&NAMES, RMI_SUCCESS, text);
+    }
+    place_from(&NAMES, 0, text)
 }
 
 /// The text of the name at a place; past the last name it is empty.

@@ -1,7 +1,7 @@
 //! Sentences: words with one space between two.
-ghost use Rattle.std.specs.Prelude.{◌≡◌, ◌==◌, option_map};
+ghost use Rattle.std.specs.Prelude.{◌≡◌, ◌==◌, [], option_map};
 ghost use Rattle.std.specs.List.{slice_split};
-ghost use Rattle.rmm_trace.specs.Sentences.{words_in};
+ghost use Rattle.rmm_trace.specs.Sentences.{if_read, words_in};
 
 use crate::cut::cut_at;
 use crate::word::{TraceWord, read_word};
@@ -14,21 +14,38 @@ pub const MOST_WORDS: usize = 64;
 /// A sentence: its words.
 pub type Sentence = ArrayVec<TraceWord, MOST_WORDS>;
 
-/// The words that a text is. It takes no memory.
-pub fn read_words(text: &[u8]) -> Option<Sentence>
-    ensures { option_map (λ v. v.items) result ≡ words_in 64 (slice_split (λ b. b == 32) text.now) }
+/// Puts the words that a text is into an empty sentence, and returns whether they are words. It takes no memory.
+///
+/// A sentence has 64 places. It is filled where it stays, since a move costs more than the reading.
+pub fn read_into(text: &[u8], words: &mut Sentence) -> bool
+    requires { words.old.items ≡ [] }
+    ensures { if_read result words.new.items ≡ words_in 64 (slice_split (λ b. b == 32) text.now) }
 {
-    let mut words = ArrayVec::new();
     let mut rest = Some(text);
     'words: while let Some(here) = rest {
         let (first, after) = cut_at(here, b' ');
         if words.is_full() {
-            return None;
+            return false;
         }
-        words.push(read_word(first)?);
+        match read_word(first) {
+            Some(word) => words.push(word),
+            None => return false,
+        }
         rest = after;
     }
-    Some(words)
+    true
+}
+
+/// The words that a text is. It takes no memory.
+pub fn read_words(text: &[u8]) -> Option<Sentence>
+    ensures { option_map (λ v. v.items) result ≡ words_in 64 (slice_split (λ b. b == 32) text.now) }
+{
+    let mut words = Sentence::new();
+    if read_into(text, &mut words) {
+        Some(words)
+    } else {
+        None
+    }
 }
 
 // Each word after one space.

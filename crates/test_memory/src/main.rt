@@ -1,5 +1,5 @@
 //! A test program: arguments come back if memory is refused, and no call after boot takes memory. A plan on standard
-//! input is replayed over the plain store instead.
+//! input is replayed over the plain store instead, and a script of calls by registers is performed and measured.
 //!
 //! `tests/test_allocations.py` refuses each allocation of this program in turn. A host is then booted or shared, or a worker
 //! built, at the second try, from what came back of the first. The test counts the allocations between a line `quiet`
@@ -11,8 +11,10 @@ ghost use Rattle.std.specs.Prelude.{◌≡◌, false};
 mod blocks;
 mod boot;
 mod calls;
+mod operation;
 mod plain;
 mod recorded;
+mod script;
 mod seats;
 
 use checked_io::Told;
@@ -23,6 +25,7 @@ use std::marker::Sync;
 use std::process::ExitCode;
 use std::sync::Wait;
 use std::thread::Threads;
+use std::time::CpuClock;
 
 /// The reason why the program stops.
 #[derive(Clone, Copy)]
@@ -83,8 +86,8 @@ fn bytes_in<I: Read>(alloc: Global, input: &mut Told<I>) -> Result<Vec<u8>, Plan
     Ok(read_whole(alloc, input)?)
 }
 
-/// Replays the plan in the input, or makes every call if there is none.
-fn run<H: Print + AllocGlobal + Threads + Wait + Sync, I: Read, O: Write>(
+/// Replays the plan in the input or performs the script, or makes every call if there is neither.
+fn run<H: Print + Eprint + AllocGlobal + CpuClock + Threads + Wait + Sync, I: Read, O: Write>(
     rt: &H,
     input: &mut Told<I>,
     output: &mut Told<O>,
@@ -95,6 +98,9 @@ fn run<H: Print + AllocGlobal + Threads + Wait + Sync, I: Read, O: Write>(
     let bytes = bytes_in(rt.alloc(), input)?;
     if bytes.is_empty() {
         return make_calls(rt);
+    }
+    if script::is_script(&bytes) {
+        return script::perform_all(rt, rt.alloc(), &bytes);
     }
     plain::replay(rt.alloc(), &bytes, output)?;
     Ok(())

@@ -7,7 +7,8 @@ use Rattle.command_line.specs.declared.rmitrace.NameSet.{NameSet}
 use Rattle.command_line.specs.Rmitrace.{is_name_in}
 use Rattle.rmm_model.specs.Machine.{Machine}
 use Rattle.rmm_trace.specs.declared.line.RmmTraceLine.{RmmTraceLine}
-use Rattle.rmm_trace.specs.declared.line.RmmTraceLine.TheVariants.{Remark, Question, Neither}
+use Rattle.rmm_trace.specs.declared.line.LineKind.{LineKind}
+use Rattle.rmm_trace.specs.declared.line.LineKind.TheVariants.{Remark, Question, Neither}
 use Rattle.rmm_trace.specs.declared.place.TheConstants.{FIRST_CHECK, REPEAT}
 use Rattle.rmm_trace.specs.declared.word.Atom.{Atom}
 use Rattle.rmm_trace.specs.declared.word.Atom.TheVariants.{Name}
@@ -19,7 +20,7 @@ use Rattle.rmm_answers.specs.declared.reply.TraceReply.{TraceReply}
 use Rattle.rmm_answers.specs.Judging.{judged}
 use Rattle.trace_program.specs.declared.counts.LineVerdict.{LineVerdict}
 use Rattle.trace_program.specs.declared.counts.LineVerdict.TheVariants.{NotCompared, Same, Allowed, Wrong}
-use Rattle.trace_program.specs.LineText.{name_place, raw_call, read, written_in}
+use Rattle.trace_program.specs.LineText.{name_place, raw_call, read}
 
 -- ---- lines that are no command
 
@@ -105,15 +106,18 @@ no_command_verdict (Some written) = if bytes_eq written (codes "no command") the
 no_command_verdict None = Wrong
 
 -- what is not written is not compared
-abbrev pub question_verdict : Comparison → Option Machine → RmmTraceLine → Option (List ℕ) → TraceReply → LineVerdict
-question_verdict asked m (Question q) (Some written) reply = answer_verdict asked m q.items written reply
-question_verdict asked m line written reply = NotCompared
+abbrev pub question_verdict : Comparison → Option Machine → LineKind → List TraceWord → Option (List ℕ) → TraceReply → LineVerdict
+question_verdict asked m Question q (Some written) reply = answer_verdict asked m q written reply
+question_verdict asked m kind q written reply = NotCompared
 
 abbrev pub verdict_by : Bool → Comparison → Option Machine → RmmTraceLine → Option (List ℕ) → TraceReply → LineVerdict
 verdict_by true asked m line written reply = no_command_verdict written
-verdict_by false asked m line written reply = question_verdict asked m line written reply
+verdict_by false asked m line written reply = question_verdict asked m line.kind line.words.items written reply
 
--- The verdict on a line, by our answer to it and the machine after it.
-unfoldable pub line_verdict : Comparison → Option Machine → List ℕ → RmmTraceLine → TraceReply → LineVerdict
-line_verdict asked m bytes Remark reply = NotCompared
-line_verdict asked m bytes line reply = verdict_by (is_no_command reply) asked m line (written_in bytes) reply
+abbrev pub kind_verdict : LineKind → LineVerdict → LineVerdict
+kind_verdict Remark verdict = NotCompared
+kind_verdict _ verdict = verdict
+
+-- The verdict on a line with the answer that is written in it, by our answer to it and the machine after it.
+unfoldable pub line_verdict : Comparison → Option Machine → Option (List ℕ) → RmmTraceLine → TraceReply → LineVerdict
+line_verdict asked m written line reply = kind_verdict line.kind (verdict_by (is_no_command reply) asked m line written reply)

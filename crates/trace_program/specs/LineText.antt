@@ -2,7 +2,8 @@
 use Rattle.std.specs.Prelude.{ℕ, ◌==◌, if◌then◌else◌, List, [], ◌∷◌, ◌++◌, codes, drop, length, Option, Some, None, option_and_then}
 use Rattle.std.specs.List.{slice_split}
 use Rattle.rmm_trace.specs.declared.line.RmmTraceLine.{RmmTraceLine}
-use Rattle.rmm_trace.specs.declared.line.RmmTraceLine.TheVariants.{Remark, Question, Neither}
+use Rattle.rmm_trace.specs.declared.line.LineKind.{LineKind}
+use Rattle.rmm_trace.specs.declared.line.LineKind.TheVariants.{Remark, Question, Neither}
 use Rattle.rmm_trace.specs.declared.table.TheConstants.{GROUPS, START}
 use Rattle.rmm_trace.specs.declared.place.TheConstants.{DASH, SMC}
 use Rattle.rmm_trace.specs.declared.word.TraceWord.{TraceWord}
@@ -37,10 +38,13 @@ tail_of bytes = drop (length (bare_text bytes)) bytes
 abbrev pub sign_and_answer : TraceReply → List ℕ
 sign_and_answer reply = if is_unanswered reply then [] else codes " = " ++ reply_text reply
 
+abbrev pub answered_text_by : LineKind → List ℕ → TraceReply → List ℕ
+answered_text_by Remark bytes reply = bytes ++ 10 ∷ []
+answered_text_by _ bytes reply = question_in_line bytes ++ sign_and_answer reply ++ (tail_of bytes ++ 10 ∷ [])
+
 -- A line with an answer: the answer that it had is replaced. A remark is as it was.
 unfoldable pub answered_text : List ℕ → RmmTraceLine → TraceReply → List ℕ
-answered_text bytes Remark reply = bytes ++ 10 ∷ []
-answered_text bytes line reply = question_in_line bytes ++ sign_and_answer reply ++ (tail_of bytes ++ 10 ∷ [])
+answered_text bytes line reply = answered_text_by line.kind bytes reply
 
 -- ---- names
 
@@ -52,15 +56,21 @@ name_place (w ∷ ws) = place_of w.value
 abbrev pub raw_call : List TraceWord → Option (List TraceWord)
 raw_call question = if name_place question == SMC then named_question question else None
 
+abbrev pub question_named_by : LineKind → List TraceWord → Option (List TraceWord)
+question_named_by Question q = raw_call q
+question_named_by _ q = None
+
 -- the question of a raw line by names, if it is one
 abbrev pub question_named : RmmTraceLine → Option (List TraceWord)
-question_named (Question q) = raw_call q.items
-question_named _ = None
+question_named line = question_named_by line.kind line.words.items
+
+abbrev pub answer_named_by : LineKind → List TraceWord → List ℕ → Option (List TraceWord)
+answer_named_by Question q written = option_and_then (named_answer q) (read written)
+answer_named_by _ q written = None
 
 -- the answer of a raw line by names, if it can be named
 abbrev pub answer_named : RmmTraceLine → List ℕ → Option (List TraceWord)
-answer_named (Question q) written = option_and_then (named_answer q.items) (read written)
-answer_named _ written = None
+answer_named line written = answer_named_by line.kind line.words.items written
 
 -- an answer that cannot be named is as it was
 abbrev pub named_or_written : Option (List TraceWord) → List ℕ → List ℕ

@@ -1,10 +1,12 @@
 -- A session: the lines of a trace, one after another.
-use Rattle.std.specs.Prelude.{◌≡◌, ℕ, nat_lt, ◌&&◌, Bool, true, false, List, [], ◌∷◌, ◌++◌, Option, Some, None, ◌⊎◌}
+use Rattle.std.specs.Prelude.{◌≡◌, ℕ, nat_lt, ◌&&◌, Bool, true, false, List, [], ◌∷◌, ◌++◌, codes, decimal, Option, Some, None, ◌⊎◌}
 use Rattle.command_line.specs.declared.rmitrace.Comparison.{Comparison}
 use Rattle.command_line.specs.declared.rmitrace.TraceSubcommand.{TraceSubcommand}
 use Rattle.command_line.specs.declared.rmitrace.TraceSubcommand.TheVariants as asks
 use Rattle.rmm_trace.specs.declared.line.RmmTraceLine.{RmmTraceLine}
-use Rattle.rmm_trace.specs.declared.line.RmmTraceLine.TheVariants.{Remark, Question, Neither}
+use Rattle.rmm_trace.specs.declared.line.LineKind.{LineKind}
+use Rattle.rmm_trace.specs.declared.line.LineKind.TheVariants.{Remark, Question, Neither}
+use Rattle.rmm_trace.specs.declared.word.TraceWord.{TraceWord}
 use Rattle.rmm_answers.specs.declared.reply.TraceReply.{TraceReply}
 use Rattle.rmm_answers.specs.Answering.{answered}
 use Rattle.rmm_answers.specs.Replies.{no_answer, no_command}
@@ -14,7 +16,7 @@ use Rattle.trace_program.specs.declared.counts.LineVerdict.TheVariants.{NotCompa
 use Rattle.trace_program.specs.declared.session.Session.{Session}
 use Rattle.trace_program.specs.Counting.{with_line_counted}
 use Rattle.trace_program.specs.Judged.{is_no_command, line_verdict}
-use Rattle.trace_program.specs.LineText.{answered_text, trace_line_of, named_text}
+use Rattle.trace_program.specs.LineText.{answered_text, trace_line_of, written_in, named_text}
 
 -- a session that has had no line
 abbrev pub fresh_session : Session
@@ -22,15 +24,18 @@ fresh_session = record { machine = None; counts = record { lines = 0; same = 0; 
 
 -- ---- one line
 
+abbrev pub performed_by : LineKind → List TraceWord → Session → Session
+performed_by Remark q s = s
+performed_by Question q s = record s { machine = (answered q s.machine).1; reply = (answered q s.machine).0 }
+performed_by Neither q s = record s { reply = no_command }
+
 -- The session after a line is performed: our answer to it, and the machine after it. A remark changes nothing.
 abbrev pub performed : Session → RmmTraceLine → Session
-performed s Remark = s
-performed s (Question q) = record s { machine = (answered q.items s.machine).1; reply = (answered q.items s.machine).0 }
-performed s Neither = record s { reply = no_command }
+performed s line = performed_by line.kind line.words.items s
 
 -- the verdict on a line that was performed
 abbrev pub verdict_on : Comparison → List ℕ → Session → LineVerdict
-verdict_on asked bytes s = line_verdict asked s.machine bytes (trace_line_of bytes) s.reply
+verdict_on asked bytes s = line_verdict asked s.machine (written_in bytes) (trace_line_of bytes) s.reply
 
 -- the session after a line that was performed is judged
 abbrev pub judged : Comparison → List ℕ → Session → Session
@@ -46,28 +51,42 @@ after_line asks.Why s bytes = performed s (trace_line_of bytes)
 -- ---- texts
 
 -- the lines below an answer: there are none below a remark, and below a question that is not refused
-abbrev pub AreReasons : RmmTraceLine → TraceReply → List ℕ → Type 0
+abbrev pub AreReasons : LineKind → TraceReply → List ℕ → Type 0
 AreReasons Remark reply text = text ≡ []
-AreReasons (Question q) reply text = is_no_command reply ≡ false → reply.refused ≡ None → text ≡ []
+AreReasons Question reply text = is_no_command reply ≡ false → reply.refused ≡ None → text ≡ []
 AreReasons Neither reply text = Unit {0}
 
 -- a line with its answer, and reasons below it
 pub record IsExplained (bytes : List ℕ) (reply : TraceReply) (text : List ℕ) : Type 0 where
   pub reasons : List ℕ
-  pub are_reasons : AreReasons (trace_line_of bytes) reply reasons
+  pub are_reasons : AreReasons (trace_line_of bytes).kind reply reasons
   pub whole : text ≡ answered_text bytes (trace_line_of bytes) reply ++ reasons
 
--- the text on a line that is judged: there is none if it is the same, or not compared
-abbrev pub IsNote : LineVerdict → List ℕ → Type 0
-IsNote NotCompared text = text ≡ []
-IsNote Same text = text ≡ []
-IsNote Allowed text = Unit {0}
-IsNote Wrong text = Unit {0}
+abbrev pub heading_text : List ℕ → ℕ → List ℕ → List ℕ
+heading_text source number verdict = source ++ codes ":" ++ decimal number ++ codes ": " ++ verdict ++ codes "\n"
+
+-- A note begins with a line that has the trace's name, the number of the line that is judged, and the verdict on it.
+pub record IsHeaded (number : ℕ) (verdict text : List ℕ) : Type 0 where
+  pub source : List ℕ
+  pub rest : List ℕ
+  pub whole : text ≡ heading_text source number verdict ++ rest
+
+-- A line that is the same has that line alone, and only if each verdict is asked for.
+abbrev pub IsSameNote : Bool → ℕ → List ℕ → Type 0
+IsSameNote true number text = (source : List ℕ) × (text ≡ heading_text source number (codes "same"))
+IsSameNote false number text = text ≡ []
+
+-- the note on a line that is judged: there is none if it is not compared
+abbrev pub IsNote : Comparison → ℕ → LineVerdict → List ℕ → Type 0
+IsNote asked number NotCompared text = text ≡ []
+IsNote asked number Same text = IsSameNote asked.is_each number text
+IsNote asked number Allowed text = IsHeaded number (codes "allowed") text
+IsNote asked number Wrong text = IsHeaded number (codes "wrong") text
 
 -- The text for a line, by the session after it, and the verdict on it.
 abbrev pub IsLineText : TraceSubcommand → List ℕ → Session → Session → List ℕ → Type 0
 IsLineText asks.Answer bytes before after text = text ≡ answered_text bytes (trace_line_of bytes) after.reply
-IsLineText (asks.Check asked) bytes before after text = IsNote (verdict_on asked bytes (performed before (trace_line_of bytes))) text
+IsLineText (asks.Check asked) bytes before after text = IsNote asked after.counts.lines (verdict_on asked bytes (performed before (trace_line_of bytes))) text
 IsLineText asks.Names bytes before after text = text ≡ named_text bytes (trace_line_of bytes)
 IsLineText asks.Why bytes before after text = IsExplained bytes after.reply text
 

@@ -9,7 +9,7 @@ use command_line::rmitrace::{Comparison, NameSet};
 use rmm_answers::place::{COMMAND, NO};
 use rmm_answers::{TraceMachine, TraceReply, Verdict, judge, named_question};
 use rmm_trace::place::{DASH, FIRST_CHECK, REPEAT, SMC};
-use rmm_trace::{Atom, RmmTraceLine, Sentence, TraceWord, cut_line, read_words};
+use rmm_trace::{Atom, LineKind, RmmTraceLine, Sentence, TraceWord, read_words};
 
 // Whether a word is a name.
 fn is_name(word: &TraceWord, name: usize) -> bool
@@ -136,20 +136,21 @@ fn is_compared(
 
 // ---- verdicts
 
-// The verdict on the answer that is written to a question.
+// The verdict on the answer that is written to a question. Its words are read into `words`.
 fn answer_verdict(
     asked: &Comparison,
     machine: &TraceMachine,
     question: &[TraceWord],
     written: &[u8],
     reply: &TraceReply,
+    words: &mut Sentence,
 ) -> LineVerdict
     ensures { result ≡ specs.answer_verdict asked.now machine.now question.now written.now reply.now }
 {
     if !is_compared(asked, question, written, reply) {
         return LineVerdict::NotCompared;
     }
-    match judge(machine, question, written, reply) {
+    match judge(machine, question, written, reply, words) {
         Verdict::Same => LineVerdict::Same,
         Verdict::Allowed => LineVerdict::Allowed,
         Verdict::Wrong => LineVerdict::Wrong,
@@ -166,31 +167,33 @@ fn no_command_verdict(written: Option<&[u8]>) -> LineVerdict
     }
 }
 
-/// The verdict on a line, after it was answered: the machine and the answer are those after it.
+/// The verdict on a line with the answer that is written in it, after it was answered: the machine and our answer are
+/// those after it. The words of the written answer are read into `words`.
 #[tactic(auto, unfolding(crate::specs::Judged::line_verdict))]
 pub fn line_verdict(
     asked: &Comparison,
     machine: &TraceMachine,
-    bytes: &[u8],
+    written: Option<&[u8]>,
     line: &RmmTraceLine,
     reply: &TraceReply,
+    words: &mut Sentence,
 ) -> LineVerdict
-    ensures { result ≡ specs.line_verdict asked.now machine.now bytes.now line.now reply.now }
+    ensures { result ≡ specs.line_verdict asked.now machine.now (option_copied written.entry) line.now reply.now }
 {
-    if let RmmTraceLine::Remark = line {
+    if let LineKind::Remark = line.kind {
         return LineVerdict::NotCompared;
     }
-    let written = cut_line(bytes).1;
     if is_no_command(reply) {
         return no_command_verdict(written);
     }
-    match (line, written) {
-        (RmmTraceLine::Question(question), Some(written)) => answer_verdict(
+    match (line.kind, written) {
+        (LineKind::Question, Some(written)) => answer_verdict(
             asked,
             machine,
-            question.as_slice(),
+            line.words.as_slice(),
             written,
             reply,
+            words,
         ),
         _ => LineVerdict::NotCompared,
     }

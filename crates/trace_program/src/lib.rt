@@ -23,4 +23,4 @@ pub use fault::TraceError;
 pub use judging::line_verdict;
 pub use line_text::LineTexts;
 pub use reading::run;
-pub use session::Session;
+pub use session::{LineWords, Session};

@@ -5,7 +5,7 @@ ghost use Rattle.rmm_answers.specs.Replies.{reply_text};
 ghost use Rattle.rmm_trace.specs.Sentences.{sentence_text};
 
 use rmm_answers::TraceReply;
-use rmm_trace::{RmmTraceLine, SentenceText, TraceWord, cut_line};
+use rmm_trace::{LineKind, RmmTraceLine, SentenceText, TraceWord, cut_line};
 use std::alloc::{AllocError, Global};
 use std::fmt::Write;
 use std::marker::Model;
@@ -106,7 +106,7 @@ impl LineTexts {
     ) -> Result<(), AllocError>
         ensures { OnOk result (self.new ≡ self.old ++ answered_text bytes.now line.now reply.now) }
     {
-        if let RmmTraceLine::Remark = line {
+        if let LineKind::Remark = line.kind {
             return self.push_line(bytes);
         }
         self.push(cut_line(bytes).0)?;

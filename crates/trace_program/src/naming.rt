@@ -5,15 +5,15 @@ ghost use Rattle.trace_program.specs.LineText.{answer_named, named_text, questio
 use crate::judging::raw_call;
 use crate::line_text::{LineTexts, tail};
 use rmm_answers::named_answer;
-use rmm_trace::{RmmTraceLine, Sentence, cut_line, read_words};
+use rmm_trace::{LineKind, RmmTraceLine, Sentence, cut_line, read_words};
 use std::alloc::AllocError;
 
 // The question of a raw line by names, if the line is one.
 fn question_of(line: &RmmTraceLine) -> Option<Sentence>
     ensures { option_map (λ v. v.items) result ≡ question_named line.now }
 {
-    match line {
-        RmmTraceLine::Question(question) => raw_call(question.as_slice()),
+    match line.kind {
+        LineKind::Question => raw_call(line.words.as_slice()),
         _ => None,
     }
 }
@@ -22,11 +22,8 @@ fn question_of(line: &RmmTraceLine) -> Option<Sentence>
 fn answer_of(line: &RmmTraceLine, written: &[u8]) -> Option<Sentence>
     ensures { option_map (λ v. v.items) result ≡ answer_named line.now written.now }
 {
-    match line {
-        RmmTraceLine::Question(question) => named_answer(
-            question.as_slice(),
-            read_words(written)?.as_slice(),
-        ),
+    match line.kind {
+        LineKind::Question => named_answer(line.words.as_slice(), read_words(written)?.as_slice()),
         _ => None,
     }
 }

@@ -2,8 +2,8 @@
 use rmm_model::Condition;
 use rmm_trace::place::{
     RMI_DATA_DESTROY, RMI_GRANULE_UNDELEGATE, RMI_PSCI_COMPLETE, RMI_REALM_CREATE, RMI_REC_CREATE,
-    RMI_RTT_CREATE, RMI_RTT_DESTROY, RMI_RTT_FOLD, RMI_RTT_MAP_UNPROTECTED, RMI_RTT_READ_ENTRY,
-    RMI_RTT_SET_RIPAS, RMI_RTT_UNMAP_UNPROTECTED,
+    RMI_RTT_CREATE, RMI_RTT_DESTROY, RMI_RTT_FOLD, RMI_RTT_INIT_RIPAS, RMI_RTT_MAP_UNPROTECTED,
+    RMI_RTT_READ_ENTRY, RMI_RTT_SET_RIPAS, RMI_RTT_UNMAP_UNPROTECTED,
 };
 
 // The requirement of each check. RMM 1.0, failure conditions of RMI commands.
@@ -62,7 +62,7 @@ const REQUIREMENTS: [(Condition, &str); 76] = [
     ),
     (Condition::IpaAlign, "ipa must be a multiple of 4,096"),
     (Condition::IpaBound, "ipa must be a protected address"),
-    (Condition::RttWalk, "the walk must reach the level"),
+    (Condition::RttWalk, "the walk must reach level 3"),
     (Condition::RtteState, "the entry must be UNASSIGNED"),
     (Condition::RttLive, "the table must have no live entry"),
     (
@@ -195,7 +195,7 @@ const REQUIREMENTS: [(Condition, &str); 76] = [
 ];
 
 // The requirements of checks that mean something else in a command.
-const OF_COMMANDS: [(usize, Condition, &str); 28] = [
+const OF_COMMANDS: [(usize, Condition, &str); 34] = [
     (
         RMI_GRANULE_UNDELEGATE,
         Condition::GranState,
@@ -212,11 +212,7 @@ const OF_COMMANDS: [(usize, Condition, &str); 28] = [
         Condition::RttState,
         "each starting table must be DELEGATED",
     ),
-    (
-        RMI_REC_CREATE,
-        Condition::RecGranState,
-        "rec must be DELEGATED",
-    ),
+    (RMI_REC_CREATE, Condition::RecState, "rec must be DELEGATED"),
     (
         RMI_REC_CREATE,
         Condition::ParamsValid,
@@ -239,6 +235,11 @@ const OF_COMMANDS: [(usize, Condition, &str); 28] = [
     ),
     (
         RMI_RTT_CREATE,
+        Condition::RttWalk,
+        "the walk must reach the level above",
+    ),
+    (
+        RMI_RTT_CREATE,
         Condition::RtteState,
         "the entry must not be TABLE",
     ),
@@ -254,6 +255,11 @@ const OF_COMMANDS: [(usize, Condition, &str); 28] = [
     ),
     (
         RMI_RTT_DESTROY,
+        Condition::RttWalk,
+        "the walk must reach the level above",
+    ),
+    (
+        RMI_RTT_DESTROY,
         Condition::RtteState,
         "the entry must be TABLE",
     ),
@@ -266,6 +272,11 @@ const OF_COMMANDS: [(usize, Condition, &str); 28] = [
         RMI_RTT_FOLD,
         Condition::IpaBound,
         "ipa must be an address of the realm",
+    ),
+    (
+        RMI_RTT_FOLD,
+        Condition::RttWalk,
+        "the walk must reach the level above",
     ),
     (
         RMI_RTT_FOLD,
@@ -291,6 +302,11 @@ const OF_COMMANDS: [(usize, Condition, &str); 28] = [
         RMI_RTT_MAP_UNPROTECTED,
         Condition::IpaBound,
         "ipa must be an unprotected address",
+    ),
+    (
+        RMI_RTT_MAP_UNPROTECTED,
+        Condition::RttWalk,
+        "the walk must reach the level",
     ),
     (
         RMI_RTT_MAP_UNPROTECTED,
@@ -309,6 +325,11 @@ const OF_COMMANDS: [(usize, Condition, &str); 28] = [
     ),
     (
         RMI_RTT_UNMAP_UNPROTECTED,
+        Condition::RttWalk,
+        "the walk must reach the level",
+    ),
+    (
+        RMI_RTT_UNMAP_UNPROTECTED,
         Condition::RtteState,
         "the entry must be ASSIGNED_NS",
     ),
@@ -316,6 +337,11 @@ const OF_COMMANDS: [(usize, Condition, &str); 28] = [
         RMI_DATA_DESTROY,
         Condition::RtteState,
         "the entry must be ASSIGNED",
+    ),
+    (
+        RMI_RTT_INIT_RIPAS,
+        Condition::RtteState,
+        "the entry must be UNASSIGNED, and with init_destroyed stop not DESTROYED",
     ),
     (
         RMI_RTT_SET_RIPAS,
@@ -330,7 +356,7 @@ const OF_COMMANDS: [(usize, Condition, &str); 28] = [
     (
         RMI_RTT_SET_RIPAS,
         Condition::RtteState,
-        "the RIPAS of the entry must be one that may change",
+        "the entry must not be DESTROYED, unless the guest lets it change",
     ),
 ];
 

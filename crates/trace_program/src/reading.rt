@@ -7,7 +7,7 @@ ghost use Rattle.trace_program.specs.Session.{TakesLine, is_check_done};
 ghost use Rattle.trace_program.specs.Reading as specs;
 
 use crate::line_text::LineTexts;
-use crate::{Session, TraceError, TraceSubcommand, TraceVerdict};
+use crate::{LineWords, Session, TraceError, TraceSubcommand, TraceVerdict};
 use checked_io::Told;
 use rmm_trace::{MOST_LINE, cut_at};
 use std::alloc::{AllocError, Global};
@@ -35,11 +35,12 @@ struct Request<'a> {
 }
 
 // A trace that is being read: the session of its lines, the kept bytes of the next line, and the text for lines that is
-// not written yet.
+// not written yet. The words of a line are kept for the next one.
 #[derive(Drop)]
 struct Reading {
     session: Session,
     line: Vec<u8>,
+    words: LineWords,
     text: LineTexts,
 }
 
@@ -55,6 +56,7 @@ impl Reading {
             request.asked,
             request.source,
             &self.line,
+            &mut self.words,
             &mut self.text,
         )?;
         self.line.clear();
@@ -197,6 +199,7 @@ pub fn run<R: Read, W: Write>(
     let mut reading = Reading {
         session: Session::new(),
         line: Vec::new(alloc),
+        words: LineWords::new(),
         text: LineTexts::new(alloc),
     };
     let mut buf = [0u8; 4096];

@@ -1,4 +1,7 @@
-//! The words for wrong lines and for refused calls. They are tested, not proved.
+//! The words for wrong lines and for refused calls. They are tested, not proved, but for the first line of a note.
+ghost use Rattle.std.specs.Prelude.{◌≡◌, IfOk};
+ghost use Rattle.trace_program.specs.Session.{heading_text};
+
 use crate::judging::{command_place, is_no_command};
 use crate::line_text::LineTexts;
 use crate::nearest::nearest_word;
@@ -93,26 +96,29 @@ pub(crate) fn hint(alloc: Global, bytes: &[u8], indent: &str) -> Result<String, 
     }
 }
 
-/// The first line on a line that is allowed or wrong: its source, its number, and the verdict.
+/// The first line of a note: the trace's name, the line's number, and the verdict.
 pub(crate) fn heading(
     alloc: Global,
     source: &str,
     number: u64,
     verdict: &str,
-) -> Result<String, AllocError> {
-    format!(in alloc; "{source}:{number}: {verdict}")
+) -> Result<LineTexts, AllocError>
+    ensures { IfOk result (λ text. text ≡ heading_text source.now number verdict.now) }
+{
+    let mut text = LineTexts::new(alloc);
+    let words = format!(in alloc; "{source}:{number}: {verdict}\n")?;
+    text.push(words.as_bytes())?;
+    Ok(text)
 }
 
 /// The lines on one that is allowed or wrong, after their heading: the line, our answer, and for a line that is no
 /// command the word that was probably meant.
 pub(crate) fn difference(
     alloc: Global,
-    heading: &str,
     bytes: &[u8],
     reply: &TraceReply,
 ) -> Result<LineTexts, AllocError> {
     let mut text = LineTexts::new(alloc);
-    text.push_line(heading.as_bytes())?;
     text.push_line(bytes)?;
     text.push(b"here: ")?;
     if reply.is_empty() {

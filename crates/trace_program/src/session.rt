@@ -1,6 +1,8 @@
 //! A session: the lines of a trace, one after another.
 ghost use Rattle.std.specs.Prelude.{◌≡◌, ◌++◌, ℕ, List, [], Err, None, IfOk, OnOk, string_bytes};
 ghost use Rattle.trace_program.specs.declared.fault.TraceError.TheVariants.{Device};
+ghost use Rattle.rmm_trace.specs.declared.line.LineKind.TheVariants.{Remark};
+ghost use Rattle.rmm_trace.specs.Lines.{without_words};
 ghost use Rattle.trace_program.specs.LineText.{answered_text, trace_line_of};
 ghost use Rattle.trace_program.specs.Session as specs;
 
@@ -11,8 +13,30 @@ use crate::reasons::{checks_text, difference, heading, hint};
 use crate::{Counts, LineVerdict, TraceError};
 use command_line::rmitrace::{Comparison, TraceSubcommand};
 use rmm_answers::{TraceMachine, TraceReply};
-use rmm_trace::{RmmTraceLine, TraceWord, parse};
+use rmm_trace::{LineKind, RmmTraceLine, Sentence, TraceWord};
 use std::alloc::{AllocError, Global};
+
+/// The words of a line, and those of its written answer.
+///
+/// They are kept from line to line, and each line is read into them: a sentence has many places.
+#[derive(Drop)]
+pub struct LineWords {
+    pub line: RmmTraceLine,
+    pub written: Sentence,
+}
+
+impl LineWords {
+    /// No words.
+    pub fn new() -> LineWords
+        ensures line { result.line ≡ without_words Remark }
+        ensures written { result.written.items ≡ [] }
+    {
+        LineWords {
+            line: RmmTraceLine::new(),
+            written: Sentence::new(),
+        }
+    }
+}
 
 /// The state of a trace after some lines.
 #[derive(Drop)]
@@ -41,13 +65,13 @@ impl Session {
     fn perform(&mut self, alloc: Global, line: &RmmTraceLine) -> Result<(), AllocError>
         ensures { OnOk result (self.new ≡ specs.performed self.old line.now) }
     {
-        match line {
-            RmmTraceLine::Remark => Ok(()),
-            RmmTraceLine::Question(question) => {
+        match line.kind {
+            LineKind::Remark => Ok(()),
+            LineKind::Question => {
                 self.machine
-                    .answer(alloc, question.as_slice(), &mut self.reply)
+                    .answer(alloc, line.words.as_slice(), &mut self.reply)
             }
-            RmmTraceLine::Neither => {
+            LineKind::Neither => {
                 self.reply.no_command();
                 Ok(())
             }
@@ -71,37 +95,69 @@ impl Session {
         bytes: &[u8],
         line: &RmmTraceLine,
     ) -> Result<String, AllocError>
-        ensures { IfOk result (λ text. specs.AreReasons line.now self.now.reply (string_bytes text)) }
+        ensures { IfOk result (λ text. specs.AreReasons line.now.kind self.now.reply (string_bytes text)) }
     {
-        match line {
-            RmmTraceLine::Remark => Ok(String::new(alloc)),
-            RmmTraceLine::Neither => hint(alloc, bytes, "    "),
-            RmmTraceLine::Question(question) => {
+        match line.kind {
+            LineKind::Remark => Ok(String::new(alloc)),
+            LineKind::Neither => hint(alloc, bytes, "    "),
+            LineKind::Question => {
                 if is_no_command(&self.reply) {
                     return hint(alloc, bytes, "    ");
                 }
-                self.refusal(alloc, question.as_slice())
+                self.refusal(alloc, line.words.as_slice())
             }
         }
     }
 
-    // The text on a line that is judged.
-    fn note(
+    // The note on a line that is the same.
+    fn same_note(
+        &self,
+        alloc: Global,
+        asked: &Comparison,
+        source: &str,
+    ) -> Result<LineTexts, AllocError>
+        ensures { IfOk result (λ text. specs.IsSameNote asked.now.is_each self.now.counts.lines text) }
+    {
+        if !asked.is_each {
+            return Ok(LineTexts::new(alloc));
+        }
+        let text = heading(alloc, source, self.counts.lines, "same")?;
+        Ok(text)
+    }
+
+    // The note on a line that is allowed or wrong.
+    fn difference_note(
         &self,
         alloc: Global,
         source: &str,
         bytes: &[u8],
+        verdict: &str,
+    ) -> Result<LineTexts, AllocError>
+        ensures { IfOk result (λ text. specs.IsHeaded self.now.counts.lines verdict.now text) }
+    {
+        let mut text = heading(alloc, source, self.counts.lines, verdict)?;
+        let rest = difference(alloc, bytes, &self.reply)?;
+        text.push(rest.as_slice())?;
+        Ok(text)
+    }
+
+    // The note on a line that is judged.
+    fn note(
+        &self,
+        alloc: Global,
+        asked: &Comparison,
+        source: &str,
+        bytes: &[u8],
         verdict: LineVerdict,
     ) -> Result<LineTexts, AllocError>
-        ensures { IfOk result (λ text. specs.IsNote verdict text) }
+        ensures { IfOk result (λ text. specs.IsNote asked.now self.now.counts.lines verdict text) }
     {
-        let word = match verdict {
-            LineVerdict::NotCompared | LineVerdict::Same => return Ok(LineTexts::new(alloc)),
-            LineVerdict::Allowed => "allowed",
-            LineVerdict::Wrong => "wrong",
-        };
-        let heading = heading(alloc, source, self.counts.lines, word)?;
-        difference(alloc, &heading, bytes, &self.reply)
+        match verdict {
+            LineVerdict::NotCompared => Ok(LineTexts::new(alloc)),
+            LineVerdict::Same => self.same_note(alloc, asked, source),
+            LineVerdict::Allowed => self.difference_note(alloc, source, bytes, "allowed"),
+            LineVerdict::Wrong => self.difference_note(alloc, source, bytes, "wrong"),
+        }
     }
 
     // Answers a line.
@@ -109,14 +165,15 @@ impl Session {
         &mut self,
         alloc: Global,
         bytes: &[u8],
+        words: &mut LineWords,
         text: &mut LineTexts,
     ) -> Result<(), AllocError>
         ensures session { OnOk result (self.new ≡ specs.performed self.old (trace_line_of bytes.now)) }
         ensures text { OnOk result (text.new ≡ text.old ++ answered_text bytes.now (trace_line_of bytes.now) self.new.reply) }
     {
-        let line = parse(bytes);
-        self.perform(alloc, &line)?;
-        text.push_answered(bytes, &line, &self.reply)
+        words.line.parse(bytes);
+        self.perform(alloc, &words.line)?;
+        text.push_answered(bytes, &words.line, &self.reply)
     }
 
     // Answers a line, and explains its refusal.
@@ -124,15 +181,16 @@ impl Session {
         &mut self,
         alloc: Global,
         bytes: &[u8],
+        words: &mut LineWords,
         text: &mut LineTexts,
     ) -> Result<(), AllocError>
         ensures session { OnOk result (self.new ≡ specs.performed self.old (trace_line_of bytes.now)) }
         ensures text { OnOk result ((more : List ℕ) × specs.IsExplained bytes.now self.new.reply more × (text.new ≡ text.old ++ more)) }
     {
-        let line = parse(bytes);
-        self.perform(alloc, &line)?;
-        text.push_answered(bytes, &line, &self.reply)?;
-        let reasons = self.reasons(alloc, bytes, &line)?;
+        words.line.parse(bytes);
+        self.perform(alloc, &words.line)?;
+        text.push_answered(bytes, &words.line, &self.reply)?;
+        let reasons = self.reasons(alloc, bytes, &words.line)?;
         text.push(reasons.as_bytes())
     }
 
@@ -142,14 +200,22 @@ impl Session {
         alloc: Global,
         asked: &Comparison,
         bytes: &[u8],
+        words: &mut LineWords,
     ) -> Result<LineVerdict, TraceError>
         ensures verdict { IfOk result (λ it. it ≡ specs.verdict_on asked.now bytes.now (specs.performed self.old (trace_line_of bytes.now))) }
         ensures session { OnOk result (self.new ≡ specs.judged asked.now bytes.now (specs.performed self.old (trace_line_of bytes.now))) }
         ensures err { ¬ (result ≡ Err Device) }
     {
-        let line = parse(bytes);
-        self.perform(alloc, &line)?;
-        let verdict = line_verdict(asked, &self.machine, bytes, &line, &self.reply);
+        let written = words.line.parse(bytes);
+        self.perform(alloc, &words.line)?;
+        let verdict = line_verdict(
+            asked,
+            &self.machine,
+            written,
+            &words.line,
+            &self.reply,
+            &mut words.written,
+        );
         self.counts = self.counts.with(verdict)?;
         Ok(verdict)
     }
@@ -161,20 +227,22 @@ impl Session {
         asked: &Comparison,
         source: &str,
         bytes: &[u8],
+        words: &mut LineWords,
         text: &mut LineTexts,
     ) -> Result<(), TraceError>
         ensures session { OnOk result (self.new ≡ specs.judged asked.now bytes.now (specs.performed self.old (trace_line_of bytes.now))) }
-        ensures text { OnOk result ((more : List ℕ) × specs.IsNote (specs.verdict_on asked.now bytes.now (specs.performed self.old (trace_line_of bytes.now))) more
+        ensures text { OnOk result ((more : List ℕ)
+            × specs.IsNote asked.now self.new.counts.lines (specs.verdict_on asked.now bytes.now (specs.performed self.old (trace_line_of bytes.now))) more
             × (text.new ≡ text.old ++ more)) }
         ensures err { ¬ (result ≡ Err Device) }
     {
-        let verdict = self.judge(alloc, asked, bytes)?;
-        let note = self.note(alloc, source, bytes, verdict)?;
+        let verdict = self.judge(alloc, asked, bytes, words)?;
+        let note = self.note(alloc, asked, source, bytes, verdict)?;
         text.push(note.as_slice())?;
         Ok(())
     }
 
-    /// Takes a line, and appends its text.
+    /// Takes a line, and appends its text. The line is read into `words`.
     ///
     /// Errors: `Memory`, if allocation failed; `TooLong`, after 2^64 - 1 lines.
     pub fn take_line(
@@ -183,17 +251,21 @@ impl Session {
         asked: &TraceSubcommand,
         source: &str,
         bytes: &[u8],
+        words: &mut LineWords,
         text: &mut LineTexts,
     ) -> Result<(), TraceError>
         ensures ok { OnOk result (specs.TakesLine asked.now bytes.now self.old self.new text.old text.new) }
         ensures err { ¬ (result ≡ Err Device) }
     {
         match asked {
-            TraceSubcommand::Answer => self.answer(alloc, bytes, text)?,
-            TraceSubcommand::Names => push_named(text, bytes, &parse(bytes))?,
-            TraceSubcommand::Why => self.explain(alloc, bytes, text)?,
+            TraceSubcommand::Answer => self.answer(alloc, bytes, words, text)?,
+            TraceSubcommand::Names => {
+                words.line.parse(bytes);
+                push_named(text, bytes, &words.line)?;
+            }
+            TraceSubcommand::Why => self.explain(alloc, bytes, words, text)?,
             TraceSubcommand::Check(comparison) => {
-                self.check(alloc, comparison, source, bytes, text)?
+                self.check(alloc, comparison, source, bytes, words, text)?
             }
         }
         Ok(())

@@ -6,16 +6,9 @@ use Rattle.host_ledger.specs.View.{HostView}
 use Rattle.rhm_c.proofs.Asked.{asked_passed}
 use Rattle.rhm_c.proofs.actions.actions_asked.Goals as goal
 
-pub returns-in-Some : goal.returns-in-Some
-returns-in-Some c =
-    asked_passed c.args.frame c.args.host.now c.args.build c.args.run c.args.cmd.now c.in-Ok.granules.items (Some c.in-Some.act) c.actions_unless_fault.result
+pub returns : goal.returns
+returns c =
+    asked_passed c.args.frame c.args.host.now c.args.build c.args.run c.args.cmd.now c.in-Ok.granules.items c.act_of-act.result c.actions_of_act.result
     (ap (λ (h : HostView). first_that_holds (checks_of (summary_of h) c.args.build c.args.cmd.now)) (sym c.ledger.ensures) ∙ c.in-Ok.ensures.none)
     (subst (λ (h : HostView). AreFound (summary_of h) c.args.build c.args.cmd.now c.in-Ok.granules.items) c.ledger.ensures c.in-Ok.ensures.granules)
-    (c.in-Some.ensures.act ∙ ap (act_of c.args.cmd.now c.in-Ok.granules.items) c.allocated.ensures) c.actions_unless_fault.ensures
-
-pub returns-in-None : goal.returns-in-None
-returns-in-None c =
-    asked_passed c.args.frame c.args.host.now c.args.build c.args.run c.args.cmd.now c.in-Ok.granules.items None c.without_act.result
-    (ap (λ (h : HostView). first_that_holds (checks_of (summary_of h) c.args.build c.args.cmd.now)) (sym c.ledger.ensures) ∙ c.in-Ok.ensures.none)
-    (subst (λ (h : HostView). AreFound (summary_of h) c.args.build c.args.cmd.now c.in-Ok.granules.items) c.ledger.ensures c.in-Ok.ensures.granules)
-    (c.in-None.ensures.act ∙ ap (act_of c.args.cmd.now c.in-Ok.granules.items) c.allocated.ensures) c.without_act.ensures
+    (c.act_of-act.ensures.act ∙ ap (act_of c.args.cmd.now c.in-Ok.granules.items) c.allocated.ensures) c.actions_of_act.ensures

@@ -1,5 +1,6 @@
-use Rattle.std.proofs.Common.{Option, Some, None, refl, sym, subst, ◌∙◌}
+use Rattle.std.proofs.Common.{Option, Some, None, refl, ap, sym, subst, ◌∙◌}
 use Rattle.host_ledger.specs.declared.mark.Mark.{Mark}
+use Rattle.rhm_c.specs.Answer.{refused_as}
 use Rattle.rhm_c.specs.Undoing.{IsBackTo}
 use Rattle.rhm_c.proofs.marks.roll_back.Goals as goal
 
@@ -10,4 +11,5 @@ returns-in-Some c =
 
 pub returns-in-None : goal.returns-in-None
 returns-in-None c =
-    subst (λ (o : Option Mark). IsBackTo o c.args.host.now c.args.build c.refused.result c.args.host.now) c.in-None.ensures.value (c.refused.ensures, refl)
+    subst (λ (o : Option Mark). IsBackTo o c.args.host.now c.args.build c.refused.result c.args.host.now) c.in-None.ensures.value
+    (c.refused.ensures ∙ ap refused_as c.refusal_without_mark.ensures, refl)

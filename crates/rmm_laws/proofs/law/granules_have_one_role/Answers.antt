@@ -1,59 +1,111 @@
-use Rattle.std.proofs.Common.{◌≡◌, ℕ, inr, Option, Some, None, sym, ap}
+use Rattle.std.proofs.Common.{◌≡◌, ℕ, ◌<◌, ◌≤◌, inr, length, get_or, replicate, Option, Some, None, refl, sym, ap, subst, ⊎_elim}
+use Rattle.std.specs.Prelude.{IfSome}
+use Rattle.std.proofs.lemmas.Bool.{cases_lt}
+use Rattle.std.proofs.lemmas.List.{length-replicate, get_or-replicate, get_or_past}
 use Rattle.rmi_abi.specs.declared.call.Call.{Call}
 use Rattle.rmi_abi.specs.declared.call.Call.TheVariants.{Version, GranuleDelegate, GranuleUndelegate, DataCreateUnknown, DataDestroy, RealmActivate, RealmCreate, RealmDestroy, RecCreate, RecDestroy, RecEnter, PsciComplete, RttCreate, RttDestroy, RttMapUnprotected, RttReadEntry, RttUnmapUnprotected, Features, RttFold, RecAuxCount, DataCreate, RttInitRipas, RttSetRipas}
 use Rattle.rmi_abi.specs.declared.registers.Registers.{Registers}
 use Rattle.rmi_abi.specs.Call.{call_in}
 use Rattle.rmm_model.specs.Call.{command_of, performed, rmi, rmi_at}
-use Rattle.rmm_model.specs.Machine.{Machine}
+use Rattle.rmm_model.specs.Machine.{Machine, granule_at, page_in}
 use Rattle.rmm_model.specs.Command.Features.{features}
 use Rattle.rmm_model.specs.Command.RecAuxCount.{rec_aux_count}
 use Rattle.rmm_model.specs.Command.RttReadEntry.{rtt_read_entry}
 use Rattle.rmm_model.specs.Command.Version.{version}
-use Rattle.rmm_laws.specs.Role.{Used, has_user, uses, IsProper}
+use Rattle.rmm_granules.specs.Inside.{platform_machine}
+use Rattle.rmm_model.specs.declared.granule.RmmGranule.{RmmGranule}
+use Rattle.rmm_model.specs.declared.granule.RmmGranuleState.TheVariants.{Undelegated}
+use Rattle.rmm_model.specs.Granule.{of_no_realm, realm_of}
+use Rattle.rmm_model.specs.Realm.{IsServed}
+use Rattle.rmm_laws.specs.Owner.{IsOrderly}
+use Rattle.rmm_laws.specs.Proper.{IsProper}
+use Rattle.rmm_laws.specs.Role.{Used, has_user, uses, IsSound}
 use Rattle.rmm_laws.proofs.Guests.{entered, completed, interrupt_kept, given_kept}
 use Rattle.rmm_laws.proofs.Mappings.{host_mapped, host_unmapped, ripas_inited, ripas_set, activated, data_made, unknown_made, data_gone}
 use Rattle.rmm_laws.proofs.Passed.{Passed, kept}
 use Rattle.rmm_laws.proofs.Plain.{delegated, undelegated, stored, filled}
-use Rattle.rmm_laws.proofs.Realms.{realm_created, realm_destroyed}
-use Rattle.rmm_laws.proofs.RecLives.{rec_created, rec_destroyed}
+use Rattle.rmm_laws.proofs.RealmOrders.{realm_created, realm_destroyed}
+use Rattle.rmm_laws.proofs.RecLives.{rec_created}
+use Rattle.rmm_laws.proofs.RecsGone.{rec_destroyed}
+use Rattle.rmm_laws.proofs.Ordering.{delegate_ordered, undelegate_ordered, activate_ordered, rtt_create_ordered, rtt_destroy_ordered, rtt_fold_ordered, map_ordered, unmap_ordered, init_ripas_ordered, set_ripas_ordered, data_create_ordered, data_create_unknown_ordered, data_destroy_ordered, store_ordered, fill_ordered}
 use Rattle.rmm_laws.proofs.Tables.{table_made, table_gone, table_folded}
 use Rattle.rmm_laws.proofs.Walks.{right, one_place}
 use Rattle.rmm_laws.proofs.Writes.{is_user, uses-plain}
 use Rattle.rmm_laws.proofs.law.granules_have_one_role.Goals as goal
 
+-- the machine of a platform
+fresh : (m : Machine) → IsSound m → ((g : ℕ) → granule_at m g ≡ of_no_realm Undelegated) → IsProper m
+fresh m sound all =
+    let state : (g : ℕ) → (granule_at m g).state ≡ Undelegated = λ g. ap (λ (r : RmmGranule). r.state) (all g) in
+    record {
+      linked = record {
+        sound = sound;
+        level = λ g. 0;
+        roles = λ g. inr (record {
+          none = λ x i k u gives number. (let none : uses m (λ (h : ℕ). 0) x i k ≡ None = uses-plain m (λ (h : ℕ). 0) x i k (ap is_user (state x)) in let some = gives in absurd (cc));
+          role = ap has_user (state g);
+        });
+        most = λ table is. (let free = state table in absurd (cc));
+        inside = λ table i is lt. (let free = state table in absurd (cc));
+      };
+      ordered = record {
+        each = λ g. subst (λ (r : RmmGranule). IsOrderly m r.state r.owner (page_in m g)) (sym (all g)) refl;
+        recs = λ rd realm is. (let free = state rd in absurd (cc));
+      };
+    }
+
 pub returns-clause-start : goal.returns-clause-start
-returns-clause-start c = λ m sound all. record {
-  sound = sound;
-  level = λ g. 0;
-  roles = λ g. inr (record {
-    none = λ x i k u gives number. (let none : uses m (λ (h : ℕ). 0) x i k ≡ None = uses-plain m (λ (h : ℕ). 0) x i k (ap is_user (all x)) in let some = gives in absurd (cc));
-    role = ap has_user (all g);
-  });
-  most = λ table is. (let free = all table in absurd (cc));
-  inside = λ table i is lt. (let free = all table in absurd (cc));
-}
+returns-clause-start c = fresh
+
+free_at : (count g : ℕ) → get_or (replicate count (of_no_realm Undelegated)) g (of_no_realm Undelegated) ≡ of_no_realm Undelegated
+free_at count g =
+    ⊎_elim
+    (λ (lt : g < count). get_or-replicate count g (of_no_realm Undelegated) (of_no_realm Undelegated) lt)
+    (λ (past : count ≤ g). get_or_past (replicate count (of_no_realm Undelegated)) g (of_no_realm Undelegated) (subst (λ (n : ℕ). n ≤ g) (sym (length-replicate count (of_no_realm Undelegated))) past))
+    (cases_lt g count)
+
+pub returns-clause-opened : goal.returns-clause-opened
+returns-clause-opened c = λ s pages platform few whole.
+    let m : Machine = platform_machine s pages in
+    let count : length m.granules ≡ length pages = length-replicate (length pages) (of_no_realm Undelegated) in
+    let all : (g : ℕ) → granule_at m g ≡ of_no_realm Undelegated = free_at (length pages) in
+    fresh m
+    (record {
+      platform = platform;
+      few = subst (λ (n : ℕ). n ≤ 4096) (sym count) few;
+      pages = sym count;
+      whole = λ g lt. whole g (subst (λ (n : ℕ). g < n) count lt);
+      tables = record {
+        each = λ g. subst (λ (r : RmmGranule). IfSome (realm_of r.state) (IsServed (length m.granules))) (sym (all g)) tt;
+      };
+    })
+    all
+
+-- ---- calls
 
 after : (call : Call) (m : Machine) → IsProper m → Passed (command_of call m).checks → IsProper (command_of call m).machine
 unfolding version features rec_aux_count rtt_read_entry
 after (Version requested) m proper ok = proper
 after (Features index) m proper ok = proper
-after (GranuleDelegate address) m proper ok = delegated address m proper ok
-after (GranuleUndelegate address) m proper ok = undelegated address m proper ok
+after (GranuleDelegate address) m proper ok = record { linked = delegated address m proper.linked ok; ordered = delegate_ordered address m proper ok }
+after (GranuleUndelegate address) m proper ok = record { linked = undelegated address m proper.linked ok; ordered = undelegate_ordered address m proper ok }
 after (RealmCreate rd params) m proper ok = realm_created rd params m proper ok
-after (RealmActivate rd) m proper ok = activated rd m proper ok
+after (RealmActivate rd) m proper ok = record { linked = activated rd m proper.linked ok; ordered = activate_ordered rd m proper ok }
 after (RecAuxCount rd) m proper ok = proper
 after (RttReadEntry rd ipa level) m proper ok = proper
-after (RttCreate rd rtt ipa level) m proper ok = table_made rd rtt ipa level m proper ok
-after (RttDestroy rd ipa level) m proper ok = table_gone rd ipa level m proper ok
+after (RttCreate rd rtt ipa level) m proper ok = record { linked = table_made rd rtt ipa level m proper.linked ok; ordered = rtt_create_ordered rd rtt ipa level m proper ok }
+after (RttDestroy rd ipa level) m proper ok = record { linked = table_gone rd ipa level m proper.linked ok; ordered = rtt_destroy_ordered rd ipa level m proper ok }
 after (RealmDestroy rd) m proper ok = realm_destroyed rd m proper ok
-after (RttFold rd ipa level) m proper ok = table_folded rd ipa level m proper ok
-after (RttMapUnprotected rd ipa level descriptor) m proper ok = host_mapped rd ipa level descriptor m proper ok
-after (RttUnmapUnprotected rd ipa level) m proper ok = host_unmapped rd ipa level m proper ok
-after (DataCreate rd page ipa source flags) m proper ok = data_made rd page ipa source flags m proper ok
-after (DataCreateUnknown rd page ipa) m proper ok = unknown_made rd page ipa m proper ok
-after (DataDestroy rd ipa) m proper ok = data_gone rd ipa m proper ok
-after (RttInitRipas rd base top) m proper ok = ripas_inited rd base top m proper ok
-after (RttSetRipas rd rec base top) m proper ok = ripas_set rd rec base top m proper ok
+after (RttFold rd ipa level) m proper ok = record { linked = table_folded rd ipa level m proper.linked ok; ordered = rtt_fold_ordered rd ipa level m proper ok }
+after (RttMapUnprotected rd ipa level descriptor) m proper ok =
+    record { linked = host_mapped rd ipa level descriptor m proper.linked ok; ordered = map_ordered rd ipa level descriptor m proper ok }
+after (RttUnmapUnprotected rd ipa level) m proper ok = record { linked = host_unmapped rd ipa level m proper.linked ok; ordered = unmap_ordered rd ipa level m proper ok }
+after (DataCreate rd page ipa source flags) m proper ok =
+    record { linked = data_made rd page ipa source flags m proper.linked ok; ordered = data_create_ordered rd page ipa source flags m proper ok }
+after (DataCreateUnknown rd page ipa) m proper ok = record { linked = unknown_made rd page ipa m proper.linked ok; ordered = data_create_unknown_ordered rd page ipa m proper ok }
+after (DataDestroy rd ipa) m proper ok = record { linked = data_gone rd ipa m proper.linked ok; ordered = data_destroy_ordered rd ipa m proper ok }
+after (RttInitRipas rd base top) m proper ok = record { linked = ripas_inited rd base top m proper.linked ok; ordered = init_ripas_ordered rd base top m proper ok }
+after (RttSetRipas rd rec base top) m proper ok = record { linked = ripas_set rd rec base top m proper.linked ok; ordered = set_ripas_ordered rd rec base top m proper ok }
 after (RecCreate rd rec params) m proper ok = rec_created rd rec params m proper ok
 after (RecDestroy rec) m proper ok = rec_destroyed rec m proper ok
 after (RecEnter rec run) m proper ok = entered rec run m proper ok
@@ -69,10 +121,10 @@ unfolding rmi
 returns-clause-calls c = λ r m proper. by_call (call_in r) r m proper
 
 pub returns-clause-stores : goal.returns-clause-stores
-returns-clause-stores c = stored
+returns-clause-stores c = λ m address word proper. record { linked = stored m address word proper.linked; ordered = store_ordered m address word proper.ordered }
 
 pub returns-clause-fills : goal.returns-clause-fills
-returns-clause-fills c = filled
+returns-clause-fills c = λ m address value proper. record { linked = filled m address value proper.linked; ordered = fill_ordered m address value proper.ordered }
 
 pub returns-clause-steps : goal.returns-clause-steps
 returns-clause-steps c = given_kept
@@ -81,7 +133,7 @@ pub returns-clause-interrupts : goal.returns-clause-interrupts
 returns-clause-interrupts c = interrupt_kept
 
 pub returns-clause-used : goal.returns-clause-used
-returns-clause-used c = λ m proper user index part u gives. sym (ap (λ (v : Used). v.attributes) (right m proper user index part u gives))
+returns-clause-used c = λ m proper user index part u gives. sym (ap (λ (v : Used). v.attributes) (right m proper.linked user index part u gives))
 
 pub returns-clause-once : goal.returns-clause-once
-returns-clause-once c = λ m proper x i k y j l u v one two same. one_place m proper x i k y j l u v one two same
+returns-clause-once c = λ m proper x i k y j l u v one two same. one_place m proper.linked x i k y j l u v one two same

@@ -1,11 +1,11 @@
 use Rattle.std.specs.Prelude.{if◌then◌else◌}
-use Rattle.std.proofs.Common.{◌≡◌, ◌≢◌, ℕ, Bool, true, false, Option, Some, None, Result, Ok, Err, refl}
-use Rattle.std.proofs.lemmas.Bool.{cond-false}
+use Rattle.std.proofs.Common.{◌≡◌, ◌≢◌, ℕ, ◌-◌, ◌^◌, ◌&&◌, Bool, true, false, not, List, [], ◌∷◌, Option, Some, None, Result, Ok, Err, refl, sym, ap, ◌∙◌, ⊎_elim, arith}
+use Rattle.std.proofs.lemmas.Bool.{cases_Bool, and_parts, and_left, and_right, both_ways, cond-true, cond-false, not-true}
 use Rattle.rmi_abi.specs.declared.call.Call.{Call}
 use Rattle.rmi_abi.specs.declared.call.Call.TheVariants.{Version, GranuleDelegate, GranuleUndelegate, DataCreateUnknown, DataDestroy, RealmActivate, RealmCreate, RealmDestroy, RecCreate, RecDestroy, RecEnter, PsciComplete, RttCreate, RttDestroy, RttMapUnprotected, RttReadEntry, RttUnmapUnprotected, Features, RttFold, RecAuxCount, DataCreate, RttInitRipas, RttSetRipas}
 use Rattle.rmi_abi.specs.declared.registers.Registers.{Registers}
 use Rattle.rmi_abi.specs.declared.word.Word.{Word}
-use Rattle.rmi_abi.specs.declared.word.Word.TheVariants.{Success, Running}
+use Rattle.rmi_abi.specs.declared.word.Word.TheVariants.{Success, ErrorInput, ErrorRealm, ErrorRec, ErrorRtt, Running}
 use Rattle.rmi_abi.specs.Call.{call_in}
 use Rattle.rmi_abi.specs.RecRun.{flags_in}
 use Rattle.rmi_abi.specs.Word.{number}
@@ -19,33 +19,38 @@ use Rattle.rmm_model.specs.declared.step.Queued.TheVariants.{Queued as IsQueued,
 use Rattle.rmm_model.specs.declared.step.StepOutcome.{StepOutcome}
 use Rattle.rmm_model.specs.Access.{low_bytes}
 use Rattle.rmm_model.specs.Call.{command_of, performed, rmi, rmi_at}
-use Rattle.rmm_model.specs.Check.{Command, decided, first_failing}
-use Rattle.rmm_model.specs.Command.DataCreate.{data_create}
+use Rattle.rmm_model.specs.Check.{Command, Check, decided, first_failing}
+use Rattle.rmm_model.specs.Guest.{is_rec_named}
+use Rattle.rmm_model.specs.Rec.{is_running}
+use Rattle.rmm_model.specs.Command.Operand.{rec_at}
+use Rattle.rmm_model.specs.Command.DataCreate.{data_create, source_checks, target_checks}
 use Rattle.rmm_model.specs.Command.DataCreateUnknown.{data_create_unknown}
 use Rattle.rmm_model.specs.Command.DataDestroy.{data_destroy}
 use Rattle.rmm_model.specs.Command.Features.{features}
 use Rattle.rmm_model.specs.Command.GranuleDelegate.{granule_delegate}
 use Rattle.rmm_model.specs.Command.GranuleUndelegate.{granule_undelegate}
 use Rattle.rmm_model.specs.Command.RealmActivate.{realm_activate}
-use Rattle.rmm_model.specs.Command.RealmCreate.{realm_create}
+use Rattle.rmm_model.specs.Command.RealmCreate.{realm_create, params_checks}
 use Rattle.rmm_model.specs.Command.RealmDestroy.{realm_destroy}
-use Rattle.rmm_model.specs.Command.PsciComplete.{psci_complete}
+use Rattle.rmm_model.specs.Command.PsciComplete.{psci_complete, request_checks}
 use Rattle.rmm_model.specs.Command.RecAuxCount.{rec_aux_count}
-use Rattle.rmm_model.specs.Command.RecCreate.{rec_create}
+use Rattle.rmm_model.specs.Command.RecCreate.{rec_create, aux_checks, number_checks}
 use Rattle.rmm_model.specs.Command.RecDestroy.{rec_destroy}
 use Rattle.rmm_model.specs.Command.RttCreate.{rtt_create}
 use Rattle.rmm_model.specs.Command.RttDestroy.{rtt_destroy}
 use Rattle.rmm_model.specs.Command.RttFold.{rtt_fold}
-use Rattle.rmm_model.specs.Command.RttInitRipas.{rtt_init_ripas}
+use Rattle.rmm_model.specs.Command.RttInitRipas.{rtt_init_ripas, range_checks}
 use Rattle.rmm_model.specs.Command.RttMapUnprotected.{rtt_map_unprotected}
 use Rattle.rmm_model.specs.Command.RttReadEntry.{rtt_read_entry}
-use Rattle.rmm_model.specs.Command.RttSetRipas.{rtt_set_ripas}
+use Rattle.rmm_model.specs.Command.RttSetRipas.{rtt_set_ripas, ripas_request_checks}
 use Rattle.rmm_model.specs.Command.RttUnmapUnprotected.{rtt_unmap_unprotected}
 use Rattle.rmm_model.specs.Command.Version.{version}
-use Rattle.rmm_model.specs.Command.RecEnter.{rec_enter, entered_answer, after_steps, after_entry, step_outcome, after_step, interrupted}
+use Rattle.rmm_model.specs.Command.RecEnter.{rec_enter, entered_answer, after_steps, after_entry, enter_checks, step_outcome, after_step, runs_at, interrupted}
 use Rattle.rmm_model.specs.Machine.{Machine, number_of, page_in}
 use Rattle.rmm_model.specs.Step.{access, tried, after_write}
-use Rattle.rmm_laws.specs.Refusal.{IsRefused, IsAccess, IsNotDone}
+use Rattle.rmm_laws.specs.Refusal.{IsRefused, IsRecEnter, IsAccess, IsNotDone}
+use Rattle.rmm_laws.proofs.Passed.{Passed, passed}
+use Rattle.rmm_laws.proofs.Running.{entered_runs}
 use Rattle.rmm_laws.proofs.law.refusals_change_nothing.Goals as goal
 
 -- ---- calls
@@ -109,6 +114,93 @@ pub returns-clause-calls : goal.returns-clause-calls
 unfolding rmi
 returns-clause-calls c = λ r m is. by_call (call_in r) r m is
 
+-- ---- the word of a REC that runs on
+
+abbrev runs : Word → Bool
+runs Running = true
+runs _ = false
+
+running_word : (word : Word) → number word ≡ 2 ^ 64 - 2 → runs word ≡ true
+running_word Success is = absurd (omega arith)
+running_word ErrorInput is = absurd (omega arith)
+running_word (ErrorRealm index) is = absurd (omega arith)
+running_word ErrorRec is = absurd (omega arith)
+running_word (ErrorRtt index) is = absurd (omega arith)
+running_word Running is = refl
+
+-- no check is refused with that word
+abbrev none_runs : List Check → Bool
+none_runs [] = true
+none_runs (c ∷ cs) = not (runs c.refusal.answer.word) && none_runs cs
+
+same_refusal : {a b : FailedCondition} → Some a ≡ Some b → a ≡ b
+same_refusal is = cc
+
+refusal_word : (cs : List Check) (refusal : FailedCondition) → none_runs cs ≡ true → first_failing cs ≡ Some refusal → runs refusal.answer.word ≡ false
+refusal_word [] refusal none is = absurd (cc)
+refusal_word (c ∷ cs) refusal none is =
+    let parts = and_parts (not (runs c.refusal.answer.word)) (none_runs cs) none in
+    ⊎_elim
+    (λ (fails : c.fails ≡ true).
+    let it : c.refusal ≡ refusal = same_refusal (sym (cond-true c.fails (Some c.refusal) (first_failing cs) fails) ∙ is) in
+    ap (λ (f : FailedCondition). runs f.answer.word) (sym it) ∙ not-true (runs c.refusal.answer.word) parts.0)
+    (λ (passes : c.fails ≡ false). refusal_word cs refusal parts.1 (sym (cond-false c.fails (Some c.refusal) (first_failing cs) passes) ∙ is))
+    (cases_Bool c.fails)
+
+quiet : (call : Call) (m : Machine) → none_runs (command_of call m).checks ≡ true
+unfolding version features granule_delegate granule_undelegate realm_create params_checks realm_activate rec_aux_count rtt_read_entry rtt_create rtt_destroy realm_destroy rtt_fold rtt_map_unprotected rtt_unmap_unprotected data_create source_checks target_checks data_create_unknown data_destroy rtt_init_ripas range_checks rtt_set_ripas ripas_request_checks rec_create aux_checks number_checks rec_destroy rec_enter enter_checks psci_complete request_checks
+quiet (Version requested) m = refl
+quiet (Features index) m = refl
+quiet (GranuleDelegate address) m = refl
+quiet (GranuleUndelegate address) m = refl
+quiet (RealmCreate rd params) m = refl
+quiet (RealmActivate rd) m = refl
+quiet (RecAuxCount rd) m = refl
+quiet (RttReadEntry rd ipa level) m = refl
+quiet (RttCreate rd rtt ipa level) m = refl
+quiet (RttDestroy rd ipa level) m = refl
+quiet (RealmDestroy rd) m = refl
+quiet (RttFold rd ipa level) m = refl
+quiet (RttMapUnprotected rd ipa level descriptor) m = refl
+quiet (RttUnmapUnprotected rd ipa level) m = refl
+quiet (DataCreate rd page ipa source flags) m = refl
+quiet (DataCreateUnknown rd page ipa) m = refl
+quiet (DataDestroy rd ipa) m = refl
+quiet (RttInitRipas rd base top) m = refl
+quiet (RttSetRipas rd rec base top) m = refl
+quiet (RecCreate rd rec params) m = refl
+quiet (RecDestroy rec) m = refl
+quiet (RecEnter rec run) m = refl
+quiet (PsciComplete calling target status) m = refl
+
+-- a REC that is entered runs on
+stays : (leaves : Bool) → runs (entered_answer leaves).word ≡ true → leaves ≡ false
+stays true is = absurd (cc)
+stays false is = refl
+
+-- only the own answer of REC_ENTER has that word
+enters : (call : Call) (m : Machine) → Passed (command_of call m).checks → runs (command_of call m).answer.word ≡ true → IsRecEnter m (command_of call m).machine (Some call)
+unfolding version features granule_delegate granule_undelegate realm_create realm_activate rec_aux_count rtt_read_entry rtt_create rtt_destroy realm_destroy rtt_fold rtt_map_unprotected rtt_unmap_unprotected data_create data_create_unknown data_destroy rtt_init_ripas rtt_set_ripas rec_create rec_destroy rec_enter psci_complete
+enters (RecEnter rec run) m ok is =
+    let g = number_of m rec in
+    let flags = flags_in (page_in m (number_of m run)) in
+    entered_runs rec run m ok (stays (after_steps (after_entry m g run flags) g flags 16).0 is)
+enters _ m ok is = absurd (cc)
+
+by_word : (f : Option FailedCondition) (call : Call) (m : Machine) → first_failing (command_of call m).checks ≡ f → number (decided f (command_of call m) m).0.word ≡ 2 ^ 64 - 2
+    → IsRecEnter m (decided f (command_of call m) m).1 (Some call)
+by_word (Some refusal) call m is word = absurd (both_ways (runs refusal.answer.word) (refusal_word (command_of call m).checks refusal (quiet call m) is) (running_word refusal.answer.word word))
+by_word None call m is word = enters call m (passed (command_of call m).checks is) (running_word (command_of call m).answer.word word)
+
+by_running : (o : Option Call) (r : Registers) (m : Machine) → (rmi_at o r m).0.x0 ≡ 2 ^ 64 - 2 → IsRecEnter m (rmi_at o r m).1 o
+unfolding performed
+by_running (Some call) r m is = by_word (first_failing (command_of call m).checks) call m refl is
+by_running None r m is = absurd (omega arith)
+
+pub returns-clause-running : goal.returns-clause-running
+unfolding rmi
+returns-clause-running c = λ r m is. by_running (call_in r) r m is
+
 -- ---- the host
 
 pub returns-clause-stores : goal.returns-clause-stores
@@ -130,16 +222,14 @@ not_given false has_place m n not_queued = refl
 pub returns-clause-steps : goal.returns-clause-steps
 returns-clause-steps c = λ m rec w not_queued. not_given _ _ m _ not_queued
 
-abbrev by_run : Bool → Word → Machine → Machine → Option Word × Machine
-by_run runs word m n = if runs then (Some word, n) else (None, m)
-
-not_run : (runs : Bool) (word : Word) (m n : Machine) → (by_run runs word m n).0 ≡ None → (by_run runs word m n).1 ≡ m
-not_run true word m n none = absurd (cc)
-not_run false word m n none = refl
-
 pub returns-clause-interrupts : goal.returns-clause-interrupts
 unfolding interrupted
-returns-clause-interrupts c = λ m rec none. not_run _ _ m _ none
+returns-clause-interrupts c = λ m rec still.
+    cond-false (runs_at m rec) _ _
+    (⊎_elim
+    (λ (none : is_rec_named m rec ≡ false). and_left (is_rec_named m rec) (is_running (rec_at m rec).state) none)
+    (λ (ready : is_running (rec_at m rec).state ≡ false). and_right (is_rec_named m rec) (is_running (rec_at m rec).state) ready)
+    still)
 
 by_access : (m : Machine) (ipa value : ℕ) (size : AccessSize) (came : Result ℕ StepOutcome) → IsNotDone (tried came) → after_write m ipa size value came ≡ m
 by_access m ipa value size (Ok granule) not_done = absurd (not_done refl)

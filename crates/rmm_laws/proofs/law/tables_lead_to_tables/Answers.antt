@@ -4,13 +4,14 @@ use Rattle.rmm_model.specs.declared.granule.RmmGranule.{RmmGranule}
 use Rattle.rmm_model.specs.declared.granule.RmmGranuleState.TheVariants.{Rtt}
 use Rattle.rmm_model.specs.declared.realm.RttWalk.{RttWalk}
 use Rattle.rmm_model.specs.Machine.{number_of}
-use Rattle.rmm_laws.specs.Role.{used, entry_uses, uses, LeadsInside}
+use Rattle.rmm_laws.specs.Role.{used, entry_uses, uses, IsLinked, LeadsInside}
 use Rattle.rmm_laws.proofs.Entries.{named_inside}
 use Rattle.rmm_laws.proofs.Walks.{IsPlace, right, table_right, uses-entry}
 use Rattle.rmm_laws.proofs.law.tables_lead_to_tables.Goals as goal
 
 pub returns : goal.returns
-returns c = λ m proper rd table i address is lt leads.
+returns c = λ m whole rd table i address is lt leads.
+    let proper : IsLinked m = whole.linked in
     let place : RttWalk = record { table = table; level = proper.level table } in
     let here : IsPlace m proper rd 0 place = record { table = is; level = refl } in
     let begin = subst (LeadsInside m) leads (proper.inside table i (ap (λ (r : RmmGranule). r.state) is) lt) in

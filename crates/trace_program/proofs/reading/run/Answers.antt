@@ -8,7 +8,7 @@ pub reads-init : goal.reads-init
 reads-init g c = record {
   readable = c.requires.readable;
   writable = c.requires.writable;
-  empty = c.new-3.ensures;
+  empty = c.new-4.ensures;
   going = rw c.new.ensures (fresh_going _);
   underway = rw (c.new.ensures, c.new-2.ensures.items) (underway_none _ _ _ _ _ (fresh_going _) (keeps_same _) (keeps_same _));
 }

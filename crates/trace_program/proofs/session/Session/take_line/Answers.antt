@@ -1,4 +1,5 @@
-use Rattle.std.proofs.Common.{◌≡◌, refl, sym, ap, subst}
+use Rattle.std.proofs.Common.{◌≡◌, ◌++◌, refl, sym, ap, ◌∙◌, subst}
+use Rattle.rmm_trace.specs.declared.line.RmmTraceLine.{RmmTraceLine}
 use Rattle.command_line.specs.declared.rmitrace.TraceSubcommand.{TraceSubcommand}
 use Rattle.trace_program.specs.LineText.{answered_text, named_text, trace_line_of}
 use Rattle.trace_program.specs.Session.{TakesLine, after_line}
@@ -21,9 +22,9 @@ returns-in_ok-push_named-in-Names-clause-ok c =
     subst (λ (it : TraceSubcommand). TakesLine it c.args.bytes.now c.args.self.now c.args.self.now c.args.text.now c.push_named.new.text) (sym c.in-Names.is)
     (record {
       session = refl;
-      text = named_text c.args.bytes.now c.parse.result;
-      is_text = ap (named_text c.args.bytes.now) c.parse.ensures;
-      appended = c.in_ok-push_named-in-Names.ensures;
+      text = named_text c.args.bytes.now (trace_line_of c.args.bytes.now);
+      is_text = refl;
+      appended = c.in_ok-push_named-in-Names.ensures ∙ ap (λ (line : RmmTraceLine). c.args.text.now ++ named_text c.args.bytes.now line) c.parse.ensures.line;
     })
 
 pub returns-in_ok-explain-in-Why-clause-ok : goal.returns-in_ok-explain-in-Why-clause-ok

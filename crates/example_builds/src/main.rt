@@ -1,0 +1,65 @@
+//! Examples. One build: commands, a refusal that is matched on, an undo, an abort, and the history. Two builds in threads of
+//! their own. A history from standard input, applied to a host.
+#![tactic(auto)]
+
+mod history;
+mod threads;
+
+use anyhow::Result;
+use history_text::EventText;
+use realm_host::{BuildId, Cmd, Host, PlainStore, Refusal, Rmi, Settings, Status};
+use std::alloc::Global;
+use std::io;
+
+// A host of 8 pages, for one build.
+fn booted(alloc: Global) -> Result<Host<PlainStore>> {
+    let settings = Settings::new(8, 0, 64, 1).unwrap();
+    let store = PlainStore::build(alloc, 8)?;
+    match Host::boot(alloc, settings, store) {
+        Ok(host) => Ok(host),
+        Err((error, _store)) => Err(error.into()),
+    }
+}
+
+// Asks for a command, and prints the answer.
+fn ask(rt: &impl Print, host: &mut Host<PlainStore>, build: BuildId, cmd: Cmd) -> io::Result<()> {
+    match host.command(build, cmd) {
+        Ok(reply) => println!(rt; "{reply:?}"),
+        Err(
+            Refusal::Rmi(
+                Rmi {
+                    status: Status::Input,
+                    ..
+                },
+            ),
+        ) => println!(rt; "RMI_ERROR_INPUT"),
+        Err(refusal) => println!(rt; "refused: {refusal}"),
+    }
+}
+
+// Takes two pages, and delegates the first of them once too often.
+fn build(rt: &impl Print, host: &mut Host<PlainStore>, build: BuildId) -> io::Result<()> {
+    ask(rt, host, build, Cmd::Take { order: 1 })?;
+    ask(rt, host, build, Cmd::Fill { page: 1, value: 7 })?;
+    ask(rt, host, build, Cmd::Delegate { page: 0 })?;
+    ask(rt, host, build, Cmd::Delegate { page: 0 })?;
+    ask(rt, host, build, Cmd::Delegate { page: 2 })?;
+    println!(rt; "{:?}", host.undo(build))?;
+    println!(rt; "{:?}", host.abort(build))
+}
+
+// Prints the answers of a build, its history, and the number of free pages after it.
+fn show(rt: &impl Print, host: &mut Host<PlainStore>) -> io::Result<()> {
+    build(rt, host, BuildId::new(0).unwrap())?;
+    for event in host.history() {
+        println!(rt; "{}", EventText(event))?;
+    }
+    println!(rt; "{} of {} pages are free", host.free_count(), host.pages())
+}
+
+fn main(rt: HostRuntime) -> Result<()> {
+    let mut host = booted(rt.alloc())?;
+    show(&rt, &mut host)?;
+    threads::both(&rt)?;
+    history::run(&rt)
+}

@@ -1,0 +1,31 @@
+-- The registers of a raw answer that is written, compared with ours. RMM 1.0, RMI commands: outputs.
+use Rattle.std.specs.Prelude.{ℕ, Bool, true, ◌&&◌, if◌then◌else◌, List, [], ◌∷◌}
+use Rattle.rmm_trace.specs.declared.word.TraceWord.{TraceWord}
+use Rattle.rmm_trace.specs.Access.{operand_at}
+use Rattle.rmm_trace.specs.Compare.{first_of, rest_of, is_register, is_same_register}
+use Rattle.rmm_answers.specs.declared.outputs.TheConstants.{NO_OUTPUT}
+use Rattle.rmm_answers.specs.Outputs.{is_returned, outputs_of}
+
+abbrev pub first_name : List ℕ → ℕ
+first_name [] = NO_OUTPUT
+first_name (name ∷ names) = name
+
+abbrev pub names_after : List ℕ → List ℕ
+names_after [] = []
+names_after (name ∷ names) = names
+
+-- A register is compared if the call returns it. Of others the standard says nothing.
+abbrev pub is_same_output : Bool → TraceWord → TraceWord → Bool
+is_same_output is_output written ours = if is_output then is_same_register written ours else is_register written
+
+-- the registers from X1 on, by the names of the outputs there
+abbrev pub are_outputs_same : ℕ → ℕ → List ℕ → List TraceWord → List TraceWord → Bool
+are_outputs_same place x0 names [] ours = true
+are_outputs_same place x0 names (w ∷ ws) ours =
+    is_same_output (is_returned place x0 (first_name names)) w (first_of ours) && are_outputs_same place x0 (names_after names) ws (rest_of ours)
+
+-- The registers that are written of a command's answer are ours: X0, and the outputs that come with our X0.
+abbrev pub are_registers : ℕ → List TraceWord → List TraceWord → Bool
+are_registers place [] ours = true
+are_registers place (w ∷ ws) ours =
+    is_same_register w (first_of ours) && are_outputs_same place (operand_at ours 0 0) (outputs_of place) ws (rest_of ours)

@@ -1,0 +1,136 @@
+-- Machines that wrong definitions would lead to.
+use Rattle.std.proofs.Common.{◌≡◌, ◌≢◌, ℕ, ◌+◌, ◌<◌, Bool, true, false, List, length, Option, Some, None, option_map, refl, sym, ap, subst, ◌∙◌, arith}
+use Rattle.std.specs.Prelude.{cond}
+use Rattle.std.specs.List.{count_by}
+use Rattle.std.proofs.lemmas.Bool.{cond-true, lt-ltb, both_ways}
+use Rattle.std.proofs.lemmas.Bool.Decides.{nat_tests}
+use Rattle.std.proofs.lemmas.List.{length-set}
+use Rattle.granule_addr.specs.Page.{zero_page}
+use Rattle.rmm_model.specs.declared.entry.RmmRipas.{RmmRipas}
+use Rattle.rmm_model.specs.declared.entry.RmmRttEntry.{RmmRttEntry}
+use Rattle.rmm_model.specs.declared.entry.RmmRttEntry.TheVariants.{Assigned, Table}
+use Rattle.rmm_model.specs.declared.granule.RmmGranule.{RmmGranule}
+use Rattle.rmm_model.specs.declared.granule.RmmGranuleState.{RmmGranuleState}
+use Rattle.rmm_model.specs.declared.granule.RmmGranuleState.TheVariants.{Undelegated, Delegated, Rd, Rec as IsRec, RecAux, Data, Rtt}
+use Rattle.rmm_model.specs.declared.realm.RttWalk.{RttWalk}
+use Rattle.rmm_model.specs.declared.rec.RmmRec.{RmmRec}
+use Rattle.rmm_model.specs.Granule.{of_no_realm}
+use Rattle.rmm_model.specs.Level.{entry_size}
+use Rattle.rmm_model.specs.Machine.{Machine, granule_at, page_in, number_of, with_granule, with_blank}
+use Rattle.rmm_model.specs.Table.{entry_in_page}
+use Rattle.rmm_model.specs.Walk.{granule_named, table_below}
+use Rattle.rmm_laws.specs.Owner.{is_rd, IsOwner, IsOrderly, is_rec_in}
+use Rattle.rmm_laws.specs.Proper.{IsProper}
+use Rattle.rmm_laws.specs.Role.{used, page_count, entry_uses, uses, IsLinked, LeadsInside}
+use Rattle.rmm_laws.specs.Walk.{IsTableOf}
+use Rattle.rmm_laws.proofs.Entries.{named_inside}
+use Rattle.rmm_laws.proofs.Orders.{owner_is, rd_is, rd_of, total-set, rec_in-true}
+use Rattle.rmm_laws.proofs.Walks.{IsPlace, right, one_place, table_right, uses-entry, by_entry}
+use Rattle.rmm_laws.proofs.Writes.{granule_at-same, granule_at-other, page_in-other, named-same, taken_inside}
+
+-- a table of a realm at its own level, as the end of a walk
+at_level : (m : Machine) (linked : IsLinked m) (rd table : ℕ) → IsTableOf m rd table → IsPlace m linked rd 0 (record { table = table; level = linked.level table })
+at_level m linked rd table is = record { table = is; level = refl }
+
+-- what a TABLE entry leads to
+below_at : (m : Machine) (linked : IsLinked m) (rd table i g : ℕ) → IsTableOf m rd table → i < 512 → table_below m (entry_in_page (page_in m table) i) ≡ Some g
+    → (granule_at m g ≡ record { state = Rtt; owner = Some rd }) × (linked.level g ≡ linked.level table + 1)
+below_at m linked rd table i g is lt leads =
+    let place : RttWalk = record { table = table; level = linked.level table } in
+    let gives = uses-entry m linked rd 0 place i 0 (at_level m linked rd table is) lt ∙ by_entry m linked rd 0 (Some rd) (linked.level table) g (entry_in_page (page_in m table) i) leads in
+    table_right m linked (Some rd) (linked.level table + 1) g (right m linked table i 0 (used Rtt (Some rd) (linked.level table + 1) g) gives)
+
+pub below_same : (m n : Machine) (entry : RmmRttEntry) → n.settings ≡ m.settings → length n.granules ≡ length m.granules → table_below n entry ≡ table_below m entry
+below_same m n (Table address) settings count = named-same m n settings count address
+below_same m n _ settings count = refl
+
+-- a table that is destroyed, and whose entry is left
+pub entry_left : (m : Machine) (rd table i g : ℕ) → IsProper m → IsTableOf m rd table → i < 512 → table_below m (entry_in_page (page_in m table) i) ≡ Some g → IsProper (with_blank m g Delegated) → ⊥
+entry_left m rd table i g proper is lt leads after =
+    let n : Machine = with_blank m g Delegated in
+    let there = below_at m proper.linked rd table i g is lt leads in
+    let state : (granule_at m g).state ≡ Rtt = ap (λ (r : RmmGranule). r.state) there.0 in
+    let inside : g < length m.granules = taken_inside m g (λ free. cc) in
+    let apart : table ≢ g = λ same. (let levels : proper.linked.level table ≡ proper.linked.level g = ap proper.linked.level same in let one = there.1 in omega arith) in
+    let still : IsTableOf n rd table = granule_at-other m g table (of_no_realm Delegated) apart ∙ is in
+    let page : page_in n table ≡ page_in m table = page_in-other (with_granule m g (of_no_realm Delegated)) g table zero_page apart in
+    let leads_then : table_below n (entry_in_page (page_in n table) i) ≡ Some g =
+    ap (λ (p : List ℕ). table_below n (entry_in_page p i)) page ∙ below_same m n (entry_in_page (page_in m table) i) refl (length-set m.granules g (of_no_realm Delegated)) ∙ leads in
+    let table_then : (granule_at n g).state ≡ Rtt = ap (λ (r : RmmGranule). r.state) (below_at n after.linked rd table i g still lt leads_then).0 in
+    let free : (granule_at n g).state ≡ Delegated = ap (λ (r : RmmGranule). r.state) (granule_at-same m g (of_no_realm Delegated) inside) in
+    cc
+
+some_pages : (level : ℕ) → 0 < page_count level
+unfolding entry_size
+some_pages level = grind (arith, nat_tests)
+
+-- what the first page of a mapping is
+first_page : (m : Machine) (linked : IsLinked m) (rd table i address g : ℕ) (ripas : RmmRipas) → IsTableOf m rd table → i < 512 → entry_in_page (page_in m table) i ≡ Assigned ripas address → granule_named m address ≡ Some g
+    → uses m linked.level table i 0 ≡ Some (used Data (Some rd) 0 (g + 0))
+first_page m linked rd table i address g ripas is lt entry named =
+    let place : RttWalk = record { table = table; level = linked.level table } in
+    uses-entry m linked rd 0 place i 0 (at_level m linked rd table is) lt
+    ∙ ap (λ (e : RmmRttEntry). entry_uses m (Some rd) (linked.level table) e 0) entry
+    ∙ cond-true _ _ _ (lt-ltb 0 (page_count (linked.level table)) (some_pages (linked.level table)))
+    ∙ ap (option_map (λ first. used Data (Some rd) 0 (first + 0))) named
+
+-- a granule that two entries map
+pub named_twice : (m : Machine) (rd s x i y j address : ℕ) (a b : RmmRipas) → IsProper m → IsTableOf m rd x → IsTableOf m s y → i < 512 → j < 512 → entry_in_page (page_in m x) i ≡ Assigned a address
+    → entry_in_page (page_in m y) j ≡ Assigned b address → (x ≡ y) × (i ≡ j)
+named_twice m rd s x i y j address a b proper one two lt also first second =
+    let linked = proper.linked in
+    let state : (granule_at m x).state ≡ Rtt = ap (λ (r : RmmGranule). r.state) one in
+    let begin = subst (LeadsInside m) first (linked.inside x i state lt) in
+    let named = named_inside m address begin.0 in
+    let both =
+    one_place m linked x i 0 y j 0 (used Data (Some rd) 0 (number_of m address + 0)) (used Data (Some s) 0 (number_of m address + 0))
+    (first_page m linked rd x i address (number_of m address) a one lt first named) (first_page m linked s y j address (number_of m address) b two also second named) refl in
+    (both.0, both.1)
+
+one_missing : (now before : ℕ) → now ≡ before → now + 1 ≡ before + 0 → ⊥
+one_missing now before same sum = omega arith
+
+-- a REC that is removed while its realm counts it
+pub rec_still_counted : (m : Machine) (g : ℕ) (rec : RmmRec) → IsProper m → (granule_at m g).state ≡ IsRec rec → IsProper (with_blank m g Delegated) → ⊥
+rec_still_counted m g rec proper is after =
+    let n : Machine = with_blank m g Delegated in
+    let inside : g < length m.granules = taken_inside m g (λ free. cc) in
+    let owner = owner_is m (granule_at m g).owner (rd_of m g proper.ordered (IsRec rec) is refl) in
+    let rd : ℕ = owner.0 in
+    let there = rd_is (granule_at m rd).state owner.2 in
+    let apart : rd ≢ g = λ same. (let s : (granule_at m rd).state ≡ (granule_at m g).state = ap (λ (x : ℕ). (granule_at m x).state) same in let r = there.1 in cc) in
+    let before = proper.ordered.recs rd there.0 there.1 in
+    let now = after.ordered.recs rd there.0 (ap (λ (r : RmmGranule). r.state) (granule_at-other m g rd (of_no_realm Delegated) apart) ∙ there.1) in
+    let one : cond (is_rec_in rd (granule_at m g)) 1 0 ≡ 1 = ap (λ (b : Bool). cond b 1 0) (rec_in-true rd (granule_at m g) rec is owner.1) in
+    let sum = total-set m g (of_no_realm Delegated) rd inside in
+    one_missing (count_by (is_rec_in rd) n.granules) (count_by (is_rec_in rd) m.granules) (sym now ∙ before)
+    (ap (λ (k : ℕ). count_by (is_rec_in rd) n.granules + k) (sym one) ∙ sum)
+
+-- the owner of a granule is an RD
+owned_of : (m : Machine) (s : RmmGranuleState) (owner : Option ℕ) (page : List ℕ) (rd : ℕ) → owner ≡ Some rd → IsOrderly m s owner page → is_rd (granule_at m rd).state ≡ true
+owned_of m (IsRec rec) owner page rd owned fine = subst (IsOwner m) owned fine.0
+owned_of m RecAux owner page rd owned fine = subst (IsOwner m) owned fine
+owned_of m Data owner page rd owned fine = subst (IsOwner m) owned fine
+owned_of m Rtt owner page rd owned fine = subst (IsOwner m) owned fine
+owned_of m Undelegated owner page rd owned fine = let never : None ≡ Some rd = sym fine ∙ owned in absurd (cc)
+owned_of m Delegated owner page rd owned fine = let never : None ≡ Some rd = sym fine.0 ∙ owned in absurd (cc)
+owned_of m (Rd realm) owner page rd owned fine = let never : None ≡ Some rd = sym fine ∙ owned in absurd (cc)
+
+-- an RD that is removed while its realm has a granule
+pub owner_removed : (m : Machine) (rd g : ℕ) → IsProper m → (granule_at m g).owner ≡ Some rd → IsProper (with_blank m rd Delegated) → ⊥
+owner_removed m rd g proper owned after =
+    let n : Machine = with_blank m rd Delegated in
+    let there : is_rd (granule_at m rd).state ≡ true = owned_of m (granule_at m g).state (granule_at m g).owner (page_in m g) rd owned (proper.ordered.each g) in
+    let realm = rd_is (granule_at m rd).state there in
+    let is_realm = realm.1 in
+    let inside : rd < length m.granules = taken_inside m rd (λ free. cc) in
+    let none : (granule_at m rd).owner ≡ None = subst (λ (s : RmmGranuleState). IsOrderly m s (granule_at m rd).owner (page_in m rd)) realm.1 (proper.ordered.each rd) in
+    let apart : g ≢ rd = λ same. (let some : None ≡ Some rd = sym none ∙ sym (ap (λ (x : ℕ). (granule_at m x).owner) same) ∙ owned in cc) in
+    let still : (granule_at n g).owner ≡ Some rd = ap (λ (r : RmmGranule). r.owner) (granule_at-other m rd g (of_no_realm Delegated) apart) ∙ owned in
+    let now : is_rd (granule_at n rd).state ≡ true = owned_of n (granule_at n g).state (granule_at n g).owner (page_in n g) rd still (after.ordered.each g) in
+    let free : is_rd (granule_at n rd).state ≡ false = ap (λ (r : RmmGranule). is_rd r.state) (granule_at-same m rd (of_no_realm Delegated) inside) in
+    both_ways (is_rd (granule_at n rd).state) free now
+
+-- a DELEGATED granule that is not wiped
+pub wipe_left_out : (m : Machine) (g : ℕ) → IsProper m → (granule_at m g).state ≡ Delegated → page_in m g ≡ zero_page
+wipe_left_out m g proper is = (subst (λ (s : RmmGranuleState). IsOrderly m s (granule_at m g).owner (page_in m g)) is (proper.ordered.each g)).1

@@ -1,0 +1,301 @@
+-- RMI_REC_DESTROY keeps the roles and the owners of granules.
+use Rattle.std.proofs.Common.{◌≡◌, ◌≢◌, ℕ, ◌+◌, ◌-◌, ◌<◌, inl, inr, ◌==◌, ◌&&◌, Bool, true, length, Option, Some, option_map, refl, sym, ap, subst, ◌∙◌, ⊎_elim, arith}
+use Rattle.std.specs.Prelude.{nat_lt, is_some, cond, IfSome}
+use Rattle.std.specs.List.{count_by}
+use Rattle.std.proofs.lemmas.Bool.{cases_eq, cond-true, and_left, and_from, eq-eqb, ne_eqb, lt-ltb, both_ways}
+use Rattle.std.proofs.lemmas.List.{length-set}
+use Rattle.granule_addr.specs.Page.{zero_page}
+use Rattle.page_arena.specs.Pages.{length-page_of}
+use Rattle.rmm_model.specs.declared.granule.RmmGranule.{RmmGranule}
+use Rattle.rmm_model.specs.declared.granule.RmmGranuleState.{RmmGranuleState}
+use Rattle.rmm_model.specs.declared.granule.RmmGranuleState.TheVariants.{Delegated, Rd, Rec as IsRec, RecAux}
+use Rattle.rmm_model.specs.declared.realm.RmmRealm.{RmmRealm}
+use Rattle.rmm_model.specs.declared.rec.RmmRec.{RmmRec}
+use Rattle.rmm_model.specs.Granule.{of_no_realm, realm_of, rec_of}
+use Rattle.rmm_model.specs.Machine.{Machine, granule_at, page_in, number_of, state_at, with_granule, with_blank}
+use Rattle.rmm_model.specs.Realm.{IsServed}
+use Rattle.rmm_model.specs.Rec.{aux_of}
+use Rattle.rmm_model.specs.Walk.{granule_named}
+use Rattle.rmm_model.specs.Command.Auxiliary.{aux_granule, with_aux}
+use Rattle.rmm_model.specs.Command.Operand.{rec_at}
+use Rattle.rmm_model.specs.Command.RecDestroy.{rec_destroy, with_one_less, without_rec_of, without_rec}
+use Rattle.rmm_laws.specs.Apart.{Touches, realm_of_rec}
+use Rattle.rmm_laws.specs.Owner.{is_rd, is_owner, IsOrderly, IsOrderlyAt, is_rec_in}
+use Rattle.rmm_laws.specs.Proper.{IsProper}
+use Rattle.rmm_laws.specs.Role.{Used, used, state_uses, uses, IsSound, IsLinked}
+use Rattle.rmm_laws.proofs.Orders.{owner_is, rd_is, rd_of, is_counter, counted, total-set, total-alike, orderly_same, orderly_but}
+use Rattle.rmm_laws.proofs.Passed.{Passed, some_same, rec_of-some, rec_named-is}
+use Rattle.rmm_laws.proofs.RecLives.{IsRecMade, rec_gone}
+use Rattle.rmm_laws.proofs.Recs.{keep_realm}
+use Rattle.rmm_laws.proofs.Touching.{mine_before, touch_blank, touch_granule, untouched}
+use Rattle.rmm_laws.proofs.Walks.{right, one_place}
+use Rattle.rmm_laws.proofs.Wiping.{first_named, IsWiped, all_wiped, all_total, touch_wiped}
+use Rattle.rmm_laws.proofs.Writes.{named-same, granule_at-same, granule_at-other, page_in-same, page_in-other, taken_inside, sound-with_granule, sound-with_page}
+
+module _ (m : Machine) (g aux : ℕ) (proper : IsLinked m) (old : RmmRec) (is_old : (granule_at m g).state ≡ IsRec old) (aux_is : m.settings.aux ≡ aux) where
+  abbrev owner : Option ℕ
+  owner = (granule_at m g).owner
+
+  abbrev called : ℕ → Option ℕ
+  called i = granule_named m (aux_of (page_in m g) i)
+
+  gives : (i h : ℕ) → i < aux → called i ≡ Some h → uses m proper.level g i 0 ≡ Some (used RecAux owner 0 h)
+  unfolding uses
+  gives i h lt is =
+      ap (λ (s : RmmGranuleState). state_uses m s owner (proper.level g) (page_in m g) g i 0) is_old
+      ∙ cond-true _ _ _ (and_from (nat_lt i m.settings.aux) (0 == 0) (lt-ltb i m.settings.aux (subst (λ (n : ℕ). i < n) (sym aux_is) lt)) refl)
+      ∙ ap (option_map (used RecAux owner 0)) is
+
+  aux_there : (i h : ℕ) → i < aux → called i ≡ Some h → granule_at m h ≡ record { state = RecAux; owner = owner }
+  aux_there i h lt is = sym (ap (λ (u : Used). u.attributes) (right m proper g i 0 (used RecAux owner 0 h) (gives i h lt is)))
+
+  not_self : (i : ℕ) → i < aux → called i ≢ Some g
+  not_self i lt is =
+      let s : (granule_at m g).state ≡ RecAux = ap (λ (r : RmmGranule). r.state) (aux_there i g lt is) in
+      let r = is_old in
+      cc
+
+  abbrev cleared : Machine
+  cleared = with_aux m g (of_no_realm Delegated) aux
+
+  abbrev gone : Machine
+  gone = with_blank cleared g Delegated
+
+  clean : IsWiped m g (of_no_realm Delegated) (λ n. tt) aux cleared
+  clean = all_wiped m g (of_no_realm Delegated) (λ n. tt) aux proper.sound not_self
+
+  g_there : g < length cleared.granules
+  g_there = let c = clean.count in let r = is_old in let i = taken_inside m g (λ free. cc) in omega arith
+
+  lower : (i : ℕ) → i < m.settings.aux → i < aux
+  lower i lt = subst (λ (n : ℕ). i < n) aux_is lt
+
+  was_made : IsRecMade gone m owner g
+  was_made = record {
+    settings = sym clean.settings;
+    count = sym (length-set cleared.granules g (of_no_realm Delegated) ∙ clean.count);
+    rec = old;
+    free = ap (λ (r : RmmGranule). r.state) (granule_at-same cleared g (of_no_realm Delegated) g_there);
+    made = ap (λ (s : RmmGranuleState). record { state = s; owner = owner }) is_old;
+    aux_free = λ i h lt is.
+        let apart : h ≢ g = λ same. not_self i (lower i lt) (is ∙ ap (λ (x : ℕ). Some x) same) in
+        ap (λ (r : RmmGranule). r.state) (granule_at-other cleared g h (of_no_realm Delegated) apart ∙ clean.hit i h (lower i lt) is);
+    aux_made = λ i h lt is. aux_there i h (lower i lt) is;
+    apart = λ i j h lt also is at. (one_place m proper g i 0 g j 0 (used RecAux owner 0 h) (used RecAux owner 0 h) (gives i h (lower i lt) is) (gives j h (lower j also) at) refl).1;
+    beside = λ h ne none.
+        let same = clean.other h (λ i lt. none i (subst (λ (n : ℕ). i < n) (sym aux_is) lt)) in (
+          sym (granule_at-other cleared g h (of_no_realm Delegated) ne ∙ same.0),
+          sym (page_in-other (with_granule cleared g (of_no_realm Delegated)) g h zero_page ne ∙ same.1),
+        );
+  }
+
+  gone_sound : IsSound gone
+  gone_sound = sound-with_page (with_granule cleared g (of_no_realm Delegated)) g zero_page (length-page_of 0) (sound-with_granule cleared g (of_no_realm Delegated) g_there tt clean.sound)
+
+  destroyed : IsLinked gone
+  destroyed = rec_gone gone m proper owner g was_made gone_sound
+
+  -- the REC and its auxiliary granules are DELEGATED and zero
+  rec_gone_is : (granule_at gone g ≡ of_no_realm Delegated) × (page_in gone g ≡ zero_page)
+  rec_gone_is =
+      let pages = clean.sound.pages in
+      let within = g_there in
+      (granule_at-same cleared g (of_no_realm Delegated) g_there, page_in-same (with_granule cleared g (of_no_realm Delegated)) g zero_page (omega arith))
+
+  aux_gone : (i h : ℕ) → i < aux → called i ≡ Some h → (granule_at gone h ≡ of_no_realm Delegated) × (page_in gone h ≡ zero_page)
+  aux_gone i h lt is =
+      let apart : h ≢ g = λ same. not_self i lt (is ∙ ap (λ (x : ℕ). Some x) same) in (
+        granule_at-other cleared g h (of_no_realm Delegated) apart ∙ clean.hit i h lt is,
+        page_in-other (with_granule cleared g (of_no_realm Delegated)) g h zero_page apart ∙ clean.blank i h lt is,
+      )
+
+  beside_gone : (h : ℕ) → h ≢ g → ((i : ℕ) → i < aux → called i ≢ Some h) → (granule_at gone h ≡ granule_at m h) × (page_in gone h ≡ page_in m h)
+  beside_gone h ne none =
+      let same = clean.other h none in (
+        granule_at-other cleared g h (of_no_realm Delegated) ne ∙ same.0,
+        page_in-other (with_granule cleared g (of_no_realm Delegated)) g h zero_page ne ∙ same.1,
+      )
+
+  gone_count : length gone.granules ≡ length m.granules
+  gone_count = length-set cleared.granules g (of_no_realm Delegated) ∙ clean.count
+
+  -- an RD is none of these
+  rd_apart : (h : ℕ) → is_rd (granule_at m h).state ≡ true → (h ≢ g) × ((i : ℕ) → i < aux → called i ≢ Some h)
+  rd_apart h sure = (
+    λ same. both_ways (is_rd (granule_at m h).state) (ap (λ (x : ℕ). is_rd (granule_at m x).state) same ∙ ap is_rd is_old) sure,
+    λ i lt is. both_ways (is_rd (granule_at m h).state) (ap (λ (r : RmmGranule). is_rd r.state) (aux_there i h lt is)) sure,
+  )
+
+  pub orderly_gone : ((h : ℕ) → IsOrderlyAt m h) → (h : ℕ) → IsOrderlyAt gone h
+  orderly_gone before h =
+      ⊎_elim
+      (λ (here : h ≡ g).
+      subst (λ (x : ℕ). IsOrderlyAt gone x) (sym here) (subst (λ (r : RmmGranule). IsOrderly gone r.state r.owner (page_in gone g)) (sym rec_gone_is.0) (refl, rec_gone_is.1)))
+      (λ (ne : h ≢ g). ⊎_elim
+      (λ (it : (i : ℕ) × (i < aux) × (called i ≡ Some h)).
+      let free = aux_gone it.0 h it.1 it.2 in
+      subst (λ (r : RmmGranule). IsOrderly gone r.state r.owner (page_in gone h)) (sym free.0) (refl, free.1))
+      (λ (none : (i : ℕ) → i < aux → called i ≢ Some h).
+      let same = beside_gone h ne none in
+      orderly_same m gone clean.settings gone_count h same.0 same.1
+      (λ x owns sure. let apart = rd_apart x sure in ap (λ (r : RmmGranule). is_rd r.state) (beside_gone x apart.0 apart.1).0 ∙ sure) (before h))
+      (first_named called h aux))
+      (cases_eq h g)
+
+  -- an RD of after is one of before
+  pub rd_before : (x : ℕ) (realm : RmmRealm) → (granule_at gone x).state ≡ Rd realm → (granule_at m x).state ≡ Rd realm
+  rd_before x realm is =
+      let ne : x ≢ g = λ same. (let free : (granule_at gone x).state ≡ Delegated = ap (λ (y : ℕ). (granule_at gone y).state) same ∙ ap (λ (r : RmmGranule). r.state) rec_gone_is.0 in cc) in
+      let none : (i : ℕ) → i < aux → called i ≢ Some x = λ i lt at. (let free : (granule_at gone x).state ≡ Delegated = ap (λ (r : RmmGranule). r.state) (aux_gone i x lt at).0 in cc) in
+      sym (ap (λ (r : RmmGranule). r.state) (beside_gone x ne none).0) ∙ is
+
+  -- one REC less of the owner's realm
+  pub gone_total : (w x : ℕ) → (granule_at m g).owner ≡ Some w → count_by (is_rec_in x) gone.granules + cond (w == x) 1 0 ≡ count_by (is_rec_in x) m.granules
+  gone_total w x owned =
+      let still = (clean.other g (λ i lt. not_self i lt)).0 in
+      let rec_is : is_rec_in x (granule_at cleared g) ≡ (w == x) =
+      ap (is_rec_in x) still ∙ ap (λ (s : RmmGranuleState). is_some (rec_of s) && is_owner x (granule_at m g).owner) is_old ∙ ap (is_owner x) owned in
+      let plus : (n : ℕ) → n + 0 ≡ n = λ n. omega arith in
+      ap (λ (b : Bool). count_by (is_rec_in x) gone.granules + cond b 1 0) (sym rec_is)
+      ∙ total-set cleared g (of_no_realm Delegated) x g_there
+      ∙ plus (count_by (is_rec_in x) cleared.granules)
+      ∙ all_total m g (of_no_realm Delegated) (λ n. tt) refl proper.sound x aux not_self (λ i h lt is. ap (λ (r : RmmGranule). is_counter r.state) (aux_there i h lt is))
+
+less_one : (before after : ℕ) → before ≡ after + 1 → before - 1 ≡ after
+less_one before after is = omega arith
+
+-- ---- with one REC less
+
+module _ (rec : ℕ) (m : Machine) (proper : IsProper m) (ok : Passed (rec_destroy rec m).checks) where
+  abbrev here : ℕ
+  here = number_of m rec
+
+  rec_is : (granule_at m (number_of m rec)).state ≡ IsRec (rec_at m rec)
+  unfolding rec_destroy
+  rec_is = rec_of-some (state_at m rec) ok.1.1.0
+
+  abbrev of_rec : (rd : ℕ) × ((granule_at m (number_of m rec)).owner ≡ Some rd) × (is_rd (granule_at m rd).state ≡ true)
+  of_rec = owner_is m (granule_at m (number_of m rec)).owner (rd_of m (number_of m rec) proper.ordered (IsRec (rec_at m rec)) rec_is refl)
+
+  abbrev w : ℕ
+  w = of_rec.0
+
+  abbrev of_rd : (realm : RmmRealm) × ((granule_at m of_rec.0).state ≡ Rd realm)
+  of_rd = rd_is (granule_at m of_rec.0).state of_rec.2
+
+  abbrev realm : RmmRealm
+  realm = of_rd.0
+
+  -- the machine in which the realm has one REC less
+  abbrev less : Machine
+  less = with_granule m w (of_no_realm (Rd (with_one_less realm)))
+
+  less_is : without_rec m (granule_at m (number_of m rec)).owner ≡ less
+  less_is = ap (without_rec m) of_rec.1 ∙ ap (λ (s : RmmGranuleState). without_rec_of m w (realm_of s)) of_rd.1
+
+  w_in : w < length m.granules
+  w_in = let s = of_rd.1 in taken_inside m w (λ free. cc)
+
+  w_now : granule_at less w ≡ of_no_realm (Rd (with_one_less realm))
+  w_now = granule_at-same m w (of_no_realm (Rd (with_one_less realm))) w_in
+
+  less_linked : IsLinked less
+  less_linked =
+      let s : IsServed (length m.granules) realm = subst (λ (t : RmmGranuleState). IfSome (realm_of t) (IsServed (length m.granules))) of_rd.1 (proper.linked.sound.tables.each w) in
+      keep_realm m w realm (with_one_less realm) proper.linked of_rd.1 refl refl refl (record { few = s.few; inside = s.inside; most = s.most; level = s.level; width = s.width; served = s.served })
+
+  apart_w : here ≢ w
+  apart_w same =
+      let states : (granule_at m here).state ≡ (granule_at m w).state = ap (λ (x : ℕ). (granule_at m x).state) same in
+      let r = rec_is in
+      let s = of_rd.1 in
+      cc
+
+  still : granule_at less here ≡ granule_at m here
+  still = granule_at-other m w here (of_no_realm (Rd (with_one_less realm))) apart_w
+
+  still_rec : (granule_at less here).state ≡ IsRec (rec_at m rec)
+  still_rec = ap (λ (r : RmmGranule). r.state) still ∙ rec_is
+
+  still_owned : (granule_at less here).owner ≡ Some w
+  still_owned = ap (λ (r : RmmGranule). r.owner) still ∙ of_rec.1
+
+  less_orderly : (h : ℕ) → IsOrderlyAt less h
+  less_orderly =
+      orderly_but m less refl (length-set m.granules w (of_no_realm (Rd (with_one_less realm)))) w (λ h ne. (granule_at-other m w h (of_no_realm (Rd (with_one_less realm))) ne, refl))
+      (λ sure. ap (λ (r : RmmGranule). is_rd r.state) w_now)
+      (subst (λ (r : RmmGranule). IsOrderly less r.state r.owner (page_in less w)) (sym w_now) refl) proper.ordered.each
+
+  less_total : (x : ℕ) → count_by (is_rec_in x) less.granules ≡ count_by (is_rec_in x) m.granules
+  less_total x =
+      total-alike m w (of_no_realm (Rd (with_one_less realm))) x w_in
+      (sym (and_left (is_some (rec_of (granule_at m w).state)) (is_owner x (granule_at m w).owner) (ap (λ (s : RmmGranuleState). is_some (rec_of s)) of_rd.1)))
+
+  abbrev after : Machine
+  after = with_blank (with_aux less here (of_no_realm Delegated) m.settings.aux) here Delegated
+
+  total_after : (x : ℕ) → count_by (is_rec_in x) after.granules + cond (w == x) 1 0 ≡ count_by (is_rec_in x) m.granules
+  total_after x = gone_total less here m.settings.aux less_linked (rec_at m rec) still_rec refl w x still_owned ∙ less_total x
+
+  recs_after : (x : ℕ) (other : RmmRealm) → (granule_at after x).state ≡ Rd other → other.rec_count ≡ count_by (is_rec_in x) after.granules
+  recs_after x other is =
+      let before = rd_before less here m.settings.aux less_linked (rec_at m rec) still_rec refl x other is in
+      let total = total_after x in
+      ⊎_elim
+      (λ (at : x ≡ w).
+      let both : Rd other ≡ Rd (with_one_less realm) = sym before ∙ ap (λ (y : ℕ). (granule_at less y).state) at ∙ ap (λ (r : RmmGranule). r.state) w_now in
+      let counts : other.rec_count ≡ realm.rec_count - 1 = some_same (ap counted both) in
+      let was : realm.rec_count ≡ count_by (is_rec_in x) m.granules = proper.ordered.recs w realm of_rd.1 ∙ ap (λ (y : ℕ). count_by (is_rec_in y) m.granules) (sym at) in
+      let one : cond (w == x) 1 0 ≡ 1 = ap (λ (b : Bool). cond b 1 0) (eq-eqb w x (sym at)) in
+      counts ∙ less_one realm.rec_count (count_by (is_rec_in x) after.granules) (was ∙ sym total ∙ ap (λ (n : ℕ). count_by (is_rec_in x) after.granules + n) one))
+      (λ (ne : x ≢ w).
+      let was : (granule_at m x).state ≡ Rd other = sym (ap (λ (r : RmmGranule). r.state) (granule_at-other m w x (of_no_realm (Rd (with_one_less realm))) ne)) ∙ before in
+      let none : cond (w == x) 1 0 ≡ 0 = ap (λ (b : Bool). cond b 1 0) (ne_eqb w x (λ same. ne (sym same))) in
+      let plus : (n : ℕ) → n + 0 ≡ n = λ n. omega arith in
+      proper.ordered.recs x other was ∙ sym total ∙ ap (λ (n : ℕ). count_by (is_rec_in x) after.granules + n) none ∙ plus (count_by (is_rec_in x) after.granules))
+      (cases_eq x w)
+
+  after_proper : IsProper after
+  after_proper = record {
+    linked = destroyed less here m.settings.aux less_linked (rec_at m rec) still_rec refl;
+    ordered = record { each = orderly_gone less here m.settings.aux less_linked (rec_at m rec) still_rec refl less_orderly; recs = recs_after };
+  }
+
+  pub rec_destroyed : IsProper (rec_destroy rec m).machine
+  unfolding rec_destroy
+  rec_destroyed = subst (λ (k : Machine). IsProper (with_blank (with_aux k here (of_no_realm Delegated) m.settings.aux) here Delegated)) (sym less_is) after_proper
+
+  -- what it touches: the REC, its auxiliary granules, and the RD
+  after_touches : Touches m after (Some w)
+  after_touches =
+      let aux : ℕ = m.settings.aux in
+      let first : Touches m less (Some w) = touch_granule m m (Some w) w (of_no_realm (Rd (with_one_less realm))) (untouched m (Some w)) (inl (inl refl)) in
+      touch_blank m (with_aux less here (of_no_realm Delegated) aux) (Some w) here Delegated
+      (touch_wiped m less (Some w) here (of_no_realm Delegated) (λ n. tt) aux (with_aux less here (of_no_realm Delegated) aux) first (clean less here aux less_linked (rec_at m rec) still_rec refl)
+      (λ i h lt is. mine_before m less (Some w) h first (inl (inr (ap (λ (r : RmmGranule). r.owner) (aux_there less here aux less_linked (rec_at m rec) still_rec refl i h lt is) ∙ still_owned)))))
+      (inl (inr of_rec.1))
+
+  pub destroyed_touches : Touches m (rec_destroy rec m).machine (realm_of_rec m rec)
+  unfolding rec_destroy
+  destroyed_touches =
+      subst (λ (o : Option ℕ). Touches m (rec_destroy rec m).machine o) (sym (rec_named-is m rec ok.0 ok.1.0 ok.1.1.0 ∙ of_rec.1))
+      (subst (λ (k : Machine). Touches m (with_blank (with_aux k here (of_no_realm Delegated) m.settings.aux) here Delegated) (Some w)) (sym less_is) after_touches)
+
+  -- what comes back: the REC, and its auxiliary granules
+  abbrev IsBack : Machine → ℕ → Type 0
+  IsBack n h = (granule_at n h ≡ of_no_realm Delegated) × (page_in n h ≡ zero_page)
+
+  abbrev AllBack : Machine → Type 0
+  AllBack n = IsBack n (number_of m rec) × ((k h : ℕ) → k < m.settings.aux → aux_granule m (number_of m rec) k ≡ Some h → IsBack n h)
+
+  all_back : AllBack after
+  all_back = (
+    rec_gone_is less here m.settings.aux less_linked (rec_at m rec) still_rec refl,
+    λ k h lt is.
+        aux_gone less here m.settings.aux less_linked (rec_at m rec) still_rec refl k h lt
+        (named-same m less refl (length-set m.granules w (of_no_realm (Rd (with_one_less realm)))) (aux_of (page_in m here) k) ∙ is),
+  )
+
+  pub destroyed_back : AllBack (rec_destroy rec m).machine
+  unfolding rec_destroy
+  destroyed_back = subst (λ (k : Machine). AllBack (with_blank (with_aux k here (of_no_realm Delegated) m.settings.aux) here Delegated)) (sym less_is) all_back

@@ -1,0 +1,267 @@
+-- Steps by the top of a walk's end meet each live entry.
+use Rattle.std.proofs.Common.{◌≡◌, ◌≢◌, ℕ, zero, suc, ◌+◌, ◌-◌, ◌*◌, ◌/◌, ◌%◌, ◌^◌, ◌<◌, ◌≤◌, ◌⊎◌, inl, inr, ◌==◌, true, false, List, Option, Some, None, refl, sym, ap, subst, ◌∙◌, ⊎_elim, arith}
+use Rattle.std.specs.Option.{option_map_or}
+use Rattle.std.proofs.lemmas.Bool.{cases_Bool, cases_eq, cond_both, cond-true, cond-false, eq-eqb, ne_eqb}
+use Rattle.rmm_model.specs.declared.entry.RmmRttEntry.{RmmRttEntry}
+use Rattle.rmm_model.specs.declared.entry.RmmRttEntry.TheVariants.{Unassigned, Assigned, Table, UnassignedNs, AssignedNs}
+use Rattle.rmm_model.specs.declared.granule.RmmGranuleState.TheVariants.{Rd}
+use Rattle.rmm_model.specs.declared.realm.RmmRealm.{RmmRealm}
+use Rattle.rmm_model.specs.declared.realm.RttWalk.{RttWalk}
+use Rattle.rmm_model.specs.Entry.{is_live}
+use Rattle.rmm_model.specs.Level.{entry_size, entry_index, start_offset}
+use Rattle.rmm_model.specs.Machine.{Machine, granule_at, page_in}
+use Rattle.rmm_model.specs.Table.{entry_in_page, first_live, first_live_from}
+use Rattle.rmm_model.specs.Walk.{entry_at, table_below, walk_from, start_of, walk, top_at, top}
+use Rattle.rmm_laws.specs.Role.{IsLinked}
+use Rattle.rmm_laws.specs.Walk.{IsAtLive}
+use Rattle.rmm_laws.proofs.Serving.{level_cases, few_at}
+use Rattle.rmm_laws.proofs.Walks.{walk_ends, entry_index-few}
+
+-- ---- the first live entry of a table
+
+pub first_live-dead : (page : List ℕ) (count i j : ℕ) → i ≤ j → j < first_live page count i → is_live (entry_in_page page j) ≡ false
+unfolding first_live
+first_live-dead page zero i j low high = absurd (omega arith)
+first_live-dead page (suc count) i j low high =
+    ⊎_elim
+    (λ (live : is_live (entry_in_page page i) ≡ true).
+    let here : first_live page (suc count) i ≡ i = cond-true (is_live (entry_in_page page i)) i (first_live page count (i + 1)) live in
+    let below : j < i = subst (λ (n : ℕ). j < n) here high in
+    absurd (omega arith))
+    (λ (dead : is_live (entry_in_page page i) ≡ false).
+    let rest : first_live page (suc count) i ≡ first_live page count (i + 1) = cond-false (is_live (entry_in_page page i)) i (first_live page count (i + 1)) dead in
+    ⊎_elim
+    (λ (same : j ≡ i). ap (λ (k : ℕ). is_live (entry_in_page page k)) same ∙ dead)
+    (λ (other : j ≢ i). first_live-dead page count (i + 1) j (omega arith) (subst (λ (n : ℕ). j < n) rest high))
+    (cases_eq j i))
+    (cases_Bool (is_live (entry_in_page page i)))
+
+first_live-most : (page : List ℕ) (count i : ℕ) → (i ≤ first_live page count i) × (first_live page count i ≤ i + count)
+unfolding first_live
+first_live-most page zero i = (omega arith, omega arith)
+first_live-most page (suc count) i =
+    cond_both (is_live (entry_in_page page i)) i (first_live page count (i + 1)) (λ (n : ℕ). (i ≤ n) × (n ≤ i + suc count)) (λ live. (omega arith, omega arith))
+    (λ dead. let rest = first_live-most page count (i + 1) in let low = rest.0 in let high = rest.1 in (omega arith, omega arith))
+
+first_live-live : (page : List ℕ) (count i : ℕ) → (is_live (entry_in_page page (first_live page count i)) ≡ true) ⊎ (first_live page count i ≡ i + count)
+unfolding first_live
+first_live-live page zero i = inr (omega arith)
+first_live-live page (suc count) i =
+    cond_both (is_live (entry_in_page page i)) i (first_live page count (i + 1)) (λ (n : ℕ). (is_live (entry_in_page page n) ≡ true) ⊎ (n ≡ i + suc count)) (λ live. inl live)
+    (λ dead. ⊎_elim (λ (live : is_live (entry_in_page page (first_live page count (i + 1))) ≡ true). inl live) (λ (end : first_live page count (i + 1) ≡ i + 1 + count). inr (omega arith)) (first_live-live page count (i + 1)))
+
+-- ---- addresses in one table
+
+-- the index of a later address that is before a live entry
+before_live : (l : ℕ) → l ≤ 3 → (ipa x live : ℕ) → ipa ≤ x → x < (ipa / entry_size l + (live - entry_index l ipa)) * entry_size l → live ≤ 512 → entry_index l ipa ≤ live
+    → (entry_index l ipa ≤ entry_index l x) × (entry_index l x < live) × (x / entry_size l / 512 ≡ ipa / entry_size l / 512)
+unfolding entry_size entry_index
+before_live l few =
+    level_cases
+    (λ (k : ℕ). (ipa x live : ℕ) → ipa ≤ x → x < (ipa / entry_size k + (live - entry_index k ipa)) * entry_size k → live ≤ 512 → entry_index k ipa ≤ live
+    → (entry_index k ipa ≤ entry_index k x) × (entry_index k x < live) × (x / entry_size k / 512 ≡ ipa / entry_size k / 512))
+    (λ ipa x live from to most least. (omega arith, omega arith, omega arith))
+    (λ ipa x live from to most least. (omega arith, omega arith, omega arith))
+    (λ ipa x live from to most least. (omega arith, omega arith, omega arith))
+    (λ ipa x live from to most least. (omega arith, omega arith, omega arith))
+    l few
+
+-- addresses of one table are of one entry of each level above it
+above_same : (p l x ipa : ℕ) → p < l → l ≤ 3 → x / entry_size l / 512 ≡ ipa / entry_size l / 512 → x / entry_size p ≡ ipa / entry_size p
+unfolding entry_size
+above_same zero (suc zero) x ipa below few same = omega arith
+above_same zero (suc (suc zero)) x ipa below few same = omega arith
+above_same zero (suc (suc (suc zero))) x ipa below few same = omega arith
+above_same (suc zero) (suc (suc zero)) x ipa below few same = omega arith
+above_same (suc zero) (suc (suc (suc zero))) x ipa below few same = omega arith
+above_same (suc (suc zero)) (suc (suc (suc zero))) x ipa below few same = omega arith
+above_same p l x ipa below few same = absurd (omega arith)
+
+-- ---- walks of addresses in one table
+
+dead_below : (m : Machine) (entry : RmmRttEntry) → is_live entry ≡ false → table_below m entry ≡ None
+dead_below m (Unassigned ripas) dead = refl
+dead_below m UnassignedNs dead = refl
+dead_below m (Table address) dead = absurd (cc)
+dead_below m (Assigned ripas address) dead = refl
+dead_below m (AssignedNs desc) dead = refl
+
+module _ (m : Machine) (ipa x : ℕ) where
+  abbrev child : RttWalk → ℕ → RttWalk
+  child place table = record { table = table; level = place.level + 1 }
+
+  -- walks go down
+  down_at : (levels : ℕ) (place : RttWalk) (o : Option ℕ) → ((table : ℕ) → place.level + 1 ≤ (walk_from m ipa levels (child place table)).level)
+      → place.level ≤ (option_map_or (λ (table : ℕ). walk_from m ipa levels (child place table)) o place).level
+  down_at levels place (Some table) rest = let far = rest table in omega arith
+  down_at levels place None rest = omega arith
+
+  pub down : (levels : ℕ) (place : RttWalk) → place.level ≤ (walk_from m ipa levels place).level
+  unfolding walk_from
+  down zero place = omega arith
+  down (suc levels) place = down_at levels place (table_below m (entry_at m place ipa)) (λ table. down levels (child place table))
+
+  -- a walk ends at an entry that is not live
+  stops : (levels : ℕ) (place : RttWalk) → is_live (entry_at m place x) ≡ false → walk_from m x levels place ≡ place
+  unfolding walk_from
+  stops zero place dead = refl
+  stops (suc levels) place dead = ap (λ (o : Option ℕ). option_map_or (λ (table : ℕ). walk_from m x levels (child place table)) o place) (dead_below m (entry_at m place x) dead)
+
+  -- an address that is of the same entries above the end of a walk
+  follows_at : (levels more : ℕ) (place : RttWalk) (o : Option ℕ) → table_below m (entry_at m place ipa) ≡ o
+      → ((p : ℕ) → p < (option_map_or (λ (table : ℕ). walk_from m ipa levels (child place table)) o place).level → entry_index p x ≡ entry_index p ipa)
+      → is_live (entry_at m (option_map_or (λ (table : ℕ). walk_from m ipa levels (child place table)) o place) x) ≡ false
+      → ((table : ℕ) → ((p : ℕ) → p < (walk_from m ipa levels (child place table)).level → entry_index p x ≡ entry_index p ipa) → is_live (entry_at m (walk_from m ipa levels (child place table)) x) ≡ false
+      → walk_from m x more (child place table) ≡ walk_from m ipa levels (child place table))
+      → walk_from m x (suc more) place ≡ option_map_or (λ (table : ℕ). walk_from m ipa levels (child place table)) o place
+  unfolding walk_from entry_at
+  follows_at levels more place (Some table) leads same dead rest =
+      let far = down levels (child place table) in
+      let here : entry_index place.level x ≡ entry_index place.level ipa = same place.level (omega arith) in
+      let leads_too : table_below m (entry_in_page (page_in m place.table) (entry_index place.level x)) ≡ Some table = ap (λ (k : ℕ). table_below m (entry_in_page (page_in m place.table) k)) here ∙ leads in
+      ap (λ (o : Option ℕ). option_map_or (λ (t : ℕ). walk_from m x more (child place t)) o place) leads_too ∙ rest table same dead
+  follows_at levels more place None leads same dead rest = stops (suc more) place dead
+
+  follows : (levels more : ℕ) (place : RttWalk) → levels ≤ more → ((p : ℕ) → p < (walk_from m ipa levels place).level → entry_index p x ≡ entry_index p ipa)
+      → is_live (entry_at m (walk_from m ipa levels place) x) ≡ false → walk_from m x more place ≡ walk_from m ipa levels place
+  unfolding walk_from
+  follows zero more place few same dead = stops more place dead
+  follows (suc levels) zero place few same dead = absurd (omega arith)
+  follows (suc levels) (suc more) place few same dead =
+      follows_at levels more place (table_below m (entry_at m place ipa)) refl same dead (λ table same_below dead_there. follows levels more (child place table) (omega arith) same_below dead_there)
+
+-- ---- tops
+
+module _ (m : Machine) (found : RttWalk) (ipa : ℕ) (few : found.level ≤ 3) where
+  abbrev i : ℕ
+  i = entry_index found.level ipa
+
+  abbrev live : ℕ
+  live = first_live_from (page_in m found.table) i
+
+  live_most : (i ≤ live) × (live ≤ 512)
+  live_most =
+      let index = entry_index-few found.level ipa in
+      let most = first_live-most (page_in m found.table) (512 - i) i in
+      let low = most.0 in
+      let high = most.1 in
+      (low, omega arith)
+
+  -- the entry of the address is live, or the top is further on
+  top_is : (live ≡ i) ⊎ ((live ≢ i) × (top m found ipa ≡ (ipa / entry_size found.level + (live - i)) * entry_size found.level))
+  unfolding top top_at
+  top_is = ⊎_elim (λ (same : live ≡ i). inl same) (λ (other : live ≢ i). inr (other, cond-false (live == i) _ _ (ne_eqb live i other))) (cases_eq live i)
+
+  aligned_low : ipa / entry_size found.level * entry_size found.level ≤ ipa
+  unfolding entry_size
+  aligned_low = level_cases (λ (k : ℕ). ipa / entry_size k * entry_size k ≤ ipa) (omega arith) (omega arith) (omega arith) (omega arith) found.level few
+
+  top_low : live ≡ i → top m found ipa ≤ ipa
+  unfolding top top_at
+  top_low same =
+      subst (λ (t : ℕ). t ≤ ipa) (sym (cond-true (live == i) _ _ (eq-eqb live i same)))
+      (cond_both m.settings.aligns_live_top (ipa / entry_size found.level * entry_size found.level) ipa (λ (t : ℕ). t ≤ ipa) (λ sure. aligned_low) (λ never. omega arith))
+
+  -- an address before the top
+  pub before_top : (x : ℕ) → ipa ≤ x → x < top m found ipa → (is_live (entry_at m found x) ≡ false) × (x / entry_size found.level / 512 ≡ ipa / entry_size found.level / 512)
+  unfolding entry_at
+  before_top x from to =
+      ⊎_elim
+      (λ (same : live ≡ i). let low = top_low same in absurd (omega arith))
+      (λ (further : (live ≢ i) × (top m found ipa ≡ (ipa / entry_size found.level + (live - i)) * entry_size found.level)).
+      let most = live_most in
+      let there = before_live found.level few ipa x live from (subst (λ (t : ℕ). x < t) further.1 to) most.1 most.0 in
+      (first_live-dead (page_in m found.table) (512 - i) i (entry_index found.level x) there.0 there.1, there.2))
+      top_is
+
+module _ (m : Machine) (linked : IsLinked m) (rd ipa level : ℕ) (realm : RmmRealm) (is : (granule_at m rd).state ≡ Rd realm) (within : ipa < 2 ^ realm.s2sz) (least : realm.start_level ≤ level) (most : level ≤ 3) where
+  abbrev found_here : RttWalk
+  found_here = walk m realm ipa level
+
+  few_here : found_here.level ≤ 3
+  few_here = few_at m linked rd ipa realm found_here (walk_ends m linked rd ipa realm level is within least).place_is
+
+  pub skipped : (x : ℕ) → ipa ≤ x → x < top m (walk m realm ipa level) ipa → is_live (entry_at m (walk m realm x 3) x) ≡ false
+  unfolding walk start_of start_offset entry_index
+  skipped x from to =
+      let before = before_top m found_here ipa few_here x from to in
+      let start : RttWalk = start_of realm ipa in
+      let deep : realm.start_level ≤ found_here.level = down m ipa x (level - realm.start_level) start in
+      let above : (p : ℕ) → p < found_here.level → x / entry_size p ≡ ipa / entry_size p = λ p below. above_same p found_here.level x ipa below few_here before.1 in
+      let same_start : x / entry_size realm.start_level / 512 ≡ ipa / entry_size realm.start_level / 512 =
+      ⊎_elim
+      (λ (here : realm.start_level ≡ found_here.level). subst (λ (l : ℕ). x / entry_size l / 512 ≡ ipa / entry_size l / 512) (sym here) before.1)
+      (λ (other : realm.start_level ≢ found_here.level). ap (λ (q : ℕ). q / 512) (above realm.start_level (omega arith)))
+      (cases_eq realm.start_level found_here.level) in
+      let start_is : start_of realm x ≡ start_of realm ipa = ap (λ (k : ℕ). record { table = realm.first_table + k; level = realm.start_level }) same_start in
+      let same_walk : walk m realm x 3 ≡ found_here =
+      ap (walk_from m x (3 - realm.start_level)) start_is
+      ∙ follows m ipa x (level - realm.start_level) (3 - realm.start_level) start (omega arith) (λ p below. ap (λ (q : ℕ). q % 512) (above p below)) before.0 in
+      ap (λ (f : RttWalk). is_live (entry_at m f x)) same_walk ∙ before.0
+
+-- ---- where tops are
+
+-- the address that is that many entries further on in a table
+further_index : (l : ℕ) → l ≤ 3 → (ipa live : ℕ) → entry_index l ipa ≤ live → live < 512 → entry_index l ((ipa / entry_size l + (live - entry_index l ipa)) * entry_size l) ≡ live
+unfolding entry_size entry_index
+further_index l few =
+    level_cases (λ (k : ℕ). (ipa live : ℕ) → entry_index k ipa ≤ live → live < 512 → entry_index k ((ipa / entry_size k + (live - entry_index k ipa)) * entry_size k) ≡ live)
+    (λ ipa live least below. omega arith) (λ ipa live least below. omega arith) (λ ipa live least below. omega arith) (λ ipa live least below. omega arith) l few
+
+further_end : (l : ℕ) → l ≤ 3 → (ipa : ℕ) → (ipa / entry_size l + (512 - entry_index l ipa)) * entry_size l ≡ (ipa / entry_size l / 512 + 1) * (512 * entry_size l)
+unfolding entry_size entry_index
+further_end l few =
+    level_cases (λ (k : ℕ). (ipa : ℕ) → (ipa / entry_size k + (512 - entry_index k ipa)) * entry_size k ≡ (ipa / entry_size k / 512 + 1) * (512 * entry_size k))
+    (λ ipa. omega arith) (λ ipa. omega arith) (λ ipa. omega arith) (λ ipa. omega arith) l few
+
+aligned_index : (l : ℕ) → l ≤ 3 → (ipa : ℕ) → entry_index l (ipa / entry_size l * entry_size l) ≡ entry_index l ipa
+unfolding entry_size entry_index
+aligned_index l few =
+    level_cases (λ (k : ℕ). (ipa : ℕ) → entry_index k (ipa / entry_size k * entry_size k) ≡ entry_index k ipa) (λ ipa. omega arith) (λ ipa. omega arith) (λ ipa. omega arith) (λ ipa. omega arith) l few
+
+module _ (m : Machine) (found : RttWalk) (ipa : ℕ) (few : found.level ≤ 3) where
+  abbrev at : ℕ
+  at = entry_index found.level ipa
+
+  abbrev next_live : ℕ
+  next_live = first_live_from (page_in m found.table) at
+
+  end_or_live : (is_live (entry_in_page (page_in m found.table) next_live) ≡ true) ⊎ (next_live ≡ 512)
+  end_or_live =
+      let index = entry_index-few found.level ipa in
+      ⊎_elim
+      (λ (live : is_live (entry_in_page (page_in m found.table) next_live) ≡ true). inl live)
+      (λ (end : next_live ≡ at + (512 - at)). inr (end ∙ omega arith))
+      (first_live-live (page_in m found.table) (512 - at) at)
+
+  -- an address whose entry is live
+  live_there : (to : ℕ) → entry_index found.level to ≡ next_live → is_live (entry_in_page (page_in m found.table) next_live) ≡ true → is_live (entry_at m found to) ≡ true
+  unfolding entry_at
+  live_there to index is = ap (λ (k : ℕ). is_live (entry_in_page (page_in m found.table) k)) index ∙ is
+
+  pub met : IsAtLive m found ipa (top m found ipa)
+  unfolding top top_at
+  met =
+      let index = entry_index-few found.level ipa in
+      let most = live_most m found ipa few in
+      let low = most.0 in
+      let high = most.1 in
+      ⊎_elim
+      (λ (same : next_live ≡ at).
+      let is : is_live (entry_in_page (page_in m found.table) next_live) ≡ true =
+      ⊎_elim (λ (live : is_live (entry_in_page (page_in m found.table) next_live) ≡ true). live) (λ (end : next_live ≡ 512). absurd (omega arith)) end_or_live in
+      subst (IsAtLive m found ipa) (sym (cond-true (next_live == at) _ _ (eq-eqb next_live at same)))
+      (cond_both m.settings.aligns_live_top (ipa / entry_size found.level * entry_size found.level) ipa (IsAtLive m found ipa)
+      (λ sure. inl (live_there (ipa / entry_size found.level * entry_size found.level) (aligned_index found.level few ipa ∙ sym same) is))
+      (λ never. inl (live_there ipa (sym same) is))))
+      (λ (other : next_live ≢ at).
+      subst (IsAtLive m found ipa) (sym (cond-false (next_live == at) _ _ (ne_eqb next_live at other)))
+      (⊎_elim
+      (λ (last : next_live ≡ 512).
+      inr (ap (λ (n : ℕ). (ipa / entry_size found.level + (n - at)) * entry_size found.level) last ∙ further_end found.level few ipa))
+      (λ (inner : next_live ≢ 512).
+      let is : is_live (entry_in_page (page_in m found.table) next_live) ≡ true =
+      ⊎_elim (λ (live : is_live (entry_in_page (page_in m found.table) next_live) ≡ true). live) (λ (end : next_live ≡ 512). absurd (inner end)) end_or_live in
+      inl (live_there ((ipa / entry_size found.level + (next_live - at)) * entry_size found.level) (further_index found.level few ipa next_live low (omega arith)) is))
+      (cases_eq next_live 512)))
+      (cases_eq next_live at)

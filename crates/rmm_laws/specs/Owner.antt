@@ -1,0 +1,53 @@
+-- Owners of granules: the realms that have them, and the RECs that an RD counts. RMM 1.0, Granule, Realm and REC
+-- attributes.
+use Rattle.std.specs.Prelude.{◌≡◌, ℕ, ◌<◌, ◌==◌, ◌&&◌, Bool, true, false, List, Option, Some, None, is_some}
+use Rattle.std.specs.List.{count_by}
+use Rattle.granule_addr.specs.Page.{zero_page}
+use Rattle.rmm_model.specs.declared.granule.RmmGranule.{RmmGranule}
+use Rattle.rmm_model.specs.declared.granule.RmmGranuleState.{RmmGranuleState}
+use Rattle.rmm_model.specs.declared.granule.RmmGranuleState.TheVariants.{Undelegated, Delegated, Rd, Rec as IsRec, RecAux, Data, Rtt}
+use Rattle.rmm_model.specs.declared.realm.RmmRealm.{RmmRealm}
+use Rattle.rmm_model.specs.Granule.{rec_of}
+use Rattle.rmm_model.specs.Machine.{Machine, granule_at, page_in}
+use Rattle.rmm_model.specs.Rec.{aux_of}
+use Rattle.rmm_laws.specs.Role.{IsBegin}
+
+-- ---- owners
+
+abbrev pub is_rd : RmmGranuleState → Bool
+is_rd (Rd realm) = true
+is_rd _ = false
+
+-- an owner is the RD of a realm
+abbrev pub IsOwner : Machine → Option ℕ → Type 0
+IsOwner m (Some rd) = is_rd (granule_at m rd).state ≡ true
+IsOwner m None = ⊥
+
+-- A granule of no realm and an RD have no owner, and a DELEGATED granule is zero. Each other granule is of the realm of
+-- an RD. A REC names the addresses at which its auxiliary granules begin.
+abbrev pub IsOrderly : Machine → RmmGranuleState → Option ℕ → List ℕ → Type 0
+IsOrderly m Undelegated owner page = owner ≡ None
+IsOrderly m Delegated owner page = (owner ≡ None) × (page ≡ zero_page)
+IsOrderly m (Rd realm) owner page = owner ≡ None
+IsOrderly m (IsRec rec) owner page = IsOwner m owner × ((k : ℕ) → k < m.settings.aux → IsBegin m (aux_of page k))
+IsOrderly m RecAux owner page = IsOwner m owner
+IsOrderly m Data owner page = IsOwner m owner
+IsOrderly m Rtt owner page = IsOwner m owner
+
+abbrev pub IsOrderlyAt : Machine → ℕ → Type 0
+IsOrderlyAt m g = IsOrderly m (granule_at m g).state (granule_at m g).owner (page_in m g)
+
+-- ---- RECs
+
+abbrev pub is_owner : ℕ → Option ℕ → Bool
+is_owner rd (Some other) = other == rd
+is_owner rd None = false
+
+-- a granule is a REC of the realm of an RD
+abbrev pub is_rec_in : ℕ → RmmGranule → Bool
+is_rec_in rd granule = is_some (rec_of granule.state) && is_owner rd granule.owner
+
+-- Each granule has the owner and the page that its state asks for, and each RD counts the RECs of its realm.
+pub record IsOrdered (m : Machine) : Type 0 where
+  pub each : (granule : ℕ) → IsOrderlyAt m granule
+  pub recs : (rd : ℕ) (realm : RmmRealm) → (granule_at m rd).state ≡ Rd realm → realm.rec_count ≡ count_by (is_rec_in rd) m.granules

@@ -1,0 +1,182 @@
+"""The files that tools and editors read: the toolchain's version, and which files are made or laid out how."""
+import configparser
+import io
+import os
+import shutil
+import subprocess
+from typing import NamedTuple
+
+import pytest
+
+import progress
+from programs import SECONDS, TOP, module_of
+
+ANOTHER, NAMED = "rattle-kit-0 logic 0", (TOP / "rattle-toolchain").read_text().strip()
+# A toolchain of another version, which has no crates.
+RT = f"""#!/usr/bin/env python3
+import types
+rtlib = types.SimpleNamespace(Crate=types.SimpleNamespace(stamp=None), guarded=lambda: None, crates_below=lambda top: [], KIT="")
+processors = free = lambda: 1
+if __name__ == "__main__":
+    print("{ANOTHER}")
+"""
+TOOLS = {
+    "build": ["tools/build"],
+    "check": ["tools/check", "realmhost"],
+    "gate": ["tools/gate"],
+    "library": ["tools/rmm-library"],
+    "mutants": ["tests/mutants.py"],
+    "quick": ["tools/quick", "realmhost"],
+    "try": ["tools/try", "realmview", "plans/first.toml", "--", "why"],
+}
+
+
+@pytest.fixture
+def toolchain(tmp_path):
+    """The PATH with another toolchain first."""
+    for name in ("rt", "rtlib.py", "rt-plant-bodies"):
+        (tmp_path / name).write_text(RT)
+        (tmp_path / name).chmod(0o755)
+    return f"{tmp_path}{os.pathsep}{os.environ['PATH']}"
+
+
+@pytest.mark.parametrize("words", TOOLS.values(), ids=TOOLS)
+def test_another_toolchain(toolchain, words):
+    env = {**os.environ, "PATH": toolchain}
+    ran = subprocess.run(words, cwd=TOP, env=env, stdin=subprocess.DEVNULL, capture_output=True, text=True, timeout=SECONDS)
+    note = f"note: the toolchain on the PATH is `{ANOTHER}`, and rattle-toolchain names `{NAMED}`"
+    said = ran.stderr.splitlines()
+    assert said and said[0] == said[-1] == note and len(said) > 1, ran.stderr
+
+
+def test_each_tool_checks_the_version():
+    """A tool that calls the toolchain is one of TOOLS, but for the one that packs its licences."""
+    programs = [path for folder in ("tools", "tests", "bench") for path in (TOP / folder).iterdir() if os.access(path, os.X_OK) and path.is_file()]
+    calling = {f"{it.parent.name}/{it.name}" for it in programs if "from toolchain import" in it.read_text() or '["rt"' in it.read_text()}
+    assert calling == {words[0] for words in TOOLS.values()} | {"tools/dist"}
+
+
+def attribute(name, paths):
+    """The value of an attribute of git for each path."""
+    ran = subprocess.run(["git", "check-attr", name, "--", *paths], cwd=TOP, capture_output=True, text=True, check=True)
+    return [line.rsplit(": ", 1)[1] for line in ran.stdout.splitlines()]
+
+
+@pytest.mark.skipif(not (TOP / ".git").exists(), reason="this is no clone")
+def test_made_files_are_marked():
+    patterns = "completions/*", "docs/pictures/*.svg", "crates/run_json/src/template.rt", "docs/reference/CALLS-HOST.md"
+    made = [path for it in patterns for path in TOP.glob(it)]
+    assert set(attribute("linguist-generated", made)) == {"set"}
+    written = [TOP / "README.md", TOP / "crates/run_json/src/lib.rt", TOP / "traces/rmm/life.trace"]
+    assert set(attribute("linguist-generated", written)) == {"unspecified"}
+
+
+def test_editors():
+    config = configparser.ConfigParser()
+    config.read_string("[top]\n" + (TOP / ".editorconfig").read_text())
+    assert config["top"]["root"] == "true" and config["Makefile"]["indent_style"] == "tab"
+    laid_out = [*TOP.glob("*.md"), *TOP.glob("docs/**/*.md"), *TOP.glob("tools/*"), *TOP.glob("tests/*.py"), *TOP.glob("crates/*/src/**/*.rt")]
+    found = [path for path in laid_out if path.is_file() for text in [path.read_text()] if not text.endswith("\n") or " \n" in text or "\r" in text]
+    assert found == []
+
+
+# ---- make quick, and how far the gate is
+
+
+class Crate(NamedTuple):
+    name: str
+    libraries: tuple = ()
+    is_program: bool = False
+    is_static: bool = False
+
+    def below(self):
+        return [it for library in self.libraries for it in [*library.below(), library]]
+
+
+LOW = Crate("low")
+MIDDLE = Crate("middle", (LOW,))
+HIGH = Crate("realmhost", (MIDDLE,), is_program=True)
+BESIDE = Crate("beside", (LOW,))
+
+
+@pytest.mark.parametrize(("seconds", "changed", "chosen", "built", "left_out"), [
+    (50, [LOW], [LOW, MIDDLE, HIGH, BESIDE], [HIGH], []),
+    # (realmhost would come after 300 seconds)
+    (100, [LOW], [LOW, MIDDLE, BESIDE], [], [HIGH]),
+    (150, [LOW], [LOW], [], [MIDDLE, HIGH, BESIDE]),
+    (100, [MIDDLE], [LOW, MIDDLE], [], [HIGH]),
+    (500, [HIGH], [LOW, MIDDLE, HIGH], [HIGH], []),
+])
+def test_choice_of_quick(monkeypatch, seconds, changed, chosen, built, left_out):
+    quick = module_of(TOP / "tools/quick")
+    monkeypatch.setattr(quick, "seconds_of", lambda _name: seconds)
+    monkeypatch.setattr(quick, "is_built", lambda _crate: False)
+    assert quick.choose(changed, [LOW, MIDDLE, HIGH, BESIDE], 2) == (chosen, built, left_out)
+
+
+def test_minutes_that_are_left(monkeypatch):
+    """Half of the work in ten minutes: as much time is left. A crate that is kept says nothing of the speed."""
+    monkeypatch.setattr(progress, "seconds_of", lambda _name: 1200)
+    clock, out = iter([0, 300, 900]), io.StringIO()
+    monkeypatch.setattr(progress.time, "monotonic", lambda: next(clock))
+    it = progress.Progress(["one", "two", "three"], 2, after=60, out=out)
+    assert it.minutes_left(0) == 31
+    it.say("one", "is kept", is_done=False)
+    it.say("two", "proved")
+    assert out.getvalue().splitlines() == [
+        "[ 5:00]  1 of 3  one: is kept, about 21 min left", "[15:00]  2 of 3  two: proved, about 11 min left",
+    ]
+
+
+# Lines of `rt ci`: of crates that are done, of their tests, and of something else.
+LINES = """\
+rt: one is kept: an earlier run
+fn two::it: proved
+rt: two proved
+rt: two: its tests are proved
+rt: three NOT PROVED
+2 passed, 1 failed
+"""
+
+
+def test_gate_passes_on_what_it_reads(monkeypatch, tmp_path, capfd):
+    (tmp_path / "rt").write_text(f"#!/bin/sh\nprintf '%s' '{LINES}'\nexit 1\n")
+    (tmp_path / "rt").chmod(0o755)
+    env = {**os.environ, "PATH": f"{tmp_path}{os.pathsep}{os.environ['PATH']}"}
+    monkeypatch.setenv("PATH", env["PATH"])
+    said = []
+    told = progress.Progress(["one", "two", "three"], 4)
+    monkeypatch.setattr(told, "say", lambda *how, is_done: said.append((*how, is_done)))
+    assert module_of(TOP / "tools/gate").run(env, told) == 1
+    assert capfd.readouterr().out == LINES
+    assert said == [("one", "is kept", False), ("two", "proved", True), ("three", "NOT PROVED", True)]
+
+
+# ---- linters
+
+
+def scripts(head, *suffixes):
+    """The files of the repository with a suffix, or with this in their first line."""
+    listed = subprocess.run(["git", "ls-files", "--cached", "--others", "--exclude-standard"], cwd=TOP, capture_output=True, text=True, check=True)
+    paths = [TOP / it for it in listed.stdout.splitlines() if (TOP / it).is_file()]
+    is_one = lambda it: it.suffix in suffixes or not it.suffix and it.read_bytes().startswith(b"#!") and head in it.read_bytes().split(b"\n")[0]
+    return [it for it in paths if is_one(it)]
+
+
+LINTERS = {
+    "shellcheck": (["shellcheck"], b"sh", ".sh", ".bash"),
+    "pyflakes3": (["pyflakes3"], b"python", ".py"),
+    # (a module is imported after its folder is known; a lambda may have a name)
+    "pycodestyle": (["pycodestyle", "--max-line-length=150", "--ignore=E203,E402,E731,W503,W504"], b"python", ".py"),
+}
+
+
+@pytest.mark.skipif(not (TOP / ".git").exists(), reason="this is no clone")
+@pytest.mark.parametrize("name", LINTERS)
+def test_linter_finds_nothing(name):
+    words, *kind = LINTERS[name]
+    if not shutil.which(name):
+        pytest.skip(f"there is no {name}")
+    found = scripts(*kind)
+    ran = subprocess.run([*words, *found], cwd=TOP, capture_output=True, text=True, timeout=4 * SECONDS)
+    assert found and (ran.returncode, ran.stdout) == (0, ""), ran.stdout + ran.stderr
