@@ -1,12 +1,15 @@
 -- Digits without the zeros at the high end: they are those of the number.
-use Rattle.std.proofs.Common.{◌≡◌, ℕ, zero, suc, ◌+◌, ◌*◌, ◌^◌, ◌/◌, ◌%◌, ◌<◌, ◌≤◌, ◌==◌, Bool, true, false, cond, List, [], ◌∷◌, ◌++◌, length, take, get_or, add-one, All, refl, sym, ap, ◌∙◌, arith, eq-eqb}
+use Rattle.std.proofs.Common.{◌≡◌, ℕ, zero, suc, ◌+◌, ◌*◌, ◌^◌, ◌/◌, ◌%◌, ◌<◌, ◌≤◌, ◌==◌, Bool, true, false, cond, List, [], ◌∷◌, ◌++◌, length, map, reverse, take, get_or, add-one, All, refl, sym, ap, subst, ◌∙◌, arith}
+use Rattle.std.specs.Str.{bytes_eq}
 use native.Mathlib.Nat.{pow-succ'}
 use Rattle.std.proofs.Math.Nat.{le-mul_of_pos_right}
 use Rattle.std.proofs.Math.Seq.{take-suc}
 use Rattle.std.proofs.lemmas.List.{length-take-le}
-use Rattle.std.proofs.lemmas.Bool.{eqb-true, eqb-false, ne_eqb}
+use Rattle.std.proofs.lemmas.Bool.{eqb-true, eqb-false, eq-eqb, ne_eqb, false≢true}
+use Rattle.std.proofs.lemmas.List.Elements.{All-take}
+use Rattle.std.proofs.lemmas.Slice.Eq.{bytes_eq-Decides}
 use Rattle.schedule_graph.specs.Number.{number_of, trimmed, digits_of, numeral}
-use Rattle.schedule_graph.proofs.Numbers.{number_of-push, number_of_none}
+use Rattle.schedule_graph.proofs.Numbers.{number_of-push}
 
 -- ---- the number stays
 
@@ -123,3 +126,37 @@ grown-more digits place inside some =
     ∙ ap (λ ds. length (trimmed ds)) (take-suc digits place 0 inside)
     ∙ trimmed-more (take place digits) (get_or digits place 0) some
     ∙ ap (λ n. n + 1) (length-take-le place digits (omega (arith, inside)))
+
+pub small_trimmed : (digits : List ℕ) → All (λ digit. digit < 10) digits → All (λ digit. digit < 10) (trimmed digits)
+small_trimmed digits small =
+    subst (λ (ds : List ℕ). All (λ digit. digit < 10) ds) (take_trimmed digits) (All-take (λ digit. digit < 10) (length (trimmed digits)) digits small)
+
+-- ---- the digits of a number are those of no other, and its text
+
+all_digits : (digits : List ℕ) → All (λ digit. digit < 10) digits → trimmed digits ≡ digits_of (number_of digits) (number_of digits)
+all_digits digits small = trimmed_is digits (number_of digits) small (omega arith)
+
+pub same_trimmed : (digits others : List ℕ) → All (λ digit. digit < 10) digits → All (λ digit. digit < 10) others
+    → bytes_eq (trimmed digits) (trimmed others) ≡ (number_of digits == number_of others)
+same_trimmed digits others small small_others = at (bytes_eq (trimmed digits) (trimmed others)) refl
+  where
+    same_digits : number_of digits ≡ number_of others → trimmed digits ≡ trimmed others
+    same_digits e = all_digits digits small ∙ ap (λ n. digits_of n n) e ∙ sym (all_digits others small_others)
+
+    at : (t : Bool) → bytes_eq (trimmed digits) (trimmed others) ≡ t → t ≡ (number_of digits == number_of others)
+    at true same =
+        sym (eq-eqb (number_of digits) (number_of others) (sym (number_of-trimmed digits) ∙ ap number_of ((bytes_eq-Decides (trimmed digits) (trimmed others)).0 same) ∙ number_of-trimmed others))
+    at false other =
+        sym (ne_eqb (number_of digits) (number_of others) (λ e. false≢true (sym other ∙ (bytes_eq-Decides (trimmed digits) (trimmed others)).1 (same_digits e))))
+
+pub zero_numeral : (digits : List ℕ) → (length (trimmed digits) == 0) ≡ true → numeral (number_of digits) ≡ 48 ∷ []
+unfolding numeral
+zero_numeral digits none =
+    ap (λ t. cond t (48 ∷ []) (map (λ digit. 48 + digit) (reverse (digits_of (number_of digits) (number_of digits))))) (sym (trimmed_none digits) ∙ none)
+
+pub more_numeral : (digits : List ℕ) → All (λ digit. digit < 10) digits → (length (trimmed digits) == 0) ≡ false
+    → numeral (number_of digits) ≡ map (λ digit. 48 + digit) (reverse (trimmed digits))
+unfolding numeral
+more_numeral digits small some =
+    ap (λ t. cond t (48 ∷ []) (map (λ digit. 48 + digit) (reverse (digits_of (number_of digits) (number_of digits))))) (sym (trimmed_none digits) ∙ some)
+    ∙ ap (λ ds. map (λ digit. 48 + digit) (reverse ds)) (sym (all_digits digits small))

@@ -63,6 +63,9 @@ fn carry_from(digits: &mut [u8], place: usize, amount: u8) -> u8
 {
     let mut carry = amount;
     for at in place..digits.len() {
+        if carry == 0 {
+            return 0;
+        }
         let sum = digits[at] + carry;
         digits[at] = sum % 10;
         carry = sum / 10;
@@ -124,6 +127,7 @@ fn push_digits(text: &mut String, digits: &[u8]) -> Result<(), AllocError>
 
 impl Count {
     /// The number 0.
+    #[tactic(auto, using(crate::proofs::Numbers::number_of_none))]
     pub fn zero(alloc: Global) -> Count
         ensures { result ≡ 0 }
     {
@@ -168,7 +172,8 @@ impl Count {
     {
         let digits = trimmed(&self.digits);
         if digits.is_empty() {
-            return text.push_str("0");
+            text.push_str("0")?;
+            return Ok(());
         }
         push_digits(text, digits)
     }
