@@ -5,6 +5,7 @@ use Rattle.std.specs.declared.alloc.Global.{Global}
 use Rattle.std.specs.declared.string.String.{String}
 use Rattle.host_ledger.specs.View.{HostView}
 use Rattle.realm_plan.specs.Plan.{Plan}
+use Rattle.schedule_graph.specs.First.{layers_in}
 use Rattle.schedule_graph.specs.Paths.{Layer, Path, paths}
 use Rattle.plan_states.specs.Outcomes.{Shown, shown_by}
 use Rattle.plan_states.specs.Runs.{Run, AreAllRuns}
@@ -13,7 +14,7 @@ use Rattle.plan_states.specs.declared.graph.Graph.{Graph}
 use Rattle.plan_states.specs.declared.step_end.StepEnd.{StepEnd}
 
 abbrev pub layers_of : Graph → List (Layer Label)
-layers_of graph = map (λ layer. map vec_items layer.items) graph.layers.items
+layers_of graph = layers_in graph.layers.items
 
 -- the end that a label names, if it names one
 abbrev pub end_named : Graph → Label → Option StepEnd
@@ -28,7 +29,7 @@ abbrev pub shown_on : Graph → Path Label → Shown
 shown_on graph path = record {
   schedule = map (λ edge. edge.label.build) path;
   ends = filter_map (λ edge. end_named graph edge.label) path;
-  map = unwrap_or (last_or None (map (λ edge. Some (string_bytes edge)) (filter_map (λ edge. map_named graph edge.label) path))) [];
+  map = unwrap_or (last_or None (map string_bytes (filter_map (λ edge. map_named graph edge.label) path))) [];
 }
 
 -- The paths from the first state show what all runs of the plan show, in the same sequence.

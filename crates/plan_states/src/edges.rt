@@ -5,6 +5,6 @@
 #[derive(Clone, Copy)]
 pub struct Label {
     pub build: usize,
-    pub end: Option<u32>,
-    pub map: Option<u32>,
+    pub end: Option<usize>,
+    pub map: Option<usize>,
 }

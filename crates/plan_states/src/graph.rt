@@ -41,8 +41,8 @@ pub enum Explored {
 // The first way to a state: the place of the state before, and the build of the turn.
 #[derive(Clone, Copy)]
 struct Came {
-    from: u32,
-    build: u8,
+    from: usize,
+    build: usize,
 }
 
 // The states of a layer, and the first way to each. If a schedule ends in a state, it has a map.
@@ -50,8 +50,8 @@ struct Came {
 struct Front {
     states: Vec<State>,
     came: Vec<Came>,
-    maps: Vec<Option<u32>>,
-    places: HashMap<State, u32>,
+    maps: Vec<Option<usize>>,
+    places: HashMap<State, usize>,
 }
 
 // The graph as far as it is known.
@@ -76,8 +76,8 @@ impl Front {
     }
 
     // Adds a state, and returns its place.
-    fn add(&mut self, state: State, came: Came, map: Option<u32>) -> Result<u32, AllocError> {
-        let place = self.states.len() as u32;
+    fn add(&mut self, state: State, came: Came, map: Option<usize>) -> Result<usize, AllocError> {
+        let place = self.states.len();
         self.states.push(state)?;
         self.came.push(came)?;
         self.maps.push(map)?;
@@ -97,11 +97,11 @@ fn order_to(alloc: Global, came: &[Vec<Came>], last: Came) -> Result<Vec<usize>,
     let mut order = Vec::new(alloc);
     let mut way = last;
     let mut depth = came.len();
-    order.push(way.build as usize)?;
+    order.push(way.build)?;
     while depth > 1 {
         depth -= 1;
-        way = came[depth][way.from as usize];
-        order.push(way.build as usize)?;
+        way = came[depth][way.from];
+        order.push(way.build)?;
     }
     order.reverse();
     Ok(order)
@@ -157,14 +157,14 @@ fn map_after(alloc: Global, plan: &Plan, order: &[usize]) -> Result<String, Faul
 }
 
 // The number of a map among those that are known; it is added if it is new.
-fn number_of_map(maps: &mut Vec<String>, map: String) -> Result<u32, AllocError> {
+fn number_of_map(maps: &mut Vec<String>, map: String) -> Result<usize, AllocError> {
     for number in 0..maps.len() {
         if maps[number].as_str() == map.as_str() {
-            return Ok(number as u32);
+            return Ok(number);
         }
     }
     maps.push(map)?;
-    Ok((maps.len() - 1) as u32)
+    Ok((maps.len() - 1))
 }
 
 impl Exploration {
@@ -179,7 +179,7 @@ impl Exploration {
     }
 
     // The number of the map of a state in which no build has a step left.
-    fn map_of(&mut self, alloc: Global, plan: &Plan, came: Came) -> Result<u32, Fault> {
+    fn map_of(&mut self, alloc: Global, plan: &Plan, came: Came) -> Result<usize, Fault> {
         let order = order_to(alloc, &self.came, came)?;
         let map = map_after(alloc, plan, &order)?;
         Ok(number_of_map(&mut self.maps, map)?)
@@ -212,7 +212,7 @@ impl Exploration {
         next: &mut Front,
         state: &State,
         came: Came,
-    ) -> Result<u32, Fault> {
+    ) -> Result<usize, Fault> {
         if let Some(place) = next.places.get(state).copied() {
             return Ok(place);
         }
@@ -241,10 +241,10 @@ impl Exploration {
             };
             let then = self.turns.state_after(alloc, state, build, after)?;
             let came = Came {
-                from: place as u32,
-                build: build as u8,
+                from: place,
+                build,
             };
-            let to = self.place(alloc, plan, next, &then, came)? as usize;
+            let to = self.place(alloc, plan, next, &then, came)?;
             let label = Label {
                 build,
                 end: after.end,

@@ -1,7 +1,13 @@
 //! The run of a plan up to a state, and one turn more.
+ghost use Rattle.std.specs.Prelude.{◌≡◌, ◌<◌, option_map, vec_len};
+ghost use Rattle.host_ledger.specs.View.{world_of};
+ghost use Rattle.realm_host.specs.Readings.{realm_at};
+ghost use Rattle.plan_states.specs.Outcomes.{refusal_in};
+
 use crate::turns::{Given, Moved};
 use buddy::BuddyArena;
 use granule_addr::BuildId;
+use host_commands::Refusal;
 use plan_replay::{PlanCursor, TurnAnswer, take_turn};
 use realm_host::{Act, Host};
 use realm_plan::Plan;
@@ -59,25 +65,52 @@ pub(crate) fn run_to(alloc: Global, plan: &Plan, order: &[usize]) -> Result<Runn
     Ok(Running { host, places })
 }
 
+// The reason of a refusal.
+fn refusal_in(answer: TurnAnswer) -> Option<Refusal>
+    ensures { result ≡ refusal_in answer }
+{
+    match answer {
+        TurnAnswer::Refused(refusal) => Some(refusal),
+        _ => None,
+    }
+}
+
+// The first granule of a block that was leased or given back.
+fn first_of(moved: Option<Moved>) -> Option<u16>
+    ensures { result ≡ option_map (λ block. block.first) moved }
+{
+    match moved {
+        Some(block) => Some(block.first),
+        None => None,
+    }
+}
+
+// The VMID of a build's realm, if it has one.
+fn vmid_of(host: &Host<BuddyArena>, build: BuildId) -> Option<u8>
+    ensures { result ≡ option_map (λ realm. realm.1) (realm_at (world_of host.now) build) }
+{
+    match host.realm_view(build) {
+        Some((_state, vmid)) => Some(vmid.number()),
+        None => None,
+    }
+}
+
 /// Takes one more turn, of a build that has a step left.
-pub(crate) fn take(plan: &Plan, running: &mut Running, build: usize) -> Option<Taken> {
-    let before = running.host.history().len();
-    let (_step, answer) = take_turn(&mut running.host, plan, &mut running.places, build)?;
-    let moved = newest(&running.host, before);
-    let id = BuildId::new(build as u8).unwrap();
+pub(crate) fn take(
+    host: &mut Host<BuddyArena>,
+    plan: &Plan,
+    places: &mut [PlanCursor; 8],
+    build: usize,
+) -> Option<Taken>
+    requires { build < vec_len plan.now.builds }
+{
+    let before = host.history().len();
+    let (_step, answer) = take_turn(host, plan, places, build)?;
+    let moved = newest(host, before);
     let given = Given {
-        refusal: match answer {
-            TurnAnswer::Refused(refusal) => Some(refusal),
-            _ => None,
-        },
-        first: match moved {
-            Some(moved) => Some(moved.first),
-            None => None,
-        },
-        vmid: match running.host.realm_view(id) {
-            Some((_state, vmid)) => Some(vmid.number()),
-            None => None,
-        },
+        refusal: refusal_in(answer),
+        first: first_of(moved),
+        vmid: vmid_of(host, BuildId::new(build as u8)?),
     };
     Some(Taken { given, moved })
 }

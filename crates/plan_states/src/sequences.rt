@@ -5,11 +5,11 @@ use std::alloc::{AllocError, Global};
 #[derive(Drop)]
 pub(crate) struct Sequences<S> {
     // of each sequence: its last items, and the number of the sequence with it
-    longer: Vec<Vec<(S, u32)>>,
+    longer: Vec<Vec<(S, usize)>>,
 }
 
 // The number of the sequence with this item at its end.
-fn known<S: Copy + Eq + Drop>(longer: &[(S, u32)], item: S) -> Option<u32> {
+fn known<S: Copy + Eq + Drop>(longer: &[(S, usize)], item: S) -> Option<usize> {
     for pair in longer {
         if pair.0 == item {
             return Some(pair.1);
@@ -27,8 +27,8 @@ impl<S: Copy + Eq + Drop> Sequences<S> {
     }
 
     /// The number of a new sequence, which has no item.
-    pub(crate) fn begin(&mut self, alloc: Global) -> Result<u32, AllocError> {
-        let number = self.longer.len() as u32;
+    pub(crate) fn begin(&mut self, alloc: Global) -> Result<usize, AllocError> {
+        let number = self.longer.len();
         self.longer.push(Vec::new(alloc))?;
         Ok(number)
     }
@@ -37,10 +37,10 @@ impl<S: Copy + Eq + Drop> Sequences<S> {
     pub(crate) fn with(
         &mut self,
         alloc: Global,
-        sequence: u32,
+        sequence: usize,
         item: S,
-    ) -> Result<(u32, bool), AllocError> {
-        let at = sequence as usize;
+    ) -> Result<(usize, bool), AllocError> {
+        let at = sequence;
         if let Some(number) = known(&self.longer[at], item) {
             return Ok((number, false));
         }

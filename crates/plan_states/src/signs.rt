@@ -1,11 +1,24 @@
 //! The outcomes that a turn shows.
+ghost use Rattle.std.specs.Prelude.{◌≡◌, option_map};
+ghost use Rattle.plan_states.specs.Signs.{has_number, is_asked, is_refused};
+
 use crate::edges::Label;
 use crate::step_end::StepEnd;
 use schedule_graph::Sign;
 
+// Whether there is a number, and it is this one.
+fn has_number(number: usize, other: Option<usize>) -> bool
+    ensures { result ≡ has_number number other }
+{
+    match other {
+        Some(other) => other == number,
+        None => false,
+    }
+}
+
 /// An end of a step, by its number.
 #[derive(Clone, Copy)]
-pub(crate) struct EndSign(pub(crate) u32);
+pub(crate) struct EndSign(pub(crate) usize);
 
 impl Sign<Label> for EndSign {
     ghost use Rattle.plan_states.specs.Signs.{has_number};
@@ -13,13 +26,13 @@ impl Sign<Label> for EndSign {
     ghost is_on = { λ sign label. has_number sign.0 label.end };
 
     fn is_on(&self, label: &Label) -> bool {
-        label.end == Some(self.0)
+        has_number(self.0, label.end)
     }
 }
 
 /// A map in the end, by its number.
 #[derive(Clone, Copy)]
-pub(crate) struct MapSign(pub(crate) u32);
+pub(crate) struct MapSign(pub(crate) usize);
 
 impl Sign<Label> for MapSign {
     ghost use Rattle.plan_states.specs.Signs.{has_number};
@@ -27,7 +40,7 @@ impl Sign<Label> for MapSign {
     ghost is_on = { λ sign label. has_number sign.0 label.map };
 
     fn is_on(&self, label: &Label) -> bool {
-        label.map == Some(self.0)
+        has_number(self.0, label.map)
     }
 }
 
@@ -39,7 +52,9 @@ pub(crate) struct RefusalSign<'a> {
 }
 
 // Whether a build is the one that is asked for, if one is.
-fn is_asked(asked: Option<usize>, build: usize) -> bool {
+fn is_asked(asked: Option<usize>, build: usize) -> bool
+    ensures { result ≡ is_asked asked build }
+{
     match asked {
         Some(one) => one == build,
         None => true,
@@ -55,7 +70,7 @@ impl Sign<Label> for RefusalSign<'_> {
         let Some(number) = label.end else {
             return false;
         };
-        match self.ends.get(number as usize) {
+        match self.ends.get(number) {
             Some(end) => end.refusal.is_some() && is_asked(self.build, end.build),
             None => false,
         }

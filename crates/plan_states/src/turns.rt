@@ -45,16 +45,16 @@ struct Done {
 /// What a turn depends on: what its build did, and of what all builds share what it needs.
 #[derive(Clone, Copy, PartialEq, Eq, Hash)]
 pub(crate) struct Before {
-    build: u32,
-    shared: u32,
+    build: usize,
+    shared: usize,
 }
 
 /// The outcome of a turn.
 #[derive(Clone, Copy)]
 pub(crate) struct After {
-    pub(crate) build: u32,
+    pub(crate) build: usize,
     moved: Option<Moved>,
-    pub(crate) end: Option<u32>,
+    pub(crate) end: Option<usize>,
 }
 
 /// What builds did in any schedule, and the turns that they had.
@@ -85,15 +85,19 @@ fn next_of(plan: &Plan, build: usize, done: usize) -> Option<Shared> {
     }
 }
 
+// The place of an end among those that are known.
+fn known_end(ends: &[StepEnd], end: StepEnd) -> Option<usize> {
+    ends.iter().position(|known| *known == end)
+}
+
 // The place of an end among those that are known; it is added if it is new.
-fn place_of_end(ends: &mut Vec<StepEnd>, end: StepEnd) -> Result<u32, AllocError> {
-    for place in 0..ends.len() {
-        if ends[place] == end {
-            return Ok(place as u32);
-        }
+fn place_of_end(ends: &mut Vec<StepEnd>, end: StepEnd) -> Result<usize, AllocError> {
+    if let Some(place) = known_end(ends, end) {
+        return Ok(place);
     }
+    let place = ends.len();
     ends.push(end)?;
-    Ok((ends.len() - 1) as u32)
+    Ok(place)
 }
 
 impl Turns {
@@ -101,7 +105,7 @@ impl Turns {
     pub(crate) fn begin(alloc: Global, plan: &Plan) -> Result<(Turns, State), AllocError> {
         let mut builds = Sequences::new(alloc);
         let mut done = Vec::new(alloc);
-        let mut first = [0u32; 8];
+        let mut first = [0usize; 8];
         for build in 0..8 {
             first[build] = builds.begin(alloc)?;
             done.push(Done {
@@ -127,14 +131,14 @@ impl Turns {
     }
 
     // The lowest VMID that no realm has; 0 if there is none.
-    fn lowest_vmid(&self, plan: &Plan, state: &State) -> u32 {
+    fn lowest_vmid(&self, plan: &Plan, state: &State) -> usize {
         for vmid in 1..=plan.vmids {
             let mut is_used = false;
             for number in &state.builds {
-                is_used = is_used || self.done[*number as usize].vmid == Some(vmid);
+                is_used = is_used || self.done[*number].vmid == Some(vmid);
             }
             if !is_used {
-                return u32::from(vmid);
+                return usize::from(vmid);
             }
         }
         0
@@ -143,7 +147,7 @@ impl Turns {
     /// What the next turn of a build depends on; None if it has no step left.
     pub(crate) fn before(&self, plan: &Plan, state: &State, build: usize) -> Option<Before> {
         let number = state.builds[build];
-        let shared = match self.done[number as usize].next? {
+        let shared = match self.done[number].next? {
             Shared::Nothing => 0,
             Shared::Blocks => state.blocks,
             Shared::Vmids => self.lowest_vmid(plan, state),
@@ -156,7 +160,7 @@ impl Turns {
 
     /// Whether a build has a step left.
     pub(crate) fn has_left(&self, state: &State, build: usize) -> bool {
-        self.done[state.builds[build] as usize].next.is_some()
+        self.done[state.builds[build]].next.is_some()
     }
 
     // The end of the step that a turn used up, if it did.
@@ -166,7 +170,7 @@ impl Turns {
         place: &PlanCursor,
         build: usize,
         refusal: Option<Refusal>,
-    ) -> Result<Option<u32>, AllocError> {
+    ) -> Result<Option<usize>, AllocError> {
         if place.done == before.done {
             return Ok(None);
         }
@@ -193,13 +197,14 @@ impl Turns {
         build: usize,
     ) -> Result<After, Fault> {
         let mut running = run_to(alloc, plan, order)?;
-        let Some(taken) = take(plan, &mut running, build) else {
+        let Some(taken) = take(&mut running.host, plan, &mut running.places, build) else {
             return Err(Fault::Mismatch);
         };
-        let was = self.done[before.build as usize];
+        let was = self.done[before.build];
         let place = running.places[build];
         let end = self.end_of(&was, &place, build, taken.given.refusal)?;
-        let (number, is_new) = self.builds.with(alloc, before.build, taken.given)?;
+        let longer = self.builds.with(alloc, before.build, taken.given)?;
+        let (number, is_new) = longer;
         if is_new {
             let next = next_of(plan, build, place.done);
             self.note_done(place.done, taken.given.vmid, next)?;

@@ -17,7 +17,7 @@ fn text_of(rt: &HostRuntime, alloc: Global, plan: &Plan, most: usize) -> Result<
             let turns = graph.turns;
             let _ = eprintln!(rt; "states {states} turns {turns}");
             let outcomes = outcomes_of(alloc, plan.builds.len(), &graph)?;
-            push_outcomes(&mut text, plan, &graph, &outcomes)?;
+            push_outcomes(&mut text, plan, &graph.maps, &outcomes)?;
         }
         Explored::TooMany => writeln!(text, "states more than {most}")?,
     }
