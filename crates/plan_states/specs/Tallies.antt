@@ -58,12 +58,13 @@ whole_tallies graph =
     added (tally_of (shows (is_refusal_of graph.ends.items None)) true (paths_of graph))
     (added (tally_of (shows_none (is_refusal_of graph.ends.items None)) false (paths_of graph)) [])
 
+-- of an end of a step, if there is one of that number
+abbrev pub tally_of_end : Graph → ℕ → Option StepEnd → Option (Counted StepEnd)
+tally_of_end graph number None = None
+tally_of_end graph number (Some end) = tally_of (shows (λ label. has_number number label.end)) end (paths_of graph)
+
 abbrev pub end_tally : Graph → ℕ → Option (Counted StepEnd)
-end_tally graph number =
-    elim (slice_get graph.ends.items number) [
-      | Some end ↦ tally_of (shows (λ label. has_number number label.end)) end (paths_of graph)
-      | None ↦ None
-    ]
+end_tally graph number = tally_of_end graph number (slice_get graph.ends.items number)
 
 -- the builds that were never refused
 abbrev pub smooth_tally : Graph → ℕ → Option (Counted ℕ)

@@ -214,6 +214,19 @@ fn smooth_of(alloc: Global, graph: &Graph, builds: usize) -> Result<Vec<Tally<us
     Ok(smooth)
 }
 
+// The tally of a map in the end.
+fn map_tally(
+    alloc: Global,
+    graph: &Graph,
+    all: &[Vec<Count>],
+    map: usize,
+) -> Result<Option<Tally<usize>>, AllocError>
+    ensures { IfOk result (λ tally. ArePathNumbers any_path (layers_of graph.now) (path_numbers_in all.now)
+        → option_map counted_of tally ≡ map_tally graph.now map) }
+{
+    tally_with(alloc, &graph.layers, all, &MapSign(map), map)
+}
+
 // The one tally of a plan without a step: one schedule, and the map after no turn.
 fn only_map(alloc: Global) -> Result<Tally<usize>, AllocError>
     ensures { IfOk result (λ tally. counted_of tally ≡ record { thing = 0; count = 1; first = [] }) }
@@ -241,7 +254,7 @@ fn maps_of(
         return Ok(maps);
     }
     for map in 0..graph.maps.len() {
-        let tally = tally_with(alloc, &graph.layers, all, &MapSign(map), map)?;
+        let tally = map_tally(alloc, graph, all, map)?;
         add(&mut maps, tally)?;
     }
     Ok(maps)

@@ -1,9 +1,9 @@
 use Rattle.std.proofs.Common.{◌++◌, length, string_bytes}
 use Rattle.std.specs.List.{flat_map, range_with_len}
 use Rattle.realm_plan.specs.PlanView.{plan_view}
-use Rattle.plan_states.specs.Lines.{whole_line, build_lines, smooth_lines, map_lines}
+use Rattle.plan_states.specs.Lines.{whole_line, build_lines, smooth_lines, map_lines_of}
 use Rattle.plan_states.proofs.Joined.{joined}
-use Rattle.plan_states.proofs.Visits.{builds_are}
+use Rattle.plan_states.proofs.Builds.{builds_are}
 use Rattle.plan_states.proofs.text.push_totals.Goals as goal
 
 pub returns : goal.returns
@@ -14,7 +14,7 @@ returns c =
     let wholes = flat_map (whole_line totals.orders) totals.wholes.items in
     let builds = flat_map (build_lines plan totals) (range_with_len 0 (length plan.builds)) in
     let smooth = flat_map (smooth_lines totals.orders totals.smooth.items) (range_with_len 0 (length plan.builds)) in
-    let maps = flat_map (map_lines totals.orders) totals.maps.items in
+    let maps = flat_map (map_lines_of totals.orders c.args.maps.now) totals.maps.items in
     let one = string_bytes c.push_wholes.new.text in
     let two = string_bytes c.push_builds.new.text in
     let three = string_bytes c.push_smooths.new.text in
