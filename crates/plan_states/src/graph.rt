@@ -240,10 +240,7 @@ impl Exploration {
                 continue;
             };
             let then = self.turns.state_after(alloc, state, build, after)?;
-            let came = Came {
-                from: place,
-                build,
-            };
+            let came = Came { from: place, build };
             let to = self.place(alloc, plan, next, &then, came)?;
             let label = Label {
                 build,

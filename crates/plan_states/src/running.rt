@@ -1,5 +1,5 @@
 //! The run of a plan up to a state, and one turn more.
-ghost use Rattle.std.specs.Prelude.{◌≡◌, ◌<◌, option_map, vec_len};
+ghost use Rattle.std.specs.Prelude.{◌≡◌, ◌<◌, All, option_map, vec_len};
 ghost use Rattle.host_ledger.specs.View.{world_of};
 ghost use Rattle.realm_host.specs.Readings.{realm_at};
 ghost use Rattle.plan_states.specs.Outcomes.{refusal_in};
@@ -8,6 +8,7 @@ use crate::turns::{Given, Moved};
 use buddy::BuddyArena;
 use granule_addr::BuildId;
 use host_commands::Refusal;
+use page_arena::PageStore;
 use plan_replay::{PlanCursor, TurnAnswer, take_turn};
 use realm_host::{Act, Host};
 use realm_plan::Plan;
@@ -46,7 +47,7 @@ fn moved_by(act: &Act) -> Option<Moved> {
 }
 
 // The newest operation, if there is one more than `before`.
-fn newest(host: &Host<BuddyArena>, before: usize) -> Option<Moved> {
+fn newest<S: PageStore>(host: &Host<S>, before: usize) -> Option<Moved> {
     match host.history().get(before) {
         Some(event) => moved_by(&event.act),
         None => None,
@@ -54,7 +55,9 @@ fn newest(host: &Host<BuddyArena>, before: usize) -> Option<Moved> {
 }
 
 /// Runs a plan on a fresh host, in the schedule of these builds.
-pub(crate) fn run_to(alloc: Global, plan: &Plan, order: &[usize]) -> Result<Running, Fault> {
+pub(crate) fn run_to(alloc: Global, plan: &Plan, order: &[usize]) -> Result<Running, Fault>
+    requires { All (λ build. build < vec_len plan.now.builds) order.now }
+{
     let mut host = boot::<BuddyArena>(alloc, plan)?;
     let mut places = [PlanCursor::first(); 8];
     for build in order {
@@ -86,7 +89,7 @@ fn first_of(moved: Option<Moved>) -> Option<u16>
 }
 
 // The VMID of a build's realm, if it has one.
-fn vmid_of(host: &Host<BuddyArena>, build: BuildId) -> Option<u8>
+fn vmid_of<S: PageStore>(host: &Host<S>, build: BuildId) -> Option<u8>
     ensures { result ≡ option_map (λ realm. realm.1) (realm_at (world_of host.now) build) }
 {
     match host.realm_view(build) {
@@ -95,9 +98,17 @@ fn vmid_of(host: &Host<BuddyArena>, build: BuildId) -> Option<u8>
     }
 }
 
+// The build at an index of a plan.
+fn id_of(build: usize) -> BuildId
+    requires { build < 8 }
+    ensures { result ≡ build }
+{
+    BuildId::new(build as u8).unwrap()
+}
+
 /// Takes one more turn, of a build that has a step left.
-pub(crate) fn take(
-    host: &mut Host<BuddyArena>,
+pub(crate) fn take<S: PageStore>(
+    host: &mut Host<S>,
     plan: &Plan,
     places: &mut [PlanCursor; 8],
     build: usize,
@@ -105,12 +116,17 @@ pub(crate) fn take(
     requires { build < vec_len plan.now.builds }
 {
     let before = host.history().len();
-    let (_step, answer) = take_turn(host, plan, places, build)?;
+    let Some((_step, answer)) = take_turn(host, plan, places, build) else {
+        return None;
+    };
     let moved = newest(host, before);
+    let refusal = refusal_in(answer);
+    let first = first_of(moved);
+    let vmid = vmid_of(host, id_of(build));
     let given = Given {
-        refusal: refusal_in(answer),
-        first: first_of(moved),
-        vmid: vmid_of(host, BuildId::new(build as u8)?),
+        refusal,
+        first,
+        vmid,
     };
     Some(Taken { given, moved })
 }

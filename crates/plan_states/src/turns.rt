@@ -1,5 +1,5 @@
 //! The turns of builds, each run once.
-use crate::running::{run_to, take};
+use crate::running::{Taken, run_to, take};
 use crate::sequences::Sequences;
 use crate::state::State;
 use crate::step_end::StepEnd;
@@ -86,17 +86,31 @@ fn next_of(plan: &Plan, build: usize, done: usize) -> Option<Shared> {
 }
 
 // The place of an end among those that are known.
-fn known_end(ends: &[StepEnd], end: StepEnd) -> Option<usize> {
-    ends.iter().position(|known| *known == end)
+fn known_end(
+    ends: &[StepEnd],
+    build: usize,
+    step: usize,
+    refusal: Option<Refusal>,
+) -> Option<usize> {
+    ends.iter().position(|end| end.build == build && end.step == step && end.refusal == refusal)
 }
 
 // The place of an end among those that are known; it is added if it is new.
-fn place_of_end(ends: &mut Vec<StepEnd>, end: StepEnd) -> Result<usize, AllocError> {
-    if let Some(place) = known_end(ends, end) {
+fn place_of_end(
+    ends: &mut Vec<StepEnd>,
+    build: usize,
+    step: usize,
+    refusal: Option<Refusal>,
+) -> Result<usize, AllocError> {
+    if let Some(place) = known_end(ends, build, step, refusal) {
         return Ok(place);
     }
     let place = ends.len();
-    ends.push(end)?;
+    ends.push(StepEnd {
+        build,
+        step,
+        refusal,
+    })?;
     Ok(place)
 }
 
@@ -174,12 +188,8 @@ impl Turns {
         if place.done == before.done {
             return Ok(None);
         }
-        let end = StepEnd {
-            build,
-            step: before.done,
-            refusal,
-        };
-        Ok(Some(place_of_end(&mut self.ends, end)?))
+        let place = place_of_end(&mut self.ends, build, before.done, refusal)?;
+        Ok(Some(place))
     }
 
     /// The turn that is known of this.
@@ -200,18 +210,18 @@ impl Turns {
         let Some(taken) = take(&mut running.host, plan, &mut running.places, build) else {
             return Err(Fault::Mismatch);
         };
+        let Taken { given, moved } = taken;
         let was = self.done[before.build];
         let place = running.places[build];
-        let end = self.end_of(&was, &place, build, taken.given.refusal)?;
-        let longer = self.builds.with(alloc, before.build, taken.given)?;
-        let (number, is_new) = longer;
+        let end = self.end_of(&was, &place, build, given.refusal)?;
+        let (number, is_new) = self.builds.with(alloc, before.build, given)?;
         if is_new {
             let next = next_of(plan, build, place.done);
-            self.note_done(place.done, taken.given.vmid, next)?;
+            self.note_done(place.done, given.vmid, next)?;
         }
         let after = After {
             build: number,
-            moved: taken.moved,
+            moved,
             end,
         };
         self.note(before, after)?;

@@ -7,7 +7,7 @@ use Rattle.plan_states.proofs.Tallies.{tally-first}
 use Rattle.plan_states.proofs.outcomes.tally_with.Goals as goal
 
 pub returns : goal.returns
-returns g c = λ are. 
+returns g c = λ are.
     let like = shows (g.S.Sign.is_on c.args.sign.now) in
     let layers = layers_in c.args.layers.now in
     tally-first like c.args.thing layers (path_numbers_in c.in_ok-with.with.items) c.in-Some.path.items c.in_ok-count.count c.in_ok-first.first.items
