@@ -4,7 +4,7 @@ use crate::sequences::Sequences;
 use crate::state::State;
 use crate::step_end::StepEnd;
 use host_commands::{Cmd, Refusal, Step};
-use plan_replay::{PlanCursor, step_after};
+use plan_replay::step_after;
 use realm_plan::{Plan, PlanStep};
 use realm_program::Fault;
 use std::alloc::{AllocError, Global};
@@ -86,31 +86,17 @@ fn next_of(plan: &Plan, build: usize, done: usize) -> Option<Shared> {
 }
 
 // The place of an end among those that are known.
-fn known_end(
-    ends: &[StepEnd],
-    build: usize,
-    step: usize,
-    refusal: Option<Refusal>,
-) -> Option<usize> {
-    ends.iter().position(|end| end.build == build && end.step == step && end.refusal == refusal)
+fn known_end(ends: &[StepEnd], end: &StepEnd) -> Option<usize> {
+    ends.iter().position(|known| *known == *end)
 }
 
 // The place of an end among those that are known; it is added if it is new.
-fn place_of_end(
-    ends: &mut Vec<StepEnd>,
-    build: usize,
-    step: usize,
-    refusal: Option<Refusal>,
-) -> Result<usize, AllocError> {
-    if let Some(place) = known_end(ends, build, step, refusal) {
+fn place_of_end(ends: &mut Vec<StepEnd>, end: &StepEnd) -> Result<usize, AllocError> {
+    if let Some(place) = known_end(ends, end) {
         return Ok(place);
     }
     let place = ends.len();
-    ends.push(StepEnd {
-        build,
-        step,
-        refusal,
-    })?;
+    ends.push(*end)?;
     Ok(place)
 }
 
@@ -180,15 +166,20 @@ impl Turns {
     // The end of the step that a turn used up, if it did.
     fn end_of(
         &mut self,
-        before: &Done,
-        place: &PlanCursor,
+        before: usize,
+        after: usize,
         build: usize,
         refusal: Option<Refusal>,
     ) -> Result<Option<usize>, AllocError> {
-        if place.done == before.done {
+        if after == before {
             return Ok(None);
         }
-        let place = place_of_end(&mut self.ends, build, before.done, refusal)?;
+        let end = StepEnd {
+            build,
+            step: before,
+            refusal,
+        };
+        let place = place_of_end(&mut self.ends, &end)?;
         Ok(Some(place))
     }
 
@@ -211,13 +202,13 @@ impl Turns {
             return Err(Fault::Mismatch);
         };
         let Taken { given, moved } = taken;
-        let was = self.done[before.build];
-        let place = running.places[build];
-        let end = self.end_of(&was, &place, build, given.refusal)?;
-        let (number, is_new) = self.builds.with(alloc, before.build, given)?;
+        let was = self.done[before.build].done;
+        let done = running.places[build].done;
+        let end = self.end_of(was, done, build, given.refusal)?;
+        let (number, is_new) = self.longer(alloc, before.build, given)?;
         if is_new {
-            let next = next_of(plan, build, place.done);
-            self.note_done(place.done, given.vmid, next)?;
+            let next = next_of(plan, build, done);
+            self.note_done(done, given.vmid, next)?;
         }
         let after = After {
             build: number,
@@ -226,6 +217,16 @@ impl Turns {
         };
         self.note(before, after)?;
         Ok(after)
+    }
+
+    // The number of what a build did, with one turn more, and whether it is new.
+    fn longer(
+        &mut self,
+        alloc: Global,
+        build: usize,
+        given: Given,
+    ) -> Result<(usize, bool), AllocError> {
+        self.builds.with(alloc, build, given)
     }
 
     // Notes what a build did.
