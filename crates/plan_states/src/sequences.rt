@@ -33,19 +33,18 @@ impl<S: Copy + Eq + Drop> Sequences<S> {
         Ok(number)
     }
 
-    /// The number of a sequence with one more item, and whether it is new.
+    /// The number of a sequence with one more item. If the sequence is new, that is the number of those before it.
     pub(crate) fn with(
         &mut self,
         alloc: Global,
         sequence: usize,
         item: S,
-    ) -> Result<(usize, bool), AllocError> {
-        let at = sequence;
-        if let Some(number) = known(&self.longer[at], item) {
-            return Ok((number, false));
+    ) -> Result<usize, AllocError> {
+        if let Some(number) = known(&self.longer[sequence], item) {
+            return Ok(number);
         }
         let number = self.begin(alloc)?;
-        self.longer[at].push((item, number))?;
-        Ok((number, true))
+        self.longer[sequence].push((item, number))?;
+        Ok(number)
     }
 }

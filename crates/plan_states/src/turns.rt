@@ -202,13 +202,15 @@ impl Turns {
             return Err(Fault::Mismatch);
         };
         let Taken { given, moved } = taken;
+        let refusal = given.refusal;
+        let vmid = given.vmid;
         let was = self.done[before.build].done;
         let done = running.places[build].done;
-        let end = self.end_of(was, done, build, given.refusal)?;
-        let (number, is_new) = self.longer(alloc, before.build, given)?;
-        if is_new {
+        let number = self.longer(alloc, before.build, given)?;
+        let end = self.end_of(was, done, build, refusal)?;
+        if number == self.done.len() {
             let next = next_of(plan, build, done);
-            self.note_done(done, given.vmid, next)?;
+            self.note_done(done, vmid, next)?;
         }
         let after = After {
             build: number,
@@ -219,13 +221,8 @@ impl Turns {
         Ok(after)
     }
 
-    // The number of what a build did, with one turn more, and whether it is new.
-    fn longer(
-        &mut self,
-        alloc: Global,
-        build: usize,
-        given: Given,
-    ) -> Result<(usize, bool), AllocError> {
+    // The number of what a build did, with one turn more.
+    fn longer(&mut self, alloc: Global, build: usize, given: Given) -> Result<usize, AllocError> {
         self.builds.with(alloc, build, given)
     }
 
@@ -255,7 +252,7 @@ impl Turns {
         after: After,
     ) -> Result<State, AllocError> {
         let blocks = match after.moved {
-            Some(moved) => self.blocks.with(alloc, state.blocks, moved)?.0,
+            Some(moved) => self.blocks.with(alloc, state.blocks, moved)?,
             None => state.blocks,
         };
         Ok(state.with(build, after.build, blocks))
