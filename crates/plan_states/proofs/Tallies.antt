@@ -9,8 +9,7 @@ use Rattle.std.proofs.lemmas.Simd.{map-map}
 use Rattle.schedule_graph.specs.First.{first_like, any_path, layers_in, path_numbers_in, ArePathNumbers}
 use Rattle.schedule_graph.specs.Paths.{Layer, Path, paths, count_at}
 use Rattle.schedule_graph.specs.declared.graph.Edge.{Edge}
-use Rattle.plan_states.specs.Outcomes.{Counted}
-use Rattle.plan_states.specs.Tallies.{schedule_of, counted_of, tally_of, is_before, place_of, added, all_added}
+use Rattle.plan_states.specs.Tallies.{Counted, schedule_of, counted_of, tally_of, is_before, place_of, added, all_added}
 use Rattle.plan_states.specs.declared.edges.Label.{Label}
 use Rattle.plan_states.specs.declared.tally.Tally.{Tally}
 

@@ -1,7 +1,11 @@
-pub mod Runs
+pub mod States
+pub mod Turned
+pub mod Reached
+pub mod TurnTaken
+pub mod Leaving
+pub mod Explored
 pub mod Signs
-pub mod Outcomes
-pub mod Graph
 pub mod OrderText
 pub mod Lines
 pub mod Tallies
+pub mod StatesText

@@ -1,16 +1,23 @@
 -- The tallies of a graph's outcomes: how many of its paths show each, and which one first.
 use Rattle.std.specs.Prelude.{◌≡◌, ℕ, zero, suc, nat_lt, ◌==◌, if◌then◌else◌, Bool, true, false, List, [], ◌∷◌, map, filter, length, Option, Some, None, option_map, slice_get}
 use Rattle.std.specs.List.{find, insert}
-use Rattle.schedule_graph.specs.First.{shows_none}
-use Rattle.schedule_graph.specs.Paths.{Path, paths, shows}
-use Rattle.plan_states.specs.Graph.{layers_of}
-use Rattle.plan_states.specs.Outcomes.{Counted}
+use Rattle.schedule_graph.specs.First.{layers_in, shows_none}
+use Rattle.schedule_graph.specs.Paths.{Layer, Path, paths, shows}
 use Rattle.plan_states.specs.Signs.{has_number, is_refusal_of}
 use Rattle.plan_states.specs.declared.edges.Label.{Label}
 use Rattle.plan_states.specs.declared.graph.Graph.{Graph}
 use Rattle.plan_states.specs.declared.step_end.StepEnd.{StepEnd}
 use Rattle.plan_states.specs.declared.tally.Outcomes.{Outcomes}
 use Rattle.plan_states.specs.declared.tally.Tally.{Tally}
+
+-- The number of paths that show a thing, and the schedule of the first of them.
+pub record Counted (K : Type 0) : Type 0 where
+  pub thing : K
+  pub count : ℕ
+  pub first : List ℕ
+
+abbrev pub layers_of : Graph → List (Layer Label)
+layers_of graph = layers_in graph.layers.items
 
 -- the builds of the turns
 abbrev pub schedule_of : Path Label → List ℕ

@@ -1,14 +1,18 @@
 //! The graph of the states of a plan's runs.
+ghost use Rattle.std.specs.Prelude.{◌≡◌, ◌≤◌, ◌<◌, ◌++◌, ◌∷◌, [], OnOk, IfOk, IfErr, IfSome, length, string_bytes, vec_len};
+ghost use Rattle.realm_plan.specs.PlanView.{plan_view};
+ghost use Rattle.plan_states.specs.Explored.{AreOfRuns, IsExplored, IsNotExplored};
+ghost use Rattle.plan_states.specs.Reached.{IsMapOfRun};
+
 use crate::edges::Label;
-use crate::running::{Running, run_to};
+use crate::leftovers::leave_nothing;
+use crate::running::{Running, goes_on, run_to};
 use crate::state::State;
 use crate::step_end::StepEnd;
-use crate::turns::{After, Turns};
-use granule_addr::BuildId;
+use crate::turns::{After, Before, Turns, before_turn};
 use plan_replay::map_text;
-use realm_host::HostLedger;
 use realm_plan::Plan;
-use realm_program::{Fault, map_without};
+use realm_program::Fault;
 use schedule_graph::Edge;
 use std::alloc::{AllocError, Global};
 use std::collections::HashMap;
@@ -24,10 +28,6 @@ pub struct Graph {
     pub ends: Vec<StepEnd>,
     /// The maps in the end.
     pub maps: Vec<String>,
-    /// The number of states.
-    pub states: usize,
-    /// The number of turns that were run.
-    pub turns: usize,
 }
 
 /// The result of an exploration.
@@ -45,187 +45,167 @@ struct Came {
     build: usize,
 }
 
-// The states of a layer, and the first way to each. If a schedule ends in a state, it has a map.
+// The place of a state in its layer, and the number of its map, if schedules end in it.
+#[derive(Clone, Copy)]
+struct Target {
+    to: usize,
+    map: Option<usize>,
+}
+
+// The states of a layer, and the first way to each.
 #[derive(Drop)]
 struct Front {
     states: Vec<State>,
     came: Vec<Came>,
-    maps: Vec<Option<usize>>,
-    places: HashMap<State, usize>,
+    targets: HashMap<State, Target>,
 }
 
-// The graph as far as it is known.
+// The graph as far as it is known. `came` has, of each layer, the first way to each state.
 #[derive(Drop)]
 struct Exploration {
     turns: Turns,
-    // of each layer, the first way to each state
     came: Vec<Vec<Came>>,
-    layers: Vec<Layer>,
     maps: Vec<String>,
-    states: usize,
-}
-
-impl Front {
-    fn new(alloc: Global) -> Front {
-        Front {
-            states: Vec::new(alloc),
-            came: Vec::new(alloc),
-            maps: Vec::new(alloc),
-            places: HashMap::new(alloc),
-        }
-    }
-
-    // Adds a state, and returns its place.
-    fn add(&mut self, state: State, came: Came, map: Option<usize>) -> Result<usize, AllocError> {
-        let place = self.states.len();
-        self.states.push(state)?;
-        self.came.push(came)?;
-        self.maps.push(map)?;
-        self.places.insert(state, place)?;
-        Ok(place)
-    }
 }
 
 // Adds an item at the end.
-fn push<T: Drop>(items: &mut Vec<T>, item: T) -> Result<(), AllocError> {
+fn push<T: Drop>(items: &mut Vec<T>, item: T) -> Result<(), AllocError>
+    ensures { OnOk result (items.new.items ≡ items.old.items ++ item ∷ []) }
+{
     items.push(item)?;
     Ok(())
 }
 
-// The first schedule that leads to a state of the layer after the last.
-fn order_to(alloc: Global, came: &[Vec<Came>], last: Came) -> Result<Vec<usize>, AllocError> {
+impl Front {
+    fn new(alloc: Global) -> Front
+        ensures { result.states.items ≡ [] }
+    {
+        Front {
+            states: Vec::new(alloc),
+            came: Vec::new(alloc),
+            targets: HashMap::new(alloc),
+        }
+    }
+
+    // Adds a state, and returns its place.
+    fn add(
+        &mut self,
+        state: State,
+        came: Came,
+        map: Option<usize>,
+    ) -> Result<Target, AllocError>
+        ensures { OnOk result (self.new.states.items ≡ self.old.states.items ++ state ∷ []) }
+    {
+        let to = self.states.len();
+        let target = Target { to, map };
+        self.targets.insert(state, target)?;
+        self.came.push(came)?;
+        self.states.push(state)?;
+        Ok(target)
+    }
+}
+
+// The first schedule that leads to a state of the last layer. `Mismatch`: there is no such state.
+fn order_to(alloc: Global, came: &[Vec<Came>], place: usize) -> Result<Vec<usize>, Fault>
+    ensures { IfErr result IsNotExplored }
+{
     let mut order = Vec::new(alloc);
-    let mut way = last;
-    let mut depth = came.len();
-    order.push(way.build)?;
-    while depth > 1 {
-        depth -= 1;
-        way = came[depth][way.from];
-        order.push(way.build)?;
+    let mut at = place;
+    for done in 1..came.len() {
+        let Some(way) = came[came.len() - done].get(at) else {
+            return Err(Fault::Mismatch);
+        };
+        push(&mut order, way.build)?;
+        at = way.from;
     }
     order.reverse();
     Ok(order)
 }
 
-// The first schedule that leads to a state of the last layer.
-fn order_of_last(
-    alloc: Global,
-    came: &[Vec<Came>],
-    place: usize,
-) -> Result<Vec<usize>, AllocError> {
-    match came.split_last() {
-        Some((last, before)) => {
-            if before.is_empty() {
-                Ok(Vec::new(alloc))
-            } else {
-                order_to(alloc, before, last[place])
-            }
-        }
-        None => Ok(Vec::new(alloc)),
+// The map after a schedule that ends. `Mismatch`: some turn has no step left, or a build has one in the end.
+fn map_after(alloc: Global, plan: &Plan, order: &[usize]) -> Result<String, Fault>
+    ensures ok { IfOk result (λ map. IsMapOfRun (plan_view plan.now) (string_bytes map)) }
+    ensures err { IfErr result IsNotExplored }
+{
+    let Running { host, places } = run_to(alloc, plan, order)?;
+    if goes_on(plan, &places) {
+        return Err(Fault::Mismatch);
     }
-}
-
-// Whether a map is that of the history without each build that has nothing open, as it has to be.
-fn leave_nothing(
-    alloc: Global,
-    plan: &Plan,
-    ledger: &HostLedger,
-    map: &str,
-) -> Result<bool, AllocError> {
-    for place in 0..plan.builds.len() {
-        let build = BuildId::new(place as u8).unwrap();
-        if ledger.open_above(build, 0).is_empty() {
-            let without = map_without(alloc, plan, ledger, build)?;
-            if without.as_str() != map {
-                return Ok(false);
-            }
-        }
-    }
-    Ok(true)
-}
-
-// The map after a schedule.
-fn map_after(alloc: Global, plan: &Plan, order: &[usize]) -> Result<String, Fault> {
-    let running = run_to(alloc, plan, order)?;
-    let Running { host, places: _ } = running;
     let map = map_text(alloc, &host)?;
     let ledger = host.into_ledger();
     if !leave_nothing(alloc, plan, &ledger, &map)? {
-        return Err(Fault::Mismatch);
+        unreachable!()
     }
     Ok(map)
 }
 
 // The number of a map among those that are known; it is added if it is new.
 fn number_of_map(maps: &mut Vec<String>, map: String) -> Result<usize, AllocError> {
-    for number in 0..maps.len() {
-        if maps[number].as_str() == map.as_str() {
-            return Ok(number);
-        }
+    if let Some(number) = maps.iter().position(|known| known.as_str() == map.as_str()) {
+        return Ok(number);
     }
+    let number = maps.len();
     maps.push(map)?;
-    Ok((maps.len() - 1))
+    Ok(number)
 }
 
 impl Exploration {
-    // The builds that have a step left in a state: whether there is any.
-    fn goes_on(&self, state: &State) -> bool {
-        for build in 0..8 {
-            if self.turns.has_left(state, build) {
-                return true;
-            }
-        }
-        false
-    }
-
-    // The number of the map of a state in which no build has a step left.
-    fn map_of(&mut self, alloc: Global, plan: &Plan, came: Came) -> Result<usize, Fault> {
-        let order = order_to(alloc, &self.came, came)?;
-        let map = map_after(alloc, plan, &order)?;
+    // The number of the map after a schedule that ends.
+    fn map_of(&mut self, alloc: Global, plan: &Plan, order: &[usize]) -> Result<usize, Fault>
+        requires { AreOfRuns (plan_view plan.now) self.old.turns.ends.items self.old.maps.items }
+        ensures ok { OnOk result (AreOfRuns (plan_view plan.now) self.new.turns.ends.items self.new.maps.items) }
+        ensures err { IfErr result IsNotExplored }
+    {
+        let map = map_after(alloc, plan, order)?;
         Ok(number_of_map(&mut self.maps, map)?)
     }
 
-    // The turn of a build in a state of the last layer.
+    // The turn of a build in the state at a place of the last layer.
     fn turn(
         &mut self,
         alloc: Global,
         plan: &Plan,
-        state: &State,
         place: usize,
         build: usize,
-    ) -> Result<Option<After>, Fault> {
-        let Some(before) = self.turns.before(plan, state, build) else {
-            return Ok(None);
-        };
+        before: Before,
+    ) -> Result<After, Fault>
+        requires { AreOfRuns (plan_view plan.now) self.old.turns.ends.items self.old.maps.items }
+        ensures ok { OnOk result (AreOfRuns (plan_view plan.now) self.new.turns.ends.items self.new.maps.items) }
+        ensures err { IfErr result IsNotExplored }
+    {
         if let Some(after) = self.turns.known(&before) {
-            return Ok(Some(after));
+            return Ok(after);
         }
-        let order = order_of_last(alloc, &self.came, place)?;
-        Ok(Some(self.turns.run(alloc, plan, before, &order, build)?))
+        let order = order_to(alloc, &self.came, place)?;
+        self.turns.run(alloc, plan, before, &order, build)
     }
 
     // The place of a state in the next layer. It is added if it is new.
-    fn place(
+    fn target(
         &mut self,
         alloc: Global,
         plan: &Plan,
         next: &mut Front,
-        state: &State,
+        state: State,
         came: Came,
-    ) -> Result<usize, Fault> {
-        if let Some(place) = next.places.get(state).copied() {
-            return Ok(place);
+    ) -> Result<Target, Fault>
+        requires { AreOfRuns (plan_view plan.now) self.old.turns.ends.items self.old.maps.items }
+        ensures ok { OnOk result (AreOfRuns (plan_view plan.now) self.new.turns.ends.items self.new.maps.items) }
+        ensures err { IfErr result IsNotExplored }
+    {
+        if let Some(target) = next.targets.get(&state).copied() {
+            return Ok(target);
         }
-        let map = if self.goes_on(state) {
-            None
-        } else {
-            Some(self.map_of(alloc, plan, came)?)
-        };
-        self.states = self.states.saturating_add(1);
-        Ok(next.add(*state, came, map)?)
+        if state.goes_on(plan) {
+            return Ok(next.add(state, came, None)?);
+        }
+        let mut order = order_to(alloc, &self.came, came.from)?;
+        push(&mut order, came.build)?;
+        let map = self.map_of(alloc, plan, &order)?;
+        Ok(next.add(state, came, Some(map))?)
     }
 
-    // The edges of a state.
+    // The edges of the state at a place of the last layer.
     fn edges_of(
         &mut self,
         alloc: Global,
@@ -233,90 +213,94 @@ impl Exploration {
         state: &State,
         place: usize,
         next: &mut Front,
-    ) -> Result<Vec<Edge<Label>>, Fault> {
+    ) -> Result<Vec<Edge<Label>>, Fault>
+        requires { AreOfRuns (plan_view plan.now) self.old.turns.ends.items self.old.maps.items }
+        ensures ok { OnOk result (AreOfRuns (plan_view plan.now) self.new.turns.ends.items self.new.maps.items) }
+        ensures err { IfErr result IsNotExplored }
+    {
         let mut edges = Vec::new(alloc);
         for build in 0..8 {
-            let Some(after) = self.turn(alloc, plan, state, place, build)? else {
+            let Some(before) = before_turn(plan, state, build) else {
                 continue;
             };
-            let then = self.turns.state_after(alloc, state, build, after)?;
+            let after = self.turn(alloc, plan, place, build, before)?;
+            let then = self.turns.state_after(state, build, after)?;
             let came = Came { from: place, build };
-            let to = self.place(alloc, plan, next, &then, came)?;
-            let label = Label {
-                build,
-                end: after.end,
-                map: next.maps[to],
-            };
+            let Target { to, map } = self.target(alloc, plan, next, then, came)?;
+            let end = after.end;
+            let label = Label { build, end, map };
             push(&mut edges, Edge { label, to })?;
         }
         Ok(edges)
     }
 
-    // Adds the edges of a layer's states, and returns the states of the next layer; None if there are more states than
-    // `most`.
+    // The edges of the states of the last layer, and the states of the next; None if there are more than `room`.
     fn layer(
         &mut self,
         alloc: Global,
         plan: &Plan,
         states: &[State],
-        most: usize,
-    ) -> Result<Option<Front>, Fault> {
+        room: usize,
+    ) -> Result<Option<(Layer, Front)>, Fault>
+        requires { AreOfRuns (plan_view plan.now) self.old.turns.ends.items self.old.maps.items }
+        ensures ok { OnOk result (AreOfRuns (plan_view plan.now) self.new.turns.ends.items self.new.maps.items) }
+        ensures err { IfErr result IsNotExplored }
+        ensures layer { IfOk result (λ it. IfSome it (λ both. (vec_len both.0 ≡ length states.now) × (vec_len both.1.states ≤ room))) }
+    {
         let mut next = Front::new(alloc);
         let mut layer = Vec::new(alloc);
         for place in 0..states.len() {
             let edges = self.edges_of(alloc, plan, &states[place], place, &mut next)?;
             push(&mut layer, edges)?;
-            if self.states > most {
+            if next.states.len() > room {
                 return Ok(None);
             }
         }
-        push(&mut self.layers, layer)?;
-        Ok(Some(next))
+        Ok(Some((layer, next)))
     }
 }
 
 /// The graph of all schedules of a plan, if it has at most `most` states.
-pub fn explore(alloc: Global, plan: &Plan, most: usize) -> Result<Explored, Fault> {
-    let (turns, first) = Turns::begin(alloc, plan)?;
+///
+/// Errors. `Memory`: allocation failed. `Mismatch`: a run does not go on as another run said, which never happens on a
+/// host that gives the same answers to the same calls.
+pub fn explore(alloc: Global, plan: &Plan, most: usize) -> Result<Explored, Fault>
+    ensures ok { IfOk result (IsExplored (plan_view plan.now) most) }
+    ensures err { IfErr result IsNotExplored }
+{
     let mut it = Exploration {
-        turns,
+        turns: Turns::new(alloc),
         came: Vec::new(alloc),
-        layers: Vec::new(alloc),
         maps: Vec::new(alloc),
-        states: 1,
     };
-    if !it.goes_on(&first) {
-        let map = map_after(alloc, plan, &[])?;
-        push(&mut it.maps, map)?;
+    let first = State::first();
+    if !first.goes_on(plan) {
+        it.map_of(alloc, plan, &[])?;
     }
     let mut front = Front::new(alloc);
     front.add(first, Came { from: 0, build: 0 }, None)?;
+    let mut layers = Vec::new(alloc);
+    let mut room = most;
     while !front.states.is_empty() {
         let Front {
             states,
             came,
-            maps: _,
-            places: _,
+            targets: _,
         } = front;
+        if states.len() > room {
+            return Ok(Explored::TooMany);
+        }
+        room -= states.len();
         push(&mut it.came, came)?;
-        let Some(next) = it.layer(alloc, plan, &states, most)? else {
+        let Some((layer, next)) = it.layer(alloc, plan, &states, room)? else {
             return Ok(Explored::TooMany);
         };
+        push(&mut layers, layer)?;
         front = next;
     }
-    let Exploration {
-        turns,
-        came: _,
-        layers,
-        maps,
-        states,
-    } = it;
-    let (ends, turns) = turns.into_ends();
     Ok(Explored::All(Graph {
         layers,
-        ends,
-        maps,
-        states,
-        turns,
+        ends: it.turns.into_ends(),
+        maps: it.maps,
     }))
 }

@@ -8,11 +8,11 @@
 
 mod edges;
 mod graph;
+mod leftovers;
 mod lines;
 mod outcomes;
 mod running;
 mod schedule_text;
-mod sequences;
 mod signs;
 mod state;
 mod step_end;
@@ -20,7 +20,9 @@ mod tally;
 mod text;
 mod turns;
 
+pub use edges::Label;
 pub use graph::{Explored, Graph, explore};
+pub use leftovers::leave_nothing;
 pub use outcomes::outcomes_of;
 pub use step_end::StepEnd;
 pub use tally::{Outcomes, Tally};

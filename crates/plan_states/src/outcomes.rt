@@ -2,8 +2,7 @@
 ghost use Rattle.std.specs.Prelude.{◌≡◌, ◌≤◌, Bool, List, [], length, map, option_map, slice_index_or, OnOk, IfOk};
 ghost use Rattle.schedule_graph.specs.First.{any_path, layers_in, path_numbers_in, shows_none, ArePathNumbers};
 ghost use Rattle.schedule_graph.specs.Paths.{paths, shows, count_at};
-ghost use Rattle.plan_states.specs.Graph.{layers_of};
-ghost use Rattle.plan_states.specs.Tallies.{added, all_added, counted_of, end_tally, is_before, map_tallies, map_tally, place_of, smooth_tally, tally_of, whole_tallies, AreOutcomes};
+ghost use Rattle.plan_states.specs.Tallies.{added, all_added, counted_of, end_tally, is_before, layers_of, map_tallies, map_tally, place_of, smooth_tally, tally_of, whole_tallies, AreOutcomes};
 
 use crate::edges::Label;
 use crate::graph::{Graph, Layer};

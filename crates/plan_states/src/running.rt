@@ -1,15 +1,19 @@
-//! The run of a plan up to a state, and one turn more.
-ghost use Rattle.std.specs.Prelude.{◌≡◌, ◌<◌, All, option_map, vec_len};
+//! The run of a plan in a schedule from boot, and one turn more.
+ghost use Rattle.std.specs.Prelude.{◌≡◌, ◌<◌, IfOk, IfErr, IfSome, option_map};
 ghost use Rattle.host_ledger.specs.View.{world_of};
 ghost use Rattle.realm_host.specs.Readings.{realm_at};
-ghost use Rattle.plan_states.specs.Outcomes.{refusal_in};
+ghost use Rattle.realm_plan.specs.PlanView.{plan_view};
+ghost use Rattle.plan_states.specs.Explored.{IsNotExplored};
+ghost use Rattle.plan_states.specs.Reached.{goes_on, IsReached};
+ghost use Rattle.plan_states.specs.Turned.{moved_after, moved_by, refusal_in};
+ghost use Rattle.plan_states.specs.TurnTaken.{IsTurnTaken};
 
-use crate::turns::{Given, Moved};
+use crate::turns::Moved;
 use buddy::BuddyArena;
 use granule_addr::BuildId;
 use host_commands::Refusal;
 use page_arena::PageStore;
-use plan_replay::{PlanCursor, TurnAnswer, take_turn};
+use plan_replay::{PlanCursor, TurnAnswer, step_after, take_turn};
 use realm_host::{Act, Host};
 use realm_plan::Plan;
 use realm_program::{Fault, boot};
@@ -22,15 +26,21 @@ pub(crate) struct Running {
     pub(crate) places: [PlanCursor; 8],
 }
 
-/// One turn: what it gave the build, and what it leased or gave back.
+/// One turn: how many steps its build had done before and after it, its refusal, the block that it moved, and the VMID
+/// of the build's realm after it.
 #[derive(Clone, Copy)]
-pub(crate) struct Taken {
-    pub(crate) given: Given,
+pub(crate) struct TurnTaken {
+    pub(crate) before: usize,
+    pub(crate) after: usize,
+    pub(crate) refusal: Option<Refusal>,
     pub(crate) moved: Option<Moved>,
+    pub(crate) vmid: Option<u8>,
 }
 
-// What an operation leases or gives back.
-fn moved_by(act: &Act) -> Option<Moved> {
+// The block that an operation leases or gives back.
+fn moved_by(act: &Act) -> Option<Moved>
+    ensures { result ≡ moved_by act.now }
+{
     match act {
         Act::Take { order, first } => Some(Moved {
             is_back: false,
@@ -46,26 +56,14 @@ fn moved_by(act: &Act) -> Option<Moved> {
     }
 }
 
-// The newest operation, if there is one more than `before`.
-fn newest<S: PageStore>(host: &Host<S>, before: usize) -> Option<Moved> {
+// The block that was moved by the event after `before` others, if there is one.
+fn moved_after<S: PageStore>(host: &Host<S>, before: usize) -> Option<Moved>
+    ensures { result ≡ moved_after before host.now.history }
+{
     match host.history().get(before) {
         Some(event) => moved_by(&event.act),
         None => None,
     }
-}
-
-/// Runs a plan on a fresh host, in the schedule of these builds.
-pub(crate) fn run_to(alloc: Global, plan: &Plan, order: &[usize]) -> Result<Running, Fault>
-    requires { All (λ build. build < vec_len plan.now.builds) order.now }
-{
-    let mut host = boot::<BuddyArena>(alloc, plan)?;
-    let mut places = [PlanCursor::first(); 8];
-    for build in order {
-        if take_turn(&mut host, plan, &mut places, *build).is_none() {
-            return Err(Fault::Mismatch);
-        }
-    }
-    Ok(Running { host, places })
 }
 
 // The reason of a refusal.
@@ -78,55 +76,71 @@ fn refusal_in(answer: TurnAnswer) -> Option<Refusal>
     }
 }
 
-// The first granule of a block that was leased or given back.
-fn first_of(moved: Option<Moved>) -> Option<u16>
-    ensures { result ≡ option_map (λ block. block.first) moved }
-{
-    match moved {
-        Some(block) => Some(block.first),
-        None => None,
-    }
-}
-
 // The VMID of a build's realm, if it has one.
-fn vmid_of<S: PageStore>(host: &Host<S>, build: BuildId) -> Option<u8>
+fn vmid_of<S: PageStore>(host: &Host<S>, build: usize) -> Option<u8>
+    requires { build < 8 }
     ensures { result ≡ option_map (λ realm. realm.1) (realm_at (world_of host.now) build) }
 {
-    match host.realm_view(build) {
+    match host.realm_view(BuildId::new(build as u8).unwrap()) {
         Some((_state, vmid)) => Some(vmid.number()),
         None => None,
     }
 }
 
-// The build at an index of a plan.
-fn id_of(build: usize) -> BuildId
-    requires { build < 8 }
-    ensures { result ≡ build }
+/// Runs a plan on a fresh host, in the schedule of these builds.
+///
+/// Errors. `Memory`: allocation failed. `Mismatch`: some turn is of a build that has no step left then.
+pub(crate) fn run_to(alloc: Global, plan: &Plan, order: &[usize]) -> Result<Running, Fault>
+    ensures ok { IfOk result (λ run. IsReached (plan_view plan.now) order.now (record { host = run.host; places = run.places })) }
+    ensures err { IfErr result IsNotExplored }
 {
-    BuildId::new(build as u8).unwrap()
+    let mut host = boot::<BuddyArena>(alloc, plan)?;
+    let mut places = [PlanCursor::first(); 8];
+    for build in order {
+        if *build >= plan.builds.len() {
+            return Err(Fault::Mismatch);
+        }
+        if take_turn(&mut host, plan, &mut places, *build).is_none() {
+            return Err(Fault::Mismatch);
+        }
+    }
+    Ok(Running { host, places })
 }
 
-/// Takes one more turn, of a build that has a step left.
+/// Whether any build has a step left.
+pub(crate) fn goes_on(plan: &Plan, places: &[PlanCursor; 8]) -> bool
+    ensures { result ≡ goes_on (plan_view plan.now) places.now }
+{
+    (0..8).any(|build| step_after(plan, build, places[build].done).is_some())
+}
+
+/// Takes one more turn of a build; None if it has no step left.
 pub(crate) fn take<S: PageStore>(
     host: &mut Host<S>,
     plan: &Plan,
     places: &mut [PlanCursor; 8],
     build: usize,
-) -> Option<Taken>
-    requires { build < vec_len plan.now.builds }
+) -> Option<TurnTaken>
+    ensures { IfSome result (λ it. IsTurnTaken (plan_view plan.now) (record { host = host.old; places = places.old }) build it
+        (record { host = host.new; places = places.new })) }
 {
-    let before = host.history().len();
+    if build >= plan.builds.len() {
+        return None;
+    }
+    let events = host.history().len();
+    let before = places[build].done;
     let Some((_step, answer)) = take_turn(host, plan, places, build) else {
         return None;
     };
-    let moved = newest(host, before);
+    let after = places[build].done;
     let refusal = refusal_in(answer);
-    let first = first_of(moved);
-    let vmid = vmid_of(host, id_of(build));
-    let given = Given {
+    let moved = moved_after(host, events);
+    let vmid = vmid_of(host, build);
+    Some(TurnTaken {
+        before,
+        after,
         refusal,
-        first,
+        moved,
         vmid,
-    };
-    Some(Taken { given, moved })
+    })
 }

@@ -1,22 +1,57 @@
 //! The states of runs.
-ghost use Rattle.std.specs.Prelude.{◌≡◌, ◌<◌, slice_set};
+ghost use Rattle.std.specs.Prelude.{◌≡◌, ◌<◌, IsTrue, slice_set, is_some};
+ghost use Rattle.std.specs.List.{list_any, range_with_len};
+ghost use Rattle.realm_plan.specs.PlanView.{plan_view};
+ghost use Rattle.plan_states.specs.States.{first_state, has_left};
 
-/// The state of a run: what each build did, and the blocks that were leased and given back. Each is the number of a
-/// sequence.
+use plan_replay::step_after;
+use realm_plan::Plan;
+
+/// The state of a build: what it did, as a number; the number of its steps done; and the VMID of its realm.
+#[derive(Clone, Copy, PartialEq, Eq, Hash)]
+pub(crate) struct BuildState {
+    pub(crate) did: usize,
+    pub(crate) done: usize,
+    pub(crate) vmid: Option<u8>,
+}
+
+/// The state of a run: that of each build, and the blocks that were leased and given back, as a number.
 #[derive(Clone, Copy, PartialEq, Eq, Hash)]
 pub(crate) struct State {
-    pub(crate) builds: [usize; 8],
+    pub(crate) builds: [BuildState; 8],
     pub(crate) blocks: usize,
 }
 
 impl State {
+    /// The state before the first turn. What builds did has another number for each, and no block has moved.
+    pub(crate) fn first() -> State
+        ensures { result ≡ first_state }
+    {
+        let mut builds = [BuildState {
+            did: 0,
+            done: 0,
+            vmid: None,
+        }; 8];
+        for build in 0..8 {
+            builds[build].did = build;
+        }
+        State { builds, blocks: 0 }
+    }
+
     /// The state after a turn of a build.
-    pub(crate) fn with(self, build: usize, number: usize, blocks: usize) -> State
+    pub(crate) fn with(self, build: usize, after: BuildState, blocks: usize) -> State
         requires { build < 8 }
-        ensures { result ≡ record { builds = slice_set self.builds build number; blocks = blocks } }
+        ensures { result ≡ record { builds = slice_set self.builds build after; blocks = blocks } }
     {
         let mut builds = self.builds;
-        builds[build] = number;
+        builds[build] = after;
         State { builds, blocks }
+    }
+
+    /// Whether any build has a step left.
+    pub(crate) fn goes_on(&self, plan: &Plan) -> bool
+        ensures { result ≡ list_any (has_left (plan_view plan.now) self.now) (range_with_len 0 8) }
+    {
+        (0..8).any(|build| step_after(plan, build, self.builds[build].done).is_some())
     }
 }

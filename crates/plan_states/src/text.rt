@@ -1,7 +1,9 @@
 //! The text of the outcomes of all schedules of a plan.
-ghost use Rattle.std.specs.Prelude.{◌≡◌, ◌++◌, OnOk, string_bytes};
+ghost use Rattle.std.specs.Prelude.{◌≡◌, ◌++◌, OnOk, IfOk, IfErr, string_bytes};
 ghost use Rattle.std.specs.List.{flat_map, range_with_len};
 ghost use Rattle.realm_plan.specs.PlanView.{plan_view};
+ghost use Rattle.plan_states.specs.Explored.{IsNotExplored};
+ghost use Rattle.plan_states.specs.StatesText.{IsStatesText};
 ghost use Rattle.plan_states.specs.Lines.{step_count, build_lines, smooth_lines, map_lines_of, totals_text, outcomes_text};
 
 use crate::graph::{Explored, explore};
@@ -135,7 +137,13 @@ pub fn push_outcomes(
 }
 
 /// The text of the outcomes of all schedules of a plan, if it has at most `most` states; else a line that says so.
-pub fn states_text(alloc: Global, plan: &Plan, most: usize) -> Result<String, Fault> {
+///
+/// Errors. `Memory`: allocation failed. `Mismatch`: a run does not go on as another one said, which never happens on a
+/// host that gives the same answers to the same calls.
+pub fn states_text(alloc: Global, plan: &Plan, most: usize) -> Result<String, Fault>
+    ensures ok { IfOk result (λ text. IsStatesText most (plan_view plan.now) (string_bytes text)) }
+    ensures err { IfErr result IsNotExplored }
+{
     let mut text = String::new(alloc);
     match explore(alloc, plan, most)? {
         Explored::All(graph) => {

@@ -1,25 +1,22 @@
 //! The turns of builds, each run once.
-use crate::running::{Taken, run_to, take};
-use crate::sequences::Sequences;
-use crate::state::State;
+ghost use Rattle.std.specs.Prelude.{◌≡◌, ◌++◌, ◌<◌, [], All, OnOk, IfErr, Some};
+ghost use Rattle.realm_plan.specs.PlanView.{plan_view};
+ghost use Rattle.plan_states.specs.Explored.{IsNotExplored};
+ghost use Rattle.plan_states.specs.Reached.{IsEndOfRun};
+ghost use Rattle.plan_states.specs.Turned.{AreWith, end_taken};
+
+use crate::running::{TurnTaken, run_to, take};
+use crate::state::{BuildState, State};
 use crate::step_end::StepEnd;
-use host_commands::{Cmd, Refusal, Step};
+use host_commands::{Cmd, Step};
 use plan_replay::step_after;
 use realm_plan::{Plan, PlanStep};
 use realm_program::Fault;
 use std::alloc::{AllocError, Global};
 use std::collections::HashMap;
 
-/// What a turn gave its build beside what follows from what it did: a refusal, a block, a VMID.
-#[derive(Clone, Copy, PartialEq, Eq)]
-pub(crate) struct Given {
-    pub(crate) refusal: Option<Refusal>,
-    pub(crate) first: Option<u16>,
-    pub(crate) vmid: Option<u8>,
-}
-
 /// A block that was leased, or given back.
-#[derive(Clone, Copy, PartialEq, Eq)]
+#[derive(Clone, Copy, PartialEq, Eq, Hash)]
 pub(crate) struct Moved {
     pub(crate) is_back: bool,
     pub(crate) order: u8,
@@ -34,12 +31,20 @@ enum Shared {
     Vmids,
 }
 
-// What a build did: its cursor, the VMID of its realm, and what its next step needs, if it has one.
-#[derive(Clone, Copy)]
-struct Done {
-    done: usize,
+/// What a build did, with one turn more: what it did before, and what the turn gave it beside what follows from that.
+#[derive(Clone, Copy, PartialEq, Eq, Hash)]
+struct Did {
+    before: usize,
+    end: Option<usize>,
+    first: Option<u16>,
     vmid: Option<u8>,
-    next: Option<Shared>,
+}
+
+/// The blocks that were leased and given back, with one more.
+#[derive(Clone, Copy, PartialEq, Eq, Hash)]
+struct Moves {
+    before: usize,
+    moved: Moved,
 }
 
 /// What a turn depends on: what its build did, and of what all builds share what it needs.
@@ -49,10 +54,10 @@ pub(crate) struct Before {
     shared: usize,
 }
 
-/// The outcome of a turn.
+/// The outcome of a turn: the state of its build after it, the block that it moved, and the end of its step.
 #[derive(Clone, Copy)]
 pub(crate) struct After {
-    pub(crate) build: usize,
+    build: BuildState,
     moved: Option<Moved>,
     pub(crate) end: Option<usize>,
 }
@@ -60,9 +65,8 @@ pub(crate) struct After {
 /// What builds did in any schedule, and the turns that they had.
 #[derive(Drop)]
 pub(crate) struct Turns {
-    builds: Sequences<Given>,
-    done: Vec<Done>,
-    blocks: Sequences<Moved>,
+    builds: HashMap<Did, usize>,
+    blocks: HashMap<Moves, usize>,
     known: HashMap<Before, After>,
     pub(crate) ends: Vec<StepEnd>,
 }
@@ -77,110 +81,115 @@ fn shared_by(step: &PlanStep) -> Shared {
     }
 }
 
-// What the next step of a build needs, if it has one.
-fn next_of(plan: &Plan, build: usize, done: usize) -> Option<Shared> {
-    match step_after(plan, build, done) {
-        Some(step) => Some(shared_by(step)),
+// Whether a build has a realm with this VMID.
+fn is_used(state: &State, vmid: u8) -> bool {
+    state.builds.iter().any(|build| build.vmid == Some(vmid))
+}
+
+// The lowest VMID that no realm has; 0 if there is none.
+fn lowest_vmid(plan: &Plan, state: &State) -> usize {
+    for vmid in 1..=plan.vmids {
+        if !is_used(state, vmid) {
+            return usize::from(vmid);
+        }
+    }
+    0
+}
+
+/// What the next turn of a build depends on; None if it has no step left.
+pub(crate) fn before_turn(plan: &Plan, state: &State, build: usize) -> Option<Before>
+    requires { build < 8 }
+{
+    let it = state.builds[build];
+    let shared = match shared_by(step_after(plan, build, it.done)?) {
+        Shared::Nothing => 0,
+        Shared::Blocks => state.blocks,
+        Shared::Vmids => lowest_vmid(plan, state),
+    };
+    Some(Before {
+        build: it.did,
+        shared,
+    })
+}
+
+// The first granule of a block that was leased or given back.
+fn first_of(moved: Option<Moved>) -> Option<u16> {
+    match moved {
+        Some(block) => Some(block.first),
         None => None,
     }
 }
 
-// The place of an end among those that are known.
-fn known_end(ends: &[StepEnd], end: &StepEnd) -> Option<usize> {
-    ends.iter().position(|known| *known == *end)
-}
-
 // The place of an end among those that are known; it is added if it is new.
-fn place_of_end(ends: &mut Vec<StepEnd>, end: &StepEnd) -> Result<usize, AllocError> {
-    if let Some(place) = known_end(ends, end) {
+fn place_of_end(ends: &mut Vec<StepEnd>, end: StepEnd) -> Result<usize, AllocError>
+    ensures { OnOk result (AreWith ends.old.items (Some end) ends.new.items) }
+{
+    if let Some(place) = ends.iter().position(|known| *known == end) {
         return Ok(place);
     }
     let place = ends.len();
-    ends.push(*end)?;
+    ends.push(end)?;
     Ok(place)
 }
 
 impl Turns {
-    /// No turn, and the state before the first.
-    pub(crate) fn begin(alloc: Global, plan: &Plan) -> Result<(Turns, State), AllocError> {
-        let mut builds = Sequences::new(alloc);
-        let mut done = Vec::new(alloc);
-        let mut first = [0usize; 8];
-        for build in 0..8 {
-            first[build] = builds.begin(alloc)?;
-            done.push(Done {
-                done: 0,
-                vmid: None,
-                next: next_of(plan, build, 0),
-            })?;
-        }
-        let mut blocks = Sequences::new(alloc);
-        let none = blocks.begin(alloc)?;
-        let state = State {
-            builds: first,
-            blocks: none,
-        };
-        let turns = Turns {
-            builds,
-            done,
-            blocks,
+    /// No turn.
+    pub(crate) fn new(alloc: Global) -> Turns
+        ensures { result.ends.items ≡ [] }
+    {
+        Turns {
+            builds: HashMap::new(alloc),
+            blocks: HashMap::new(alloc),
             known: HashMap::new(alloc),
             ends: Vec::new(alloc),
-        };
-        Ok((turns, state))
-    }
-
-    // The lowest VMID that no realm has; 0 if there is none.
-    fn lowest_vmid(&self, plan: &Plan, state: &State) -> usize {
-        for vmid in 1..=plan.vmids {
-            let mut is_used = false;
-            for number in &state.builds {
-                is_used = is_used || self.done[*number].vmid == Some(vmid);
-            }
-            if !is_used {
-                return usize::from(vmid);
-            }
         }
-        0
     }
 
-    /// What the next turn of a build depends on; None if it has no step left.
-    pub(crate) fn before(&self, plan: &Plan, state: &State, build: usize) -> Option<Before> {
-        let number = state.builds[build];
-        let shared = match self.done[number].next? {
-            Shared::Nothing => 0,
-            Shared::Blocks => state.blocks,
-            Shared::Vmids => self.lowest_vmid(plan, state),
-        };
-        Some(Before {
-            build: number,
-            shared,
-        })
+    // The number of what a build did. Numbers below 8 are those of builds that did nothing.
+    fn number_of(&mut self, did: Did) -> Result<usize, AllocError>
+        ensures { self.new.ends ≡ self.old.ends }
+    {
+        if let Some(number) = self.builds.get(&did).copied() {
+            return Ok(number);
+        }
+        let number = self.builds.len().saturating_add(8);
+        self.builds.insert(did, number)?;
+        Ok(number)
     }
 
-    /// Whether a build has a step left.
-    pub(crate) fn has_left(&self, state: &State, build: usize) -> bool {
-        self.done[state.builds[build]].next.is_some()
+    // The number of the blocks that were leased and given back. If none was, it is 0.
+    fn number_of_moves(&mut self, moves: Moves) -> Result<usize, AllocError>
+        ensures { self.new.ends ≡ self.old.ends }
+    {
+        if let Some(number) = self.blocks.get(&moves).copied() {
+            return Ok(number);
+        }
+        let number = self.blocks.len().saturating_add(1);
+        self.blocks.insert(moves, number)?;
+        Ok(number)
     }
 
-    // The end of the step that a turn used up, if it did.
-    fn end_of(
-        &mut self,
-        before: usize,
-        after: usize,
-        build: usize,
-        refusal: Option<Refusal>,
-    ) -> Result<Option<usize>, AllocError> {
-        if after == before {
+    // Notes a turn.
+    fn note(&mut self, before: Before, after: After) -> Result<(), AllocError>
+        ensures { self.new.ends ≡ self.old.ends }
+    {
+        self.known.insert(before, after)?;
+        Ok(())
+    }
+
+    // The place of the end of the step that a turn used up, if it did.
+    fn place_of(&mut self, build: usize, taken: &TurnTaken) -> Result<Option<usize>, AllocError>
+        ensures { OnOk result (AreWith self.old.ends.items (end_taken build taken.now) self.new.ends.items) }
+    {
+        if taken.before == taken.after {
             return Ok(None);
         }
         let end = StepEnd {
             build,
-            step: before,
-            refusal,
+            step: taken.before,
+            refusal: taken.refusal,
         };
-        let place = place_of_end(&mut self.ends, &end)?;
-        Ok(Some(place))
+        Ok(Some(place_of_end(&mut self.ends, end)?))
     }
 
     /// The turn that is known of this.
@@ -188,7 +197,9 @@ impl Turns {
         self.known.get(before).copied()
     }
 
-    /// Runs a turn of a build after the schedule `order`, on a fresh host, and notes it.
+    /// Runs a turn of a build after a schedule, on a fresh host, and notes it.
+    ///
+    /// Errors. `Memory`: allocation failed. `Mismatch`: the build has no step left then.
     pub(crate) fn run(
         &mut self,
         alloc: Global,
@@ -196,79 +207,67 @@ impl Turns {
         before: Before,
         order: &[usize],
         build: usize,
-    ) -> Result<After, Fault> {
+    ) -> Result<After, Fault>
+        requires { All (IsEndOfRun (plan_view plan.now)) self.old.ends.items }
+        ensures ok { OnOk result (All (IsEndOfRun (plan_view plan.now)) self.new.ends.items) }
+        ensures err { IfErr result IsNotExplored }
+    {
         let mut running = run_to(alloc, plan, order)?;
         let Some(taken) = take(&mut running.host, plan, &mut running.places, build) else {
             return Err(Fault::Mismatch);
         };
-        let Taken { given, moved } = taken;
-        let refusal = given.refusal;
-        let vmid = given.vmid;
-        let was = self.done[before.build].done;
-        let done = running.places[build].done;
-        let number = self.longer(alloc, before.build, given)?;
-        let end = self.end_of(was, done, build, refusal)?;
-        if number == self.done.len() {
-            let next = next_of(plan, build, done);
-            self.note_done(done, vmid, next)?;
-        }
+        let end = self.place_of(build, &taken)?;
+        let first = first_of(taken.moved);
+        let vmid = taken.vmid;
+        let did = self.number_of(Did {
+            before: before.build,
+            end,
+            first,
+            vmid,
+        })?;
         let after = After {
-            build: number,
-            moved,
+            build: BuildState {
+                did,
+                done: taken.after,
+                vmid,
+            },
+            moved: taken.moved,
             end,
         };
         self.note(before, after)?;
         Ok(after)
     }
 
-    // The number of what a build did, with one turn more.
-    fn longer(&mut self, alloc: Global, build: usize, given: Given) -> Result<usize, AllocError> {
-        self.builds.with(alloc, build, given)
-    }
-
-    // Notes what a build did.
-    fn note_done(
-        &mut self,
-        done: usize,
-        vmid: Option<u8>,
-        next: Option<Shared>,
-    ) -> Result<(), AllocError> {
-        self.done.push(Done { done, vmid, next })?;
-        Ok(())
-    }
-
-    // Notes a turn.
-    fn note(&mut self, before: Before, after: After) -> Result<(), AllocError> {
-        self.known.insert(before, after)?;
-        Ok(())
-    }
-
-    /// The state after a turn.
+    /// The state after a turn of a build.
     pub(crate) fn state_after(
         &mut self,
-        alloc: Global,
         state: &State,
         build: usize,
         after: After,
-    ) -> Result<State, AllocError> {
+    ) -> Result<State, AllocError>
+        requires { build < 8 }
+        ensures { self.new.ends ≡ self.old.ends }
+    {
         let blocks = match after.moved {
-            Some(moved) => self.blocks.with(alloc, state.blocks, moved)?,
+            Some(moved) => self.number_of_moves(Moves {
+                before: state.blocks,
+                moved,
+            })?,
             None => state.blocks,
         };
         Ok(state.with(build, after.build, blocks))
     }
-}
 
-impl Turns {
-    /// The ends of the steps, and the number of turns that were run.
-    pub(crate) fn into_ends(self) -> (Vec<StepEnd>, usize) {
+    /// The ends of the steps.
+    pub(crate) fn into_ends(self) -> Vec<StepEnd>
+        ensures { result ≡ self.ends }
+    {
         let Turns {
             builds: _,
-            done: _,
             blocks: _,
-            known,
+            known: _,
             ends,
         } = self;
-        (ends, known.len())
+        ends
     }
 }

@@ -1,7 +1,6 @@
 use Rattle.std.proofs.Common.{◌≡◌, map}
 use Rattle.schedule_graph.specs.First.{any_path, path_numbers_in, ArePathNumbers}
-use Rattle.plan_states.specs.Graph.{layers_of}
-use Rattle.plan_states.specs.Tallies.{all_added, counted_of, end_tally}
+use Rattle.plan_states.specs.Tallies.{layers_of, all_added, counted_of, end_tally}
 use Rattle.plan_states.proofs.outcomes.ends_of.Given as goal
 
 abbrev pub invariant-loop-number : goal.invariant-loop-number

@@ -1,0 +1,55 @@
+-- A turn, and what it shows.
+use Rattle.std.specs.Prelude.{◌≡◌, ℕ, ◌==◌, ◌⊎◌, if◌then◌else◌, List, [], ◌∷◌, ◌++◌, Option, Some, None, option_map, option_and_then, slice_get, length}
+use Rattle.realm_model.specs.declared.act.Act.{Act}
+use Rattle.realm_model.specs.declared.act.Act.TheVariants.{Take, UnTake}
+use Rattle.realm_model.specs.declared.act.Event.{Event}
+use Rattle.host_ledger.specs.View.{world_of}
+use Rattle.host_commands.specs.declared.refusal.Refusal.{Refusal}
+use Rattle.realm_host.specs.Readings.{realm_at}
+use Rattle.realm_plan.specs.declared.step.PlanStep.{PlanStep}
+use Rattle.plan_replay.specs.Run.{Position, Turn}
+use Rattle.plan_replay.specs.declared.answer.TurnAnswer.{TurnAnswer}
+use Rattle.plan_replay.specs.declared.answer.TurnAnswer.TheVariants.{Refused}
+use Rattle.plan_states.specs.declared.running.TurnTaken.{TurnTaken}
+use Rattle.plan_states.specs.declared.step_end.StepEnd.{StepEnd}
+use Rattle.plan_states.specs.declared.turns.Moved.{Moved}
+
+-- A turn, and how many steps its build had done before and after it.
+pub record Taken : Type 0 where
+  pub turn : Turn
+  pub before : ℕ
+  pub after : ℕ
+
+abbrev pub refusal_in : TurnAnswer → Option Refusal
+refusal_in (Refused refusal) = Some refusal
+refusal_in _ = None
+
+abbrev pub refusal_of_turn : Option (PlanStep × TurnAnswer) → Option Refusal
+refusal_of_turn None = None
+refusal_of_turn (Some told) = refusal_in told.1
+
+-- the end of a turn's step, if the turn uses it up
+abbrev pub end_of : Taken → Option StepEnd
+end_of taken =
+    if taken.before == taken.after then None
+    else Some (record { build = taken.turn.build; step = taken.before; refusal = refusal_of_turn taken.turn.told })
+
+-- ---- the same by the code's record of a turn
+
+abbrev pub end_taken : ℕ → TurnTaken → Option StepEnd
+end_taken build it = if it.before == it.after then None else Some (record { build = build; step = it.before; refusal = it.refusal })
+
+-- the block that an operation leases or gives back
+abbrev pub moved_by : Act → Option Moved
+moved_by (Take order first) = Some (record { is_back = false; order = order; first = first })
+moved_by (UnTake order first) = Some (record { is_back = true; order = order; first = first })
+moved_by _ = None
+
+-- the block that was moved by the event after so many others, if there is one
+abbrev pub moved_after : ℕ → List Event → Option Moved
+moved_after before history = option_and_then (λ (event : Event). moved_by event.act) (slice_get history before)
+
+-- a list, and perhaps one more item at its end
+abbrev pub AreWith : List StepEnd → Option StepEnd → List StepEnd → Type 0
+AreWith ends None new = new ≡ ends
+AreWith ends (Some end) new = (new ≡ ends) ⊎ (new ≡ ends ++ end ∷ [])
