@@ -1,7 +1,7 @@
 use Rattle.realm_plan.specs.PlanView.{plan_view}
 use Rattle.view_program.proofs.Visits.{opens_same}
 use Rattle.view_program.proofs.Samples.{IsDrawnAndCounted-run}
-use Rattle.view_program.proofs.schedules.exploration.visit_drawn.Goals as goal
+use Rattle.view_program.proofs.schedules.sampling.visit_drawn.Goals as goal
 
 pub count_run-requires-clause-opens : goal.count_run-requires-clause-opens
 count_run-requires-clause-opens g c =

@@ -1,6 +1,6 @@
 use Rattle.realm_plan.specs.PlanView.{plan_view}
 use Rattle.view_program.proofs.Samples.{IsSampling-none, IsSampling-more}
-use Rattle.view_program.proofs.schedules.exploration.sample.Goals as goal
+use Rattle.view_program.proofs.schedules.sampling.sample.Goals as goal
 
 pub loop-init : goal.loop-init
 loop-init g c = IsSampling-none (plan_view c.args.plan.now) (g.R.Rng.stream c.args.rng.now) c.new-totals.result c.new-totals.ensures

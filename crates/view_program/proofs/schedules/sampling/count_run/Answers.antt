@@ -1,6 +1,6 @@
 use Rattle.realm_plan.specs.PlanView.{plan_view}
 use Rattle.view_program.proofs.Visits.{builds_are, IsAdded-run}
-use Rattle.view_program.proofs.schedules.exploration.count_run.Goals as goal
+use Rattle.view_program.proofs.schedules.sampling.count_run.Goals as goal
 
 pub returns : goal.returns
 returns c =
