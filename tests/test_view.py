@@ -322,8 +322,8 @@ def test_devices(check):
 
 
 NO_WORDS = (
-    [], ["look"], ["apply", "--erase", "8"], ["history", "--erase"], ["check", "--erase", "0"], ["explore", "--most"],
-    ["explore", "--most", "4294967296"], ["explore", "--seed", "-1"], ["explore", "--erase", "0"], ["why", "one", "two"], ["help", "look"],
+    [], ["look"], ["apply", "--erase", "8"], ["history", "--erase"], ["check", "--erase", "0"], ["explore", "--most-states"],
+    ["explore", "--most-states", "4294967296"], ["explore", "--seed", "-1"], ["explore", "--erase", "0"], ["why", "one", "two"], ["help", "look"],
 )
 
 

@@ -1,28 +1,23 @@
-#!/usr/bin/env python3
-"""Counts every schedule of a plan twice: by a graph of states, and one schedule after the other.
+"""The subcommand `explore` of realmview, against a graph of states in Python, and against runs of each schedule.
 
-The graph is that of tests/schedule_graph.py, over the second host. What it says of a plan has to be what runs of each schedule
-say, from boot, and so has the text of each first schedule. Where bin/realmview is built, its `explore` says the same.
-The last line is `schedules: N passed, M failed`.
+The graph is that of tests/schedule_graph.py, over the second host. What it says of a plan has to be what the program says. For
+a plan of few schedules it is what runs of each schedule say, from boot, with the text of each first schedule.
 """
 import random
-import subprocess
-import sys
-from pathlib import Path
+import tomllib
 
-sys.dont_write_bytecode = True
+import pytest
+
+from programs import PLANS, TOP, VIEW, needs, over, run
 from schedule_graph import Graph, machine_of
 from second_host import Blocks, Build, Turn, map_of
 
-import tomllib
-
-TOP = Path(__file__).resolve().parent.parent
-VIEW = TOP / "bin/realmview"
+pytestmark = needs(VIEW)
 # How many schedules of a plan are run one after the other at most.
 MOST = 60
 # How many there are at most where the shortest way to a thing is found by trying all.
 FEW = 100
-RANDOM_PLANS, MOST_TURNS = 60, 8
+RANDOM_PLANS, MOST_TURNS, PARTS = 300, 12, 10
 
 
 class Run:
@@ -124,16 +119,6 @@ def random_plans():
         yield f"random plan {number}", plan_of(builds, pages=source.choice([4, 5, 8, 16]), vmids=source.choice([1, 2]))
 
 
-def stored_plans():
-    for folder in ("plans", "plans/guide"):
-        for path in sorted((TOP / folder).glob("*.toml")):
-            yield path.stem, path.read_text()
-
-
-def explored(text: str) -> str:
-    return subprocess.run([VIEW, "explore"], input=text.encode(), capture_output=True, timeout=60).stdout.decode()
-
-
 def shortest(text: str, shows) -> list[int] | None:
     """The fewest turns after which a run shows a thing, and of these the least, by trying all."""
     front = [[]]
@@ -154,32 +139,26 @@ def leases(granules: int):
     return lambda run: run.machine.pages - run.blocks.free() >= granules
 
 
-def main() -> int:
-    passed = failed = 0
-
-    def check(name: str, found: str, wanted: str) -> None:
-        nonlocal passed, failed
-        if found == wanted:
-            passed += 1
-        else:
-            failed += 1
-            print(f"{name}: found\n{found}wanted\n{wanted}")
-
-    for name, text in [*stored_plans(), *random_plans()]:
-        graph, wanted = Graph(text), one_by_one(text)
-        if wanted is not None:
-            check(name, graph.text(), wanted)
-            check(f"{name}, exactly", Graph(text, exact=True).text(), wanted)
-            if VIEW.exists():
-                check(f"{name}, by realmview", explored(text), wanted)
-        if graph.orders <= FEW:
-            build, last = 0, len(graph.steps[0]) - 1
-            check(f"{name}, a witness", str(graph.refused(build, last)), str(shortest(text, refuses(build, last))))
-            for granules in (5, 8):
-                check(f"{name}, {granules} granules", str(graph.leased(granules)), str(shortest(text, leases(granules))))
-    print(f"schedules: {passed} passed, {failed} failed")
-    return failed > 0
+def of_plan(name: str, text: str):
+    graph = Graph(text)
+    yield name, run(VIEW, ["explore"], text), (0, graph.text(), "")
+    wanted = one_by_one(text)
+    if wanted is not None:
+        yield f"{name}, each schedule", graph.text(), wanted
+        yield f"{name}, exactly", Graph(text, exact=True).text(), wanted
+    if graph.orders <= FEW:
+        build, last = 0, len(graph.steps[0]) - 1
+        yield f"{name}, a witness", graph.refused(build, last), shortest(text, refuses(build, last))
+        for granules in (5, 8):
+            yield f"{name}, {granules} granules", graph.leased(granules), shortest(text, leases(granules))
 
 
-if __name__ == "__main__":
-    sys.exit(main())
+@over("path", *PLANS)
+def test_plan(check, path):
+    check.all(of_plan(path.stem, path.read_text()))
+
+
+@pytest.mark.parametrize("part", range(PARTS))
+def test_random_plans(check, part):
+    for name, text in list(random_plans())[part::PARTS]:
+        check.all(of_plan(name, text))
