@@ -68,14 +68,14 @@ abbrev pub step_ends : Outcomes → ℕ → ℕ → Option PlanStep → List ℕ
 step_ends outcomes build place None = []
 step_ends outcomes build place (Some step) = flat_map (end_shown outcomes.orders step) (filter (is_of_step build place) outcomes.ends.items)
 
-abbrev pub steps_of_build : Plan → ℕ → ℕ
-steps_of_build plan build = unwrap_or (option_map length (slice_get plan.builds build)) 0
+abbrev pub step_number : Plan → ℕ → ℕ
+step_number plan build = unwrap_or (option_map length (slice_get plan.builds build)) 0
 
 abbrev pub ends_of_step : Plan → Outcomes → ℕ → ℕ → List ℕ
 ends_of_step plan outcomes build place = step_ends outcomes build place (step_after plan build place)
 
 abbrev pub ends_of_build : Plan → Outcomes → ℕ → List ℕ
-ends_of_build plan outcomes build = flat_map (ends_of_step plan outcomes build) (range_with_len 0 (steps_of_build plan build))
+ends_of_build plan outcomes build = flat_map (ends_of_step plan outcomes build) (range_with_len 0 (step_number plan build))
 
 -- the number of schedules in which the build was never refused, even if 0
 abbrev pub never_refused_lines : ℕ → List (PathTally ℕ) → ℕ → List ℕ

@@ -4,7 +4,7 @@ ghost use Rattle.std.specs.List.{flat_map, range_with_len};
 ghost use Rattle.realm_plan.specs.PlanView.{plan_view};
 ghost use Rattle.plan_states.specs.Exploration.{HasNoGraph};
 ghost use Rattle.plan_states.specs.StatesText.{IsStatesText};
-ghost use Rattle.plan_states.specs.Lines.{steps_of_build, ends_of_build, never_refused_lines, map_shown_by, tallies_text, outcomes_text};
+ghost use Rattle.plan_states.specs.Lines.{step_number, ends_of_build, never_refused_lines, map_shown_by, tallies_text, outcomes_text};
 
 use crate::graph::{Exploration, explore};
 use crate::lines::{push_count, push_map, push_smooth, push_step, push_wholes};
@@ -16,8 +16,8 @@ use schedule_graph::Count;
 use std::alloc::{AllocError, Global};
 
 // The number of steps of a build.
-fn steps_of_build(plan: &Plan, build: usize) -> usize
-    ensures { result ≡ steps_of_build (plan_view plan.now) build }
+fn step_number(plan: &Plan, build: usize) -> usize
+    ensures { result ≡ step_number (plan_view plan.now) build }
 {
     match plan.builds.get(build) {
         Some(steps) => steps.len(),
@@ -34,7 +34,7 @@ fn push_build(
 ) -> Result<(), AllocError>
     ensures { OnOk result (string_bytes text.new ≡ string_bytes text.old ++ ends_of_build (plan_view plan.now) outcomes.now build) }
 {
-    for place in 0..steps_of_build(plan, build) {
+    for place in 0..step_number(plan, build) {
         push_step(text, plan, outcomes, build, place)?;
     }
     Ok(())
