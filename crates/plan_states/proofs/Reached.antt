@@ -14,10 +14,10 @@ use Rattle.plan_replay.proofs.Runs.{AreTurns-more}
 use Rattle.plan_replay.proofs.Settings.{fresh_like-run}
 use Rattle.realm_program.specs.Replay.{opening_host}
 use Rattle.plan_states.specs.Reached.{IsReached, IsEndOfRun}
-use Rattle.plan_states.specs.Turned.{refusal_of_turn, end_taken, AreWith}
+use Rattle.plan_states.specs.Turned.{turn_refusal, end_taken, AreWith}
 use Rattle.plan_states.specs.TurnTaken.{IsTurnTaken}
 use Rattle.plan_states.specs.declared.running.TurnTaken.{TurnTaken}
-use Rattle.plan_states.specs.declared.step_end.StepEnd.{StepEnd}
+use Rattle.plan_states.specs.declared.step_end.EndOfStep.{EndOfStep}
 
 -- ---- one more turn
 
@@ -54,7 +54,7 @@ opens_reached plan order at reached =
 
 -- ---- ends
 
-end_by : (plan : Plan) (none : Bool) (end : StepEnd) (old new : List StepEnd)
+end_by : (plan : Plan) (none : Bool) (end : EndOfStep) (old new : List EndOfStep)
     → AreWith old (if none then None else Some end) new → (none ≡ false → IsEndOfRun plan end) → All (IsEndOfRun plan) old → All (IsEndOfRun plan) new
 end_by plan true end old new same is all = subst (All (IsEndOfRun plan)) (sym same) all
 end_by plan false end old new (inl same) is all = subst (All (IsEndOfRun plan)) (sym same) all
@@ -67,11 +67,11 @@ end_is false build step one other no same = ap (λ (r : Option Refusal). Some (r
 
 -- the ends after a turn in a run
 pub ends_more :
-    (plan : Plan) (order : List ℕ) (at to : Position) (build : ℕ) (it : TurnTaken) (old new : List StepEnd)
+    (plan : Plan) (order : List ℕ) (at to : Position) (build : ℕ) (it : TurnTaken) (old new : List EndOfStep)
     → IsReached plan order at → IsTurnTaken plan at build it to → AreWith old (end_taken build it) new
     → All (IsEndOfRun plan) old → All (IsEndOfRun plan) new
 ends_more plan order at to build it old new reached is are all =
-    let end : StepEnd = record { build = build; step = it.before; refusal = it.refusal } in
+    let end : EndOfStep = record { build = build; step = it.before; refusal = it.refusal } in
     end_by plan (it.before == it.after) end old new are (λ no. record {
       order = order;
       at = at;
@@ -79,5 +79,5 @@ ends_more plan order at to build it old new reached is are all =
       taken = record { turn = record { build = build; told = is.told }; before = it.before; after = it.after };
       to = to;
       is_taken = is.is_taken;
-      is_end = end_is (it.before == it.after) build it.before (refusal_of_turn is.told) it.refusal no is.refusal;
+      is_end = end_is (it.before == it.after) build it.before (turn_refusal is.told) it.refusal no is.refusal;
     }) all

@@ -9,20 +9,20 @@ use Rattle.std.proofs.lemmas.Simd.{map-map}
 use Rattle.schedule_graph.specs.First.{first_like, any_path, layers_in, path_numbers_in, ArePathNumbers}
 use Rattle.schedule_graph.specs.Paths.{Layer, Path, paths, count_at}
 use Rattle.schedule_graph.specs.declared.graph.Edge.{Edge}
-use Rattle.plan_states.specs.Tallies.{Counted, schedule_of, counted_of, tally_of, is_before, place_of, added, all_added}
+use Rattle.plan_states.specs.Tallies.{PathCount, builds_of_path, count_of_tally, tally_of, is_before, place_for, with_tally, all_added}
 use Rattle.plan_states.specs.declared.edges.Label.{Label}
-use Rattle.plan_states.specs.declared.tally.Tally.{Tally}
+use Rattle.plan_states.specs.declared.tally.PathTally.{PathTally}
 
 -- ---- the tally of the paths like that
 
 module _ {K : Type 0} (like : Path Label → Bool) (thing : K) (ps : List (Path Label)) where
-  abbrev counted_as : ℕ → List ℕ → Counted K
+  abbrev counted_as : ℕ → List ℕ → PathCount K
   counted_as count first = record { thing = thing; count = count; first = first }
 
   pub tally_of-none : first_like like ps ≡ None → None ≡ tally_of like thing ps
   tally_of-none none = at (find like ps) none
     where
-      at : (o : Option (Path Label)) → option_map (λ path. map (λ edge. edge.label) path) o ≡ None → None ≡ option_map (λ path. counted_as (length (filter like ps)) (schedule_of path)) o
+      at : (o : Option (Path Label)) → option_map (λ path. map (λ edge. edge.label) path) o ≡ None → None ≡ option_map (λ path. counted_as (length (filter like ps)) (builds_of_path path)) o
       at None same = refl
       at (Some path) same = absurd (none-some _ (sym same))
 
@@ -31,10 +31,10 @@ module _ {K : Type 0} (like : Path Label → Bool) (thing : K) (ps : List (Path 
       → Some (counted_as count first) ≡ tally_of like thing ps
   tally_of-some labels count first some number schedule = at (find like ps) some
     where
-      at : (o : Option (Path Label)) → option_map (λ path. map (λ edge. edge.label) path) o ≡ Some labels → Some (counted_as count first) ≡ option_map (λ path. counted_as (length (filter like ps)) (schedule_of path)) o
+      at : (o : Option (Path Label)) → option_map (λ path. map (λ edge. edge.label) path) o ≡ Some labels → Some (counted_as count first) ≡ option_map (λ path. counted_as (length (filter like ps)) (builds_of_path path)) o
       at None same = absurd (none-some labels same)
       at (Some path) same =
-          let are : first ≡ schedule_of path =
+          let are : first ≡ builds_of_path path =
           schedule ∙ ap (λ (ls : List Label). map (λ label. label.build) ls) (sym (same_Some (map (λ edge. edge.label) path) labels same)) ∙ map-map (λ label. label.build) (λ edge. edge.label) path in
           (λ i. Some (counted_as (number i) (are i)))
 
@@ -62,11 +62,11 @@ before-end (x ∷ xs) (y ∷ ys) (suc turn) over = before-end xs ys turn (omega 
 
 -- ---- the places of tallies
 
-pub place_of-inside : {K : Type 0} (first : List ℕ) (tallies : List (Counted K)) → place_of first tallies ≤ length tallies
-place_of-inside first [] = omega arith
-place_of-inside first (t ∷ tallies) = elim (is_before first t.first) as (λ b. cond b 0 (suc (place_of first tallies)) ≤ suc (length tallies)) [
+pub place_for-inside : {K : Type 0} (first : List ℕ) (tallies : List (PathCount K)) → place_for first tallies ≤ length tallies
+place_for-inside first [] = omega arith
+place_for-inside first (t ∷ tallies) = elim (is_before first t.first) as (λ b. cond b 0 (suc (place_for first tallies)) ≤ suc (length tallies)) [
   | true ↦ omega arith
-  | false ↦ (let below = place_of-inside first tallies in omega (arith, below))
+  | false ↦ (let below = place_for-inside first tallies in omega (arith, below))
 ]
 
 -- ---- one tally more

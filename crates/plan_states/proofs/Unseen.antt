@@ -11,8 +11,9 @@ use Rattle.realm_model.proofs.LeftOut.{acts_of-erase, acts_of-erased}
 use Rattle.host_ledger.specs.View.{HostView, world_of, open_of, pages_of_build}
 use Rattle.host_ledger.proofs.Worlds.{world_is}
 use Rattle.realm_host.specs.Recorded.{fresh_like}
+use Rattle.plan_replay.specs.Run.{map_text}
 use Rattle.plan_replay.proofs.Maps.{map_same}
-use Rattle.plan_states.specs.Leaving.{IsUnseen}
+use Rattle.realm_program.specs.Replay.{IsMapWithout}
 
 -- what each build has open without it
 open_same : (build c : ℕ) (history : List Event) → open_entries build history ≡ [] → open_entries c (erase build history) ≡ open_entries c history
@@ -33,6 +34,8 @@ module _ (host new : HostView) (build : ℕ) (legal : IsLegal host.limits host.h
       let there : replay host.limits (erase build host.history) ≡ Some (world_of host) = emptied host.limits build host.history (world_of host) legal (world_is host legal) none in
       rw new_is (ap (λ w. unwrap_or w (opening host.limits)) there)
 
-pub unseen : (host : HostView) (build : ℕ) → IsUnseen host build
+pub unseen :
+    (host : HostView) (build : ℕ) (text : List ℕ) → IsLegal host.limits host.history → open_of host build ≡ []
+    → IsMapWithout host build text → text ≡ map_text host
 unseen host build text legal none is =
     is.whole ∙ map_same host is.fresh (world_same host is.fresh build legal none is.without.new_is) (pages_same host is.fresh build legal none is.without.new_is)

@@ -2,8 +2,7 @@ pub mod States
 pub mod Turned
 pub mod Reached
 pub mod TurnTaken
-pub mod Leaving
-pub mod Explored
+pub mod Exploration
 pub mod Signs
 pub mod OrderText
 pub mod Lines

@@ -4,10 +4,10 @@ use Rattle.std.specs.List.{flat_map}
 use Rattle.std.specs.Fmt.{decimal}
 
 -- each build after a comma and a space
-abbrev pub more_turns : List ℕ → List ℕ
-more_turns order = flat_map (λ build. codes ", " ++ decimal build) order
+abbrev pub turns_after : List ℕ → List ℕ
+turns_after order = flat_map (λ build. codes ", " ++ decimal build) order
 
 -- the line of a plan that gives it this schedule
-abbrev pub order_text : List ℕ → List ℕ
-order_text [] = codes "order = []"
-order_text (build ∷ order) = codes "order = [" ++ (decimal build ++ (more_turns order ++ codes "]"))
+abbrev pub schedule_text : List ℕ → List ℕ
+schedule_text [] = codes "order = []"
+schedule_text (build ∷ order) = codes "order = [" ++ (decimal build ++ (turns_after order ++ codes "]"))

@@ -15,5 +15,5 @@ abbrev pub first_state : State
 first_state = record { builds = map at_rest (range_with_len 0 8); blocks = 0 }
 
 -- the build has a step left
-abbrev pub has_left : Plan → State → ℕ → Bool
-has_left plan state build = is_some (step_after plan build (slice_index_or state.builds build (at_rest build)).done)
+abbrev pub state_has_left : Plan → State → ℕ → Bool
+state_has_left plan state build = is_some (step_after plan build (slice_index_or state.builds build (at_rest build)).done)

@@ -2,7 +2,7 @@
 use Rattle.std.specs.Prelude.{◌≡◌, ◌⊎◌, ℕ, List, [], ◌∷◌, ◌++◌, codes, length}
 use Rattle.std.specs.Fmt.{decimal}
 use Rattle.realm_plan.specs.Plan.{Plan}
-use Rattle.plan_states.specs.Explored.{IsGraphWithin}
+use Rattle.plan_states.specs.Exploration.{IsGraphWithin}
 use Rattle.plan_states.specs.Lines.{outcomes_text}
 use Rattle.plan_states.specs.Tallies.{AreOutcomes}
 use Rattle.plan_states.specs.declared.graph.Graph.{Graph}

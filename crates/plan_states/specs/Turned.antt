@@ -11,7 +11,7 @@ use Rattle.plan_replay.specs.Run.{Position, Turn}
 use Rattle.plan_replay.specs.declared.answer.TurnAnswer.{TurnAnswer}
 use Rattle.plan_replay.specs.declared.answer.TurnAnswer.TheVariants.{Refused}
 use Rattle.plan_states.specs.declared.running.TurnTaken.{TurnTaken}
-use Rattle.plan_states.specs.declared.step_end.StepEnd.{StepEnd}
+use Rattle.plan_states.specs.declared.step_end.EndOfStep.{EndOfStep}
 use Rattle.plan_states.specs.declared.turns.Moved.{Moved}
 
 -- A turn, and how many steps its build had done before and after it.
@@ -20,23 +20,23 @@ pub record Taken : Type 0 where
   pub before : ℕ
   pub after : ℕ
 
-abbrev pub refusal_in : TurnAnswer → Option Refusal
-refusal_in (Refused refusal) = Some refusal
-refusal_in _ = None
+abbrev pub told_refusal : TurnAnswer → Option Refusal
+told_refusal (Refused refusal) = Some refusal
+told_refusal _ = None
 
-abbrev pub refusal_of_turn : Option (PlanStep × TurnAnswer) → Option Refusal
-refusal_of_turn None = None
-refusal_of_turn (Some told) = refusal_in told.1
+abbrev pub turn_refusal : Option (PlanStep × TurnAnswer) → Option Refusal
+turn_refusal None = None
+turn_refusal (Some told) = told_refusal told.1
 
 -- the end of a turn's step, if the turn uses it up
-abbrev pub end_of : Taken → Option StepEnd
+abbrev pub end_of : Taken → Option EndOfStep
 end_of taken =
     if taken.before == taken.after then None
-    else Some (record { build = taken.turn.build; step = taken.before; refusal = refusal_of_turn taken.turn.told })
+    else Some (record { build = taken.turn.build; step = taken.before; refusal = turn_refusal taken.turn.told })
 
 -- ---- the same by the code's record of a turn
 
-abbrev pub end_taken : ℕ → TurnTaken → Option StepEnd
+abbrev pub end_taken : ℕ → TurnTaken → Option EndOfStep
 end_taken build it = if it.before == it.after then None else Some (record { build = build; step = it.before; refusal = it.refusal })
 
 -- the block that an operation leases or gives back
@@ -50,6 +50,6 @@ abbrev pub moved_after : ℕ → List Event → Option Moved
 moved_after before history = option_and_then (λ (event : Event). moved_by event.act) (slice_get history before)
 
 -- a list, and perhaps one more item at its end
-abbrev pub AreWith : List StepEnd → Option StepEnd → List StepEnd → Type 0
+abbrev pub AreWith : List EndOfStep → Option EndOfStep → List EndOfStep → Type 0
 AreWith ends None new = new ≡ ends
 AreWith ends (Some end) new = (new ≡ ends) ⊎ (new ≡ ends ++ end ∷ [])

@@ -1,14 +1,14 @@
 //! The graph of the states of a plan's runs.
 ghost use Rattle.std.specs.Prelude.{◌≡◌, ◌≤◌, ◌<◌, ◌++◌, ◌∷◌, [], OnOk, IfOk, IfErr, IfSome, length, string_bytes, vec_len};
 ghost use Rattle.realm_plan.specs.PlanView.{plan_view};
-ghost use Rattle.plan_states.specs.Explored.{AreOfRuns, IsExplored, IsNotExplored};
+ghost use Rattle.plan_states.specs.Exploration.{AreOfRuns, IsExploration, HasNoGraph};
 ghost use Rattle.plan_states.specs.Reached.{IsMapOfRun};
 
 use crate::edges::Label;
 use crate::leftovers::leave_nothing;
-use crate::running::{Running, goes_on, run_to};
+use crate::running::{Running, has_more, run_to};
 use crate::state::State;
-use crate::step_end::StepEnd;
+use crate::step_end::EndOfStep;
 use crate::turns::{After, Before, Turns, before_turn};
 use plan_replay::map_text;
 use realm_plan::Plan;
@@ -25,14 +25,14 @@ pub type Layer = Vec<Vec<Edge<Label>>>;
 pub struct Graph {
     pub layers: Vec<Layer>,
     /// The ends of steps.
-    pub ends: Vec<StepEnd>,
+    pub ends: Vec<EndOfStep>,
     /// The maps in the end.
     pub maps: Vec<String>,
 }
 
 /// The result of an exploration.
 #[derive(Drop)]
-pub enum Explored {
+pub enum Exploration {
     All(Graph),
     /// There are more states than were allowed.
     TooMany,
@@ -62,7 +62,7 @@ struct Front {
 
 // The graph as far as it is known. `came` has, of each layer, the first way to each state.
 #[derive(Drop)]
-struct Exploration {
+struct Explorer {
     turns: Turns,
     came: Vec<Vec<Came>>,
     maps: Vec<String>,
@@ -107,7 +107,7 @@ impl Front {
 
 // The first schedule that leads to a state of the last layer. `Mismatch`: there is no such state.
 fn order_to(alloc: Global, came: &[Vec<Came>], place: usize) -> Result<Vec<usize>, Fault>
-    ensures { IfErr result IsNotExplored }
+    ensures { IfErr result HasNoGraph }
 {
     let mut order = Vec::new(alloc);
     let mut at = place;
@@ -125,10 +125,10 @@ fn order_to(alloc: Global, came: &[Vec<Came>], place: usize) -> Result<Vec<usize
 // The map after a schedule that ends. `Mismatch`: some turn has no step left, or a build has one in the end.
 fn map_after(alloc: Global, plan: &Plan, order: &[usize]) -> Result<String, Fault>
     ensures ok { IfOk result (λ map. IsMapOfRun (plan_view plan.now) (string_bytes map)) }
-    ensures err { IfErr result IsNotExplored }
+    ensures err { IfErr result HasNoGraph }
 {
     let Running { host, places } = run_to(alloc, plan, order)?;
-    if goes_on(plan, &places) {
+    if has_more(plan, &places) {
         return Err(Fault::Mismatch);
     }
     let map = map_text(alloc, &host)?;
@@ -149,12 +149,12 @@ fn number_of_map(maps: &mut Vec<String>, map: String) -> Result<usize, AllocErro
     Ok(number)
 }
 
-impl Exploration {
+impl Explorer {
     // The number of the map after a schedule that ends.
     fn map_of(&mut self, alloc: Global, plan: &Plan, order: &[usize]) -> Result<usize, Fault>
         requires { AreOfRuns (plan_view plan.now) self.old.turns.ends.items self.old.maps.items }
         ensures ok { OnOk result (AreOfRuns (plan_view plan.now) self.new.turns.ends.items self.new.maps.items) }
-        ensures err { IfErr result IsNotExplored }
+        ensures err { IfErr result HasNoGraph }
     {
         let map = map_after(alloc, plan, order)?;
         Ok(number_of_map(&mut self.maps, map)?)
@@ -171,7 +171,7 @@ impl Exploration {
     ) -> Result<After, Fault>
         requires { AreOfRuns (plan_view plan.now) self.old.turns.ends.items self.old.maps.items }
         ensures ok { OnOk result (AreOfRuns (plan_view plan.now) self.new.turns.ends.items self.new.maps.items) }
-        ensures err { IfErr result IsNotExplored }
+        ensures err { IfErr result HasNoGraph }
     {
         if let Some(after) = self.turns.known(&before) {
             return Ok(after);
@@ -191,12 +191,12 @@ impl Exploration {
     ) -> Result<Target, Fault>
         requires { AreOfRuns (plan_view plan.now) self.old.turns.ends.items self.old.maps.items }
         ensures ok { OnOk result (AreOfRuns (plan_view plan.now) self.new.turns.ends.items self.new.maps.items) }
-        ensures err { IfErr result IsNotExplored }
+        ensures err { IfErr result HasNoGraph }
     {
         if let Some(target) = next.targets.get(&state).copied() {
             return Ok(target);
         }
-        if state.goes_on(plan) {
+        if state.has_more(plan) {
             return Ok(next.add(state, came, None)?);
         }
         let mut order = order_to(alloc, &self.came, came.from)?;
@@ -216,7 +216,7 @@ impl Exploration {
     ) -> Result<Vec<Edge<Label>>, Fault>
         requires { AreOfRuns (plan_view plan.now) self.old.turns.ends.items self.old.maps.items }
         ensures ok { OnOk result (AreOfRuns (plan_view plan.now) self.new.turns.ends.items self.new.maps.items) }
-        ensures err { IfErr result IsNotExplored }
+        ensures err { IfErr result HasNoGraph }
     {
         let mut edges = Vec::new(alloc);
         for build in 0..8 {
@@ -244,7 +244,7 @@ impl Exploration {
     ) -> Result<Option<(Layer, Front)>, Fault>
         requires { AreOfRuns (plan_view plan.now) self.old.turns.ends.items self.old.maps.items }
         ensures ok { OnOk result (AreOfRuns (plan_view plan.now) self.new.turns.ends.items self.new.maps.items) }
-        ensures err { IfErr result IsNotExplored }
+        ensures err { IfErr result HasNoGraph }
         ensures layer { IfOk result (λ it. IfSome it (λ both. (vec_len both.0 ≡ length states.now) × (vec_len both.1.states ≤ room))) }
     {
         let mut next = Front::new(alloc);
@@ -264,17 +264,17 @@ impl Exploration {
 ///
 /// Errors. `Memory`: allocation failed. `Mismatch`: a run does not go on as another run said, which never happens on a
 /// host that gives the same answers to the same calls.
-pub fn explore(alloc: Global, plan: &Plan, most: usize) -> Result<Explored, Fault>
-    ensures ok { IfOk result (IsExplored (plan_view plan.now) most) }
-    ensures err { IfErr result IsNotExplored }
+pub fn explore(alloc: Global, plan: &Plan, most: usize) -> Result<Exploration, Fault>
+    ensures ok { IfOk result (IsExploration (plan_view plan.now) most) }
+    ensures err { IfErr result HasNoGraph }
 {
-    let mut it = Exploration {
+    let mut it = Explorer {
         turns: Turns::new(alloc),
         came: Vec::new(alloc),
         maps: Vec::new(alloc),
     };
     let first = State::first();
-    if !first.goes_on(plan) {
+    if !first.has_more(plan) {
         it.map_of(alloc, plan, &[])?;
     }
     let mut front = Front::new(alloc);
@@ -288,17 +288,17 @@ pub fn explore(alloc: Global, plan: &Plan, most: usize) -> Result<Explored, Faul
             targets: _,
         } = front;
         if states.len() > room {
-            return Ok(Explored::TooMany);
+            return Ok(Exploration::TooMany);
         }
         room -= states.len();
         push(&mut it.came, came)?;
         let Some((layer, next)) = it.layer(alloc, plan, &states, room)? else {
-            return Ok(Explored::TooMany);
+            return Ok(Exploration::TooMany);
         };
         push(&mut layers, layer)?;
         front = next;
     }
-    Ok(Explored::All(Graph {
+    Ok(Exploration::All(Graph {
         layers,
         ends: it.turns.into_ends(),
         maps: it.maps,

@@ -22,9 +22,9 @@ mod text;
 mod turns;
 
 pub use edges::Label;
-pub use graph::{Explored, Graph, explore};
+pub use graph::{Exploration, Graph, explore};
 pub use leftovers::leave_nothing;
 pub use outcomes::outcomes_of;
-pub use step_end::StepEnd;
-pub use tally::{Outcomes, Tally};
+pub use step_end::EndOfStep;
+pub use tally::{Outcomes, PathTally};
 pub use text::{push_outcomes, states_text};

@@ -2,11 +2,11 @@
 ghost use Rattle.std.specs.Prelude.{◌≡◌, ◌++◌, OnOk, string_bytes};
 ghost use Rattle.std.specs.List.{flat_map};
 ghost use Rattle.realm_plan.specs.PlanView.{plan_view};
-ghost use Rattle.plan_states.specs.Lines.{shown_text, orders_line, whole_words, whole_line, end_line, step_lines, smooth_line, smooth_lines, map_lines};
+ghost use Rattle.plan_states.specs.Lines.{share_text, orders_line, refusal_words, refusals_line, end_shown, ends_of_step, never_refused_line, never_refused_lines, map_shown};
 
 use crate::schedule_text::ScheduleText;
-use crate::step_end::StepEnd;
-use crate::tally::{Outcomes, Tally};
+use crate::step_end::EndOfStep;
+use crate::tally::{Outcomes, PathTally};
 use host_commands::Refusal;
 use plan_replay::step_after;
 use realm_plan::{Plan, PlanStep, RefusalText, StepText};
@@ -20,9 +20,9 @@ struct EndWords(Option<Refusal>);
 
 impl fmt::Display for EndWords {
     ghost use Rattle.std.specs.Prelude.{Some};
-    ghost use Rattle.plan_states.specs.Lines.{end_words};
+    ghost use Rattle.plan_states.specs.Lines.{words_of_end};
 
-    ghost output = { λ end. Some (end_words end.0) };
+    ghost output = { λ end. Some (words_of_end end.0) };
 
     fn fmt<W: fmt::Write>(&self, f: &mut fmt::Formatter<W>) -> fmt::Result {
         match self.0 {
@@ -48,7 +48,7 @@ fn push_shown(
     count: &Count,
     first: &[usize],
 ) -> Result<(), AllocError>
-    ensures { OnOk result (string_bytes text.new ≡ string_bytes text.old ++ shown_text orders.now count.now first.now) }
+    ensures { OnOk result (string_bytes text.new ≡ string_bytes text.old ++ share_text orders.now count.now first.now) }
 {
     if count.is_same(orders) {
         return text.push_str(" in all\n");
@@ -59,10 +59,10 @@ fn push_shown(
 }
 
 // The words for the outcome of whole schedules.
-fn whole_words(is_refused: bool) -> &'static str
-    ensures { result.now ≡ whole_words is_refused }
+fn refusal_words(refuses_asked: bool) -> &'static str
+    ensures { result.now ≡ refusal_words refuses_asked }
 {
-    if is_refused {
+    if refuses_asked {
         "some step refused"
     } else {
         "no step refused"
@@ -73,12 +73,12 @@ fn whole_words(is_refused: bool) -> &'static str
 pub(crate) fn push_wholes(
     text: &mut String,
     orders: &Count,
-    wholes: &[Tally<bool>],
+    wholes: &[PathTally<bool>],
 ) -> Result<(), AllocError>
-    ensures { OnOk result (string_bytes text.new ≡ string_bytes text.old ++ flat_map (whole_line orders.now) wholes.now) }
+    ensures { OnOk result (string_bytes text.new ≡ string_bytes text.old ++ flat_map (refusals_line orders.now) wholes.now) }
 {
     for tally in wholes {
-        text.push_str(whole_words(tally.thing))?;
+        text.push_str(refusal_words(tally.thing))?;
         push_shown(text, orders, &tally.count, &tally.first)?;
     }
     Ok(())
@@ -89,9 +89,9 @@ fn push_end(
     text: &mut String,
     orders: &Count,
     step: &PlanStep,
-    tally: &Tally<StepEnd>,
+    tally: &PathTally<EndOfStep>,
 ) -> Result<(), AllocError>
-    ensures { OnOk result (string_bytes text.new ≡ string_bytes text.old ++ end_line orders.now step.now tally.now) }
+    ensures { OnOk result (string_bytes text.new ≡ string_bytes text.old ++ end_shown orders.now step.now tally.now) }
 {
     let end = tally.thing;
     let words = EndWords(end.refusal);
@@ -113,7 +113,7 @@ pub(crate) fn push_step(
     build: usize,
     place: usize,
 ) -> Result<(), AllocError>
-    ensures { OnOk result (string_bytes text.new ≡ string_bytes text.old ++ step_lines (plan_view plan.now) outcomes.now build place) }
+    ensures { OnOk result (string_bytes text.new ≡ string_bytes text.old ++ ends_of_step (plan_view plan.now) outcomes.now build place) }
 {
     let Some(step) = step_after(plan, build, place) else {
         return Ok(());
@@ -130,9 +130,9 @@ pub(crate) fn push_step(
 fn push_never_refused(
     text: &mut String,
     orders: &Count,
-    tally: &Tally<usize>,
+    tally: &PathTally<usize>,
 ) -> Result<(), AllocError>
-    ensures { OnOk result (string_bytes text.new ≡ string_bytes text.old ++ smooth_line orders.now tally.now) }
+    ensures { OnOk result (string_bytes text.new ≡ string_bytes text.old ++ never_refused_line orders.now tally.now) }
 {
     write!(text, "never refused {}", tally.thing)?;
     push_shown(text, orders, &tally.count, &tally.first)?;
@@ -143,10 +143,10 @@ fn push_never_refused(
 pub(crate) fn push_smooth(
     text: &mut String,
     orders: &Count,
-    smooth: &[Tally<usize>],
+    smooth: &[PathTally<usize>],
     build: usize,
 ) -> Result<(), AllocError>
-    ensures { OnOk result (string_bytes text.new ≡ string_bytes text.old ++ smooth_lines orders.now smooth.now build) }
+    ensures { OnOk result (string_bytes text.new ≡ string_bytes text.old ++ never_refused_lines orders.now smooth.now build) }
 {
     for tally in smooth {
         if tally.thing == build {
@@ -162,9 +162,9 @@ pub(crate) fn push_map(
     text: &mut String,
     orders: &Count,
     map: &str,
-    tally: &Tally<usize>,
+    tally: &PathTally<usize>,
 ) -> Result<(), AllocError>
-    ensures { OnOk result (string_bytes text.new ≡ string_bytes text.old ++ map_lines orders.now map.now tally.now.first.items tally.now.count) }
+    ensures { OnOk result (string_bytes text.new ≡ string_bytes text.old ++ map_shown orders.now map.now tally.now.first.items tally.now.count) }
 {
     text.push_str("map")?;
     push_shown(text, orders, &tally.count, &tally.first)?;

@@ -2,13 +2,13 @@
 ghost use Rattle.std.specs.Prelude.{◌≡◌, ◌≤◌, Bool, List, [], length, map, option_map, slice_index_or, OnOk, IfOk};
 ghost use Rattle.schedule_graph.specs.First.{any_path, layers_in, path_numbers_in, shows_none, ArePathNumbers};
 ghost use Rattle.schedule_graph.specs.Paths.{paths, shows, count_at};
-ghost use Rattle.plan_states.specs.Tallies.{added, all_added, counted_of, end_tally, is_before, layers_of, map_tallies, map_tally, place_of, smooth_tally, tally_of, whole_tallies, AreOutcomes};
+ghost use Rattle.plan_states.specs.Tallies.{with_tally, all_added, count_of_tally, end_tally, is_before, layers_of, map_tallies, map_tally, place_for, smooth_tally, tally_of, whole_tallies, AreOutcomes};
 
 use crate::edges::Label;
 use crate::graph::{Graph, Layer};
 use crate::signs::{EndSign, MapSign, RefusalSign};
-use crate::step_end::StepEnd;
-use crate::tally::{Outcomes, Tally};
+use crate::step_end::EndOfStep;
+use crate::tally::{Outcomes, PathTally};
 use schedule_graph::{
     Count, Sign, count_all, count_all_with, count_all_without, first_with, first_without,
 };
@@ -44,7 +44,7 @@ fn root_of(alloc: Global, counts: &[Vec<Count>]) -> Result<Count, AllocError>
 }
 
 // The builds of a path's turns.
-fn schedule_of(alloc: Global, path: &[Label]) -> Result<Vec<usize>, AllocError>
+fn builds_of_path(alloc: Global, path: &[Label]) -> Result<Vec<usize>, AllocError>
     ensures { IfOk result (λ builds. builds.items ≡ map (λ label. label.build) path.now) }
 {
     path.iter().map(|label| label.build).collect(alloc)
@@ -57,17 +57,17 @@ fn tally_with<K: Drop, S: Sign<Label>>(
     all: &[Vec<Count>],
     sign: &S,
     thing: K,
-) -> Result<Option<Tally<K>>, AllocError>
+) -> Result<Option<PathTally<K>>, AllocError>
     ensures { IfOk result (λ tally. ArePathNumbers any_path (layers_in layers.now) (path_numbers_in all.now)
-        → option_map counted_of tally ≡ tally_of (shows (S.is_on sign.now)) thing (paths (layers_in layers.now) 0)) }
+        → option_map count_of_tally tally ≡ tally_of (shows (S.is_on sign.now)) thing (paths (layers_in layers.now) 0)) }
 {
     let with = count_all_with(alloc, layers, sign, all)?;
     let Some(path) = first_with(alloc, layers, sign, all, &with)? else {
         return Ok(None);
     };
     let count = root_of(alloc, &with)?;
-    let first = schedule_of(alloc, &path)?;
-    Ok(Some(Tally {
+    let first = builds_of_path(alloc, &path)?;
+    Ok(Some(PathTally {
         thing,
         count,
         first,
@@ -80,16 +80,16 @@ fn tally_without<K: Drop, S: Sign<Label>>(
     layers: &[Layer],
     sign: &S,
     thing: K,
-) -> Result<Option<Tally<K>>, AllocError>
-    ensures { IfOk result (λ tally. option_map counted_of tally ≡ tally_of (shows_none (S.is_on sign.now)) thing (paths (layers_in layers.now) 0)) }
+) -> Result<Option<PathTally<K>>, AllocError>
+    ensures { IfOk result (λ tally. option_map count_of_tally tally ≡ tally_of (shows_none (S.is_on sign.now)) thing (paths (layers_in layers.now) 0)) }
 {
     let without = count_all_without(alloc, layers, sign)?;
     let Some(path) = first_without(alloc, layers, sign, &without)? else {
         return Ok(None);
     };
     let count = root_of(alloc, &without)?;
-    let first = schedule_of(alloc, &path)?;
-    Ok(Some(Tally {
+    let first = builds_of_path(alloc, &path)?;
+    Ok(Some(PathTally {
         thing,
         count,
         first,
@@ -109,8 +109,8 @@ fn is_before(one: &[usize], other: &[usize]) -> bool
 }
 
 // The place behind the tallies whose first schedules do not come after this one.
-fn place_of<K>(tallies: &[Tally<K>], first: &[usize]) -> usize
-    ensures { result ≡ place_of first.now (map counted_of tallies.now) }
+fn place_for<K>(tallies: &[PathTally<K>], first: &[usize]) -> usize
+    ensures { result ≡ place_for first.now (map count_of_tally tallies.now) }
 {
     for place in 0..tallies.len() {
         if is_before(first, &tallies[place].first) {
@@ -121,13 +121,13 @@ fn place_of<K>(tallies: &[Tally<K>], first: &[usize]) -> usize
 }
 
 // Adds a tally, if there is one, in the order of first schedules.
-fn add<K: Drop>(tallies: &mut Vec<Tally<K>>, tally: Option<Tally<K>>) -> Result<(), AllocError>
-    ensures { OnOk result (map counted_of tallies.new.items ≡ added (option_map counted_of tally) (map counted_of tallies.old.items)) }
+fn add<K: Drop>(tallies: &mut Vec<PathTally<K>>, tally: Option<PathTally<K>>) -> Result<(), AllocError>
+    ensures { OnOk result (map count_of_tally tallies.new.items ≡ with_tally (option_map count_of_tally tally) (map count_of_tally tallies.old.items)) }
 {
     let Some(tally) = tally else {
         return Ok(());
     };
-    let place = place_of(tallies, &tally.first);
+    let place = place_for(tallies, &tally.first);
     tallies.insert(place, tally)?;
     Ok(())
 }
@@ -137,9 +137,9 @@ fn wholes_of(
     alloc: Global,
     graph: &Graph,
     all: &[Vec<Count>],
-) -> Result<Vec<Tally<bool>>, AllocError>
+) -> Result<Vec<PathTally<bool>>, AllocError>
     ensures { IfOk result (λ wholes. ArePathNumbers any_path (layers_of graph.now) (path_numbers_in all.now)
-        → map counted_of wholes.items ≡ whole_tallies graph.now) }
+        → map count_of_tally wholes.items ≡ whole_tallies graph.now) }
 {
     let sign = RefusalSign {
         ends: &graph.ends,
@@ -159,9 +159,9 @@ fn end_tally(
     graph: &Graph,
     all: &[Vec<Count>],
     number: usize,
-) -> Result<Option<Tally<StepEnd>>, AllocError>
+) -> Result<Option<PathTally<EndOfStep>>, AllocError>
     ensures { IfOk result (λ tally. ArePathNumbers any_path (layers_of graph.now) (path_numbers_in all.now)
-        → option_map counted_of tally ≡ end_tally graph.now number) }
+        → option_map count_of_tally tally ≡ end_tally graph.now number) }
 {
     match graph.ends.get(number) {
         Some(end) => tally_with(alloc, &graph.layers, all, &EndSign(number), *end),
@@ -170,13 +170,13 @@ fn end_tally(
 }
 
 // The tallies of the ends of steps.
-fn ends_of(
+fn step_ends(
     alloc: Global,
     graph: &Graph,
     all: &[Vec<Count>],
-) -> Result<Vec<Tally<StepEnd>>, AllocError>
+) -> Result<Vec<PathTally<EndOfStep>>, AllocError>
     ensures { IfOk result (λ ends. ArePathNumbers any_path (layers_of graph.now) (path_numbers_in all.now)
-        → map counted_of ends.items ≡ all_added (end_tally graph.now) (length graph.now.ends.items)) }
+        → map count_of_tally ends.items ≡ all_added (end_tally graph.now) (length graph.now.ends.items)) }
 {
     let mut ends = Vec::new(alloc);
     for number in 0..graph.ends.len() {
@@ -191,8 +191,8 @@ fn smooth_tally(
     alloc: Global,
     graph: &Graph,
     build: usize,
-) -> Result<Option<Tally<usize>>, AllocError>
-    ensures { IfOk result (λ tally. option_map counted_of tally ≡ smooth_tally graph.now build) }
+) -> Result<Option<PathTally<usize>>, AllocError>
+    ensures { IfOk result (λ tally. option_map count_of_tally tally ≡ smooth_tally graph.now build) }
 {
     let sign = RefusalSign {
         ends: &graph.ends,
@@ -202,8 +202,8 @@ fn smooth_tally(
 }
 
 // The tallies of the builds that are never refused.
-fn smooth_of(alloc: Global, graph: &Graph, builds: usize) -> Result<Vec<Tally<usize>>, AllocError>
-    ensures { IfOk result (λ smooth. map counted_of smooth.items ≡ all_added (smooth_tally graph.now) builds) }
+fn smooth_of(alloc: Global, graph: &Graph, builds: usize) -> Result<Vec<PathTally<usize>>, AllocError>
+    ensures { IfOk result (λ smooth. map count_of_tally smooth.items ≡ all_added (smooth_tally graph.now) builds) }
 {
     let mut smooth = Vec::new(alloc);
     for build in 0..builds {
@@ -219,18 +219,18 @@ fn map_tally(
     graph: &Graph,
     all: &[Vec<Count>],
     map: usize,
-) -> Result<Option<Tally<usize>>, AllocError>
+) -> Result<Option<PathTally<usize>>, AllocError>
     ensures { IfOk result (λ tally. ArePathNumbers any_path (layers_of graph.now) (path_numbers_in all.now)
-        → option_map counted_of tally ≡ map_tally graph.now map) }
+        → option_map count_of_tally tally ≡ map_tally graph.now map) }
 {
     tally_with(alloc, &graph.layers, all, &MapSign(map), map)
 }
 
 // The one tally of a plan without a step: one schedule, and the map after no turn.
-fn only_map(alloc: Global) -> Result<Tally<usize>, AllocError>
-    ensures { IfOk result (λ tally. counted_of tally ≡ record { thing = 0; count = 1; first = [] }) }
+fn only_map(alloc: Global) -> Result<PathTally<usize>, AllocError>
+    ensures { IfOk result (λ tally. count_of_tally tally ≡ record { thing = 0; count = 1; first = [] }) }
 {
-    Ok(Tally {
+    Ok(PathTally {
         thing: 0,
         count: Count::one(alloc)?,
         first: Vec::new(alloc),
@@ -242,9 +242,9 @@ fn maps_of(
     alloc: Global,
     graph: &Graph,
     all: &[Vec<Count>],
-) -> Result<Vec<Tally<usize>>, AllocError>
+) -> Result<Vec<PathTally<usize>>, AllocError>
     ensures { IfOk result (λ maps. ArePathNumbers any_path (layers_of graph.now) (path_numbers_in all.now)
-        → map counted_of maps.items ≡ map_tallies graph.now) }
+        → map count_of_tally maps.items ≡ map_tallies graph.now) }
 {
     let mut maps = Vec::new(alloc);
     if graph.layers.len() == 1 {
@@ -265,7 +265,7 @@ pub fn outcomes_of(alloc: Global, builds: usize, graph: &Graph) -> Result<Outcom
 {
     let all = count_all(alloc, &graph.layers)?;
     let wholes = wholes_of(alloc, graph, &all)?;
-    let ends = ends_of(alloc, graph, &all)?;
+    let ends = step_ends(alloc, graph, &all)?;
     let smooth = smooth_of(alloc, graph, builds)?;
     let maps = maps_of(alloc, graph, &all)?;
     let orders = root_of(alloc, &all)?;

@@ -3,9 +3,9 @@ ghost use Rattle.std.specs.Prelude.{◌≡◌, ◌<◌, IfOk, IfErr, IfSome, opt
 ghost use Rattle.host_ledger.specs.View.{world_of};
 ghost use Rattle.realm_host.specs.Readings.{realm_at};
 ghost use Rattle.realm_plan.specs.PlanView.{plan_view};
-ghost use Rattle.plan_states.specs.Explored.{IsNotExplored};
-ghost use Rattle.plan_states.specs.Reached.{goes_on, IsReached};
-ghost use Rattle.plan_states.specs.Turned.{moved_after, moved_by, refusal_in};
+ghost use Rattle.plan_states.specs.Exploration.{HasNoGraph};
+ghost use Rattle.plan_states.specs.Reached.{has_more, IsReached};
+ghost use Rattle.plan_states.specs.Turned.{moved_after, moved_by, told_refusal};
 ghost use Rattle.plan_states.specs.TurnTaken.{IsTurnTaken};
 
 use crate::turns::Moved;
@@ -67,8 +67,8 @@ fn moved_after<S: PageStore>(host: &Host<S>, before: usize) -> Option<Moved>
 }
 
 // The reason of a refusal.
-fn refusal_in(answer: TurnAnswer) -> Option<Refusal>
-    ensures { result ≡ refusal_in answer }
+fn told_refusal(answer: TurnAnswer) -> Option<Refusal>
+    ensures { result ≡ told_refusal answer }
 {
     match answer {
         TurnAnswer::Refused(refusal) => Some(refusal),
@@ -92,7 +92,7 @@ fn vmid_of<S: PageStore>(host: &Host<S>, build: usize) -> Option<u8>
 /// Errors. `Memory`: allocation failed. `Mismatch`: some turn is of a build that has no step left then.
 pub(crate) fn run_to(alloc: Global, plan: &Plan, order: &[usize]) -> Result<Running, Fault>
     ensures ok { IfOk result (λ run. IsReached (plan_view plan.now) order.now (record { host = run.host; places = run.places })) }
-    ensures err { IfErr result IsNotExplored }
+    ensures err { IfErr result HasNoGraph }
 {
     let mut host = boot::<BuddyArena>(alloc, plan)?;
     let mut places = [PlanCursor::first(); 8];
@@ -108,8 +108,8 @@ pub(crate) fn run_to(alloc: Global, plan: &Plan, order: &[usize]) -> Result<Runn
 }
 
 /// Whether any build has a step left.
-pub(crate) fn goes_on(plan: &Plan, places: &[PlanCursor; 8]) -> bool
-    ensures { result ≡ goes_on (plan_view plan.now) places.now }
+pub(crate) fn has_more(plan: &Plan, places: &[PlanCursor; 8]) -> bool
+    ensures { result ≡ has_more (plan_view plan.now) places.now }
 {
     (0..8).any(|build| step_after(plan, build, places[build].done).is_some())
 }
@@ -133,7 +133,7 @@ pub(crate) fn take<S: PageStore>(
         return None;
     };
     let after = places[build].done;
-    let refusal = refusal_in(answer);
+    let refusal = told_refusal(answer);
     let moved = moved_after(host, events);
     let vmid = vmid_of(host, build);
     Some(TurnTaken {

@@ -1,9 +1,9 @@
 //! The outcomes that a turn shows.
 ghost use Rattle.std.specs.Prelude.{◌≡◌, option_map};
-ghost use Rattle.plan_states.specs.Signs.{has_number, is_asked, is_refused};
+ghost use Rattle.plan_states.specs.Signs.{has_number, is_asked, refuses_asked};
 
 use crate::edges::Label;
-use crate::step_end::StepEnd;
+use crate::step_end::EndOfStep;
 use schedule_graph::Sign;
 
 // Whether there is a number, and it is this one.
@@ -47,7 +47,7 @@ impl Sign<Label> for MapSign {
 /// A refused step of a build, or of any.
 #[derive(Clone, Copy)]
 pub(crate) struct RefusalSign<'a> {
-    pub(crate) ends: &'a [StepEnd],
+    pub(crate) ends: &'a [EndOfStep],
     pub(crate) build: Option<usize>,
 }
 

@@ -2,7 +2,7 @@
 ghost use Rattle.std.specs.Prelude.{◌≡◌, ◌<◌, IsTrue, slice_set, is_some};
 ghost use Rattle.std.specs.List.{list_any, range_with_len};
 ghost use Rattle.realm_plan.specs.PlanView.{plan_view};
-ghost use Rattle.plan_states.specs.States.{first_state, has_left};
+ghost use Rattle.plan_states.specs.States.{first_state, state_has_left};
 
 use plan_replay::step_after;
 use realm_plan::Plan;
@@ -49,8 +49,8 @@ impl State {
     }
 
     /// Whether any build has a step left.
-    pub(crate) fn goes_on(&self, plan: &Plan) -> bool
-        ensures { result ≡ list_any (has_left (plan_view plan.now) self.now) (range_with_len 0 8) }
+    pub(crate) fn has_more(&self, plan: &Plan) -> bool
+        ensures { result ≡ list_any (state_has_left (plan_view plan.now) self.now) (range_with_len 0 8) }
     {
         (0..8).any(|build| step_after(plan, build, self.builds[build].done).is_some())
     }

@@ -1,10 +1,10 @@
 //! The outcomes of schedules, with their numbers.
-use crate::step_end::StepEnd;
+use crate::step_end::EndOfStep;
 use schedule_graph::Count;
 
 /// An outcome of schedules, how many have it, and the builds of the first one's turns.
 #[derive(Drop)]
-pub struct Tally<K> {
+pub struct PathTally<K> {
     pub thing: K,
     pub count: Count,
     pub first: Vec<usize>,
@@ -16,11 +16,11 @@ pub struct Outcomes {
     /// The number of schedules.
     pub orders: Count,
     /// Whether any step of a schedule was refused.
-    pub wholes: Vec<Tally<bool>>,
+    pub wholes: Vec<PathTally<bool>>,
     /// The ends of steps.
-    pub ends: Vec<Tally<StepEnd>>,
+    pub ends: Vec<PathTally<EndOfStep>>,
     /// The builds that were never refused.
-    pub smooth: Vec<Tally<usize>>,
+    pub smooth: Vec<PathTally<usize>>,
     /// The maps in the end, by their numbers.
-    pub maps: Vec<Tally<usize>>,
+    pub maps: Vec<PathTally<usize>>,
 }

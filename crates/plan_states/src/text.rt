@@ -2,22 +2,22 @@
 ghost use Rattle.std.specs.Prelude.{◌≡◌, ◌++◌, OnOk, IfOk, IfErr, string_bytes};
 ghost use Rattle.std.specs.List.{flat_map, range_with_len};
 ghost use Rattle.realm_plan.specs.PlanView.{plan_view};
-ghost use Rattle.plan_states.specs.Explored.{IsNotExplored};
+ghost use Rattle.plan_states.specs.Exploration.{HasNoGraph};
 ghost use Rattle.plan_states.specs.StatesText.{IsStatesText};
-ghost use Rattle.plan_states.specs.Lines.{step_count, build_lines, smooth_lines, map_lines_of, totals_text, outcomes_text};
+ghost use Rattle.plan_states.specs.Lines.{step_number, ends_of_build, never_refused_lines, map_shown_by, tallies_text, outcomes_text};
 
-use crate::graph::{Explored, explore};
+use crate::graph::{Exploration, explore};
 use crate::lines::{push_count, push_map, push_smooth, push_step, push_wholes};
 use crate::outcomes::outcomes_of;
-use crate::tally::{Outcomes, Tally};
+use crate::tally::{Outcomes, PathTally};
 use realm_plan::Plan;
 use realm_program::Fault;
 use schedule_graph::Count;
 use std::alloc::{AllocError, Global};
 
 // The number of steps of a build.
-fn step_count(plan: &Plan, build: usize) -> usize
-    ensures { result ≡ step_count (plan_view plan.now) build }
+fn step_number(plan: &Plan, build: usize) -> usize
+    ensures { result ≡ step_number (plan_view plan.now) build }
 {
     match plan.builds.get(build) {
         Some(steps) => steps.len(),
@@ -32,9 +32,9 @@ fn push_build(
     outcomes: &Outcomes,
     build: usize,
 ) -> Result<(), AllocError>
-    ensures { OnOk result (string_bytes text.new ≡ string_bytes text.old ++ build_lines (plan_view plan.now) outcomes.now build) }
+    ensures { OnOk result (string_bytes text.new ≡ string_bytes text.old ++ ends_of_build (plan_view plan.now) outcomes.now build) }
 {
-    for place in 0..step_count(plan, build) {
+    for place in 0..step_number(plan, build) {
         push_step(text, plan, outcomes, build, place)?;
     }
     Ok(())
@@ -47,7 +47,7 @@ fn push_builds(
     outcomes: &Outcomes,
     builds: usize,
 ) -> Result<(), AllocError>
-    ensures { OnOk result (string_bytes text.new ≡ string_bytes text.old ++ flat_map (build_lines (plan_view plan.now) outcomes.now) (range_with_len 0 builds)) }
+    ensures { OnOk result (string_bytes text.new ≡ string_bytes text.old ++ flat_map (ends_of_build (plan_view plan.now) outcomes.now) (range_with_len 0 builds)) }
 {
     for build in 0..builds {
         push_build(text, plan, outcomes, build)?;
@@ -59,10 +59,10 @@ fn push_builds(
 fn push_smooths(
     text: &mut String,
     orders: &Count,
-    smooth: &[Tally<usize>],
+    smooth: &[PathTally<usize>],
     builds: usize,
 ) -> Result<(), AllocError>
-    ensures { OnOk result (string_bytes text.new ≡ string_bytes text.old ++ flat_map (smooth_lines orders.now smooth.now) (range_with_len 0 builds)) }
+    ensures { OnOk result (string_bytes text.new ≡ string_bytes text.old ++ flat_map (never_refused_lines orders.now smooth.now) (range_with_len 0 builds)) }
 {
     for build in 0..builds {
         push_smooth(text, orders, smooth, build)?;
@@ -75,9 +75,9 @@ fn push_map_of(
     text: &mut String,
     orders: &Count,
     maps: &[String],
-    tally: &Tally<usize>,
+    tally: &PathTally<usize>,
 ) -> Result<(), AllocError>
-    ensures { OnOk result (string_bytes text.new ≡ string_bytes text.old ++ map_lines_of orders.now maps.now tally.now) }
+    ensures { OnOk result (string_bytes text.new ≡ string_bytes text.old ++ map_shown_by orders.now maps.now tally.now) }
 {
     match maps.get(tally.thing) {
         Some(map) => push_map(text, orders, map, tally),
@@ -90,9 +90,9 @@ fn push_maps(
     text: &mut String,
     orders: &Count,
     maps: &[String],
-    tallies: &[Tally<usize>],
+    tallies: &[PathTally<usize>],
 ) -> Result<(), AllocError>
-    ensures { OnOk result (string_bytes text.new ≡ string_bytes text.old ++ flat_map (map_lines_of orders.now maps.now) tallies.now) }
+    ensures { OnOk result (string_bytes text.new ≡ string_bytes text.old ++ flat_map (map_shown_by orders.now maps.now) tallies.now) }
 {
     for map in tallies {
         push_map_of(text, orders, maps, map)?;
@@ -109,7 +109,7 @@ fn push_totals(
     maps: &[String],
     outcomes: &Outcomes,
 ) -> Result<(), AllocError>
-    ensures { OnOk result (string_bytes text.new ≡ string_bytes text.old ++ totals_text (plan_view plan.now) maps.now outcomes.now) }
+    ensures { OnOk result (string_bytes text.new ≡ string_bytes text.old ++ tallies_text (plan_view plan.now) maps.now outcomes.now) }
 {
     let builds = plan.builds.len();
     let orders = &outcomes.orders;
@@ -142,15 +142,15 @@ pub fn push_outcomes(
 /// host that gives the same answers to the same calls.
 pub fn states_text(alloc: Global, plan: &Plan, most: usize) -> Result<String, Fault>
     ensures ok { IfOk result (λ text. IsStatesText most (plan_view plan.now) (string_bytes text)) }
-    ensures err { IfErr result IsNotExplored }
+    ensures err { IfErr result HasNoGraph }
 {
     let mut text = String::new(alloc);
     match explore(alloc, plan, most)? {
-        Explored::All(graph) => {
+        Exploration::All(graph) => {
             let outcomes = outcomes_of(alloc, plan.builds.len(), &graph)?;
             push_outcomes(&mut text, plan, &graph.maps, &outcomes)?;
         }
-        Explored::TooMany => writeln!(text, "states more than {most}")?,
+        Exploration::TooMany => writeln!(text, "states more than {most}")?,
     }
     Ok(text)
 }

@@ -1,13 +1,13 @@
 //! The turns of builds, each run once.
 ghost use Rattle.std.specs.Prelude.{◌≡◌, ◌++◌, ◌<◌, [], All, OnOk, IfErr, Some};
 ghost use Rattle.realm_plan.specs.PlanView.{plan_view};
-ghost use Rattle.plan_states.specs.Explored.{IsNotExplored};
+ghost use Rattle.plan_states.specs.Exploration.{HasNoGraph};
 ghost use Rattle.plan_states.specs.Reached.{IsEndOfRun};
 ghost use Rattle.plan_states.specs.Turned.{AreWith, end_taken};
 
 use crate::running::{TurnTaken, run_to, take};
 use crate::state::{BuildState, State};
-use crate::step_end::StepEnd;
+use crate::step_end::EndOfStep;
 use host_commands::{Cmd, Step};
 use plan_replay::step_after;
 use realm_plan::{Plan, PlanStep};
@@ -68,7 +68,7 @@ pub(crate) struct Turns {
     builds: HashMap<Did, usize>,
     blocks: HashMap<Moves, usize>,
     known: HashMap<Before, After>,
-    pub(crate) ends: Vec<StepEnd>,
+    pub(crate) ends: Vec<EndOfStep>,
 }
 
 // The things of all builds that a step needs.
@@ -121,7 +121,7 @@ fn first_of(moved: Option<Moved>) -> Option<u16> {
 }
 
 // The place of an end among those that are known; it is added if it is new.
-fn place_of_end(ends: &mut Vec<StepEnd>, end: StepEnd) -> Result<usize, AllocError>
+fn place_of_end(ends: &mut Vec<EndOfStep>, end: EndOfStep) -> Result<usize, AllocError>
     ensures { OnOk result (AreWith ends.old.items (Some end) ends.new.items) }
 {
     if let Some(place) = ends.iter().position(|known| *known == end) {
@@ -178,13 +178,13 @@ impl Turns {
     }
 
     // The place of the end of the step that a turn used up, if it did.
-    fn place_of(&mut self, build: usize, taken: &TurnTaken) -> Result<Option<usize>, AllocError>
+    fn place_for(&mut self, build: usize, taken: &TurnTaken) -> Result<Option<usize>, AllocError>
         ensures { OnOk result (AreWith self.old.ends.items (end_taken build taken.now) self.new.ends.items) }
     {
         if taken.before == taken.after {
             return Ok(None);
         }
-        let end = StepEnd {
+        let end = EndOfStep {
             build,
             step: taken.before,
             refusal: taken.refusal,
@@ -210,13 +210,13 @@ impl Turns {
     ) -> Result<After, Fault>
         requires { All (IsEndOfRun (plan_view plan.now)) self.old.ends.items }
         ensures ok { OnOk result (All (IsEndOfRun (plan_view plan.now)) self.new.ends.items) }
-        ensures err { IfErr result IsNotExplored }
+        ensures err { IfErr result HasNoGraph }
     {
         let mut running = run_to(alloc, plan, order)?;
         let Some(taken) = take(&mut running.host, plan, &mut running.places, build) else {
             return Err(Fault::Mismatch);
         };
-        let end = self.place_of(build, &taken)?;
+        let end = self.place_for(build, &taken)?;
         let first = first_of(taken.moved);
         let vmid = taken.vmid;
         let did = self.number_of(Did {
@@ -259,7 +259,7 @@ impl Turns {
     }
 
     /// The ends of the steps.
-    pub(crate) fn into_ends(self) -> Vec<StepEnd>
+    pub(crate) fn into_ends(self) -> Vec<EndOfStep>
         ensures { result ≡ self.ends }
     {
         let Turns {

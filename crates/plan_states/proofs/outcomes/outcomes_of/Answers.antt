@@ -4,10 +4,10 @@ use Rattle.schedule_graph.specs.First.{ArePathNumbers, any_path, layers_in, path
 use Rattle.schedule_graph.specs.Paths.{paths, count_at, shows}
 use Rattle.schedule_graph.specs.declared.graph.Edge.{Edge}
 use Rattle.plan_states.specs.Signs.{has_number, is_refusal_of}
-use Rattle.plan_states.specs.Tallies.{layers_of, added, counted_of, tally_of, tally_of_end, paths_of}
+use Rattle.plan_states.specs.Tallies.{layers_of, with_tally, count_of_tally, tally_of, tally_of_end, paths_of}
 use Rattle.plan_states.specs.declared.edges.Label.{Label}
-use Rattle.plan_states.specs.declared.step_end.StepEnd.{StepEnd}
-use Rattle.plan_states.proofs.Tallies.{numbers-same, filter-any, map-insert, place_of-inside}
+use Rattle.plan_states.specs.declared.step_end.EndOfStep.{EndOfStep}
+use Rattle.plan_states.proofs.Tallies.{numbers-same, filter-any, map-insert, place_for-inside}
 use Rattle.plan_states.proofs.outcomes.outcomes_of.Goals as goal
 
 pub returns : goal.returns
