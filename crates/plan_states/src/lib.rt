@@ -8,7 +8,6 @@
 
 mod edges;
 mod graph;
-pub mod law;
 mod leftovers;
 mod lines;
 mod outcomes;

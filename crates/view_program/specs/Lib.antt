@@ -8,6 +8,7 @@ pub mod Reported
 pub mod OrderText
 pub mod Exploring
 pub mod Lines
+pub mod Leaving
 pub mod Rotation
 pub mod Stop
 pub mod History

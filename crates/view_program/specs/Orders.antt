@@ -9,7 +9,7 @@ use Rattle.realm_program.specs.Replay.{opening_host}
 use Rattle.realm_program.specs.declared.fault.Fault.{Fault}
 use Rattle.realm_program.specs.declared.fault.Fault.TheVariants.{Memory}
 use Rattle.view_program.specs.Drawn.{IsSampled}
-use Rattle.plan_states.specs.Explored.{IsNotExplored}
+use Rattle.plan_states.specs.Exploration.{HasNoGraph}
 use Rattle.plan_states.specs.StatesText.{IsStatesText}
 use Rattle.view_program.specs.declared.schedules.totals.Totals.{Totals}
 use Rattle.view_program.specs.Lines.{drawn_text}
@@ -32,6 +32,6 @@ IsSchedulesText (Drawn count seed) plan text = IsDrawnText count seed plan text
 
 -- the reason why there is no such text: allocation failed, or a run does not go on as another one said
 abbrev pub IsWithoutSchedules : Schedules → Plan → Fault → Type 0
-IsWithoutSchedules (All most) plan fault = IsNotExplored fault
+IsWithoutSchedules (All most) plan fault = HasNoGraph fault
 IsWithoutSchedules (Drawn count seed) plan Memory = Unit {0}
 IsWithoutSchedules (Drawn count seed) plan fault = ⊥

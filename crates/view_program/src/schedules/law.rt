@@ -6,6 +6,7 @@ ghost use Rattle.plan_replay.specs.Run.{IsReportedRun};
 ghost use Rattle.view_program.specs.Chosen.{IsChosenRun};
 ghost use Rattle.view_program.specs.Same.{same_end};
 ghost use Rattle.view_program.specs.Reported.{AreTold};
+ghost use Rattle.view_program.specs.Leaving.{IsUnseen};
 ghost use Rattle.view_program.specs.Totals.{chosen_schedule};
 ghost use Rattle.view_program.specs.declared.schedules.choice.Choice.{Choice};
 ghost use Rattle.view_program.specs.declared.schedules.step_end.StepEnd.{StepEnd};
@@ -29,4 +30,9 @@ pub fn ends_are_reported()
 /// with the same refusal and its numbers, or with none.
 pub fn end_texts_are_injective()
     ensures { (one other : StepEnd) → (same_end one other ≡ true) ↔ (one ≡ other) }
+{}
+
+/// A build that has nothing open is not seen in a map: the map is that of the history without the build.
+pub fn builds_with_nothing_open_are_not_seen()
+    ensures { (host : HostView) (build : ℕ) → IsUnseen host build }
 {}

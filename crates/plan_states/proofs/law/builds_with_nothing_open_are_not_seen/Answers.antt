@@ -1,5 +1,0 @@
-use Rattle.plan_states.proofs.Unseen.{unseen}
-use Rattle.plan_states.proofs.law.builds_with_nothing_open_are_not_seen.Goals as goal
-
-pub returns : goal.returns
-returns c = unseen

@@ -1,0 +1,11 @@
+-- Builds that have nothing open.
+use Rattle.std.specs.Prelude.{◌≡◌, ℕ, List, []}
+use Rattle.realm_model.specs.History.{IsLegal}
+use Rattle.host_ledger.specs.View.{HostView, open_of}
+use Rattle.plan_replay.specs.Run.{map_text}
+use Rattle.realm_program.specs.Replay.{IsMapWithout}
+
+-- If the build has nothing open, the map is that of the history without the build.
+abbrev pub IsUnseen : HostView → ℕ → Type 0
+IsUnseen host build =
+    (text : List ℕ) → IsLegal host.limits host.history → open_of host build ≡ [] → IsMapWithout host build text → text ≡ map_text host
