@@ -128,7 +128,8 @@ fn map_after(alloc: Global, plan: &Plan, order: &[usize]) -> Result<String, Faul
     ensures ok { IfOk result (λ map. IsMapOfRun (plan_view plan.now) (string_bytes map)) }
     ensures err { IfErr result HasNoGraph }
 {
-    let Running { host, places } = run_to(alloc, plan, order)?;
+    let running = run_to(alloc, plan, order)?;
+    let Running { host, places } = running;
     if has_more(plan, &places) {
         return Err(Fault::Mismatch);
     }
