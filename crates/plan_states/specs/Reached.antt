@@ -1,6 +1,6 @@
 -- Runs of a plan from boot, and the ends of steps and the maps that they show.
 use Rattle.std.specs.Prelude.{◌≡◌, ℕ, Bool, false, List, Some, is_some}
-use Rattle.std.specs.List.{list_any, range_with_len}
+use Rattle.std.specs.List.{find, range_with_len}
 use Rattle.realm_plan.specs.Plan.{Plan}
 use Rattle.plan_replay.specs.Run.{Position, Turn, start, place_of, step_after, map_text, IsTurn, AreTurns}
 use Rattle.plan_replay.specs.declared.place.PlanCursor.{PlanCursor}
@@ -35,7 +35,7 @@ is_left plan places build = is_some (step_after plan build (place_of places buil
 
 -- some build has a step left
 abbrev pub has_more : Plan → List PlanCursor → Bool
-has_more plan places = list_any (is_left plan places) (range_with_len 0 8)
+has_more plan places = is_some (find (is_left plan places) (range_with_len 0 8))
 
 -- a run of the plan in which no build has a step left in the end has this map
 pub record IsMapOfRun (plan : Plan) (map : List ℕ) : Type 0 where

@@ -50,6 +50,6 @@ abbrev pub moved_after : ℕ → List Event → Option Moved
 moved_after before history = option_and_then (λ (event : Event). moved_by event.act) (slice_get history before)
 
 -- a list, and perhaps one more item at its end
-abbrev pub AreWith : List EndOfStep → Option EndOfStep → List EndOfStep → Type 0
-AreWith ends None new = new ≡ ends
-AreWith ends (Some end) new = (new ≡ ends) ⊎ (new ≡ ends ++ end ∷ [])
+abbrev pub AreWith : {X : Type 0} → List X → Option X → List X → Type 0
+AreWith items None new = new ≡ items
+AreWith items (Some item) new = (new ≡ items) ⊎ (new ≡ items ++ item ∷ [])

@@ -1,8 +1,9 @@
 //! The graph of the states of a plan's runs.
-ghost use Rattle.std.specs.Prelude.{◌≡◌, ◌≤◌, ◌<◌, ◌++◌, ◌∷◌, [], OnOk, IfOk, IfErr, IfSome, length, string_bytes, vec_len};
+ghost use Rattle.std.specs.Prelude.{◌≡◌, ◌≤◌, ◌<◌, ◌++◌, ◌∷◌, [], Some, OnOk, IfOk, IfErr, IfSome, length, string_bytes, vec_len};
 ghost use Rattle.realm_plan.specs.PlanView.{plan_view};
 ghost use Rattle.plan_states.specs.Exploration.{AreOfRuns, IsExploration, HasNoGraph};
 ghost use Rattle.plan_states.specs.Reached.{IsMapOfRun};
+ghost use Rattle.plan_states.specs.Turned.{AreWith};
 
 use crate::edges::Label;
 use crate::leftovers::leave_nothing;
@@ -127,7 +128,8 @@ fn map_after(alloc: Global, plan: &Plan, order: &[usize]) -> Result<String, Faul
     ensures ok { IfOk result (λ map. IsMapOfRun (plan_view plan.now) (string_bytes map)) }
     ensures err { IfErr result HasNoGraph }
 {
-    let Running { host, places } = run_to(alloc, plan, order)?;
+    let running = run_to(alloc, plan, order)?;
+    let Running { host, places } = running;
     if has_more(plan, &places) {
         return Err(Fault::Mismatch);
     }
@@ -140,9 +142,13 @@ fn map_after(alloc: Global, plan: &Plan, order: &[usize]) -> Result<String, Faul
 }
 
 // The number of a map among those that are known; it is added if it is new.
-fn number_of_map(maps: &mut Vec<String>, map: String) -> Result<usize, AllocError> {
-    if let Some(number) = maps.iter().position(|known| known.as_str() == map.as_str()) {
-        return Ok(number);
+fn number_of_map(maps: &mut Vec<String>, map: String) -> Result<usize, AllocError>
+    ensures { OnOk result (AreWith maps.old.items (Some map) maps.new.items) }
+{
+    for number in 0..maps.len() {
+        if maps[number].as_str() == map.as_str() {
+            return Ok(number);
+        }
     }
     let number = maps.len();
     maps.push(map)?;
@@ -281,7 +287,7 @@ pub fn explore(alloc: Global, plan: &Plan, most: usize) -> Result<Exploration, F
     front.add(first, Came { from: 0, build: 0 }, None)?;
     let mut layers = Vec::new(alloc);
     let mut room = most;
-    while !front.states.is_empty() {
+    'layers: while !front.states.is_empty() {
         let Front {
             states,
             came,
@@ -298,9 +304,11 @@ pub fn explore(alloc: Global, plan: &Plan, most: usize) -> Result<Exploration, F
         push(&mut layers, layer)?;
         front = next;
     }
-    Ok(Exploration::All(Graph {
-        layers,
-        ends: it.turns.into_ends(),
-        maps: it.maps,
-    }))
+    let Explorer {
+        turns,
+        came: _,
+        maps,
+    } = it;
+    let ends = turns.into_ends();
+    Ok(Exploration::All(Graph { layers, ends, maps }))
 }

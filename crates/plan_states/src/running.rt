@@ -111,7 +111,9 @@ pub(crate) fn run_to(alloc: Global, plan: &Plan, order: &[usize]) -> Result<Runn
 pub(crate) fn has_more(plan: &Plan, places: &[PlanCursor; 8]) -> bool
     ensures { result ≡ has_more (plan_view plan.now) places.now }
 {
-    (0..8).any(|build| step_after(plan, build, places[build].done).is_some())
+    (0..8)
+        .find(|build| step_after(plan, *build, places[*build].done).is_some())
+        .is_some()
 }
 
 /// Takes one more turn of a build; None if it has no step left.

@@ -1,8 +1,8 @@
 //! The states of runs.
-ghost use Rattle.std.specs.Prelude.{◌≡◌, ◌<◌, IsTrue, slice_set, is_some};
-ghost use Rattle.std.specs.List.{list_any, range_with_len};
+ghost use Rattle.std.specs.Prelude.{◌≡◌, ◌<◌, slice_set, is_some};
+ghost use Rattle.std.specs.List.{find, range_with_len};
 ghost use Rattle.realm_plan.specs.PlanView.{plan_view};
-ghost use Rattle.plan_states.specs.States.{first_state, state_has_left};
+ghost use Rattle.plan_states.specs.States.{at_rest, first_state, state_has_left};
 
 use plan_replay::step_after;
 use realm_plan::Plan;
@@ -22,19 +22,34 @@ pub(crate) struct State {
     pub(crate) blocks: usize,
 }
 
+impl BuildState {
+    // The state of a build that did nothing. The number of that is the build's own.
+    fn at_rest(build: usize) -> BuildState
+        ensures { result ≡ at_rest build }
+    {
+        BuildState {
+            did: build,
+            done: 0,
+            vmid: None,
+        }
+    }
+}
+
 impl State {
-    /// The state before the first turn. What builds did has another number for each, and no block has moved.
+    /// The state before the first turn: no build did anything, and no block has moved.
     pub(crate) fn first() -> State
         ensures { result ≡ first_state }
     {
-        let mut builds = [BuildState {
-            did: 0,
-            done: 0,
-            vmid: None,
-        }; 8];
-        for build in 0..8 {
-            builds[build].did = build;
-        }
+        let builds = [
+            BuildState::at_rest(0),
+            BuildState::at_rest(1),
+            BuildState::at_rest(2),
+            BuildState::at_rest(3),
+            BuildState::at_rest(4),
+            BuildState::at_rest(5),
+            BuildState::at_rest(6),
+            BuildState::at_rest(7),
+        ];
         State { builds, blocks: 0 }
     }
 
@@ -50,8 +65,10 @@ impl State {
 
     /// Whether any build has a step left.
     pub(crate) fn has_more(&self, plan: &Plan) -> bool
-        ensures { result ≡ list_any (state_has_left (plan_view plan.now) self.now) (range_with_len 0 8) }
+        ensures { result ≡ is_some (find (state_has_left (plan_view plan.now) self.now) (range_with_len 0 8)) }
     {
-        (0..8).any(|build| step_after(plan, build, self.builds[build].done).is_some())
+        (0..8)
+            .find(|build| step_after(plan, *build, self.builds[*build].done).is_some())
+            .is_some()
     }
 }

@@ -120,11 +120,16 @@ fn first_of(moved: Option<Moved>) -> Option<u16> {
     }
 }
 
+// The place of an end among those that are known.
+fn known_end(ends: &[EndOfStep], end: &EndOfStep) -> Option<usize> {
+    ends.iter().position(|known| *known == *end)
+}
+
 // The place of an end among those that are known; it is added if it is new.
 fn place_of_end(ends: &mut Vec<EndOfStep>, end: EndOfStep) -> Result<usize, AllocError>
     ensures { OnOk result (AreWith ends.old.items (Some end) ends.new.items) }
 {
-    if let Some(place) = ends.iter().position(|known| *known == end) {
+    if let Some(place) = known_end(ends, &end) {
         return Ok(place);
     }
     let place = ends.len();
