@@ -1,8 +1,11 @@
 -- Runs from boot: one more turn, the settings that they leave, and the ends that they show.
 use Rattle.std.proofs.Common.{◌≡◌, ℕ, ◌+◌, ◌<◌, ◌==◌, Bool, true, false, if◌then◌else◌, List, [], ◌∷◌, ◌++◌, length, get_or, take, All, Option, Some, None, inl, inr, refl, sym, subst, ap, ◌∙◌}
 use Rattle.std.specs.List.{flat_map}
+use Rattle.std.specs.Prelude.{string_bytes}
+use Rattle.std.specs.declared.alloc.Global.{Global}
+use Rattle.std.specs.declared.string.String.{String}
 use Rattle.std.proofs.lemmas.List.{take_more}
-use Rattle.std.proofs.lemmas.List.Elements.{All-push}
+use Rattle.std.proofs.lemmas.List.Elements.{All-nil, All-push}
 use Rattle.host_commands.specs.declared.refusal.Refusal.{Refusal}
 use Rattle.host_ledger.specs.View.{HostView}
 use Rattle.realm_host.specs.Recorded.{fresh_like}
@@ -13,7 +16,8 @@ use Rattle.plan_replay.specs.declared.answer.TurnAnswer.{TurnAnswer}
 use Rattle.plan_replay.proofs.Runs.{AreTurns-more}
 use Rattle.plan_replay.proofs.Settings.{fresh_like-run}
 use Rattle.realm_program.specs.Replay.{opening_host}
-use Rattle.plan_states.specs.Reached.{IsReached, IsEndOfRun}
+use Rattle.plan_states.specs.Exploration.{AreOfRuns}
+use Rattle.plan_states.specs.Reached.{IsReached, IsEndOfRun, IsMapOfRun}
 use Rattle.plan_states.specs.Turned.{turn_refusal, end_taken, AreWith}
 use Rattle.plan_states.specs.TurnTaken.{IsTurnTaken}
 use Rattle.plan_states.specs.declared.running.TurnTaken.{TurnTaken}
@@ -88,3 +92,10 @@ ends_more plan order at to build it old new reached is are all =
       is_taken = is.is_taken;
       is_end = end_is (it.before == it.after) build it.before (turn_refusal is.told) it.refusal free is.refusal;
     }) all
+
+-- no ends, and no maps
+pub of_runs-none : (plan : Plan) (ends : List EndOfStep) (maps : List (String Global)) → ends ≡ [] → maps ≡ [] → AreOfRuns plan ends maps
+of_runs-none plan ends maps none empty = record {
+  ends = subst (All (IsEndOfRun plan)) (sym none) (All-nil (IsEndOfRun plan));
+  maps = subst (All (λ (map : String Global). IsMapOfRun plan (string_bytes map))) (sym empty) (All-nil (λ (map : String Global). IsMapOfRun plan (string_bytes map)));
+}
