@@ -1,10 +1,12 @@
 -- Runs from boot: one more turn, the settings that they leave, and the ends that they show.
-use Rattle.std.proofs.Common.{◌≡◌, ℕ, ◌+◌, ◌<◌, ◌==◌, Bool, true, false, if◌then◌else◌, List, [], ◌∷◌, ◌++◌, length, get_or, take, All, Option, Some, None, inl, inr, refl, sym, subst, ap, ◌∙◌}
+use Rattle.std.proofs.Common.{◌≡◌, ℕ, ◌+◌, ◌<◌, ◌==◌, Bool, true, false, if◌then◌else◌, List, [], ◌∷◌, ◌++◌, length, get_or, take, All, Option, Some, None, inl, inr, refl, sym, subst, ap}
 use Rattle.std.specs.List.{flat_map}
+use Rattle.std.specs.Prelude.{string_bytes}
+use Rattle.std.specs.declared.alloc.Global.{Global}
+use Rattle.std.specs.declared.string.String.{String}
 use Rattle.std.proofs.lemmas.List.{take_more}
-use Rattle.std.proofs.lemmas.List.Elements.{All-push}
+use Rattle.std.proofs.lemmas.List.Elements.{All-nil, All-push}
 use Rattle.host_commands.specs.declared.refusal.Refusal.{Refusal}
-use Rattle.host_ledger.specs.View.{HostView}
 use Rattle.realm_host.specs.Recorded.{fresh_like}
 use Rattle.realm_plan.specs.declared.step.PlanStep.{PlanStep}
 use Rattle.realm_plan.specs.Plan.{Plan}
@@ -13,7 +15,8 @@ use Rattle.plan_replay.specs.declared.answer.TurnAnswer.{TurnAnswer}
 use Rattle.plan_replay.proofs.Runs.{AreTurns-more}
 use Rattle.plan_replay.proofs.Settings.{fresh_like-run}
 use Rattle.realm_program.specs.Replay.{opening_host}
-use Rattle.plan_states.specs.Reached.{IsReached, IsEndOfRun}
+use Rattle.plan_states.specs.Exploration.{AreOfRuns}
+use Rattle.plan_states.specs.Reached.{IsReached, IsEndOfRun, IsMapOfRun}
 use Rattle.plan_states.specs.Turned.{turn_refusal, end_taken, AreWith}
 use Rattle.plan_states.specs.TurnTaken.{IsTurnTaken}
 use Rattle.plan_states.specs.declared.running.TurnTaken.{TurnTaken}
@@ -22,15 +25,16 @@ use Rattle.plan_states.specs.declared.step_end.EndOfStep.{EndOfStep}
 -- ---- one more turn
 
 pub reached_more :
-    (plan : Plan) (order : List ℕ) (i build : ℕ) (at to : Position) (told : Option (PlanStep × TurnAnswer))
-    → i < length order → build ≡ get_or order i build → IsReached plan (take i order) at
-    → IsTurn plan at (record { build = build; told = told }) to → IsReached plan (take (i + 1) order) to
-reached_more plan order i build at to told inside is reached is_turn = record {
-  turns = reached.turns ++ record { build = build; told = told } ∷ [];
-  are_turns = subst (λ o. AreTurns plan o (start (opening_host plan)) (reached.turns ++ record { build = build; told = told } ∷ []) to)
-      (ap (λ b. take i order ++ b ∷ []) is ∙ sym (take_more order i build inside))
-      (AreTurns-more plan (take i order) (start (opening_host plan)) reached.turns at build (record { build = build; told = told }) to reached.are_turns refl is_turn);
-}
+    (plan : Plan) (order : List ℕ) (i : ℕ) (at to : Position) (told : Option (PlanStep × TurnAnswer))
+    → i < length order → IsReached plan (take i order) at
+    → IsTurn plan at (record { build = get_or order i 0; told = told }) to → IsReached plan (take (i + 1) order) to
+reached_more plan order i at to told inside reached is_turn =
+    let turn : Turn = record { build = get_or order i 0; told = told } in
+    record {
+      turns = reached.turns ++ turn ∷ [];
+      are_turns = subst (λ o. AreTurns plan o (start (opening_host plan)) (reached.turns ++ turn ∷ []) to) (sym (take_more order i 0 inside))
+          (AreTurns-more plan (take i order) (start (opening_host plan)) reached.turns at (get_or order i 0) turn to reached.are_turns refl is_turn);
+    }
 
 -- ---- the settings
 
@@ -60,10 +64,16 @@ end_by plan true end old new same is all = subst (All (IsEndOfRun plan)) (sym sa
 end_by plan false end old new (inl same) is all = subst (All (IsEndOfRun plan)) (sym same) all
 end_by plan false end old new (inr more) is all = subst (All (IsEndOfRun plan)) (sym more) (All-push (IsEndOfRun plan) old end all (is refl))
 
+abbrev end_with : ℕ → ℕ → Option Refusal → EndOfStep
+end_with build step refusal = record { build = build; step = step; refusal = refusal }
+
+abbrev end_unless : Bool → EndOfStep → Option EndOfStep
+end_unless none end = if none then None else Some end
+
 end_is : (none : Bool) (build step : ℕ) (one other : Option Refusal) → none ≡ false → other ≡ one
-    → (if none then None else Some (record { build = build; step = step; refusal = one })) ≡ Some (record { build = build; step = step; refusal = other })
-end_is true build step one other no same = absurd cc
-end_is false build step one other no same = ap (λ (r : Option Refusal). Some (record { build = build; step = step; refusal = r })) (sym same)
+    → end_unless none (end_with build step one) ≡ Some (end_with build step other)
+end_is true build step one other free same = absurd cc
+end_is false build step one other free same = ap (λ (r : Option Refusal). Some (end_with build step r)) (sym same)
 
 -- the ends after a turn in a run
 pub ends_more :
@@ -72,12 +82,19 @@ pub ends_more :
     → All (IsEndOfRun plan) old → All (IsEndOfRun plan) new
 ends_more plan order at to build it old new reached is are all =
     let end : EndOfStep = record { build = build; step = it.before; refusal = it.refusal } in
-    end_by plan (it.before == it.after) end old new are (λ no. record {
+    end_by plan (it.before == it.after) end old new are (λ free. record {
       order = order;
       at = at;
       reached = reached;
       taken = record { turn = record { build = build; told = is.told }; before = it.before; after = it.after };
       to = to;
       is_taken = is.is_taken;
-      is_end = end_is (it.before == it.after) build it.before (turn_refusal is.told) it.refusal no is.refusal;
+      is_end = end_is (it.before == it.after) build it.before (turn_refusal is.told) it.refusal free is.refusal;
     }) all
+
+-- no ends, and no maps
+pub of_runs-none : (plan : Plan) (ends : List EndOfStep) (maps : List (String Global)) → ends ≡ [] → maps ≡ [] → AreOfRuns plan ends maps
+of_runs-none plan ends maps none empty = record {
+  ends = subst (All (IsEndOfRun plan)) (sym none) (All-nil (IsEndOfRun plan));
+  maps = subst (All (λ (map : String Global). IsMapOfRun plan (string_bytes map))) (sym empty) (All-nil (λ (map : String Global). IsMapOfRun plan (string_bytes map)));
+}

@@ -1,17 +1,15 @@
 -- Tallies: of the paths like that, and their order.
-use Rattle.std.proofs.Common.{◌≡◌, ℕ, zero, suc, ◌+◌, ◌<◌, ◌≤◌, ◌==◌, Bool, true, false, cond, List, [], ◌∷◌, ◌++◌, map, length, min, take, drop, drop-cons, get_or, add-one, Vec, Global, Option, Some, None, refl, sym, subst, ap, ◌∙◌, arith}
+use Rattle.std.proofs.Common.{◌≡◌, ℕ, zero, suc, ◌≤◌, Bool, true, false, cond, List, [], ◌∷◌, ◌++◌, map, length, min, take, drop, Vec, Global, Option, Some, None, refl, sym, subst, ap, ◌∙◌, arith}
 use Rattle.std.specs.Prelude.{filter, option_map, slice_index_or}
 use Rattle.std.specs.List.{find, insert}
-use Rattle.std.proofs.lemmas.Bool.{eq-eqb, ne_eqb}
-use Rattle.std.proofs.lemmas.List.{drop_all, map-append, take-map, drop-map}
+use Rattle.std.proofs.lemmas.List.{map-append, take-map, drop-map}
 use Rattle.std.proofs.lemmas.Option.{none-some, same_Some}
 use Rattle.std.proofs.lemmas.Simd.{map-map}
 use Rattle.schedule_graph.specs.First.{first_like, any_path, layers_in, path_numbers_in, ArePathNumbers}
 use Rattle.schedule_graph.specs.Paths.{Layer, Path, paths, count_at}
 use Rattle.schedule_graph.specs.declared.graph.Edge.{Edge}
-use Rattle.plan_states.specs.Tallies.{PathCount, builds_of_path, count_of_tally, tally_of, is_before, place_for, with_tally, all_added}
+use Rattle.plan_states.specs.Tallies.{PathCount, builds_of_path, tally_of, is_before, place_for}
 use Rattle.plan_states.specs.declared.edges.Label.{Label}
-use Rattle.plan_states.specs.declared.tally.PathTally.{PathTally}
 
 -- ---- the tally of the paths like that
 

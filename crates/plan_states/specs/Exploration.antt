@@ -12,9 +12,9 @@ use Rattle.plan_states.specs.declared.graph.Graph.{Graph}
 use Rattle.plan_states.specs.declared.step_end.EndOfStep.{EndOfStep}
 
 -- Each end is that of a step in a run of the plan, and each map is that of a whole run.
-pub record AreOfRuns (plan : Plan) (ends : List EndOfStep) (maps : List (String Global)) : Type 0 where
-  pub ends : All (IsEndOfRun plan) ends
-  pub maps : All (λ map. IsMapOfRun plan (string_bytes map)) maps
+pub record AreOfRuns (plan : Plan) (the_ends : List EndOfStep) (the_maps : List (String Global)) : Type 0 where
+  pub ends : All (IsEndOfRun plan) the_ends
+  pub maps : All (λ map. IsMapOfRun plan (string_bytes map)) the_maps
 
 pub record IsGraphWithin (plan : Plan) (most : ℕ) (graph : Graph) : Type 0 where
   pub of_runs : AreOfRuns plan graph.ends.items graph.maps.items

@@ -1,6 +1,5 @@
 -- Runs of a plan from boot, and the ends of steps and the maps that they show.
-use Rattle.std.specs.Prelude.{◌≡◌, ℕ, Bool, false, List, Some, is_some}
-use Rattle.std.specs.List.{find, range_with_len}
+use Rattle.std.specs.Prelude.{◌≡◌, ◌<◌, ℕ, Bool, false, List, Some, is_some}
 use Rattle.realm_plan.specs.Plan.{Plan}
 use Rattle.plan_replay.specs.Run.{Position, Turn, start, place_of, step_after, map_text, IsTurn, AreTurns}
 use Rattle.plan_replay.specs.declared.place.PlanCursor.{PlanCursor}
@@ -33,14 +32,14 @@ pub record IsEndOfRun (plan : Plan) (end : EndOfStep) : Type 0 where
 abbrev pub is_left : Plan → List PlanCursor → ℕ → Bool
 is_left plan places build = is_some (step_after plan build (place_of places build).done)
 
--- some build has a step left
-abbrev pub has_more : Plan → List PlanCursor → Bool
-has_more plan places = is_some (find (is_left plan places) (range_with_len 0 8))
+-- no build has a step left
+abbrev pub AreOver : Plan → List PlanCursor → Type 0
+AreOver plan places = (build : ℕ) → build < 8 → is_left plan places build ≡ false
 
 -- a run of the plan in which no build has a step left in the end has this map
 pub record IsMapOfRun (plan : Plan) (map : List ℕ) : Type 0 where
   pub order : List ℕ
   pub at : Position
   pub reached : IsReached plan order at
-  pub over : has_more plan at.places ≡ false
+  pub over : AreOver plan at.places
   pub is_map : map ≡ map_text at.host

@@ -8,10 +8,8 @@ use Rattle.plan_states.specs.Tallies.{AreOutcomes}
 use Rattle.plan_states.specs.declared.graph.Graph.{Graph}
 use Rattle.plan_states.specs.declared.tally.Outcomes.{Outcomes}
 
--- the outcomes of a graph of at most `most` states
-pub record IsOutcomesText (most : ℕ) (plan : Plan) (text : List ℕ) : Type 0 where
-  pub graph : Graph
-  pub within : IsGraphWithin plan most graph
+-- the outcomes of a plan's graph
+pub record IsGraphText (plan : Plan) (graph : Graph) (text : List ℕ) : Type 0 where
   pub outcomes : Outcomes
   pub are_outcomes : AreOutcomes (length plan.builds) graph outcomes
   pub whole : text ≡ outcomes_text plan graph.maps.items outcomes
@@ -20,5 +18,6 @@ pub record IsOutcomesText (most : ℕ) (plan : Plan) (text : List ℕ) : Type 0 
 abbrev pub too_many_line : ℕ → List ℕ
 too_many_line most = codes "states more than " ++ (decimal most ++ 10 ∷ [])
 
+-- the text of a graph of at most `most` states, or that line
 abbrev pub IsStatesText : ℕ → Plan → List ℕ → Type 0
-IsStatesText most plan text = IsOutcomesText most plan text ⊎ (text ≡ too_many_line most)
+IsStatesText most plan text = ((graph : Graph) × IsGraphWithin plan most graph × IsGraphText plan graph text) ⊎ (text ≡ too_many_line most)

@@ -39,7 +39,7 @@ is_before [] others = false
 is_before (one ∷ ones) [] = false
 is_before (one ∷ ones) (other ∷ others) = if one == other then is_before ones others else nat_lt one other
 
--- the place behind those that do not come after it
+-- the place after those that do not come after it
 abbrev pub place_for : {K : Type 0} → List ℕ → List (PathCount K) → ℕ
 place_for first [] = 0
 place_for first (t ∷ tallies) = if is_before first t.first then 0 else suc (place_for first tallies)

@@ -1,13 +1,11 @@
 -- A turn, and what it shows.
-use Rattle.std.specs.Prelude.{◌≡◌, ℕ, ◌==◌, ◌⊎◌, if◌then◌else◌, List, [], ◌∷◌, ◌++◌, Option, Some, None, option_map, option_and_then, slice_get, length}
+use Rattle.std.specs.Prelude.{◌≡◌, ℕ, ◌==◌, ◌⊎◌, if◌then◌else◌, true, false, List, [], ◌∷◌, ◌++◌, Option, Some, None, option_and_then, slice_get}
 use Rattle.realm_model.specs.declared.act.Act.{Act}
 use Rattle.realm_model.specs.declared.act.Act.TheVariants.{Take, UnTake}
 use Rattle.realm_model.specs.declared.act.Event.{Event}
-use Rattle.host_ledger.specs.View.{world_of}
 use Rattle.host_commands.specs.declared.refusal.Refusal.{Refusal}
-use Rattle.realm_host.specs.Readings.{realm_at}
 use Rattle.realm_plan.specs.declared.step.PlanStep.{PlanStep}
-use Rattle.plan_replay.specs.Run.{Position, Turn}
+use Rattle.plan_replay.specs.Run.{Turn}
 use Rattle.plan_replay.specs.declared.answer.TurnAnswer.{TurnAnswer}
 use Rattle.plan_replay.specs.declared.answer.TurnAnswer.TheVariants.{Refused}
 use Rattle.plan_states.specs.declared.running.TurnTaken.{TurnTaken}

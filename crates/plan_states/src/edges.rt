@@ -1,7 +1,7 @@
 //! The labels of a graph's edges.
 
-/// The label of a turn: its build, the end of its step, if it used the step up, and the map after it, if it is the last
-/// of a schedule. Ends and maps are numbers of the graph.
+/// The label of a turn: its build, the end of its step if it used that up, and the map if it is a schedule's last. Ends
+/// and maps are numbers of the graph.
 #[derive(Clone, Copy)]
 pub struct Label {
     pub build: usize,

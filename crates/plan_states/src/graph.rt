@@ -89,12 +89,7 @@ impl Front {
     }
 
     // Adds a state, and returns its place.
-    fn add(
-        &mut self,
-        state: State,
-        came: Came,
-        map: Option<usize>,
-    ) -> Result<Target, AllocError>
+    fn add(&mut self, state: State, came: Came, map: Option<usize>) -> Result<Target, AllocError>
         ensures { OnOk result (self.new.states.items ≡ self.old.states.items ++ state ∷ []) }
     {
         let to = self.states.len();

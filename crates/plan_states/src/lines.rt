@@ -59,10 +59,10 @@ fn push_shown(
 }
 
 // The words for the outcome of whole schedules.
-fn refusal_words(refuses_asked: bool) -> &'static str
-    ensures { result.now ≡ refusal_words refuses_asked }
+fn refusal_words(is_refused: bool) -> &'static str
+    ensures { result.now ≡ refusal_words is_refused }
 {
-    if refuses_asked {
+    if is_refused {
         "some step refused"
     } else {
         "no step refused"

@@ -108,7 +108,7 @@ fn is_before(one: &[usize], other: &[usize]) -> bool
     false
 }
 
-// The place behind the tallies whose first schedules do not come after this one.
+// The place after the tallies whose first schedules do not come after this one.
 fn place_for<K>(tallies: &[PathTally<K>], first: &[usize]) -> usize
     ensures { result ≡ place_for first.now (map count_of_tally tallies.now) }
 {
@@ -121,7 +121,10 @@ fn place_for<K>(tallies: &[PathTally<K>], first: &[usize]) -> usize
 }
 
 // Adds a tally, if there is one, in the order of first schedules.
-fn add<K: Drop>(tallies: &mut Vec<PathTally<K>>, tally: Option<PathTally<K>>) -> Result<(), AllocError>
+fn add<K: Drop>(
+    tallies: &mut Vec<PathTally<K>>,
+    tally: Option<PathTally<K>>,
+) -> Result<(), AllocError>
     ensures { OnOk result (map count_of_tally tallies.new.items ≡ with_tally (option_map count_of_tally tally) (map count_of_tally tallies.old.items)) }
 {
     let Some(tally) = tally else {
@@ -202,7 +205,11 @@ fn smooth_tally(
 }
 
 // The tallies of the builds that are never refused.
-fn smooth_of(alloc: Global, graph: &Graph, builds: usize) -> Result<Vec<PathTally<usize>>, AllocError>
+fn smooth_of(
+    alloc: Global,
+    graph: &Graph,
+    builds: usize,
+) -> Result<Vec<PathTally<usize>>, AllocError>
     ensures { IfOk result (λ smooth. map count_of_tally smooth.items ≡ all_added (smooth_tally graph.now) builds) }
 {
     let mut smooth = Vec::new(alloc);

@@ -1,10 +1,11 @@
 //! The run of a plan in a schedule from boot, and one turn more.
 ghost use Rattle.std.specs.Prelude.{◌≡◌, ◌<◌, IfOk, IfErr, IfSome, option_map};
+ghost use Rattle.std.specs.Bool.{OnFalse};
 ghost use Rattle.host_ledger.specs.View.{world_of};
 ghost use Rattle.realm_host.specs.Readings.{realm_at};
 ghost use Rattle.realm_plan.specs.PlanView.{plan_view};
 ghost use Rattle.plan_states.specs.Exploration.{HasNoGraph};
-ghost use Rattle.plan_states.specs.Reached.{has_more, IsReached};
+ghost use Rattle.plan_states.specs.Reached.{AreOver, IsReached};
 ghost use Rattle.plan_states.specs.Turned.{moved_after, moved_by, told_refusal};
 ghost use Rattle.plan_states.specs.TurnTaken.{IsTurnTaken};
 
@@ -109,11 +110,14 @@ pub(crate) fn run_to(alloc: Global, plan: &Plan, order: &[usize]) -> Result<Runn
 
 /// Whether any build has a step left.
 pub(crate) fn has_more(plan: &Plan, places: &[PlanCursor; 8]) -> bool
-    ensures { result ≡ has_more (plan_view plan.now) places.now }
+    ensures { OnFalse result (AreOver (plan_view plan.now) places.now) }
 {
-    (0..8)
-        .find(|build| step_after(plan, *build, places[*build].done).is_some())
-        .is_some()
+    for build in 0..8 {
+        if step_after(plan, build, places[build].done).is_some() {
+            return true;
+        }
+    }
+    false
 }
 
 /// Takes one more turn of a build; None if it has no step left.

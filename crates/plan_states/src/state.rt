@@ -1,8 +1,8 @@
 //! The states of runs.
-ghost use Rattle.std.specs.Prelude.{◌≡◌, ◌<◌, slice_set, is_some};
-ghost use Rattle.std.specs.List.{find, range_with_len};
+ghost use Rattle.std.specs.Prelude.{◌≡◌, ◌<◌, slice_set};
+ghost use Rattle.std.specs.Bool.{OnFalse};
 ghost use Rattle.realm_plan.specs.PlanView.{plan_view};
-ghost use Rattle.plan_states.specs.States.{at_rest, first_state, state_has_left};
+ghost use Rattle.plan_states.specs.States.{at_rest, first_state, AreAllDone};
 
 use plan_replay::step_after;
 use realm_plan::Plan;
@@ -65,10 +65,13 @@ impl State {
 
     /// Whether any build has a step left.
     pub(crate) fn has_more(&self, plan: &Plan) -> bool
-        ensures { result ≡ is_some (find (state_has_left (plan_view plan.now) self.now) (range_with_len 0 8)) }
+        ensures { OnFalse result (AreAllDone (plan_view plan.now) self.now) }
     {
-        (0..8)
-            .find(|build| step_after(plan, *build, self.builds[*build].done).is_some())
-            .is_some()
+        for build in 0..8 {
+            if step_after(plan, build, self.builds[build].done).is_some() {
+                return true;
+            }
+        }
+        false
     }
 }

@@ -3,10 +3,10 @@ ghost use Rattle.std.specs.Prelude.{◌≡◌, ◌++◌, OnOk, IfOk, IfErr, stri
 ghost use Rattle.std.specs.List.{flat_map, range_with_len};
 ghost use Rattle.realm_plan.specs.PlanView.{plan_view};
 ghost use Rattle.plan_states.specs.Exploration.{HasNoGraph};
-ghost use Rattle.plan_states.specs.StatesText.{IsStatesText};
+ghost use Rattle.plan_states.specs.StatesText.{too_many_line, IsGraphText, IsStatesText};
 ghost use Rattle.plan_states.specs.Lines.{step_number, ends_of_build, never_refused_lines, map_shown_by, tallies_text, outcomes_text};
 
-use crate::graph::{Exploration, explore};
+use crate::graph::{Exploration, Graph, explore};
 use crate::lines::{push_count, push_map, push_smooth, push_step, push_wholes};
 use crate::outcomes::outcomes_of;
 use crate::tally::{Outcomes, PathTally};
@@ -136,6 +136,25 @@ pub fn push_outcomes(
     push_totals(text, plan, maps, outcomes)
 }
 
+// The text of the outcomes of a plan's graph.
+fn graph_text(alloc: Global, plan: &Plan, graph: &Graph) -> Result<String, AllocError>
+    ensures { IfOk result (λ text. IsGraphText (plan_view plan.now) graph.now (string_bytes text)) }
+{
+    let mut text = String::new(alloc);
+    let outcomes = outcomes_of(alloc, plan.builds.len(), graph)?;
+    push_outcomes(&mut text, plan, &graph.maps, &outcomes)?;
+    Ok(text)
+}
+
+// The line that says that there are more states.
+fn too_many_text(alloc: Global, most: usize) -> Result<String, AllocError>
+    ensures { IfOk result (λ text. string_bytes text ≡ too_many_line most) }
+{
+    let mut text = String::new(alloc);
+    writeln!(text, "states more than {most}")?;
+    Ok(text)
+}
+
 /// The text of the outcomes of all schedules of a plan, if it has at most `most` states; else a line that says so.
 ///
 /// Errors. `Memory`: allocation failed. `Mismatch`: a run does not go on as another one said, which never happens on a
@@ -144,13 +163,8 @@ pub fn states_text(alloc: Global, plan: &Plan, most: usize) -> Result<String, Fa
     ensures ok { IfOk result (λ text. IsStatesText most (plan_view plan.now) (string_bytes text)) }
     ensures err { IfErr result HasNoGraph }
 {
-    let mut text = String::new(alloc);
     match explore(alloc, plan, most)? {
-        Exploration::All(graph) => {
-            let outcomes = outcomes_of(alloc, plan.builds.len(), &graph)?;
-            push_outcomes(&mut text, plan, &graph.maps, &outcomes)?;
-        }
-        Exploration::TooMany => writeln!(text, "states more than {most}")?,
+        Exploration::All(graph) => Ok(graph_text(alloc, plan, &graph)?),
+        Exploration::TooMany => Ok(too_many_text(alloc, most)?),
     }
-    Ok(text)
 }

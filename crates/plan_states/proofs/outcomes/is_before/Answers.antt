@@ -1,4 +1,4 @@
-use Rattle.std.proofs.Common.{◌≡◌, ◌≤◌, length, min, ◌∙◌, arith}
+use Rattle.std.proofs.Common.{◌∙◌, arith}
 use Rattle.plan_states.proofs.Tallies.{before-end}
 use Rattle.plan_states.proofs.outcomes.is_before.Goals as goal
 

@@ -1,13 +1,11 @@
-use Rattle.std.proofs.Common.{◌≡◌, ℕ, List, Bool, true, false, [], ◌∷◌, map, length, Vec, Global, Option, Some, None, IfOk, ap, sym, subst, ◌∙◌}
-use Rattle.std.specs.Prelude.{option_map, slice_index_or}
-use Rattle.schedule_graph.specs.First.{ArePathNumbers, any_path, layers_in, path_numbers_in, shows_none}
-use Rattle.schedule_graph.specs.Paths.{paths, count_at, shows}
+use Rattle.std.proofs.Common.{◌≡◌, List, Vec, Global, IfOk, subst}
+use Rattle.std.specs.Prelude.{option_map}
+use Rattle.schedule_graph.specs.First.{ArePathNumbers, any_path, layers_in, path_numbers_in}
+use Rattle.schedule_graph.specs.Paths.{paths, shows}
 use Rattle.schedule_graph.specs.declared.graph.Edge.{Edge}
-use Rattle.plan_states.specs.Signs.{has_number, is_refusal_of}
-use Rattle.plan_states.specs.Tallies.{layers_of, with_tally, count_of_tally, tally_of, tally_of_end, paths_of}
+use Rattle.plan_states.specs.Signs.{has_number}
+use Rattle.plan_states.specs.Tallies.{count_of_tally, tally_of}
 use Rattle.plan_states.specs.declared.edges.Label.{Label}
-use Rattle.plan_states.specs.declared.step_end.EndOfStep.{EndOfStep}
-use Rattle.plan_states.proofs.Tallies.{numbers-same, filter-any, map-insert, place_for-inside}
 use Rattle.plan_states.proofs.outcomes.map_tally.Goals as goal
 
 pub returns : goal.returns

@@ -1,6 +1,6 @@
-use Rattle.std.proofs.Common.{◌≡◌, ℕ, List, [], map, Vec, Global, vec_items, ap, sym, subst, ◌∙◌}
+use Rattle.std.proofs.Common.{ℕ, List, [], map, Vec, Global, vec_items, ap, sym, subst, ◌∙◌}
 use Rattle.std.specs.Prelude.{option_map, slice_index_or}
-use Rattle.schedule_graph.specs.First.{ArePathNumbers, layers_in, path_numbers_in, shows_none}
+use Rattle.schedule_graph.specs.First.{ArePathNumbers, layers_in, path_numbers_in}
 use Rattle.schedule_graph.specs.Paths.{count_at, shows}
 use Rattle.plan_states.specs.declared.edges.Label.{Label}
 use Rattle.plan_states.proofs.Tallies.{tally-first}
