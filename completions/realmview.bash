@@ -27,7 +27,7 @@ _realmview() {
         why:*) [[ $word == -* ]] && mapfile -t COMPREPLY < <(compgen -W '--all -h --help' -- "$word") ;;
         explore:*) [[ $word == -* ]] && mapfile -t COMPREPLY < <(compgen -W '--most-states --sample --seed -h --help' -- "$word") ;;
         order:*) [[ $word == -* ]] && mapfile -t COMPREPLY < <(compgen -W '--one-by-one -h --help' -- "$word") ;;
-        calls:*) [[ $word == -* ]] && mapfile -t COMPREPLY < <(compgen -W '--base -h --help' -- "$word") ;;
+        calls:*) [[ $word == -* ]] && mapfile -t COMPREPLY < <(compgen -W '--base --c -h --help' -- "$word") ;;
         check:*) [[ $word == -* ]] && mapfile -t COMPREPLY < <(compgen -W '-h --help' -- "$word") ;;
         help:*) mapfile -t COMPREPLY < <(compgen -W 'history apply json page why explore order calls check' -- "$word") ;;
         :*) mapfile -t COMPREPLY < <(compgen -W 'history apply json page why explore order calls check help -h --help -V --version' -- "$word") ;;

@@ -34,6 +34,7 @@ complete -c realmview -n '__fish_seen_subcommand_from order' -l one-by-one -d 'G
 complete -c realmview -n '__fish_seen_subcommand_from order' -s h -l help -d 'Print help'
 complete -c realmview -n '__fish_seen_subcommand_from order' -F
 complete -c realmview -n '__fish_seen_subcommand_from calls' -l base -x -d 'Place granule 0 at this address, a multiple of 0x1000 [default: 0x80000000]'
+complete -c realmview -n '__fish_seen_subcommand_from calls' -l c -d 'Print the rows of a table of C, for examples/c/table.c'
 complete -c realmview -n '__fish_seen_subcommand_from calls' -s h -l help -d 'Print help'
 complete -c realmview -n '__fish_seen_subcommand_from calls' -F
 complete -c realmview -n '__fish_seen_subcommand_from check' -s h -l help -d 'Print help'

@@ -220,7 +220,7 @@ typedef struct rhm_answer {
 /* Prepares a command, and changes nothing. RHM_DONE, with the operations for the RMM in `actions`; or the refusal that
  * the host gives before it calls an RMM, which is also that of rhm_ask. RHM_RMI is an operand that no call has: a level 4,
  * or the number of a REC that there is not. It is also an access to a page that is not UNDELEGATED, and the exit of a REC
- * that does not run. RHM_NO_BLOCK comes from rhm_commit.
+ * that does not run. RHM_NO_BLOCK comes of a RHM_TAKE, which makes no call.
  * Required: handle; `command` is not NULL, and each of its fields is written; `actions` is not NULL, and may be written
  * to. */
 uint64_t rhm_prepare(rhm_handle *handle, uint64_t build, const rhm_command *command, rhm_actions *actions) RHM_NO_NULL;
@@ -232,8 +232,8 @@ uint64_t rhm_prepare(rhm_handle *handle, uint64_t build, const rhm_command *comm
  * of this repository answers while a guest runs on.
  * RHM_OTHER_OUTPUT: it has, and X1 is not the `output` of the call. The call is not to be made again. If the hypervisor
  * goes on nevertheless, it commits with `output` as X1.
- * RHM_DIVERGED: it has, with that output, and the model refuses the call with the result word `value`. It does not come of
- * a command that makes no call, as RHM_EXIT.
+ * RHM_DIVERGED: it has, with that output, and the model refuses the call with the result word `value`. It comes neither of
+ * a command that makes no call, as RHM_EXIT, nor of an undo.
  * Of each of the three, nothing is recorded.
  *
  * What is recorded is what was performed if no other call came for the build since rhm_prepare; for a RHM_REALM, none that

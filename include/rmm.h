@@ -8,7 +8,8 @@
  * begins with `rmm_` or `RMM_`, so a host's own headers can be included too.
  *
  * A handle is 16 bytes of the caller's. All of them 0 is a closed handle. A closed handle is no mistake in any call: it
- * is firmware without an RMM. Numbers have 64 bits, as registers have, and nothing is cut. rmm_open alone takes memory.
+ * is firmware without an RMM. Numbers have 64 bits, as registers have, and nothing is cut. rmm_open takes memory, and
+ * rmm_line does; no other call.
  *
  * What a caller has to guarantee is at each function after `Required:`, and nothing checks it. There `handle` is:
  *   - a pointer to an rmm_handle, and not NULL;
@@ -284,14 +285,32 @@ typedef struct rmm_rec {
     uint64_t ripas_value;
     uint64_t step_count;   /* how many steps its guest has yet to perform */
     uint64_t result_count; /* how many results there are since its last entry */
-    bool is_runnable;
-    bool is_psci_pending;
+    uint64_t is_runnable;     /* 1 if it is, and 0 if not */
+    uint64_t is_psci_pending; /* the same */
 } rmm_rec;
 
-RMM_STATIC_ASSERT(sizeof(rmm_rec) == 64 && offsetof(rmm_rec, is_runnable) == 56, "rmm_rec has 64 bytes");
+RMM_STATIC_ASSERT(sizeof(rmm_rec) == 72 && offsetof(rmm_rec, is_runnable) == 56, "rmm_rec has 72 bytes");
 
 /* The REC at an address.   Required: handle; `attributes` is not NULL, and may be written to. */
 bool rmm_read_rec(rmm_handle *handle, uint64_t rec, rmm_rec *attributes) RMM_NO_NULL;
+
+/* ---- lines of traces, as `rmi_granule_delegate 0x80000000`, `state 0x80000000`, `platform 0x80000000 64 aux 1` */
+
+/* Performs a line, and writes our answer to it: the text that `rmitrace answer` puts after ` = `. A zero ends the text,
+ * and a text without enough room is cut before it. Returns the length of the whole text: 0 for a comment, an empty line,
+ * and a platform. An answer that the line has is ignored.
+ *
+ * A platform gives the handle a fresh machine, also a closed one. On a closed handle any other question is no command.
+ * RMM_NOT_ANSWERED if allocation failed: nothing is written, and the line was performed or nothing has changed. The
+ * memory of a text is given back.
+ * Required: handle; `line` is not NULL and points to `length` bytes, without the line feed; `answer` is not NULL, not even
+ * if `capacity` is 0, and points to `capacity` bytes that may be written to. */
+uint64_t rmm_line(rmm_handle *handle, const void *line, size_t length, void *answer, size_t capacity) RMM_NO_NULL;
+
+#define RMM_NOT_ANSWERED 0xffffffffffffffff
+
+/* Room for the text of each answer, and its zero. */
+#define RMM_ANSWER_SIZE 2048
 
 #ifdef __cplusplus
 }

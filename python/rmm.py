@@ -9,6 +9,7 @@
         rmm.store(0x80014000, RealmParams(s2sz=33, vmid=1))
         rmm.load(0x80014008, 1)                            # b'!'
         rmm.smc(0xC4000151, 0x80010000)                    # [1, 0, 0, 0, 0]
+        rmm.line("state 0x80010000")                       # 'DELEGATED': a line of a trace
 
 A method has the name of a function of include/rmm.h or include/rmm_commands.h. A command returns its Answer. With
 `raises=True` an answer that is not RMI_SUCCESS is raised as `Refused`, and a load or store that faults as `Fault`. A
@@ -40,6 +41,11 @@ STEPS = (
     "write", "read", "host_call", "set_ripas", "cpu_on", "affinity_info", "cpu_off", "cpu_suspend", "system_off",
     "system_reset", "wfi", "wfe", "spin", "fetch", "sysreg",
 )
+# Of a step with operands how many it has, at least and at most.
+OPERANDS = {
+    "write": (2, 3), "read": (1, 2), "host_call": (1, 4), "set_ripas": (3, 4), "cpu_on": (3, 3),
+    "affinity_info": (2, 2), "fetch": (1, 1), "sysreg": (2, 2),
+}
 RESULTS = ("done", "read", "sea", "accepted", "rejected", "returned", "psci", "rsi_error_input")
 LAYOUTS = {"rel0": 0, "eac5": 1}
 QUEUED = ("queued", "full", "no REC")
@@ -60,6 +66,8 @@ CHECKS = (
 REFUSALS = (0x1, 0x2, 0x3, 0x4, 0x102, 0x104, 0x204, 0x304)
 # The answers of rmm_open.
 OPENED, NO_MACHINE, NO_MEMORY = 0, 1, 2
+# The room for the answer to a line, and what rmm_line returns where there is no memory.
+ANSWER_SIZE, NOT_ANSWERED = 2048, MOST
 
 # The defaults of rmm_settings, in the sequence of its fields.
 NUMBERS = {
@@ -288,9 +296,13 @@ _Step = _structure("_Step", *_numbers("kind", "a", "b", "c", "d"))
 _Result = _structure("_Result", *_numbers("kind", "value"))
 _REALM = ("state", "hash_algo", "s2sz", "rtt_level_start", "rtt_num_start", "rtt_base", "vmid", "next_rec", "rec_count")
 _Realm = _structure("_Realm", *_numbers(*_REALM), ("rim", ctypes.c_uint8 * 64))
-_REC = ("state", "mpidr", "ripas_base", "ripas_top", "ripas_value", "step_count", "result_count")
-_Rec = _structure("_Rec", *_numbers(*_REC), ("is_runnable", _BOOL), ("is_psci_pending", _BOOL))
+_REC = (
+    "state", "mpidr", "ripas_base", "ripas_top", "ripas_value", "step_count", "result_count", "is_runnable",
+    "is_psci_pending",
+)
+_Rec = _structure("_Rec", *_numbers(*_REC))
 
+_LINE = ctypes.c_char_p, ctypes.c_size_t, ctypes.c_char_p, ctypes.c_size_t
 # Of each function its result, and its parameters after the handle.
 _FUNCTIONS = {
     "open": (_U64, _TO(_Settings)), "close": (None,), "smc": (None, _TO(_Registers)),
@@ -299,7 +311,7 @@ _FUNCTIONS = {
     "guest": (_U64, _U64, _TO(_Step)), "interrupt": (_BOOL, _U64, _TO(_U64)),
     "result": (_BOOL, _U64, _U64, _TO(_Result)), "read_state": (_BOOL, _U64, _TO(_U64)),
     "read_word": (_BOOL, _U64, _U64, _TO(_U64)), "read_realm": (_BOOL, _U64, _TO(_Realm)),
-    "read_rec": (_BOOL, _U64, _TO(_Rec)),
+    "read_rec": (_BOOL, _U64, _TO(_Rec)), "line": (_U64, *_LINE),
 }
 
 
@@ -466,7 +478,15 @@ class Rmm:
     # ---- guests
 
     def guest(self, rec, step, *operands):
-        """Gives the guest of a REC a step, by its name in STEPS. Returns 'queued', 'full' or 'no REC'."""
+        """Gives the guest of a REC a step, by its name in STEPS. Returns 'queued', 'full' or 'no REC'.
+
+        OPERANDS has how many operands a step has; one that is left out is 0. Too few or too many are a TypeError.
+        """
+        if step not in STEPS:
+            raise ValueError(f"no step is named {step!r}")
+        least, most = OPERANDS.get(step, (0, 0))
+        if not least <= len(operands) <= most:
+            raise TypeError(f"{step} has {least} to {most} operands, and not {len(operands)}")
         it = _Step(STEPS.index(step), *map(_number, operands))
         return QUEUED[self._call("guest", _number(rec), ctypes.byref(it))]
 
@@ -475,7 +495,9 @@ class Rmm:
         word = _U64()
         if not self._call("interrupt", _number(rec), ctypes.byref(word)):
             return None
-        return Answer(word.value, exit=None if word.value else self._exit(self._runs[rec]))
+        # (an entry that a line made has a run page that is not known here)
+        run = self._runs.pop(rec, None)
+        return Answer(word.value, exit=None if word.value or run is None else self._exit(run))
 
     def results(self, rec):
         """The results since the last entry of a REC, each with its value, as ('read', 5)."""
@@ -483,6 +505,24 @@ class Rmm:
         while self._call("result", _number(rec), len(found), ctypes.byref(result)):
             found.append((RESULTS[result.kind], result.value))
         return found
+
+    # ---- lines of traces
+
+    def line(self, text):
+        """The answer to a line of a trace, as 'RMI_SUCCESS'; '' to a comment, and to a platform: a fresh machine."""
+        line, room = text.encode(errors="surrogateescape"), ctypes.create_string_buffer(ANSWER_SIZE)
+        count = self._call("line", line, len(line), room, len(room))
+        if count == NOT_ANSWERED:
+            raise MemoryError("there is no memory for the answer")
+        return room.raw[:count].decode()
+
+    def lines(self, lines):
+        """Each line of a trace with our answer, as `rmitrace answer` prints it. It performs one line after another."""
+        for text in lines:
+            text = text.rstrip("\n")
+            bare = text.partition("#")[0].rstrip(" \r")
+            question, answer = bare.partition(" = ")[0], self.line(text)
+            yield question + (f" = {answer}" if answer else "") + text[len(bare) :]
 
     # ---- readings, which no host has
 
@@ -510,7 +550,7 @@ class Rmm:
         it = _Rec()
         if not self._call("read_rec", _number(rec), ctypes.byref(it)):
             return None
-        flags = it.is_runnable, it.is_psci_pending
+        flags = bool(it.is_runnable), bool(it.is_psci_pending)
         ripas = it.ripas_base, it.ripas_top, RIPAS[it.ripas_value]
         return Rec(REC_STATES[it.state], it.mpidr, *flags, *ripas, it.step_count, it.result_count)
 

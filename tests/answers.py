@@ -5,6 +5,8 @@ The answers to one plan are compared with one another: `findings` runs it, leave
 import re
 import tomllib
 
+from programs import plan_of
+
 TURNS = re.compile(rb"order = \[[^]]*\]")
 REFUSED = re.compile(rb"plan (20 syntax|21 key|22 step [0-7] \d{1,4}|23 order \d{1,5}|24 limit)\n")
 FREE = re.compile(rb"free (\d+)\n")
@@ -41,8 +43,7 @@ def accepted_alone(plan, text):
         is_underway[build] = step in ("abort", "back") and answer.startswith("ok ")
         order.append(build)
         told.append(f"{line}\n".encode())
-    rows = [f"{key} = {value}" for key, value in {**keys, "order": order}.items()] + [f"[[build]]\nsteps = {its}" for its in steps]
-    return "\n".join(rows).encode(), b"".join([*told, *map_of(text)])
+    return plan_of(steps, **keys, order=order), b"".join([*told, *map_of(text)])
 
 
 def fault_of_a_replay(status, out, err):

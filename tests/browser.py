@@ -10,26 +10,13 @@ import time
 
 BROWSERS = ("chromium", "chromium-browser", "google-chrome")
 FLAGS = [
-    "--headless",
-    "--no-sandbox",
-    "--disable-gpu",
-    "--hide-scrollbars",
-    "--disable-dev-shm-usage",
-    "--no-first-run",
+    "--headless", "--no-sandbox", "--disable-gpu", "--hide-scrollbars", "--disable-dev-shm-usage", "--no-first-run",
     "--remote-debugging-pipe",
 ]
-# The codes by which the protocol names a key: its code, and the number that browsers give it.
+# The numbers that browsers give to keys, by the name of a key in the protocol.
 KEYS = {
-    "ArrowLeft": 37,
-    "ArrowUp": 38,
-    "ArrowRight": 39,
-    "ArrowDown": 40,
-    "Home": 36,
-    "End": 35,
-    "Escape": 27,
-    "Tab": 9,
-    "Enter": 13,
-    " ": 32,
+    "ArrowLeft": 37, "ArrowUp": 38, "ArrowRight": 39, "ArrowDown": 40, "Home": 36, "End": 35, "Escape": 27, "Tab": 9,
+    "Enter": 13, " ": 32,
 }
 
 
@@ -54,14 +41,8 @@ class Browser:
             os.dup2(high[1], 4)
 
         words = [path, *FLAGS, f"--user-data-dir={self.folder.name}", "about:blank"]
-        self.process = subprocess.Popen(
-            words,
-            stdin=subprocess.DEVNULL,
-            stdout=subprocess.DEVNULL,
-            stderr=subprocess.DEVNULL,
-            close_fds=False,
-            preexec_fn=as_three_and_four,
-        )
+        silent = dict.fromkeys(("stdin", "stdout", "stderr"), subprocess.DEVNULL)
+        self.process = subprocess.Popen(words, close_fds=False, preexec_fn=as_three_and_four, **silent)
         os.close(to_browser)
         os.close(from_browser)
         self.session = None

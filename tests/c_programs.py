@@ -2,10 +2,14 @@
 import os
 import re
 import shutil
+import sys
+from pathlib import Path
 from typing import NamedTuple
 
+import pytest
+
 from differences import same
-from programs import TOP, ran
+from programs import TOP, needs, ran
 
 BUILD = TOP / "build"
 COMPILER, CXX = os.environ.get("CC", "cc"), os.environ.get("CXX", "c++")
@@ -31,21 +35,59 @@ def without_comments(path):
     return re.sub(r"/\*.*?\*/", "", path.read_text(), flags=re.S)
 
 
-def first_block(document, language):
-    """The first block of a language in a document."""
-    return re.search(rf"^```{language}\n(.*?)^```$", (TOP / document).read_text(), re.M | re.S)[1]
+def names_of(header):
+    """The names that a header gives to a program: macros, types, functions and constants."""
+    text = without_comments(header)
+    found = re.findall(r"^#define (\w+)|^\} (\w+);|^typedef struct (\w+)|^\w[\w ]*?[ *]+(\w+)\(", text, re.M)
+    constants = re.findall(r"(\w+)(?: = \w+)?\s*(?:,|$)", "\n".join(re.findall(r"enum \{(.*?)\}", text, re.S)), re.M)
+    return {it for names in found for it in names if it} | set(constants)
+
+
+def has_compiler(*libraries):
+    """Marks of the tests of a file: there is a C compiler, and these libraries are built."""
+    return [pytest.mark.skipif(not shutil.which(COMPILER), reason=f"there is no C compiler ({COMPILER})"), needs(*libraries)]
+
+
+class Room:
+    """A folder with compiled programs. With `is_all` the tests are those of `make c-test`."""
+
+    def __init__(self, folder, is_all):
+        self.folder, self.is_all = Path(folder), is_all
+
+    def compiled(self, name, sources, *flags, compiler=COMPILER, standard="-std=c11", common=FLAGS):
+        """A program of some sources and libraries."""
+        to = self.folder / name
+        ran([compiler, standard, *common, *flags, *sources, "-o", to])
+        return to
+
+    def from_text(self, name, text, *libraries, **how):
+        """A program of this text, which is in C unless its name ends otherwise."""
+        source = self.folder / name
+        source.write_text(text)
+        return self.compiled(source.stem, [source, *libraries], **how)
 
 
 class Library(NamedTuple):
-    """A library for C: its name, the types of C of those in its crate, and the crate's handle, whose fields no program has."""
+    """A library for C: its name, the types of C of those in its crate, and the crate's handle, whose fields no program has; its
+    document, and what the first program there prints."""
 
     name: str
     of_c: dict
     handle: str
+    document: str
+    said: str
 
     @property
     def header(self):
         return TOP / f"include/{self.name}.h"
+
+    @property
+    def static(self):
+        return BUILD / f"lib{self.name}.a"
+
+    @property
+    def shared(self):
+        return BUILD / f"lib{self.name}.so.0"
 
     def sources(self):
         return [file.read_text() for file in sorted(TOP.glob(f"crates/{self.name}_c/src/*.rt"))]
@@ -98,20 +140,33 @@ class Library(NamedTuple):
         of_crate, of_header = self.structures()
         same("the structures of the header", of_header, of_crate)
         if shutil.which("nm"):
-            static, shared = BUILD / f"lib{self.name}.a", BUILD / f"lib{self.name}.so.0"
-            same(f"what {static.name} exports", {it for it in symbols(static) if it.startswith(f"{self.name}_")}, set(wanted))
-            same(f"what {shared.name} exports", symbols(shared, "-D"), set(wanted))
+            same("what the static library exports", {it for it in symbols(self.static) if it.startswith(f"{self.name}_")}, set(wanted))
+            same("what the shared library exports", symbols(self.shared, "-D"), set(wanted))
         return wanted
 
-    def linked(self, folder, text, pkgconfig, libraries):
-        """What a program of C prints, linked with the shared library by what pkg-config says of these folders."""
-        where = {**os.environ, "PKG_CONFIG_PATH": os.fspath(pkgconfig), "LD_LIBRARY_PATH": os.fspath(libraries)}
-        source, to = folder / "linked.c", folder / "linked"
-        source.write_text(text)
-        ran([COMPILER, source, *ran(["pkg-config", "--cflags", "--libs", self.name], env=where).split(), "-o", to])
-        return ran([to], env=where)
+    def first(self, language):
+        """The first program of a language in the document."""
+        return re.search(rf"^```{language}\n(.*?)^```$", (TOP / self.document).read_text(), re.M | re.S)[1]
 
-    def install(self, folder):
-        """What `make install-c-library` puts below a folder: its PREFIX there, and the environment for Python."""
-        ran(["make", "-s", "-C", TOP, "install-c-library", f"DESTDIR={folder}", "PREFIX=/usr"])
-        return folder / "usr", {**os.environ, "PYTHONPATH": f"{folder}/usr/share/realmhost/python"}
+    def of_document(self, room, status=0):
+        """The first program in C prints what the document says. Returns the lines that the first one in Python prints."""
+        same("the program in C", ran([room.from_text("mine.c", self.first("c"), self.static)]), self.said)
+        return ran([sys.executable, "-c", self.first("python")], status, env=with_python(TOP / "python")).splitlines()
+
+    def linked(self, room, pkgconfig=BUILD, libraries=BUILD):
+        """The first program in C is linked with the shared library by what pkg-config says of these folders."""
+        where = {**os.environ, "PKG_CONFIG_PATH": os.fspath(pkgconfig), "LD_LIBRARY_PATH": os.fspath(libraries)}
+        words = ran(["pkg-config", "--cflags", "--libs", self.name], env=where).split()
+        same("the linked program", ran([room.from_text("linked.c", self.first("c"), *words, common=[])], env=where), self.said)
+
+    def installed(self, room, script, said):
+        """What `make install-c-library` puts below a folder is enough to link the first program, and for a script in Python."""
+        ran(["make", "-s", "-C", TOP, "install-c-library", f"DESTDIR={room.folder}", "PREFIX=/usr"])
+        below = room.folder / "usr"
+        self.linked(room, below / "lib/pkgconfig", below / "lib")
+        same("the program in Python", ran([sys.executable, "-c", script], env=with_python(below / "share/realmhost/python")), said)
+
+
+def with_python(folder):
+    """The environment of a program in Python that imports what is in a folder."""
+    return {**os.environ, "PYTHONPATH": os.fspath(folder)}

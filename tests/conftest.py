@@ -56,6 +56,12 @@ def check():
     return Checks()
 
 
+@pytest.fixture(scope="module")
+def room(request, tmp_path_factory):
+    """A folder with the compiled programs of a file of tests, which has a class `Room`."""
+    return request.module.Room(tmp_path_factory.mktemp("room"), getattr(request, "param", False))
+
+
 @pytest.hookimpl(tryfirst=True)
 def pytest_pyfunc_call(pyfuncitem):
     """Runs a test that checks, and ends it with what has failed."""

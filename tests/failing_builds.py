@@ -2,6 +2,7 @@
 
 The texts are worked out here by the rules: every step is accepted, and an abort undoes what is open, newest first.
 """
+from programs import plan_of
 
 # The steps that open an act, by their word; the reverse of an act has the same word.
 OPENING = {"take", "delegate", "realm", "rtt", "data", "rec"}
@@ -67,10 +68,9 @@ def failing_build(done):
     order = [0, 1, 2] * len(life(0)) + [1] * TURNS_TO_ABORT
     rest = [iter(its) for its in lines]
     turns = "".join(next(rest[build], f"{build} - idle") + "\n" for build in order)
-    builds = "".join(f"[[build]]\nsteps = {steps}\n" for steps in (lives[0], lives[1] + exits + ["abort"], lives[2]))
-    plan = f"pages = 24\naux = 1\norder = {order}\n{builds}"
+    plan = plan_of([lives[0], lives[1] + exits + ["abort"], lives[2]], pages=24, aux=1, order=order)
     left = MAP_OF_THE_OTHERS.format(vmid=vmid)
-    return plan.encode(), (turns + left).encode(), left.encode()
+    return plan, (turns + left).encode(), left.encode()
 
 
 def failing_builds():

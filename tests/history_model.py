@@ -7,29 +7,8 @@ build leases and which granule is which REC, is kept here, from the events. What
 from collections.abc import Iterator
 
 from second_machine import Entry, Realm
-from second_monitor import COVERED, Monitor
+from second_monitor import COVERED, Monitor, line_of
 
-# The command of each event, by its word. The numbers in braces are places in the event, as REALMVIEW.md has them.
-COMMANDS = {
-    "fill": "host_fill {0} {1}",
-    "peek": "host_peek {0} {1}",
-    "delegate": "granule_delegate {0}",
-    "undelegate": "granule_undelegate {0}",
-    "realm": "realm_create {0} {1} {3} {2}",
-    "unrealm": "realm_destroy {0}",
-    "activate": "realm_activate {rd}",
-    "rtt": "rtt_create {rd} {0} {1} {2}",
-    "unrtt": "rtt_destroy {rd} {1} {2}",
-    "ripas": "rtt_init_ripas {rd} {0} {1}",
-    "data": "data_create {rd} {0} {1} {2}",
-    "unknown": "data_create_unknown {rd} {0} {1}",
-    "undata": "data_destroy {rd} {1}",
-    "rec": "rec_create {rd} {0} {auxiliaries}",
-    "unrec": "rec_destroy {0}",
-    "enter": "rec_enter {rec}",
-    "exit": "rec_exit {rec}",
-    "poke": "guest_write {rec} {1} {2} {3}",
-}
 # What an event tells that the monitor answered, by its place.
 ANSWERED = {"peek": 2, "rec": 1}
 
@@ -58,9 +37,8 @@ class HistoryModel:
         if word in ("take", "untake"):
             self.lease(event, build, word, range(numbers[1], numbers[1] + 2 ** numbers[0]))
             return
-        named = {"rd": self.rds[build], "rec": self.recs[build].get(numbers[0]) if numbers else None, "auxiliaries": " ".join(map(str, numbers[2:]))}
         wanted = f"0 {numbers[ANSWERED[word]]}" if word in ANSWERED else "0"
-        self.command(event, COMMANDS[word].format(*numbers, **named).strip(), wanted)
+        self.command(event, line_of(word, numbers, self.rds[build], self.recs[build].get(numbers[0]) if numbers else None), wanted)
         if word in ("realm", "unrealm"):
             self.rds[build], self.recs[build] = numbers[0] if word == "realm" else None, {}
         elif word == "rec":

@@ -1,18 +1,16 @@
 """Plans for `tests/test_page.py`: machines of many pages, with builds that use them all."""
+from programs import plan_of
 
 
-def text_of(pages, order, builds, title="", aux=0):
+def text_of(pages, order, builds, title=""):
     comment = f"# {title}\n" if title else ""
-    tables = "".join("[[build]]\nsteps = [{}]\n".format(", ".join(f'"{step}"' for step in steps)) for steps in builds)
-    return f"{comment}pages = {pages}\naux = {aux}\norder = {order}\n{tables}".encode()
+    return comment.encode() + plan_of(builds, pages=pages, order=order)
 
 
 def in_rotation(builds, more=0):
     """Turns for all steps, one of each build after the other, and `more` for each behind them."""
     most = max(map(len, builds))
-    return [b for turn in range(most) for b, steps in enumerate(builds) if turn < len(steps)] + list(
-        range(len(builds))
-    ) * more
+    return [b for turn in range(most) for b, steps in enumerate(builds) if turn < len(steps)] + [*range(len(builds))] * more
 
 
 def life(order, mapped, value):
@@ -38,52 +36,13 @@ def of_4096_pages():
 def of_written_pages():
     """Two builds of which each step writes, clears or moves bytes: fill, delegate, data, poke, undo and abort."""
     one = [
-        "take 3",
-        "fill 5 7",
-        "fill 6 9",
-        "delegate 6",
-        "undo",
-        "delegate 0",
-        "delegate 1",
-        "delegate 2",
-        "delegate 3",
-        "delegate 4",
-        "delegate 7",
-        "realm 0 1",
-        "rtt 2 0 2",
-        "rtt 3 0 3",
-        "data 4 0 5",
-        "fill 5 1",
-        "rec 7",
-        "activate",
-        "enter 0",
-        "poke 0 0 9 1",
-        "poke 0 0 9 255",
-        "poke 0 0 10 0",
-        "peek 4 9",
-        "exit 0",
-        "mark",
-        "delegate 6",
-        "unknown 6 1",
-        "back",
-        "undo",
-        "undo",
-        "peek 4 0",
-        "abort",
+        "take 3", "fill 5 7", "fill 6 9", "delegate 6", "undo", *(f"delegate {page}" for page in (0, 1, 2, 3, 4, 7)), "realm 0 1",
+        "rtt 2 0 2", "rtt 3 0 3", "data 4 0 5", "fill 5 1", "rec 7", "activate", "enter 0", "poke 0 0 9 1", "poke 0 0 9 255",
+        "poke 0 0 10 0", "peek 4 9", "exit 0", "mark", "delegate 6", "unknown 6 1", "back", "undo", "undo", "peek 4 0", "abort",
     ]
     two = [
-        "take 1",
-        "fill 0 255",
-        "take 0",
-        "fill 2 3",
-        "undo",
-        "take 2",
-        "peek 2 0",
-        "fill 3 4",
-        "delegate 3",
-        "fill 3 1",
-        "delegate 3",
-        "abort",
+        "take 1", "fill 0 255", "take 0", "fill 2 3", "undo", "take 2", "peek 2 0", "fill 3 4", "delegate 3", "fill 3 1",
+        "delegate 3", "abort",
     ]
     return text_of(16, in_rotation([one, two]) + [0, 1] * 14, [one, two])
 
@@ -94,9 +53,4 @@ def of_each_build():
     return text_of(16, in_rotation(builds), builds)
 
 
-PLANS = {
-    "128-pages": of_128_pages,
-    "4096-pages": of_4096_pages,
-    "written-pages": of_written_pages,
-    "each-build": of_each_build,
-}
+PLANS = {"128-pages": of_128_pages, "4096-pages": of_4096_pages, "written-pages": of_written_pages, "each-build": of_each_build}

@@ -11,14 +11,10 @@ import re
 from collections.abc import Iterator
 from typing import NamedTuple
 
-from second_monitor import Monitor
+from second_machine import map_of
+from second_monitor import REVERSES, Monitor
 
 MOST_BUILDS, ROOM, MOST_OPERATIONS, GRANULES = 8, 16384, 512, 4096
-# Commands that a host can take back, and the reverse of each.
-REVERSES = {
-    "granule_delegate": "undelegate", "realm_create": "unrealm", "rtt_create": "unrtt", "data_create": "undata",
-    "data_create_unknown": "undata", "rec_create": "unrec",
-}
 DESTROYING = ("granule_undelegate", "realm_destroy", "rtt_destroy", "data_destroy", "rec_destroy")
 OF_AN_RD = (
     "realm_create", "realm_activate", "realm_destroy", "rtt_create", "rtt_destroy", "rtt_init_ripas", "data_create",
@@ -162,21 +158,18 @@ class Following:
         self.history.append(f"{build} {event}")
         if word in DESTROYING:
             self.open[build].pop()
-        elif word in REVERSES:
-            words = event.split(" ")[1:]
-            self.open[build].append(" ".join([REVERSES[word], *(words[:2] if word.startswith("data_") else words)]))
+            return
+        kind, *words = event.split(" ")
+        if kind in REVERSES:
+            self.open[build].append(" ".join([REVERSES[kind], *(words[:2] if word.startswith("data_") else words)]))
 
     def map(self) -> str:
         """What `apply` prints: each build's pages, and its realm."""
-        rows = []
+        all_granules, maps = self.monitor.machine.granules, []
         for build, granules in self.taken.items():
-            for page, granule in enumerate(granules):
-                it = self.monitor.machine.granules[granule]
-                has_bytes = it.state in ("UNDELEGATED", "DATA")
-                rows.append(f"{build} page {page} {it.state}{f' {sum(it.page)}' if has_bytes else ''}")
-            realms = (self.monitor.machine.granules[rd].realm for rd, of in self.builds.items() if of == build)
-            rows += [f"{build} realm {it.state} vmid {it.vmid}" for it in realms if it]
-        return "".join(f"{it}\n" for it in [*rows, "free 0"])
+            realm = next((all_granules[rd].realm for rd, of in self.builds.items() if of == build), None)
+            maps.append(map_of(build, [all_granules[it] for it in granules], realm))
+        return "".join(maps) + "free 0\n"
 
     def text(self, *more: str) -> str:
         return "".join(f"{it}\n" for it in [*self.history, *more])

@@ -1,7 +1,9 @@
 """The built programs, the repository's plans, and how the tests run them."""
 import importlib.machinery
 import importlib.util
+import json
 import os
+import resource
 import shlex
 import shutil
 import subprocess
@@ -57,6 +59,26 @@ def ran(words, status=0, **how):
     return said
 
 
+def limited(*limits):
+    """What a process does before it becomes a program: of each of these resources it has so much at most."""
+    return lambda: [resource.setrlimit(of, (most, most)) for of, most in limits]
+
+
+# Too little memory for the pages of a large machine alone.
+LITTLE_MEMORY = {"preexec_fn": limited((resource.RLIMIT_AS, 1 << 24))}
+
+
+def of_devices(program, words, given):
+    """How a program ends where a device fails: a name for each, the outcome, and the wanted one."""
+    for name, text, how in (
+        ("a folder as standard input", None, {"stdin": os.open(TOP, os.O_RDONLY)}),
+        ("a closed standard input", None, {"preexec_fn": lambda: os.close(0)}),
+        ("a full standard output", given, {"stdout": open("/dev/full", "wb")}),
+        ("a closed standard output", given, {"preexec_fn": lambda: os.close(1)}),
+    ):
+        yield f"{words}: {name}", run(program, words, text, **how), Ran(5, b"", b"device\n")
+
+
 def module_of(path):
     """A script as a module."""
     loader = importlib.machinery.SourceFileLoader(path.name, str(path))
@@ -73,6 +95,25 @@ def files(*folders, suffix="toml"):
 def named(path):
     """The name of a test over a file: its path without the suffix."""
     return os.fspath(path.relative_to(TOP).with_suffix("")).removeprefix("tests/")
+
+
+def fault_at(path):
+    """A refusal of tests/faults: the words that realmhost is given, its input, and the outcome."""
+    head, err = path.read_bytes().split(b"\n", 1)
+    args, given = path.with_suffix(".args"), path.with_suffix(".toml")
+    words = args.read_bytes().split(b"\n")[:-1] if args.exists() else [b"replay"]
+    return words, given.read_bytes() if given.exists() else b"", Ran(int(head.split()[1]), b"", err)
+
+
+def plan_of(builds, **keys):
+    """A plan with these keys, and the steps of each build."""
+    tables = [f"[[build]]\nsteps = {json.dumps([*steps])}" for steps in builds]
+    return "\n".join([*(f"{key} = {it}" for key, it in keys.items()), *tables, ""]).encode()
+
+
+def data_of(page):
+    """The data in a page of `realmview page`."""
+    return json.loads(page[page.index(b'{"run":') :].split(b"</script>", 1)[0])
 
 
 def over(name, *folders, suffix="toml"):

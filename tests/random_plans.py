@@ -10,7 +10,7 @@ from hypothesis import settings
 from hypothesis import strategies as st
 
 from failing_builds import life
-from programs import TOP
+from programs import TOP, plan_of
 
 # Only short plans are changed: in a long one, most changes would meet one step of many that are alike.
 MOST_BYTES = 2000
@@ -159,5 +159,4 @@ def random_plans(draw):
     turns = [build for build, its in enumerate(steps) for _ in range(len(its) + below(draw, 20))]
     draw(st.randoms(use_true_random=False)).shuffle(turns)
     keys = {"pages": draw(one_of(8, 24, 64)), "aux": 1, "vmids": draw(one_of(1, 8)), "history": draw(one_of(24, 1024)), "order": turns}
-    rows = [f"{key} = {value}" for key, value in keys.items()] + [f"[[build]]\nsteps = {its}" for its in steps]
-    return "\n".join(rows).encode(), below(draw, builds)
+    return plan_of(steps, **keys), below(draw, builds)

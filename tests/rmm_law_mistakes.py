@@ -61,6 +61,15 @@ def activate_switches_off(self: realms.RealmActivate) -> Outcome:
     return done()
 
 
+made = realms.RealmCreate.effect
+
+
+def realm_begins_active(self: realms.RealmCreate) -> Outcome:
+    outcome = made(self)
+    self.machine.realm(self.rd).state = "ACTIVE"
+    return outcome
+
+
 def rec_stays_counted(self: recs.RecDestroy) -> Outcome:
     for it in (*self.named.aux, self.rec):
         self.machine.become(it, DELEGATED)
@@ -99,6 +108,7 @@ MISTAKES = {
     "wipe_is_left_out": Mistake(patch.object(realms.GranuleDelegate, "effect", wipe_is_left_out), ("wiped",)),
     "data_is_not_wiped": Mistake(patch.object(Machine, "become", data_is_not_wiped), ("wiped", "secrets", "teardowns")),
     "activate_switches_off": Mistake(patch.object(realms.RealmActivate, "effect", activate_switches_off), ("states",)),
+    "realm_begins_active": Mistake(patch.object(realms.RealmCreate, "effect", realm_begins_active), ("states",)),
     "rec_stays_counted": Mistake(patch.object(recs.RecDestroy, "effect", rec_stays_counted), ("teardowns",)),
     "aux_is_kept": Mistake(patch.object(recs.RecDestroy, "effect", aux_is_kept), ("roles", "teardowns")),
     "exit_shows_registers": Mistake(patch.object(guest, "leave", exit_shows_registers), ("secrets",)),

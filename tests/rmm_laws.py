@@ -141,8 +141,8 @@ def of_teardown(bench: Bench) -> str | None:
         if granule.rec is not None and granule.rec.is_running:
             bench.ask(f"interrupt {here.base + PAGE * number:#x}")
     free = [here.base + PAGE * k for k, it in enumerate(here.granules) if it.state == UNDELEGATED]
-    # One spare granule unfolds a block of 2 MiB; one of 1 GiB takes a second.
-    spares = free[-(3 - here.settings.block_level) :]
+    # One spare granule unfolds a block of 2 MiB, and each page of the block is one more. No machine has 1 GiB.
+    spares = free[-1:]
     for address in spares:
         bench.call("rmi_granule_delegate", [address])
     try:

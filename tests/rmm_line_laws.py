@@ -8,7 +8,7 @@
     wiped     a granule that is delegated or given back is zero
     secrets   two machines that differ in memory and registers of guests answer a host alike
     tops      steps by `top` from address 0 meet each live entry
-    folds     RTT_FOLD after RTT_CREATE leaves all entries and granules as they were
+    folds     RTT_FOLD after RTT_CREATE leaves all entries and granules as they were, and the other way round
 """
 from __future__ import annotations
 
@@ -204,6 +204,9 @@ def of_ripas(line: Line, before: Seen, after: Seen, asked: tuple[int, int, int] 
 
 def of_states(line: Line, before: Seen, after: Seen) -> Iterator[str]:
     by = {("NEW", "ACTIVE"): "rmi_realm_activate", ("ACTIVE", "SYSTEM_OFF"): "rmi_rec_enter"}
+    for rd, realm in after.realms.items():
+        if rd not in before.realms and (realm.state, line.kind) != ("NEW", "rmi_realm_create"):
+            yield f"states: a realm begins as {realm.state}"
     for rd, realm in before.realms.items():
         now = after.realms.get(rd)
         if now is None:
@@ -269,7 +272,7 @@ def of_tops(machine: Machine) -> str | None:
 
 
 def of_folds(bench: Bench, dice: Random) -> str | None:
-    """What is wrong with a table that is made and folded, or none."""
+    """What is wrong with a table that is made, folded and made once more, or none."""
     here = bench.machine
     spares = [k for k, it in enumerate(here.granules) if it.state == DELEGATED]
     places = [
@@ -282,8 +285,12 @@ def of_folds(bench: Bench, dice: Random) -> str | None:
     realm, level, begin = dice.choice(places)
     rtt = here.base + PAGE * dice.choice(spares)
     made = other.call("rmi_rtt_create", [realm.rd, rtt, begin, level + 1])
+    unfolded = [kept(it) for it in other.machine.granules]
     folded = other.call("rmi_rtt_fold", [realm.rd, begin, level + 1])
     if (made.word, folded.word) != (SUCCESS, SUCCESS):
         return f"a table at {begin:#x} is made and folded with {made.word:#x} and {folded.word:#x}"
-    is_same = [kept(it) for it in here.granules] == [kept(it) for it in other.machine.granules]
-    return None if is_same else f"a table at {begin:#x} that is folded leaves something"
+    if [kept(it) for it in here.granules] != [kept(it) for it in other.machine.granules]:
+        return f"a table at {begin:#x} that is folded leaves something"
+    again = other.call("rmi_rtt_create", [realm.rd, folded.outputs["rtt"], begin, level + 1])
+    is_same = again.word == SUCCESS and unfolded == [kept(it) for it in other.machine.granules]
+    return None if is_same else f"a table at {begin:#x} that is folded and made is another one"

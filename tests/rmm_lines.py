@@ -3,6 +3,8 @@
 
     tests/rmm_lines.py < TRACE      the raw operations of a trace
     tests/rmm_lines.py --run        performs raw operations by the second model; the status is 1 where one differs
+    tests/rmm_lines.py --by PROGRAM [WORD ..]       performs the operations of all traces by a program, as by
+                                    `bench/out/cargo/release/plain_rmm lines`, once bench/rmm has built it
 
 An operation is a line: what is done, and after ` = ` the result that it has to have. An operation without a result is
 not compared. Words are separated by one space. Numbers are hexadecimal with small digits, without 0x. HEX is bytes, two
@@ -30,17 +32,19 @@ where no granules are secure.
 """
 from __future__ import annotations
 
+import subprocess
 import sys
-from collections.abc import Iterator
+from collections.abc import Callable, Iterator
 
 sys.dont_write_bytecode = True
+from rmm_logs import paths
 from second_rmm.command import COMMANDS, smc
 from second_rmm.facts import INPUT, PAGE, RUNNING, STATUSES, SUCCESS, Settings, word_of
 from second_rmm.guest import MOST_STEPS, interrupt
 from second_rmm.judge import MASKED, Answer, answer_of, full
 from second_rmm.printing import NAMES
 from second_rmm.reading import PAGES, PSCI_NAMES, machine_of, named, parts_of, step_of
-from second_rmm.machine import Granule, Machine, Rec
+from second_rmm.machine import Granule, Machine, Realm, Rec
 from second_rmm.pages import REC_EXIT
 
 STATES = ("UNDELEGATED", "DELEGATED", "RD", "REC", "REC_AUX", "DATA", "RTT")
@@ -79,6 +83,11 @@ def word(answer: Answer) -> str:
     if index == [NOT_COMPARED]:
         return NOT_COMPARED
     return digits(word_of(STATUSES.index(status), int(index[0]) if index else 0))
+
+
+def turned(answer: str | None, turn: Callable[[str], str]) -> str | None:
+    """An answer in the words of the form. Some are the same there."""
+    return answer if answer in (None, "none", "fault") else turn(answer)
 
 
 def line(*words: str, answer: str | None = None) -> str:
@@ -197,8 +206,7 @@ class Raw:
         yield line("store", value(words[0]), int(words[1], 0).to_bytes(8, "little").hex(), answer=answer)
 
     def load(self, words: list[str], answer: str | None) -> Iterator[str]:
-        came = answer if answer in (None, "fault") else int(answer, 0).to_bytes(8, "little").hex()
-        yield line("load", value(words[0]), "8", answer=came)
+        yield line("load", value(words[0]), "8", answer=turned(answer, lambda it: int(it, 0).to_bytes(8, "little").hex()))
 
     # ---- the guest
 
@@ -216,12 +224,12 @@ class Raw:
         yield from self.exit_fields(self.runs[int(words[0], 0)], came)
 
     def saw(self, words: list[str], answer: str | None) -> Iterator[str]:
-        came = "0" if answer == "nothing" else answer
-        if answer not in (None, "none", "nothing"):
-            results = [(*it.split(" "), "0")[:2] for it in answer.split(", ")]
+        def came(text: str) -> str:
+            results = [(*it.split(" "), "0")[:2] for it in text.split(", ")] if text != "nothing" else []
             pairs = [f"{digits(RESULTS.index(it))} {digits(named(number, PSCI_NAMES))}" for it, number in results]
-            came = " ".join([digits(len(pairs)), *pairs])
-        yield line("saw", value(words[0]), answer=came)
+            return " ".join([digits(len(pairs)), *pairs])
+
+        yield line("saw", value(words[0]), answer=turned(answer, came))
 
     # ---- readings and the platform
 
@@ -233,33 +241,30 @@ class Raw:
         yield line("platform", *map(digits, (*numbers, it.bps, it.wps, it.lrs, *it.secure)))
 
     def state(self, words: list[str], answer: str | None) -> Iterator[str]:
-        yield line("state", value(words[0]), answer=digits(STATES.index(answer)) if answer in STATES else answer)
+        yield line("state", value(words[0]), answer=turned(answer, lambda it: digits(STATES.index(it))))
 
     def sum(self, words: list[str], answer: str | None) -> Iterator[str]:
-        yield line("sum", value(words[0]), answer=answer if answer in (None, "none") else value(answer))
+        yield line("sum", value(words[0]), answer=turned(answer, value))
 
     def realm(self, words: list[str], answer: str | None) -> Iterator[str]:
-        came = answer
-        if answer not in (None, "none"):
-            state, *fields = answer.split(", ")
-            came = " ".join([digits(REALM_STATES.index(state)), *(value(it.split(" ")[1]) for it in fields)])
-        yield line("realm", value(words[0]), answer=came)
+        def came(text: str) -> str:
+            state, *fields = text.split(", ")
+            return " ".join([digits(REALM_STATES.index(state)), *(value(it.split(" ")[1]) for it in fields)])
+
+        yield line("realm", value(words[0]), answer=turned(answer, came))
 
     def rim(self, words: list[str], answer: str | None) -> Iterator[str]:
         yield line("rim", value(words[0]), answer=answer)
 
     def rec(self, words: list[str], answer: str | None) -> Iterator[str]:
-        came = answer
-        if answer not in (None, "none"):
-            state, *fields = answer.split(", ")
+        def came(text: str) -> str:
+            state, *fields = text.split(", ")
             numbers = dict(it.split(" ") for it in fields if " " in it)
-            flag = lambda is_set: "1" if is_set else "0"
-            texts = (
-                flag(state == "RUNNING"), numbers["rd"], numbers["mpidr"], flag("runnable" in fields),
-                flag("pending" in fields), numbers["pc"], numbers["gpr0"],
-            )
-            came = " ".join(map(value, texts))
-        yield line("rec", value(words[0]), answer=came)
+            flags = [str(int(it)) for it in (state == "RUNNING", "runnable" in fields, "pending" in fields)]
+            rd, mpidr, pc, gpr0 = (value(numbers[it]) for it in ("rd", "mpidr", "pc", "gpr0"))
+            return " ".join([flags[0], rd, mpidr, *flags[1:], pc, gpr0])
+
+        yield line("rec", value(words[0]), answer=turned(answer, came))
 
 
 def raw(lines: list[str]) -> Iterator[str]:
@@ -273,6 +278,20 @@ def raw(lines: list[str]) -> Iterator[str]:
 
 
 # ---- raw operations, performed
+
+
+def differing(operations: list[str], results: list[str]) -> Iterator[str]:
+    """The operations whose result is another one than what is written."""
+    return (f"{it} came as {came}" for it, came in zip(operations, results, strict=True) if not is_met(it, came))
+
+
+def differences_by(program: list[str]) -> Iterator[str]:
+    """Of each trace that a program performs otherwise, the first difference."""
+    for path in paths():
+        operations = list(raw(path.read_text().splitlines()))
+        text = "".join(f"{it}\n" for it in operations)
+        results = subprocess.run(program, input=text, capture_output=True, text=True, check=True).stdout.splitlines()
+        yield from (f"{path.stem}: {it}" for it in [*differing(operations, results)][:1])
 
 
 def is_met(operation: str, came: str) -> bool:
@@ -354,24 +373,27 @@ class RawBench:
         it = self.granule(address)
         return digits(sum(it.page)) if it else "none"
 
-    def realm(self, address: str) -> str:
+    def realm_at(self, address: str) -> Realm | None:
         it = self.granule(address)
-        if it is None or it.realm is None:
+        return it and it.realm
+
+    def realm(self, address: str) -> str:
+        it = self.realm_at(address)
+        if it is None:
             return "none"
-        realm = it.realm
-        shape = (realm.s2sz, realm.level, len(realm.tables), realm.tables.start, realm.vmid, realm.next, realm.recs)
-        return " ".join(map(digits, (REALM_STATES.index(realm.state), *shape)))
+        shape = (it.s2sz, it.level, len(it.tables), it.tables.start, it.vmid, it.next, it.recs)
+        return " ".join(map(digits, (REALM_STATES.index(it.state), *shape)))
 
     def rim(self, address: str) -> str:
-        it = self.granule(address)
-        return it.realm.rim[: (32, 64)[it.realm.hash_algo]].hex() if it and it.realm else "none"
+        it = self.realm_at(address)
+        return it.rim[: (32, 64)[it.hash_algo]].hex() if it else "none"
 
     def rec(self, address: str) -> str:
         it = self.rec_at(address)
         if it is None:
             return "none"
-        flags = int(it.is_runnable), int(it.pending is not None)
-        return " ".join(map(digits, (int(it.is_running), it.realm.rd, it.mpidr, *flags, it.pc, it.gprs[0])))
+        flags = it.is_running, it.is_runnable, it.pending is not None
+        return " ".join(map(digits, (flags[0], it.realm.rd, it.mpidr, *flags[1:], it.pc, it.gprs[0])))
 
     def saw(self, address: str) -> str:
         it = self.rec_at(address)
@@ -391,8 +413,10 @@ def differences(operations: list[str]) -> Iterator[tuple[int, str, str]]:
 
 
 def main(words: list[str]) -> int:
-    lines = sys.stdin.read().splitlines()
-    if words == ["--run"]:
+    lines = sys.stdin.read().splitlines() if words[:1] != ["--by"] else []
+    if words[:1] == ["--by"]:
+        told = list(differences_by(words[1:]))
+    elif words == ["--run"]:
         told = [f"operation {number}: {operation}, and here {came}" for number, operation, came in differences(lines)]
     else:
         try:
@@ -401,7 +425,7 @@ def main(words: list[str]) -> int:
             sys.stderr.write(f"rmm_lines: {why}\n")
             return 2
     sys.stdout.write("".join(f"{it}\n" for it in told))
-    return int(words == ["--run"] and bool(told))
+    return int(words != [] and bool(told))
 
 
 if __name__ == "__main__":

@@ -27,6 +27,16 @@ def paths() -> list[Path]:
     return sorted(found, key=lambda path: path.stem.startswith("mixed-") or path.parent.name == "random")
 
 
+def lines_of(path: Path) -> list[str]:
+    return path.with_name(f"{path.name}.trace").read_text().splitlines()
+
+
+def answered_at(lines: list[str], number: int) -> str:
+    """The question and the answer of a line, without its comment; nothing if there is no such line."""
+    it = parts_of(lines[number - 1]) if number <= len(lines) else parts_of("")
+    return f"{it.question} = {it.answer}"
+
+
 def without_answers(text: str) -> str:
     """A trace as a question."""
     parts = map(parts_of, text.splitlines())

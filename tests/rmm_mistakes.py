@@ -5,9 +5,10 @@ A mistake changes methods of the model for a while: `with planted(MISTAKES["acti
 from __future__ import annotations
 
 from collections.abc import Callable, Iterator
-from contextlib import contextmanager
+from contextlib import ExitStack, contextmanager
 from dataclasses import replace
 from typing import Any, NamedTuple
+from unittest.mock import patch
 
 from second_rmm import guest, measurement, realms, recs, tables
 from second_rmm.command import COMMANDS, Check, Checks, Command, Outcome
@@ -36,21 +37,17 @@ def mistake(command: str, text: str) -> Callable[[Callable[[Put], None]], None]:
     return named
 
 
+def short(name: str, command: str, text: str, plant: Callable[[Put], None]) -> None:
+    """A mistake by a single change."""
+    MISTAKES[name] = Mistake(command, text, plant)
+
+
 @contextmanager
 def planted(it: Mistake) -> Iterator[None]:
     """The model makes a mistake."""
-    undone: list[tuple[Any, str, Any]] = []
-
-    def put(owner: Any, name: str, value: Any) -> None:
-        undone.append((owner, name, vars(owner).get(name)))
-        setattr(owner, name, value)
-
-    it.plant(put)
-    try:
+    with ExitStack() as stack:
+        it.plant(lambda owner, name, value: stack.enter_context(patch.object(owner, name, value)))
         yield
-    finally:
-        for owner, name, value in reversed(undone):
-            delattr(owner, name) if value is None else setattr(owner, name, value)
 
 
 # ---- kinds of changes
@@ -94,15 +91,10 @@ def output(name: str, change: Callable[[Any, int], int]) -> Callable[[Any, Outco
 
 # ---- the interface
 
-
-@mistake("RMI_VERSION", "higher is 1.1")
-def version_is_1_1(put: Put) -> None:
-    then(put, "rmi_version", output("higher", lambda _, it: it + 1))
-
-
-@mistake("RMI_FEATURES", "each index has the value of index 0")
-def features_at_each_index(put: Put) -> None:
-    then(put, "rmi_features", output("value", lambda self, _: self.settings.features()))
+short("version_is_1_1", "RMI_VERSION", "higher is 1.1",
+      lambda put: then(put, "rmi_version", output("higher", lambda _, it: it + 1)))
+short("features_at_each_index", "RMI_FEATURES", "each index has the value of index 0",
+      lambda put: then(put, "rmi_features", output("value", lambda self, _: self.settings.features())))
 
 
 # ---- granules
@@ -117,9 +109,8 @@ def delegate_keeps_bytes(put: Put) -> None:
     put(realms.GranuleDelegate, "effect", effect)
 
 
-@mistake("RMI_GRANULE_DELEGATE", "the granule stays UNDELEGATED")
-def delegate_does_nothing(put: Put) -> None:
-    without_effect(put, "rmi_granule_delegate")
+short("delegate_does_nothing", "RMI_GRANULE_DELEGATE", "the granule stays UNDELEGATED",
+      lambda put: without_effect(put, "rmi_granule_delegate"))
 
 
 @mistake("RMI_GRANULE_UNDELEGATE", "a granule of DATA is accepted")
@@ -153,9 +144,8 @@ def create_takes_one_table(put: Put) -> None:
     then(put, "rmi_realm_create", change)
 
 
-@mistake("RMI_REALM_CREATE", "the realm is ACTIVE at once")
-def create_activates(put: Put) -> None:
-    then(put, "rmi_realm_create", lambda self, _: setattr(self.realm, "state", "ACTIVE"))
+short("create_activates", "RMI_REALM_CREATE", "the realm is ACTIVE at once",
+      lambda put: then(put, "rmi_realm_create", lambda self, _: setattr(self.realm, "state", "ACTIVE")))
 
 
 @mistake("RMI_REALM_CREATE", "the measurement leaves s2sz out")
@@ -164,14 +154,10 @@ def rim_without_s2sz(put: Put) -> None:
     put(measurement, "MEASURED_OF_REALM", fields)
 
 
-@mistake("RMI_REALM_CREATE", "the measurement is by SHA-256, whatever was asked")
-def rim_by_sha_256(put: Put) -> None:
-    put(measurement, "HASHES", (measurement.sha256, measurement.sha256))
-
-
-@mistake("RMI_REALM_ACTIVATE", "the realm stays NEW")
-def activate_does_nothing(put: Put) -> None:
-    without_effect(put, "rmi_realm_activate")
+short("rim_by_sha_256", "RMI_REALM_CREATE", "the measurement is by SHA-256, whatever was asked",
+      lambda put: put(measurement, "HASHES", (measurement.sha256, measurement.sha256)))
+short("activate_does_nothing", "RMI_REALM_ACTIVATE", "the realm stays NEW",
+      lambda put: without_effect(put, "rmi_realm_activate"))
 
 
 @mistake("RMI_REALM_ACTIVATE", "a realm that is refused is SYSTEM_OFF")
@@ -207,17 +193,14 @@ def destroy_gives_back_one_table(put: Put) -> None:
     put(realms.RealmDestroy, "effect", effect)
 
 
-@mistake("RMI_REC_AUX_COUNT", "the count is one more")
-def aux_count_is_one_more(put: Put) -> None:
-    then(put, "rmi_rec_aux_count", output("count", lambda _, it: it + 1))
+short("aux_count_is_one_more", "RMI_REC_AUX_COUNT", "the count is one more",
+      lambda put: then(put, "rmi_rec_aux_count", output("count", lambda _, it: it + 1)))
 
 
 # ---- RECs
 
-
-@mistake("RMI_REC_CREATE", "the state of the auxiliary granules is not checked")
-def aux_are_not_checked(put: Put) -> None:
-    left_out(put, "rmi_rec_create", "aux_state")
+short("aux_are_not_checked", "RMI_REC_CREATE", "the state of the auxiliary granules is not checked",
+      lambda put: left_out(put, "rmi_rec_create", "aux_state"))
 
 
 @mistake("RMI_REC_CREATE", "the last auxiliary granule stays DELEGATED")
@@ -229,19 +212,12 @@ def last_aux_is_not_taken(put: Put) -> None:
     then(put, "rmi_rec_create", change)
 
 
-@mistake("RMI_REC_CREATE", "the next REC has the same number")
-def next_does_not_rise(put: Put) -> None:
-    then(put, "rmi_rec_create", lambda self, _: setattr(self.realm, "next", self.realm.next - 1))
-
-
-@mistake("RMI_REC_CREATE", "the REC is not measured")
-def rec_is_not_measured(put: Put) -> None:
-    put(recs, "extend_by_rec", lambda realm, params: None)
-
-
-@mistake("RMI_REC_CREATE", "the REC begins at pc 0")
-def rec_begins_at_0(put: Put) -> None:
-    then(put, "rmi_rec_create", lambda self, _: setattr(self.machine.rec(self.rec), "pc", 0))
+short("next_does_not_rise", "RMI_REC_CREATE", "the next REC has the same number",
+      lambda put: then(put, "rmi_rec_create", lambda self, _: setattr(self.realm, "next", self.realm.next - 1)))
+short("rec_is_not_measured", "RMI_REC_CREATE", "the REC is not measured",
+      lambda put: put(recs, "extend_by_rec", lambda realm, params: None))
+short("rec_begins_at_0", "RMI_REC_CREATE", "the REC begins at pc 0",
+      lambda put: then(put, "rmi_rec_create", lambda self, _: setattr(self.machine.rec(self.rec), "pc", 0)))
 
 
 @mistake("RMI_REC_DESTROY", "the auxiliary granules stay REC_AUX")
@@ -289,19 +265,12 @@ def host_call_returns_nothing(put: Put) -> None:
     put(recs, "begin", begin)
 
 
-@mistake("RMI_REC_ENTER", "a rejected change of RIPAS is accepted")
-def rejection_is_lost(put: Put) -> None:
-    put(guest, "RIPAS_RESPONSE", 0)
-
-
-@mistake("RMI_REC_ENTER", "a guest that turns its REC off can run on")
-def cpu_off_leaves_runnable(put: Put) -> None:
-    put(guest, "STEPS", {**guest.STEPS, "cpu_off": lambda *_: Exit(guest.PSCI, gprs=(guest.CPU_OFF,))})
-
-
-@mistake("RMI_REC_ENTER", "SYSTEM_OFF of a guest leaves the realm ACTIVE")
-def system_off_leaves_active(put: Put) -> None:
-    put(guest, "STEPS", {**guest.STEPS, "system_off": lambda *_: Exit(guest.PSCI, gprs=(guest.SYSTEM_OFF,))})
+short("rejection_is_lost", "RMI_REC_ENTER", "a rejected change of RIPAS is accepted",
+      lambda put: put(guest, "RIPAS_RESPONSE", 0))
+short("cpu_off_leaves_runnable", "RMI_REC_ENTER", "a guest that turns its REC off can run on",
+      lambda put: put(guest, "STEPS", {**guest.STEPS, "cpu_off": lambda *_: Exit(guest.PSCI, gprs=(guest.CPU_OFF,))}))
+short("system_off_leaves_active", "RMI_REC_ENTER", "SYSTEM_OFF of a guest leaves the realm ACTIVE",
+      lambda put: put(guest, "STEPS", {**guest.STEPS, "system_off": lambda *_: Exit(guest.PSCI, gprs=(guest.SYSTEM_OFF,))}))
 
 
 @mistake("RMI_REC_ENTER", "a guest writes at RIPAS EMPTY")
@@ -354,9 +323,8 @@ def walk_begins_in_first_table(put: Put) -> None:
     put(Machine, "walk", lambda self, realm, ipa, level: right(self, realm, ipa % (512 * size(realm.level)), level))
 
 
-@mistake("RMI_RTT_CREATE", "the entries below a block all have its address")
-def block_is_not_spread(put: Put) -> None:
-    put(Entry, "children", lambda self, level: [self] * 512)
+short("block_is_not_spread", "RMI_RTT_CREATE", "the entries below a block all have its address",
+      lambda put: put(Entry, "children", lambda self, level: [self] * 512))
 
 
 @mistake("RMI_RTT_CREATE", "the entries of the new table are EMPTY")
@@ -366,14 +334,10 @@ def new_table_is_empty(put: Put) -> None:
     put(Entry, "children", lambda self, level: right(self._replace(ripas=EMPTY) if is_plain(self) else self, level))
 
 
-@mistake("RMI_RTT_DESTROY", "top is the end of the table that is destroyed")
-def top_ends_at_the_table(put: Put) -> None:
-    then(put, "rmi_rtt_destroy", output("top", lambda self, _: self.ipa + size(self.level - 1)))
-
-
-@mistake("RMI_RTT_DESTROY", "the entry is EMPTY, and not DESTROYED")
-def destroyed_table_is_empty(put: Put) -> None:
-    put(tables, "DESTROYED", EMPTY)
+short("top_ends_at_the_table", "RMI_RTT_DESTROY", "top is the end of the table that is destroyed",
+      lambda put: then(put, "rmi_rtt_destroy", output("top", lambda self, _: self.ipa + size(self.level - 1))))
+short("destroyed_table_is_empty", "RMI_RTT_DESTROY", "the entry is EMPTY, and not DESTROYED",
+      lambda put: put(tables, "DESTROYED", EMPTY))
 
 
 @mistake("RMI_RTT_DESTROY", "the index of a live table is one level above")
@@ -396,19 +360,12 @@ def fold_loses_ripas(put: Put) -> None:
     put(tables.RttFold, "remove", lambda self, entry: right(self, entry._replace(ripas=EMPTY)))
 
 
-@mistake("RMI_RTT_FOLD", "tables whose entries differ are folded")
-def fold_of_any_table(put: Put) -> None:
-    left_out(put, "rmi_rtt_fold", "rtt_homo")
-
-
-@mistake("RMI_RTT_READ_ENTRY", "level is the one that was asked for")
-def read_level_is_asked(put: Put) -> None:
-    then(put, "rmi_rtt_read_entry", output("level", lambda self, _: self.level))
-
-
-@mistake("RMI_RTT_READ_ENTRY", "a DESTROYED entry is EMPTY")
-def read_knows_no_destroyed(put: Put) -> None:
-    then(put, "rmi_rtt_read_entry", output("ripas", lambda _, it: it % 2))
+short("fold_of_any_table", "RMI_RTT_FOLD", "tables whose entries differ are folded",
+      lambda put: left_out(put, "rmi_rtt_fold", "rtt_homo"))
+short("read_level_is_asked", "RMI_RTT_READ_ENTRY", "level is the one that was asked for",
+      lambda put: then(put, "rmi_rtt_read_entry", output("level", lambda self, _: self.level)))
+short("read_knows_no_destroyed", "RMI_RTT_READ_ENTRY", "a DESTROYED entry is EMPTY",
+      lambda put: then(put, "rmi_rtt_read_entry", output("ripas", lambda _, it: it % 2)))
 
 
 @mistake("RMI_RTT_MAP_UNPROTECTED", "the attributes of the descriptor are lost")
@@ -419,9 +376,8 @@ def descriptor_is_an_address(put: Put) -> None:
     then(put, "rmi_rtt_map_unprotected", change)
 
 
-@mistake("RMI_RTT_UNMAP_UNPROTECTED", "the mapping stays")
-def unmap_does_nothing(put: Put) -> None:
-    without_effect(put, "rmi_rtt_unmap_unprotected")
+short("unmap_does_nothing", "RMI_RTT_UNMAP_UNPROTECTED", "the mapping stays",
+      lambda put: without_effect(put, "rmi_rtt_unmap_unprotected"))
 
 
 # ---- pages and RIPAS
@@ -481,9 +437,8 @@ def destroyed_page_keeps_bytes(put: Put) -> None:
     put(tables.DataDestroy, "effect", effect)
 
 
-@mistake("RMI_DATA_DESTROY", "top is the next page")
-def top_is_the_next_page(put: Put) -> None:
-    then(put, "rmi_data_destroy", output("top", lambda self, _: self.ipa + PAGE))
+short("top_is_the_next_page", "RMI_DATA_DESTROY", "top is the next page",
+      lambda put: then(put, "rmi_data_destroy", output("top", lambda self, _: self.ipa + PAGE)))
 
 
 @mistake("RMI_RTT_INIT_RIPAS", "it goes one entry too far")
@@ -506,9 +461,8 @@ def init_is_measured_once(put: Put) -> None:
     put(tables.RttInitRipas, "effect", effect)
 
 
-@mistake("RMI_RTT_SET_RIPAS", "the request of the REC does not advance")
-def request_does_not_advance(put: Put) -> None:
-    then(put, "rmi_rtt_set_ripas", lambda self, _: setattr(self.asking.asked, "base", self.base))
+short("request_does_not_advance", "RMI_RTT_SET_RIPAS", "the request of the REC does not advance",
+      lambda put: then(put, "rmi_rtt_set_ripas", lambda self, _: setattr(self.asking.asked, "base", self.base)))
 
 
 @mistake("RMI_RTT_SET_RIPAS", "pages that are mapped are refused")

@@ -15,6 +15,7 @@ from pathlib import Path
 from typing import NamedTuple
 
 sys.dont_write_bytecode = True
+from rmm_logs import answered_at, lines_of
 from second_rmm.bench import Bench
 from second_rmm.command import COMMANDS
 from second_rmm.facts import STATUSES, Settings
@@ -50,15 +51,9 @@ def rows_of(text: str) -> Iterator[Row]:
             yield Row(named or command, check, trace, int(number), asked, named is not None)
 
 
-def lines_of(trace: str) -> list[str]:
-    return (TRACES / f"{trace}.trace").read_text().splitlines()
-
-
 def all_checks() -> set[tuple[str, str]]:
     """Each check of each command."""
-    nowhere = Machine(0, 1, Settings())
-    made = ((name, it(nowhere, *[0] * len(it.operands))) for name, it in COMMANDS.items())
-    return {(name, check.name) for name, it in made for check in it.checks()}
+    return {(it.command, it.check) for it in modelled()}
 
 
 def answer_to(lines: list[str], without: set[tuple[str, str]]) -> str:
@@ -78,12 +73,11 @@ def bare(answer: str) -> tuple[list[str], dict[str, list[str]]]:
 
 def finding(row: Row) -> str | None:
     """What is wrong with a row, or none."""
-    lines, what = lines_of(row.trace), f"{row.command} {row.check}: line {row.number} of {row.trace}.trace"
-    asked = parts_of(lines[row.number - 1]) if row.number <= len(lines) else parts_of("")
-    if f"{asked.question} = {asked.answer}" != row.text:
+    lines, what = lines_of(TRACES / row.trace), f"{row.command} {row.check}: line {row.number} of {row.trace}.trace"
+    if answered_at(lines, row.number) != row.text:
         return f"{what} is not {row.text!r}"
     here = answer_to(lines[: row.number], set())
-    if here != asked.answer or answer_of(here).check != row.check:
+    if here != parts_of(lines[row.number - 1]).answer or answer_of(here).check != row.check:
         return f"{what} is answered {here}"
     other = answer_to(lines[: row.number], {(row.command, row.check)})
     is_same = bare(here) == bare(other)

@@ -9,14 +9,18 @@ from __future__ import annotations
 from dataclasses import dataclass, replace
 from functools import lru_cache
 
-from second_monitor import Monitor
+from second_machine import map_of as map_lines
+from second_monitor import REVERSES, Monitor, line_of
 
 MOST_OPEN, HIGHEST_ORDER = 512, 9
 PAIRED = ("take", "delegate", "realm", "rtt", "data", "unknown", "rec")
 # The room that a step takes; 1 for any other command.
 ROOM = {**dict.fromkeys(PAIRED, 2), "enter": 2, "exit": 0}
 OF_A_REALM = ("rtt", "ripas", "data", "unknown", "rec", "activate", "enter", "exit", "poke")
-WITH_SUM = ("UNDELEGATED", "DATA")
+# The places of pages among the numbers of a step. A realm and a REC have more of them.
+PAGES = {**dict.fromkeys(("fill", "peek", "delegate", "rtt", "unknown"), (0,)), "data": (0, 2), "realm": (0, 1), "rec": range(17)}
+# How many numbers of an event are kept of an open operation.
+KEPT = {"delegate": 1, "realm": 1, "rtt": 3, "data": 2, "unknown": 2, "rec": 1}
 INPUT = "no 13 Rmi 1 0"
 
 
@@ -175,19 +179,12 @@ class Turn:
             return "no 8 RecRunning"
         rd, _ = self.realm()
         word, granule, *more = newest
-        lines = {
-            "take": [f"host_fill {it} 0" for it in range(granule, granule + 2 ** (more[0] if more else 0))],
-            "delegate": [f"granule_undelegate {granule}"],
-            "realm": [f"realm_destroy {granule}"],
-            "rtt": [f"rtt_destroy {rd} {' '.join(map(str, more))}"],
-            "data": [f"data_destroy {rd} {more[0] if more else 0}"],
-            "unknown": [f"data_destroy {rd} {more[0] if more else 0}"],
-            "rec": [f"rec_destroy {granule}"],
-        }[word]
+        taken = range(granule, granule + 2 ** more[0]) if word == "take" else ()
+        lines = [f"host_fill {it} 0" for it in taken] or [line_of(REVERSES[word], newest[1:], rd)]
         build = self.build
         if word == "take":
             self.blocks = self.blocks.given(more[0], granule)
-            build = replace(build, pages=build.pages[: len(build.pages) - 2 ** more[0]])
+            build = replace(build, pages=build.pages[: len(build.pages) - len(taken)])
         if word == "realm":
             build = replace(build, vmid=None)
         mark = build.mark if build.mark is not None and build.mark <= len(rest) else None
@@ -228,49 +225,30 @@ class Turn:
 
     def asked(self, word: str, numbers: list[int]) -> str:
         pages, build = self.build.pages, self.build
-        rd, _ = self.realm()
-        of = lambda *them: [pages[it] for it in them]
-        vmid = None
+        granules = [pages[it] if k in PAGES.get(word, ()) else it for k, it in enumerate(numbers)]
+        vmid = rec = None
         if word == "realm":
             vmid = next((it for it in range(1, self.machine.vmids + 1) if it not in self.vmids), None)
             if vmid is None:
                 return "no 12 NoVmid"
-            tables = of(*named(word, numbers)[1:])
+            tables = [pages[it] for it in named(word, numbers)[1:]]
             if tables != list(range(tables[0], tables[0] + len(tables))):
                 return INPUT
-            width = numbers[2] if len(numbers) > 2 else 39
-            line, op = f"realm_create {pages[numbers[0]]} {tables[0]} {vmid} {width}", ("realm", pages[numbers[0]])
-        elif word == "fill":
-            line, op = f"host_fill {pages[numbers[0]]} {numbers[1]}", None
-        elif word == "peek":
-            line, op = f"host_peek {pages[numbers[0]]} {numbers[1]}", None
-        elif word == "delegate":
-            line, op = f"granule_delegate {pages[numbers[0]]}", ("delegate", pages[numbers[0]])
-        elif word == "activate":
-            line, op = f"realm_activate {rd}", None
-        elif word == "rtt":
-            line, op = f"rtt_create {rd} {pages[numbers[0]]} {numbers[1]} {numbers[2]}", ("rtt", pages[numbers[0]], *numbers[1:])
-        elif word == "ripas":
-            line, op = f"rtt_init_ripas {rd} {numbers[0]} {numbers[1]}", None
-        elif word == "data":
-            line, op = f"data_create {rd} {pages[numbers[0]]} {numbers[1]} {pages[numbers[2]]}", ("data", pages[numbers[0]], numbers[1])
-        elif word == "unknown":
-            line, op = f"data_create_unknown {rd} {pages[numbers[0]]} {numbers[1]}", ("unknown", pages[numbers[0]], numbers[1])
+            granules = [*granules[:2], *(numbers[2:] or [39]), vmid]
         elif word == "rec":
-            line, op = " ".join(map(str, ["rec_create", rd, *of(*numbers)])), ("rec", pages[numbers[0]])
-        else:
-            granule = self.rec_granule(numbers[0])
-            if granule is None:
+            granules.insert(1, None)
+        elif word in ("enter", "exit", "poke"):
+            rec = self.rec_granule(numbers[0])
+            if rec is None:
                 return INPUT
-            command = {"enter": "rec_enter", "exit": "rec_exit", "poke": "guest_write"}[word]
-            line, op = " ".join(map(str, [command, granule, *numbers[1:]])), None
+        line = line_of(word, granules, self.realm()[0], rec)
         result, value = asked(self.machine, build.lines, line)
         if result:
             return refused(result)
         # (what is read leaves the machine as it was)
         lines = build.lines if word == "peek" else (*build.lines, line)
-        op = (*op, value) if word == "rec" else op
-        self.build = replace(build, lines=lines, open=(*build.open, op) if op else build.open, vmid=vmid or build.vmid)
+        opened = [(word, *granules[: KEPT[word]], *([value] if word == "rec" else []))] if word in KEPT else []
+        self.build = replace(build, lines=lines, open=(*build.open, *opened), vmid=vmid or build.vmid)
         return "ok"
 
 
@@ -280,9 +258,7 @@ def named(word: str, numbers: list[int]) -> list[int]:
         width = numbers[2] if len(numbers) > 2 else 39
         count = 2 ** (width - 39) if 39 <= width <= 43 else 1
         return [numbers[0], *range(numbers[1], numbers[1] + count)]
-    if word == "rec":
-        return numbers
-    return [numbers[it] for it in {"fill": (0,), "peek": (0,), "delegate": (0,), "rtt": (0,), "data": (0, 2), "unknown": (0,)}.get(word, ())]
+    return [it for k, it in enumerate(numbers) if k in PAGES.get(word, ())]
 
 
 # ---- what is there
@@ -291,12 +267,6 @@ def named(word: str, numbers: list[int]) -> list[int]:
 @lru_cache(None)
 def map_of(machine: Machine, number: int, build: Build) -> str:
     """The lines of the map for a build."""
-    monitor = monitor_after(machine, build.lines).machine
-    rows = []
-    for page, granule in enumerate(build.pages):
-        it = monitor.granules[granule]
-        rows.append(f"{number} page {page} {it.state}{f' {sum(it.page)}' if it.state in WITH_SUM else ''}\n")
+    granules = monitor_after(machine, build.lines).machine.granules
     rd = next((op[1] for op in build.open if op[0] == "realm"), None)
-    if rd is not None:
-        rows.append(f"{number} realm {monitor.granules[rd].realm.state} vmid {build.vmid}\n")
-    return "".join(rows)
+    return map_lines(number, [granules[it] for it in build.pages], None if rd is None else granules[rd].realm)

@@ -6,6 +6,8 @@ from dataclasses import dataclass, field
 
 PAGE, ENTRIES, ZEROS = 4096, 512, bytes(4096)
 KINDS, RIPAS = ("UNASSIGNED", "ASSIGNED", "TABLE"), ("EMPTY", "RAM", "DESTROYED")
+# The states of pages whose bytes are added up in a map.
+WITH_SUM = ("UNDELEGATED", "DATA")
 
 
 @dataclass
@@ -89,3 +91,10 @@ class Machine:
         if name == "rec" and it.rec:
             return " ".join(map(str, ["number", it.rec.number, it.rec.state, "aux", *it.rec.auxiliaries]))
         return "none"
+
+
+def map_of(build: int, granules: list[Granule], realm: Realm | None) -> str:
+    """The lines of a map for a build, by its pages and its realm."""
+    sums = [f" {sum(it.page)}" if it.state in WITH_SUM else "" for it in granules]
+    rows = [f"{build} page {page} {it.state}{of_bytes}\n" for page, (it, of_bytes) in enumerate(zip(granules, sums))]
+    return "".join(rows) + (f"{build} realm {realm.state} vmid {realm.vmid}\n" if realm else "")

@@ -11,7 +11,7 @@ what is allowed with `may_`.
 """
 from __future__ import annotations
 
-from collections.abc import Collection, Generator
+from collections.abc import Collection, Generator, Sequence
 from dataclasses import replace
 from hashlib import sha256
 
@@ -24,10 +24,30 @@ MEASURED = ("rtt_init_ripas", "data_create", "rec_create")
 # Checks that find what is changed: where one of them is off and fails, the command does nothing, and answers 0.
 FINDING = ("inside", "rd", "rec", "level", "walk", "table", "page")
 
+# The command of each event of a history, by its word. The numbers in braces are places in the event, as REALMVIEW.md has them.
+EVENTS = {
+    "fill": "host_fill {0} {1}", "peek": "host_peek {0} {1}", "delegate": "granule_delegate {0}",
+    "undelegate": "granule_undelegate {0}", "realm": "realm_create {0} {1} {3} {2}", "unrealm": "realm_destroy {0}",
+    "activate": "realm_activate {rd}", "rtt": "rtt_create {rd} {0} {1} {2}", "unrtt": "rtt_destroy {rd} {1} {2}",
+    "ripas": "rtt_init_ripas {rd} {0} {1}", "data": "data_create {rd} {0} {1} {2}",
+    "unknown": "data_create_unknown {rd} {0} {1}", "undata": "data_destroy {rd} {1}",
+    "rec": "rec_create {rd} {0} {auxiliaries}", "unrec": "rec_destroy {0}", "enter": "rec_enter {rec}",
+    "exit": "rec_exit {rec}", "poke": "guest_write {rec} {1} {2} {3}",
+}
+# The reverse of each event that has one.
+REVERSES = {
+    "delegate": "undelegate", "realm": "unrealm", "rtt": "unrtt", "data": "undata", "unknown": "undata", "rec": "unrec",
+}
+
 # A check: the word of its rule (None: it cannot be switched off), whether it holds, and else the result word.
 Check = tuple[str | None, bool, int]
 # A command yields its checks. It returns the value that it answers beside its result word, if any.
 Command = Generator[Check, None, int | None]
+
+
+def line_of(word: str, numbers: Sequence[int | None], rd: int | None = None, rec: int | None = None) -> str:
+    """The line of an event, where the build's realm and the REC are these."""
+    return EVENTS[word].format(*numbers, rd=rd, rec=rec, auxiliaries=" ".join(map(str, numbers[2:]))).strip()
 
 
 def rtt(level: int) -> int:

@@ -27,7 +27,7 @@ import subprocess
 import pytest
 
 from answers import TURNS, fault_of_threads, map_of, without
-from programs import HOST, MEMORY, RUNS, SECONDS, TOP, TRACER, VIEW, files, named, needs, over
+from programs import HOST, MEMORY, RUNS, SECONDS, TOP, TRACER, VIEW, fault_at, files, named, needs, over
 
 pytestmark = needs(HOST, TRACER, VIEW, MEMORY)
 PART, MOST_BYTES = 4096, 1 << 20
@@ -135,11 +135,8 @@ def of_trace(path):
 
 
 def of_fault(path):
-    head, err = path.read_bytes().split(b"\n", 1)
-    args, given = path.with_suffix(".args"), path.with_suffix(".toml")
-    words = args.read_bytes().split(b"\n")[:-1] if args.exists() else [b"replay"]
-    plan = given.read_bytes() if given.exists() else b""
-    yield Case(b" ".join(words).decode(errors="replace"), HOST, words, plan, lambda outcome: outcome == (int(head.split()[1]), b"", err))
+    words, plan, wanted = fault_at(path)
+    yield Case(b" ".join(words).decode(errors="replace"), HOST, words, plan, lambda outcome: outcome == wanted)
 
 
 def of_calls():

@@ -8,9 +8,12 @@
   numbers    the checks in the header and in the Python module have the names and the numbers of the definitions
   traces     each answer in traces/rmm comes through C and through Python, and before each call the check that decides it
              and the words that are allowed, as the second model has them; an answer that is another one is found
+  lines      the lines of each trace of traces/ are answered as they are written, through C and through Python
   histories  the same in random histories of tests/random_rmm
-  handles    closed handles, settings out of their range, two machines at once, accesses that a host may not make
-  memory     each allocation of rmm_open is refused in turn; every block is given back, and no other call takes one
+  handles    closed handles, settings out of their range, two machines at once, accesses that a host may not make, and
+             texts without room
+  memory     each allocation of rmm_open and of rmm_line is refused in turn; every block is given back, and no other call
+             takes one
   threads    two handles in two threads answer as one does
   Python     exits, exceptions, closed RMMs, numbers that no register holds
   C++        both headers are C++11
@@ -20,44 +23,43 @@
 """
 import os
 import re
-import shutil
 import sys
 from functools import cached_property
-from pathlib import Path
 
 import pytest
 
-from c_programs import BUILD, COMPILER, CXX, FLAGS, MEMCHECK, WRAPPED, Library, first_block, last_line, without_comments
+import c_programs
+from c_programs import CXX, MEMCHECK, WRAPPED, Library, has_compiler, last_line, names_of
 from differences import same
-from programs import SHARED, STATIC, TOP, needs, parts, ran
+from programs import SHARED, STATIC, TOP, parts, ran
 
-HERE, DOCUMENT = TOP / "tests/rmm_c", "docs/how-to/C.md"
+HERE = TOP / "tests/rmm_c"
 sys.path += [os.fspath(HERE), os.fspath(TOP / "python")]
 from judging import judged
 from random_rmm.lives import history
-from rmm_lines import is_met, raw
+from rmm_lines import differing, raw
+from rmm_logs import paths, without_answers
+from second_rmm.reading import parts_of
 
+pytestmark = has_compiler(STATIC, SHARED)
 TRACES = TOP / "traces/rmm"
 HEADERS = [TOP / "include/rmm.h", TOP / "include/rmm_commands.h"]
 # Random histories, and those of `make c-test`. Without it Python performs a part of the traces.
 FEW, MANY = 10, 60
-
-# What the first program of C.md prints.
-FIRST_OUTPUT = "RMI_ERROR_INPUT: gran_state\n"
 
 # The types of C, of those in the crate.
 LIBRARY = Library("rmm", {
     "u8": "uint8_t", "u64": "uint64_t", "bool": "bool", "RmmHandle": "rmm_handle", "PlatformSettings": "rmm_settings",
     "SmcRegisters": "rmm_registers", "RawStep": "rmm_step", "GuestStepResult": "rmm_step_result",
     "RealmAttributes": "rmm_realm", "RecAttributes": "rmm_rec",
-}, "RmmHandle")
+}, "RmmHandle", "docs/how-to/C.md", "RMI_ERROR_INPUT: gran_state\n")
 
 
 # ---- header
 
 
 def header(_room):
-    wanted = LIBRARY.compare(14)
+    wanted = LIBRARY.compare(15)
     # Each comment over functions says what is required of each pointer.
     text = HEADERS[0].read_text()
     for name, (_, kinds) in wanted.items():
@@ -106,25 +108,13 @@ def numbers(_room):
 
 
 def names(_room):
-    """The names that the headers give to a program: macros, types, functions and constants."""
     for path in HEADERS:
-        text = without_comments(path)
-        macros = set(re.findall(r"^#define (\w+)", text, re.M))
-        types = set(re.findall(r"^\} (\w+);|^typedef struct (\w+)", text, re.M))
-        functions = set(re.findall(r"^[\w ]+?[ *](\w+)\(", text, re.M))
-        enums = re.findall(r"enum \{(.*?)\}", text, re.S)
-        constants = {it for body in enums for it in re.findall(r"(\w+)(?: = \w+)?\s*(?:,|$)", body)}
-        found = macros | {it for pair in types for it in pair if it} | functions | constants
+        found = names_of(path)
         same(f"the other names of {path.name}", {it for it in found if not re.match(r"rmm_|RMM_", it)}, set())
         same("the number of names", len(found) > 40, True)
 
 
 # ---- programs
-
-
-def differences(operations, results):
-    """The operations whose result is another one than what is written."""
-    return (f"{it} came as {came}" for it, came in zip(operations, results, strict=True) if not is_met(it, came))
 
 
 def widened(operation):
@@ -133,16 +123,11 @@ def widened(operation):
     return re.sub(r"^(guest \w+ 0 \w+ )(\w+) ([124])\b", bits, operation)
 
 
-class Room:
+class Room(c_programs.Room):
     """A folder with the compiled tests, and what they replay."""
 
-    def __init__(self, folder, is_all):
-        self.folder, self.is_all = Path(folder), is_all
-
-    def compiled(self, name, *flags, compiler=COMPILER, as_name=None):
-        to = self.folder / (as_name or name)
-        ran([compiler, "-std=c11", *FLAGS, *flags, HERE / f"{name}.c", STATIC, "-o", to])
-        return to
+    def test(self, name, *flags, **how):
+        return self.compiled(name, [HERE / f"{name}.c", STATIC], *flags, **how)
 
     @cached_property
     def traces(self):
@@ -163,41 +148,56 @@ def replayed(words, texts):
     for name, operations in texts:
         text = "".join(f"{it}\n" for it in operations)
         results = ran(words, input=text.encode()).splitlines()
-        same(f"what differs in {name}", next(differences(operations, results), None), None)
+        same(f"what differs in {name}", next(differing(operations, results), None), None)
         compared += sum(" = " in it for it in operations)
     same("the number of results", compared > 1000, True)
 
 
 def traces_of_c(room):
-    replayed([room.compiled("lines")], room.traces)
+    replayed([room.test("lines")], room.traces)
     # A program that answers otherwise is found.
     name, operations = room.traces[0]
     wrong = room.folder / "wrong"
     wrong.write_text(f"#!/bin/sh\n{room.folder}/lines | sed s/done/fault/\n")
     wrong.chmod(0o755)
     results = ran([wrong], input="".join(f"{it}\n" for it in operations).encode()).splitlines()
-    same("what is found", " = done came as fault" in next(differences(operations, results), ""), True)
+    same("what is found", " = done came as fault" in next(differing(operations, results), ""), True)
 
 
 def traces_of_python(room):
     replayed([sys.executable, HERE / "lines.py"], room.traces if room.is_all else room.traces[:: MANY // FEW])
 
 
+def lines(room):
+    """The lines of traces, without their answers, get these answers back."""
+    import rmm
+
+    program, count = room.test("trace"), 0
+    for path in paths():
+        text = path.read_text()
+        asked, answers = without_answers(text), [parts_of(it).answer or "" for it in text.splitlines()]
+        same(f"{path.name} in C", ran([program], input=asked.encode()).splitlines(), answers)
+        with rmm.Rmm(granules=1) as one:
+            same(f"{path.name} in Python", [*one.lines(asked.splitlines())], text.splitlines())
+        count += sum(it != "" for it in answers)
+    same("the number of answers", count > 10_000, True)
+
+
 def histories(room):
-    replayed([room.compiled("lines")], room.histories)
+    replayed([room.test("lines")], room.histories)
     replayed([sys.executable, HERE / "lines.py"], room.histories[:FEW])
 
 
 def handles(room):
-    last_line(ran([room.compiled("handles")]), r"[1-9]\d* checks passed")
+    last_line(ran([room.test("handles")]), r"[1-9]\d* checks passed")
 
 
 def memory(room):
-    last_line(ran([room.compiled("no_memory", *WRAPPED)]), r"[1-9]\d* allocations were refused, each in turn")
+    last_line(ran([room.test("no_memory", *WRAPPED)]), r"[1-9]\d* allocations were refused, each in turn")
 
 
 def threads(room):
-    last_line(ran([room.compiled("threads", "-pthread")]), "two threads answer as one")
+    last_line(ran([room.test("threads", "-pthread")]), "two threads answer as one")
 
 
 def python(_room):
@@ -205,8 +205,7 @@ def python(_room):
 
 
 def in_cpp(room):
-    source = room.folder / "both.cpp"
-    source.write_text("""#include <rmm_commands.h>
+    ran([room.from_text("both.cpp", """#include <rmm_commands.h>
 int main() {
     rmm_handle handle = RMM_CLOSED;
     rmm_settings settings = RMM_DEFAULTS;
@@ -216,40 +215,24 @@ int main() {
     rmm_close(&handle);
     return is_right ? 0 : 1;
 }
-""")
-    to = room.folder / "both"
-    ran([CXX, "-std=c++11", *FLAGS, source, STATIC, "-o", to])
-    ran([to])
+""", STATIC, compiler=CXX, standard="-std=c++11")])
 
 
 # ---- the document
 
 
 def of_the_document(room):
-    """The first program in C, and the first in Python."""
-    source, to = room.folder / "mine.c", room.folder / "mine"
-    source.write_text(first_block(DOCUMENT, "c"))
-    ran([COMPILER, *FLAGS, source, STATIC, "-o", to])
-    same("the program in C", ran([to]), FIRST_OUTPUT)
-    script = room.folder / "mine.py"
-    script.write_text(first_block(DOCUMENT, "python"))
-    said = ran([sys.executable, script], status=1, env={**os.environ, "PYTHONPATH": os.fspath(TOP / "python")})
-    same("the program in Python", "DELEGATED RMI_ERROR_INPUT gran_state" in said.splitlines(), True)
-    same("its exception", said.splitlines()[-1], "rmm.Refused: granule_delegate: RMI_ERROR_INPUT")
+    said = LIBRARY.of_document(room, status=1)
+    same("the program in Python", "DELEGATED RMI_ERROR_INPUT gran_state" in said, True)
+    same("its exception", said[-1], "rmm.Refused: granule_delegate: RMI_ERROR_INPUT")
 
 
 def by_pkg_config(room):
-    """The first program is linked with the shared library by what pkg-config says."""
-    same("the program in C", LIBRARY.linked(room.folder, first_block(DOCUMENT, "c"), BUILD, BUILD), FIRST_OUTPUT)
+    LIBRARY.linked(room)
 
 
 def installed(room):
-    """What `make install-c-library` puts below a folder is enough to link the first program, and for Python."""
-    below, module = LIBRARY.install(room.folder)
-    said = LIBRARY.linked(room.folder, first_block(DOCUMENT, "c"), below / "lib/pkgconfig", below / "lib")
-    same("the program in C", said, FIRST_OUTPUT)
-    said = ran([sys.executable, "-c", "import rmm; print(rmm.Rmm().version(0x10000).lower)"], env=module)
-    same("the program in Python", said, "65536\n")
+    LIBRARY.installed(room, "import rmm; print(rmm.Rmm().version(0x10000).lower)", "65536\n")
 
 
 # ---- what takes long
@@ -258,13 +241,13 @@ def installed(room):
 def sanitized(room):
     flags = ["-g", "-fsanitize=address,undefined", "-fno-sanitize-recover=all"]
     for name, *more in ("handles",), ("threads", "-pthread"):
-        ran([room.compiled(name, *flags, *more, compiler="clang", as_name=f"{name}_sanitized")])
-    replayed([room.compiled("lines", *flags, compiler="clang", as_name="lines_sanitized")], room.traces)
+        ran([room.test(name, *flags, *more, compiler="clang")])
+    replayed([room.test("lines", *flags, compiler="clang")], room.traces)
 
 
 def in_valgrind(room):
-    ran([*MEMCHECK, room.compiled("handles", as_name="handles_memcheck")])
-    ran([*MEMCHECK, room.compiled("no_memory", *WRAPPED, as_name="no_memory_memcheck")])
+    ran([*MEMCHECK, room.test("handles")])
+    ran([*MEMCHECK, room.test("no_memory", *WRAPPED)])
 
 
 # ---- tests
@@ -275,18 +258,10 @@ def traces(room):
     traces_of_python(room)
 
 
-PARTS = header, defaults, names, numbers, traces, histories, handles, memory, threads, python, of_the_document
-
-
-pytestmark = [pytest.mark.skipif(not shutil.which(COMPILER), reason=f"there is no C compiler ({COMPILER})"), needs(STATIC, SHARED)]
-
-
-@pytest.fixture(scope="module")
-def room(tmp_path_factory, request):
-    return Room(tmp_path_factory.mktemp("c"), getattr(request, "param", False))
-
-
-@parts(*PARTS, (in_cpp, CXX), (by_pkg_config, "pkg-config"), (installed, "make", "pkg-config"))
+@parts(
+    header, defaults, names, numbers, traces, lines, histories, handles, memory, threads, python, of_the_document, (in_cpp, CXX),
+    (by_pkg_config, "pkg-config"), (installed, "make", "pkg-config"),
+)
 def test_library(room, part):
     part(room)
 

@@ -3,6 +3,7 @@
 Lines of a block ```console that begin with `$ ` are typed, one after another, into one shell at the top of the repository;
 below each is what it prints, standard error too. There a line `...` is any number of lines. A block ```sh is not run: each
 of its lines has to be one of `NOT_RUN`, which says why. The programs are those of bin/.
+What builds with nothing proved takes minutes: the proved program of the gate prints the same (`PROVED`), and test_try compares both.
 In README.md an item of a numbered list that begins with a command in backticks is run too, in a folder that has all that the
 repository has: it prints or writes something, and its status is 0, or 1 for a comparison.
 """
@@ -21,7 +22,7 @@ BETWEEN = "---- the next command ----"
 
 # Command lines that are shown and not run here, and why.
 NOT_RUN = {
-    "make try": "the example at the top of README.md runs it",
+    "make try": "the example at the top of README.md shows it",
     "make build": "the gate has built the programs",
     "make test": "it is the gate itself",
     "make mutants": "it takes as long as the gate, and is run beside it",
@@ -47,6 +48,12 @@ NOT_RUN = {
     "make install-c-library": "it writes outside of the repository, and tests/test_examples.py does the same",
 }
 
+# Commands that build a program with nothing proved, and what prints the same with the proved one.
+PROVED = {
+    "make try": "bin/realmview why < plans/missing-tables.toml",
+    "make try-trace": "bin/rmitrace check < traces/granules.trace",
+}
+
 
 def commands_of(block):
     """Returns each command of a block, with the lines that stand below it."""
@@ -61,7 +68,7 @@ def commands_of(block):
 
 def printed(commands):
     """Runs commands in one shell. Returns the lines that each prints."""
-    script = "".join(f"{it}\nprintf '\\n%s\\n' '{BETWEEN}'\n" for it, _ in commands)
+    script = "".join(f"{PROVED.get(it, it)}\nprintf '\\n%s\\n' '{BETWEEN}'\n" for it, _ in commands)
     ran = subprocess.run(["bash", "-c", script], cwd=TOP, stdin=subprocess.DEVNULL, stdout=subprocess.PIPE,
                          stderr=subprocess.STDOUT, text=True, errors="replace", timeout=SECONDS, env={**os.environ, "LC_ALL": "C.UTF-8"})
     outputs = ran.stdout.split(f"\n{BETWEEN}\n")
@@ -123,3 +130,13 @@ def test_items_of_readme(command, tmp_path):
     ran = subprocess.run(["bash", "-c", command], cwd=tmp_path, stdin=subprocess.DEVNULL, capture_output=True, timeout=SECONDS)
     assert ran.returncode < 2, ran.stderr.decode(errors="replace")
     assert ran.stdout or set(os.listdir(tmp_path)) - before, "it neither prints nor writes anything"
+
+
+@pytest.mark.long
+@needs(VIEW, TRACER)
+@pytest.mark.parametrize("command", PROVED)
+def test_try(command):
+    """What is built with nothing proved prints what the proved program prints."""
+    unproved, proved = (subprocess.run(["bash", "-c", it], cwd=TOP, stdin=subprocess.DEVNULL, capture_output=True, timeout=SECONDS)
+                        for it in (command, PROVED[command]))
+    assert proved.stdout and unproved.stdout == proved.stdout

@@ -12,6 +12,7 @@
   mistakes   an RMM with a mistake is found, a line with one, and an RMM that does not answer
   log        what `drive.py --log` prints is right, says the second model
   table      the tables of `drive.py --c` run without a difference, and their output is right, says the second model
+  plans      so do those of `realmview calls --c` of all plans, if bin/ has it
 
 `make c-test` also has all tables, larger images, the sanitizers and valgrind; and CMake and Meson build the examples over the
 installed package, and run them. A C compiler is needed.
@@ -22,16 +23,16 @@ import resource
 import shutil
 import subprocess
 import sys
-from pathlib import Path
 
 import pytest
 
+import c_programs
+from c_programs import MEMCHECK, with_python
 from differences import same
-from programs import SHARED, STATIC, TOP, needs, parts
+from programs import SHARED, STATIC, TOP, VIEW, needs, parts
 from programs import ran as run
 
 HERE, EXAMPLES, TRACES = TOP / "tests/examples_c", TOP / "examples", TOP / "traces/rmm"
-FLAGS = ["-O1", "-g", "-Wall", "-Wextra", "-Wconversion", "-Wno-sign-conversion", "-Werror", f"-I{TOP}/include"]
 SANITIZERS = ["-fsanitize=address,undefined", "-fno-sanitize-recover=all"]
 COMPILERS, LEAKS = ("gcc", "clang"), 5
 # Of so many traces and machines one is tried, if all of them would take long.
@@ -73,16 +74,12 @@ def judged(log):
     return int(count)
 
 
-class Room:
+class Room(c_programs.Room):
     """A folder with the compiled programs."""
 
-    def __init__(self, folder, is_all):
-        self.folder, self.is_all = Path(folder), is_all
-
-    def compiled(self, name, sources, *flags, compiler=None, standard="-std=c11"):
-        to = self.folder / name
-        run([compiler or compilers()[0], standard, *FLAGS, *flags, *sources, STATIC, "-o", to])
-        return to
+    def compiled(self, name, sources, *flags, compiler=None, **how):
+        more = ["-O1", "-g", "-Wno-sign-conversion", *flags]
+        return super().compiled(name, [*sources, STATIC], *more, compiler=compiler or compilers()[0], **how)
 
 
 def compilers():
@@ -135,6 +132,8 @@ def fail_each(room):
 
 
 def window(room):
+    # (a program that ends by a fault leaves no file)
+    resource.setrlimit(resource.RLIMIT_CORE, (0, resource.getrlimit(resource.RLIMIT_CORE)[1]))
     program = room.compiled("wrong_access", [HERE / "wrong_access.c", EXAMPLES / "c/window.c"])
     same("a right access", run([program, "1"]), "")
     line = "window: the host has no access to 0x40003006: granule 0x40003000 is DELEGATED\n"
@@ -149,8 +148,7 @@ def lives(room):
         for standard in "c++11", "c++17":
             it = room.compiled(f"life-{compiler}-{standard}", source, compiler=compiler, standard=f"-std={standard}")
             printed.add(run([it]))
-    environment = {**os.environ, "PYTHONPATH": str(TOP / "python")}
-    printed.add(run([sys.executable, EXAMPLES / "c/realm_life.py"], env=environment))
+    printed.add(run([sys.executable, EXAMPLES / "c/realm_life.py"], env=with_python(TOP / "python")))
     same("the number of lives", len(printed), 1)
     same("the answers", judged(printed.pop()), 25)
 
@@ -287,19 +285,23 @@ def table(room):
     same("traces whose table compares nothing", (len(made), made.count(0)), (len(paths), 0))
 
 
+def plans(room):
+    """The tables of all plans in one program."""
+    rows = room.folder / "plans.inc"
+    paths = sorted(TOP.glob("plans/**/*.toml"))
+    rows.write_text("".join(run([VIEW, "calls", "--c", it]) for it in paths))
+    sources = [EXAMPLES / "c/table.c", EXAMPLES / "c/table_rmm.c"]
+    said = run([room.compiled("plans", sources, f'-DROWS="{rows}"')])
+    same("the end", said.splitlines()[-1].startswith("# 0 of "), True)
+    same("that the answers of each plan are compared", judged(said) >= len(paths), True)
+
+
 # ---- the installed package
 
 
-def installed(room):
-    """The folder of the package files, after `make install-c-library`."""
-    root = room.folder / "root"
-    if not root.exists():
-        run(["make", "-C", TOP, "--no-print-directory", "install-c-library", f"DESTDIR={root}", "PREFIX=/usr"])
-    return root / "usr"
-
-
 def builds(room):
-    prefix = installed(room)
+    run(["make", "-s", "-C", TOP, "install-c-library", f"DESTDIR={room.folder}", "PREFIX=/usr"])
+    prefix = room.folder / "usr"
     source = prefix / "share/realmhost/examples/c"
     paths = {"PKG_CONFIG_PATH": str(prefix / "lib/pkgconfig"), "LD_LIBRARY_PATH": str(prefix / "lib")}
     how = {"env": {**os.environ, **paths}}
@@ -329,8 +331,7 @@ def sanitized(room):
 
 
 def in_valgrind(room):
-    memcheck = ["valgrind", "--quiet", "--error-exitcode=99", "--leak-check=full"]
-    run([*memcheck, room.compiled("boot-memcheck", [EXAMPLES / "c/boot.c", *HOST]), "4"])
+    run([*MEMCHECK, room.compiled("boot-memcheck", [EXAMPLES / "c/boot.c", *HOST]), "4"])
 
 
 # ---- tests
@@ -339,14 +340,7 @@ def in_valgrind(room):
 pytestmark = [pytest.mark.skipif(not compilers(), reason="there is no C compiler"), needs(STATIC, SHARED)]
 
 
-@pytest.fixture(scope="module")
-def room(tmp_path_factory, request):
-    # (a program that ends by a fault leaves no file)
-    resource.setrlimit(resource.RLIMIT_CORE, (0, resource.getrlimit(resource.RLIMIT_CORE)[1]))
-    return Room(tmp_path_factory.mktemp("examples"), getattr(request, "param", False))
-
-
-@parts(calls, first, boot, fail_each, window, lives, drive, mistakes, log, table)
+@parts(calls, first, boot, fail_each, window, lives, drive, mistakes, log, table, (plans, os.fspath(VIEW)))
 def test_example(room, part):
     part(room)
 

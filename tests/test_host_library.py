@@ -16,23 +16,19 @@
 """
 import os
 import re
-import shutil
 import sys
-from pathlib import Path
 
 import pytest
 
-from c_programs import BUILD, COMPILER, CXX, FLAGS, MEMCHECK, WRAPPED, Library, first_block, last_line, without_comments
+import c_programs
+from c_programs import CXX, MEMCHECK, WRAPPED, Library, has_compiler, last_line, names_of, without_comments
 from differences import same
-from programs import TOP, needs, parts, ran
+from programs import STATIC, TOP, parts, ran
 
 sys.path.insert(0, os.fspath(TOP / "python"))
-HERE, DOCUMENT = TOP / "tests/rhm_c", "docs/how-to/HOST-C.md"
-STATIC, SHARED, RMM = BUILD / "librhm.a", BUILD / "librhm.so.0", BUILD / "librmm.a"
+HERE = TOP / "tests/rhm_c"
 # Random histories, and those of `make c-test`.
 FEW, MANY = 20, 200
-# What the first program of HOST-C.md prints.
-FIRST_OUTPUT = "RHM_NOT_LEASED 2\n"
 
 # The types of C, of those in the crate.
 LIBRARY = Library("rhm", {
@@ -40,7 +36,8 @@ LIBRARY = Library("rhm", {
     "RawCommand": "rhm_command", "RawAction": "rhm_action", "RawActions": "rhm_actions", "FirmwareAnswer": "rhm_answer",
     "BuildReading": "rhm_build", "PageReading": "rhm_page", "RealmReading": "rhm_realm", "RecReading": "rhm_rec",
     "RawEvent": "rhm_event",
-}, "HostHandle")
+}, "HostHandle", "docs/how-to/HOST-C.md", "RHM_NOT_LEASED 2\n")
+pytestmark = has_compiler(LIBRARY.static, LIBRARY.shared, STATIC)
 
 
 # ---- header
@@ -58,12 +55,7 @@ def header(_room):
 
 
 def names(_room):
-    """The names that the header gives to a program."""
-    text = without_comments(LIBRARY.header)
-    found = set(re.findall(r"^#define (\w+)", text, re.M)) | set(re.findall(r"^\} (\w+);", text, re.M))
-    found |= set(re.findall(r"^\w[\w ]*?[ *]+(\w+)\(", text, re.M))
-    for body in re.findall(r"enum \{(.*?)\}", text, re.S):
-        found |= set(re.findall(r"(\w+) = \w+", body))
+    found = names_of(LIBRARY.header)
     same("the other names", {it for it in found if not re.match(r"rhm_|RHM_", it)}, set())
     same("the number of names", len(found) > 60, True)
 
@@ -71,23 +63,18 @@ def names(_room):
 # ---- programs
 
 
-class Room:
-    """A folder with the compiled programs."""
+class Room(c_programs.Room):
+    """A folder with the compiled tests."""
 
-    def __init__(self, folder, is_all):
-        self.folder, self.is_all = Path(folder), is_all
-
-    def compiled(self, source, *flags, compiler=COMPILER, as_name=None):
-        to = self.folder / (as_name or source.stem)
-        ran([compiler, "-std=c11", *FLAGS, source, *flags, "-o", to])
-        return to
+    def test(self, name, *flags):
+        return self.compiled(name, [HERE / f"{name}.c", LIBRARY.static], *flags)
 
     def vmm(self, *flags, **how):
-        return self.compiled(TOP / "examples/c/vmm.c", STATIC, RMM, "-pthread", *flags, **how)
+        return self.compiled("vmm", [TOP / "examples/c/vmm.c", LIBRARY.static, STATIC], "-pthread", *flags, **how)
 
 
 def memory(room):
-    last_line(ran([room.compiled(HERE / "no_memory.c", STATIC, *WRAPPED)]), r"[1-9]\d* allocations were refused, each in turn")
+    last_line(ran([room.test("no_memory", *WRAPPED)]), r"[1-9]\d* allocations were refused, each in turn")
 
 
 def front(room):
@@ -101,7 +88,7 @@ def statuses(_room):
 
 def history(room):
     hand = (HERE / "history.txt").read_text()
-    same("the text in C", ran([room.compiled(HERE / "history.c", STATIC)]), hand)
+    same("the text in C", ran([room.test("history")]), hand)
     aux, pages = [7], range(8)
     steps = [("take", 4), ("fill", 9, 7), ("peek", 9, 5), *[("delegate", page) for page in pages], ("realm", 0, 1, 39)]
     steps += [("rtt", 2, 0, 2), ("rtt", 3, 0, 3), ("ripas", 0, 2), ("data", 4, 0, 9), ("unknown", 5, 1), ("rec", 6, aux)]
@@ -124,8 +111,7 @@ def vmm(room):
 
 
 def in_cpp(room):
-    source, to = room.folder / "both.cpp", room.folder / "both"
-    source.write_text("""#include <rhm.h>
+    ran([room.from_text("both.cpp", """#include <rhm.h>
 int main() {
     rhm_handle handle = RHM_CLOSED;
     rhm_settings settings = RHM_DEFAULTS;
@@ -135,36 +121,24 @@ int main() {
     rhm_close(&handle);
     return is_right && value == 0 ? 0 : 1;
 }
-""")
-    ran([CXX, "-std=c++11", *FLAGS, source, STATIC, "-o", to])
-    ran([to])
+""", LIBRARY.static, compiler=CXX, standard="-std=c++11")])
 
 
 # ---- the document
 
 
 def of_the_document(room):
-    source, to = room.folder / "mine.c", room.folder / "mine"
-    source.write_text(first_block(DOCUMENT, "c"))
-    ran([COMPILER, *FLAGS, source, STATIC, "-o", to])
-    same("the program in C", ran([to]), FIRST_OUTPUT)
-    script = room.folder / "mine.py"
-    script.write_text(first_block(DOCUMENT, "python"))
-    said = ran([sys.executable, script], env={**os.environ, "PYTHONPATH": os.fspath(TOP / "python")})
-    same("the program in Python", said.splitlines()[-1], "1")
-    same("its call", "Action(call 0xc4000151 0x80000000 0x0 0x0 0x0 0x0 0x0)" in said, True)
+    said = LIBRARY.of_document(room)
+    same("the program in Python", said[-1], "1")
+    same("its call", any("Action(call 0xc4000151 0x80000000 0x0 0x0 0x0 0x0 0x0)" in it for it in said), True)
 
 
 def by_pkg_config(room):
-    same("the program in C", LIBRARY.linked(room.folder, first_block(DOCUMENT, "c"), BUILD, BUILD), FIRST_OUTPUT)
+    LIBRARY.linked(room)
 
 
 def installed(room):
-    """What `make install-c-library` puts below a folder is enough to link the first program, and for Python."""
-    below, module = LIBRARY.install(room.folder)
-    said = LIBRARY.linked(room.folder, first_block(DOCUMENT, "c"), below / "lib/pkgconfig", below / "lib")
-    same("the program in C", said, FIRST_OUTPUT)
-    same("the program in Python", ran([sys.executable, "-c", "import rhm; print(rhm.Host().take(0, 1).name)"], env=module), "RHM_DONE\n")
+    LIBRARY.installed(room, "import rhm; print(rhm.Host().take(0, 1).name)", "RHM_DONE\n")
 
 
 # ---- what takes long
@@ -172,30 +146,22 @@ def installed(room):
 
 def sanitized(room):
     flags = ["-g", "-fno-sanitize-recover=all"]
-    ran([room.vmm(*flags, "-fsanitize=address,undefined", compiler="clang", as_name="vmm_address"), "faults"])
-    ran([room.vmm(*flags, "-fsanitize=thread", compiler="clang", as_name="vmm_thread")])
+    ran([room.vmm(*flags, "-fsanitize=address,undefined", compiler="clang"), "faults"])
+    ran([room.vmm(*flags, "-fsanitize=thread", compiler="clang")])
 
 
 def in_valgrind(room):
-    ran([*MEMCHECK, room.vmm(as_name="vmm_memcheck")])
-    ran([*MEMCHECK, room.compiled(HERE / "no_memory.c", STATIC, *WRAPPED, as_name="no_memory_memcheck")])
+    ran([*MEMCHECK, room.vmm()])
+    ran([*MEMCHECK, room.test("no_memory", *WRAPPED)])
 
 
 # ---- tests
 
 
-PARTS = header, names, memory, front, statuses, history, vmm, of_the_document
-
-
-pytestmark = [pytest.mark.skipif(not shutil.which(COMPILER), reason=f"there is no C compiler ({COMPILER})"), needs(STATIC, SHARED, RMM)]
-
-
-@pytest.fixture(scope="module")
-def room(tmp_path_factory, request):
-    return Room(tmp_path_factory.mktemp("c"), getattr(request, "param", False))
-
-
-@parts(*PARTS, (in_cpp, CXX), (by_pkg_config, "pkg-config"), (installed, "make", "pkg-config"))
+@parts(
+    header, names, memory, front, statuses, history, vmm, of_the_document, (in_cpp, CXX), (by_pkg_config, "pkg-config"),
+    (installed, "make", "pkg-config"),
+)
 def test_library(room, part):
     part(room)
 

@@ -8,24 +8,19 @@ in abort, is what the lines up to it give; and what each build has open in the e
 open. `realmview page` has this document in its data, and for each build the world to which the changes of the other builds alone
 lead. The rows of a realm are compared as lists: in their order, and in the items of REALMVIEW.md. A second monitor, in Python,
 accepts the events, and has behind each turn and in each of these worlds what the document says (tests/history_model.py). A plan
-with a fault has no document, and the program's devices fail as those of its other subcommands do.
+with a fault has no document.
 """
 import json
-import os
-import re
-import resource
 
 import jsonschema
 
 from history_model import HistoryModel
-from programs import HOST, PLANS, RUNS, TOP, VIEW, Ran, needs, over, run
+from programs import HOST, LITTLE_MEMORY, PLANS, RUNS, TOP, VIEW, Ran, data_of, needs, over, plan_of, run
+from second_monitor import COVERED
 
 pytestmark = needs(HOST, VIEW)
-# How many IPA granules a row of each level covers. RMM 1.0, RTT walk, with granules of 4 KiB.
-COVERED = {1: 512 * 512, 2: 512, 3: 1}
 # Each act that has a reverse, by the word of the reverse.
 REVERSED = {f"un{it}": (it,) for it in ("take", "delegate", "realm", "rtt", "rec")} | {"undata": ("data", "unknown")}
-DATA = re.compile(r'<script id="data" type="application/json">(.*?)</script>', re.S)
 PAIRED = {word for words in REVERSED.values() for word in words}
 # What an event can change, by its word. REALMVIEW.md, Turns.
 MEMBERS = {
@@ -235,7 +230,7 @@ def of_document(plan):
 
 def of_page(plan, document):
     """The data of a page: the document, and the world without each build, which the other builds' changes lead to."""
-    data = json.loads(DATA.search(run(VIEW, ["page"], plan)[1].decode())[1])
+    data = data_of(run(VIEW, ["page"], plan).out)
     yield "the data of the page", data["run"], document
     for build, world in enumerate(data["without"]):
         machine, model = Replayed(document["settings"]), HistoryModel(document["settings"])
@@ -250,10 +245,6 @@ def of_page(plan, document):
 # ---- tests
 
 
-def plan_of(pages, steps):
-    return f"pages = {pages}\n[[build]]\nsteps = {json.dumps(steps)}\n".encode()
-
-
 @over("path", *PLANS, RUNS)
 def test_document(check, path):
     check.all(of_document(path.read_bytes()))
@@ -261,27 +252,14 @@ def test_document(check, path):
 
 def test_the_largest_document(check):
     """Eight builds with 16,384 turns."""
-    steps = '["take 0", ' + ", ".join(f'"fill 0 {k % 256}"' for k in range(1023)) + "]"
-    order = ", ".join(str(k % 8) for k in range(16384))
-    check.all(of_document(f"pages = 8\nhistory = 2048\norder = [{order}]\n".encode() + f"[[build]]\nsteps = {steps}\n".encode() * 8))
+    steps = ["take 0", *(f"fill 0 {k % 256}" for k in range(1023))]
+    check.all(of_document(plan_of([steps] * 8, pages=8, history=2048, order=[k % 8 for k in range(16384)])))
 
 
 def test_a_misaligned_realm(check):
     """A realm of the widest address space."""
-    check.all(of_document(plan_of(32, ["take 5", *(f"delegate {k}" for k in range(20)), "realm 0 16 43", "undo"])))
+    check.all(of_document(plan_of([["take 5", *(f"delegate {k}" for k in range(20)), "realm 0 16 43", "undo"]], pages=32)))
 
 
-def test_devices(check):
-    plan = (TOP / "plans/first.toml").read_bytes()
-    check("a full standard output", run(VIEW, ["json"], plan, stdout=open("/dev/full", "wb")), Ran(5, b"", b"device\n"))
-    check("a folder as standard input", run(VIEW, ["json"], None, stdin=os.open(TOP, os.O_RDONLY)), Ran(5, b"", b"device\n"))
-    little = lambda: resource.setrlimit(resource.RLIMIT_AS, (1 << 24, 1 << 24))
-    check("too little memory", run(VIEW, ["json"], plan_of(4096, ["take 0"]), preexec_fn=little), Ran(3, b"", b"memory\n"))
-
-
-def test_usage(check):
-    for words in (["json", "--erase", "0"], ["json", "plan", "more"]):
-        status, out, err = run(VIEW, words)
-        check(f"usage {words}", (status, out, err != b""), (2, b"", True))
-    status, out, err = run(VIEW, ["json", "--help"])
-    check("help", (status, b"\nExamples:\n" in out, err), (0, True, b""))
+def test_little_memory():
+    assert run(VIEW, ["json"], plan_of([["take 0"]], pages=4096), **LITTLE_MEMORY) == Ran(3, b"", b"memory\n")

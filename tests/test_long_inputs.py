@@ -8,26 +8,20 @@ import subprocess
 
 import pytest
 
-from programs import HOST, TOP, TRACER, Ran, needs, run
+from programs import HOST, TOP, TRACER, Ran, limited, needs, run
 
 pytestmark = [pytest.mark.long, pytest.mark.random, needs(HOST, TRACER)]
 MIB = 1 << 20
 
 
-def limited(seconds, memory):
-    """What a process does before it becomes the program."""
-
-    def limit():
-        resource.setrlimit(resource.RLIMIT_CPU, (seconds, seconds))
-        resource.setrlimit(resource.RLIMIT_AS, (memory, memory))
-
-    return limit
+def little(seconds, memory):
+    return limited((resource.RLIMIT_CPU, seconds), (resource.RLIMIT_AS, memory))
 
 
 @pytest.mark.parametrize(("word", "more"), [("replay", b""), ("run", b"audit ok\n")])
 def test_little_memory(word, more):
     plan, text = ((TOP / f"tests/runs/the_greatest_limits.{it}").read_bytes() for it in ("toml", "txt"))
-    told = {run(HOST, [word], plan, preexec_fn=limited(1, size * MIB)) for size in range(8, 64, 2)}
+    told = {run(HOST, [word], plan, preexec_fn=little(1, size * MIB)) for size in range(8, 64, 2)}
     assert told == {Ran(0, text + more, b""), Ran(3, b"", b"memory\n")}
 
 
@@ -48,7 +42,7 @@ JUDGED = b"trace:1: wrong\n" + LINE + b"\nhere: no command\n0 same, 0 allowed, 1
 def test_zeros(program, word, wanted):
     """5 GiB of zeros. A program may end before it has read them all."""
     zeros = subprocess.Popen(["head", "-c", "5G", "/dev/zero"], stdout=subprocess.PIPE)
-    ran = run(program, [word], None, stdin=zeros.stdout, preexec_fn=limited(60, 32 * MIB), timeout=600)
+    ran = run(program, [word], None, stdin=zeros.stdout, preexec_fn=little(60, 32 * MIB), timeout=600)
     zeros.stdout.close()
     zeros.wait()
     assert ran == wanted

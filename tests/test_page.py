@@ -45,9 +45,8 @@ TRIES = 25
 
 def template():
     """The page before its data, and after it."""
-    return re.sub(
-        r"@([a-z]+\.(?:css|js))@\n", lambda it: (PAGE / it[1]).read_text(), (PAGE / "page.html").read_text()
-    ).split("@DATA@")
+    whole = re.sub(r"@([a-z]+\.(?:css|js))@\n", lambda it: (PAGE / it[1]).read_text(), (PAGE / "page.html").read_text())
+    return whole.split("@DATA@")
 
 
 def page_of(data):
@@ -133,12 +132,9 @@ def replayed(plan, *words):
 
 def of_template(name, plan, page):
     head, tail = template()
-    yield f"{name}: the template", (page.startswith(head), page.endswith(tail), "</" in page[len(head) : -len(tail)]), (
-        True,
-        True,
-        False,
-    )
-    yield f"{name}: the document", json.loads(page[len(head) : -len(tail)])["run"], json.loads(run(VIEW, ["json"], plan).out)
+    data = page[len(head) : -len(tail)]
+    yield f"{name}: the template", (page.startswith(head), page.endswith(tail), "</" in data), (True, True, False)
+    yield f"{name}: the document", json.loads(data)["run"], json.loads(run(VIEW, ["json"], plan).out)
     yield f"{name}: nothing is fetched", re.findall(r"(?:src|href)=|url\(|import |fetch\(|https?://", head + tail), []
 
 
@@ -167,26 +163,18 @@ def of_turn(name, plan, shown, document, turn):
     for build in range(document["settings"]["builds"]):
         is_open = next((it["open"] for it in reversed(document["turns"][:turn]) if it["build"] == build), 0)
         shown.value(f"leaveOut({build}); 0")
-        maps = [
-            map_of(shown.value(f"audit.labels('{it}-grid')"), shown.value(f"audit.realms('{it}-realms')"))
-            for it in ("run", "other")
-        ]
+        maps = [map_of(shown.value(f"audit.labels('{it}-grid')"), shown.value(f"audit.realms('{it}-realms')")) for it in ("run", "other")]
         yield f"{name}: the map beside that without build {build} at turn {turn}", maps[0], whole
         yield f"{name}: the map without build {build} at turn {turn}", maps[1], replayed(before, "--erase", str(build))
-        yield f"{name}: the verdict on build {build} at turn {turn}", shown.value(
-            "$('verdict').className"
-        ), "differ" if is_open else "same"
+        verdict = shown.value("$('verdict').className")
+        yield f"{name}: the verdict on build {build} at turn {turn}", verdict, "differ" if is_open else "same"
 
 
 def of_why(name, plan, shown, data):
     """The words of refusals are those of `realmview why`, where the page has them."""
     lines = run(VIEW, ["why"], plan)[1].decode().splitlines()
-    told = [
-        (line, [it.strip().replace("`", "") for it in lines[k + 1 : k + 3] if re.match(r" +(error|help): ", it)])
-        for k, line in enumerate(lines)
-        if " = no " in line
-    ]
-    shown_words = []
+    said = lambda k: [it.strip().replace("`", "") for it in lines[k + 1 : k + 3] if re.match(r" +(error|help): ", it)]
+    told, shown_words = [(line, said(k)) for k, line in enumerate(lines) if " = no " in line], []
     for it in data["refused"]:
         shown.value(f"leaveOut(null); show({it['turn'] + 1}); 0")
         words = [shown.value(f"$('{part}').textContent") for part in ("reason", "help")]
@@ -222,18 +210,8 @@ def of_plan(at, name, plan):
 # ---- what a person does
 
 FOCUS = (
-    "#slider",
-    "#without",
-    "#first",
-    "#back",
-    "#play",
-    "#next",
-    "#last",
-    "#theme",
-    "#history button[aria-current]",
-    "#grid",
-    "#realms summary",
-    "body",
+    "#slider", "#without", "#first", "#back", "#play", "#next", "#last", "#theme", "#history button[aria-current]", "#grid",
+    "#realms summary", "body",
 )
 
 
@@ -250,19 +228,16 @@ def of_keys(at, data):
         yield f"keys: Left in {where}", shown.now()["turn"], 21
         shown.value(focus)
         shown.press(" ")
-        begun = (shown.value("$('play').textContent"), shown.value("$('turn').getAttribute('aria-live')"))
+        playing = "[$('play').textContent, $('turn').getAttribute('aria-live')]"
+        begun = shown.value(playing)
         shown.press(" ")
-        ended = (shown.value("$('play').textContent"), shown.value("$('turn').getAttribute('aria-live')"))
-        yield f"keys: Space in {where}", (begun, ended), (("Pause", "off"), ("Play", "polite"))
+        yield f"keys: Space in {where}", (begun, shown.value(playing)), (["Pause", "off"], ["Play", "polite"])
         shown.value(focus)
         shown.press("1")
         left_out = shown.now()
         shown.press("Escape")
-        yield f"keys: 1 and Escape in {where}", (
-            left_out["without"],
-            left_out["isCompared"],
-            shown.now()["isCompared"],
-        ), ("1", True, False)
+        compared = left_out["without"], left_out["isCompared"], shown.now()["isCompared"]
+        yield f"keys: 1 and Escape in {where}", compared, ("1", True, False)
     shown.press("Home")
     first = shown.now()["turn"]
     shown.press("End")
@@ -273,10 +248,7 @@ def of_keys(at, data):
     yield "keys: Shift and arrows in the granules", picked, ["grid-9", "granule 9, free; all bytes zero"]
     shown.value("show(14); document.querySelector('#history [aria-current]').focus()")
     shown.press("ArrowUp")
-    yield "keys: Up in the history", (shown.now()["turn"], shown.value("document.activeElement.textContent")), (
-        13,
-        "130 delegate 4",
-    )
+    yield "keys: Up in the history", (shown.now()["turn"], shown.value("document.activeElement.textContent")), (13, "130 delegate 4")
 
 
 def of_links(at, data):
@@ -284,24 +256,12 @@ def of_links(at, data):
     here = {"turn": 5, "without": "1"}
     part = lambda: {key: it for key, it in shown.now().items() if key in here}
     yield "links: one that opens the page", part(), here
+    # (of a wrong one each wrong part is ignored)
+    wrong = [f"#turn={it}&without=1" for it in ("26", "x", "-1", "1e1", "05", "")]
     steps = (
-        ("#turn=7&without=0", 7, "0"),
-        ("#turn=3", 3, ""),
-        ("#without=1", 25, "1"),
-        ("#turn=0&theme=dark", 0, ""),
-        ("#turn=25", 25, ""),
-        # (of a wrong one each wrong part is ignored)
-        ("#turn=9&without=1", 9, "1"),
-        ("#turn=26&without=1", 9, "1"),
-        ("#turn=x&without=1", 9, "1"),
-        ("#turn=-1&without=1", 9, "1"),
-        ("#turn=1e1&without=1", 9, "1"),
-        ("#turn=05&without=1", 9, "1"),
-        ("#turn=&without=1", 9, "1"),
-        ("#turn=8&without=2", 8, "1"),
-        ("#turn=8&without=build", 8, "1"),
-        ("#nothing", 8, "1"),
-        ("#theme=pink&turn=8&without=1", 8, "1"),
+        ("#turn=7&without=0", 7, "0"), ("#turn=3", 3, ""), ("#without=1", 25, "1"), ("#turn=0&theme=dark", 0, ""), ("#turn=25", 25, ""),
+        ("#turn=9&without=1", 9, "1"), *((it, 9, "1") for it in wrong), ("#turn=8&without=2", 8, "1"),
+        ("#turn=8&without=build", 8, "1"), ("#nothing", 8, "1"), ("#theme=pink&turn=8&without=1", 8, "1"),
     )
     for link, turn, without in steps:
         shown.value(f"location.hash = '{link}'; 0")
@@ -349,48 +309,30 @@ def of_verdicts(at, data):
 def of_words(at, data, refusals):
     """A title and the words of refusals, by data made by hand; and what is shown without them."""
     error, help = "no aligned block of 8 pages is free; 4 pages are (NoBlock)", "`take 2` asks for <4> pages"
-    words = {
-        "title": "A build fails & <another> goes on. Nothing is left",
-        "refused": [{"turn": 13, "error": error, "help": help}],
-    }
+    words = {"title": "A build fails & <another> goes on. Nothing is left", "refused": [{"turn": 13, "error": error, "help": help}]}
     shown_in = "[$('title'), $('about'), document.querySelector('title'), $('reason'), $('help')]"
     texts = f"{shown_in}.map((it) => it.textContent)"
     shown = Shown(at, page_of({**data, **words}), "#turn=14")
-    yield "words: a title, an error and a help", shown.value(texts), [
-        "A build fails & <another> goes on.",
-        "Nothing is left \u2026",
-        words["title"],
-        f"error: {error}",
-        "help: take 2 asks for <4> pages",
-    ]
+    wanted = ["A build fails & <another> goes on.", "Nothing is left \u2026", words["title"], f"error: {error}", "help: take 2 asks for <4> pages"]
+    yield "words: a title, an error and a help", shown.value(texts), wanted
     shown = Shown(at, page_of({**data, "title": "Two builds", "refused": [{"turn": 13, "error": error}]}), "#turn=14")
     yield "words: no help", shown.value(texts), ["Two builds", "", "Two builds", f"error: {error}", ""]
     shown = Shown(at, page_of(data), "#turn=14")
-    without = [
-        "A run of realm builds",
-        "",
-        "A run of realm builds",
-        "error: No 2^3 pages in a row, from a multiple of 2^3 on, are free.",
-        "",
-    ]
-    yield "words: none", shown.value(texts), without
+    title, error = "A run of realm builds", "error: No 2^3 pages in a row, from a multiple of 2^3 on, are free."
+    yield "words: none", shown.value(texts), [title, "", title, error, ""]
     shown = Shown(at, page_of(refusals))
     lines = {}
     for turn in range(1, len(refusals["run"]["turns"]) + 1):
         shown.value(f"show({turn}); 0")
         lines[shown.now()["line"]] = shown.value("$('reason').textContent")
-    of_access = {line: text for line, text in lines.items() if re.match(r"\d (fill|peek) .* = no 13", line)}
-    yield "words: a refused access is the hardware's", [
-        ("hardware" in text, "RMM refuses" in text) for text in of_access.values()
-    ], [(True, False)] * len(of_access)
+    refused = {line: text for line, text in lines.items() if " = no 13" in line}
+    of_access = [it for it in refused if re.match(r"\d (fill|peek) ", it)]
     yield "words: there is such an access", len(of_access) > 0, True
-    of_commands = [text for line, text in lines.items() if " = no 13" in line and line not in of_access]
-    yield "words: a refused command is the RMM's", [
-        text.startswith("error: The RMM refuses: RMI_ERROR_") for text in of_commands
-    ], [True] * len(of_commands)
-    yield "words: each refusal has some", [
-        line for line, text in lines.items() if " = no " in line and not text.startswith("error: ")
-    ], []
+    yield "words: a refused access is the hardware's", [it for it in of_access if "hardware" not in refused[it] or "RMM refuses" in refused[it]], []
+    of_rmm = [it for it in refused if it not in of_access]
+    yield "words: a refused command is the RMM's", [it for it in of_rmm if not refused[it].startswith("error: The RMM refuses: RMI_ERROR_")], []
+    without = [line for line, text in lines.items() if " = no " in line and not text.startswith("error: ")]
+    yield "words: each refusal has some", without, []
 
 
 def of_roles(at, data):
@@ -404,16 +346,10 @@ def of_roles(at, data):
     cells = [it[1] for it in named if it[0] == "gridcell"][:16]
     yield "roles: its cells", cells, shown.value("audit.labels('grid')")
     live = shown.value("['turn', 'cell'].map((it) => $(it).getAttribute('aria-live'))")
-    yield "roles: live regions", (live, shown.value("$('verdict').parentNode.getAttribute('role')")), (
-        ["polite", "polite"],
-        "status",
-    )
-    nameless = [
-        it["role"]["value"]
-        for it in nodes
-        if it["role"]["value"] in ("button", "slider", "combobox", "grid") and not it["name"]["value"]
-    ]
-    yield "roles: each control has a name", nameless, []
+    role = shown.value("$('verdict').parentNode.getAttribute('role')")
+    yield "roles: live regions", (live, role), (["polite", "polite"], "status")
+    controls = [it for it in nodes if it["role"]["value"] in ("button", "slider", "combobox", "grid")]
+    yield "roles: each control has a name", [it["role"]["value"] for it in controls if not it["name"]["value"]], []
 
 
 # ---- how it looks
@@ -449,15 +385,11 @@ def of_contrast(at, name, data, turn):
 
 def of_colours():
     # Sharma, Wu and Dalal 2005, table 1, pairs 1, 7, 10 and 25; and WCAG's black on white.
-    pairs = (
-        ((50, 2.6772, -79.7751), (50, 0, -82.7485), 2.0425),
-        ((50, 0, 0), (50, -1, 2), 2.3669),
-        ((50, 2.49, -0.001), (50, -2.49, 0.0009), 7.1792),
-        ((60.2574, -34.0099, 36.2677), (60.4626, -34.1751, 39.4387), 1.2644),
-    )
-    yield "colours: the distance is CIEDE2000", [round(colours.distance(one, other), 4) for one, other, _ in pairs], [
-        it[2] for it in pairs
-    ]
+    pairs = {
+        2.0425: ((50, 2.6772, -79.7751), (50, 0, -82.7485)), 2.3669: ((50, 0, 0), (50, -1, 2)),
+        7.1792: ((50, 2.49, -0.001), (50, -2.49, 0.0009)), 1.2644: ((60.2574, -34.0099, 36.2677), (60.4626, -34.1751, 39.4387)),
+    }
+    yield "colours: the distance is CIEDE2000", [round(colours.distance(*it), 4) for it in pairs.values()], [*pairs]
     yield "colours: the contrast is WCAG's", round(colours.contrast("#000000", "#ffffff"), 3), 21.0
     for theme, found in colours.themes((PAGE / "page.css").read_text()).items():
         builds = {f"b{k}": found[f"b{k}"] for k in range(8)}
@@ -484,24 +416,16 @@ def of_builds(at, data):
         shown = Shown(at, page_of({**data, "run": {**data["run"], "settings": settings, "world": world}}))
         after = "getComputedStyle(it, '::after').content"
         number = f"({after} === 'attr(data-b)' ? it.dataset.b : {after}.replaceAll('\"', ''))"
-        text = shown.value(
-            f"[...document.querySelectorAll('#grid i')].slice(0, 16).map((it) => [it.textContent, {number}])"
-        )
-        yield f"builds: numbers on {pages} tiles", [own if own in "01234567" else after for own, after in text], [
-            str(k // 2) for k in range(16)
-        ]
+        text = shown.value(f"[...document.querySelectorAll('#grid i')].slice(0, 16).map((it) => [it.textContent, {number}])")
+        found = [own if own in "01234567" else after for own, after in text]
+        yield f"builds: numbers on {pages} tiles", found, [str(k // 2) for k in range(16)]
 
 
 def spent(at, shown, what):
     """The milliseconds of the processor that a call of the page takes, with what is drawn after it."""
-    all_told = lambda: next(
-        it["value"] for it in at.call("Performance.getMetrics")["metrics"] if it["name"] == "TaskDuration"
-    )
-    before = all_told()
-    shown.value(
-        f"(async () => {{ {what}; document.body.offsetHeight;"
-        " await new Promise((done) => requestAnimationFrame(() => setTimeout(done))); })()"
-    )
+    all_told = lambda: next(it["value"] for it in at.call("Performance.getMetrics")["metrics"] if it["name"] == "TaskDuration")
+    before, drawn = all_told(), "await new Promise((done) => requestAnimationFrame(() => setTimeout(done)))"
+    shown.value(f"(async () => {{ {what}; document.body.offsetHeight; {drawn}; }})()")
     return 1000 * (all_told() - before)
 
 

@@ -19,7 +19,7 @@ import subprocess
 import pytest
 
 from help_text import PROGRAMS, program_of, version_of
-from programs import HOST, SECONDS, TOP, TRACER, VIEW, module_of, needs
+from programs import HOST, TOP, TRACER, VIEW, module_of, needs, run
 
 pytestmark = needs(HOST, TRACER, VIEW)
 STATUSES = TOP / "docs/reference/STATUSES.md"
@@ -41,13 +41,9 @@ LISTS = {
 }
 
 
-def printed(words, **how):
+def printed(words, given="", **how):
     """Status, and all that is printed."""
-    if "input" not in how:
-        how.setdefault("stdin", subprocess.DEVNULL)
-    how = {"stdout": subprocess.PIPE, "stderr": subprocess.STDOUT, "cwd": TOP, "timeout": SECONDS, **how}
-    ran = subprocess.run(words, text=True, errors="replace", **how)
-    return ran.returncode, ran.stdout
+    return run(words[0], words[1:], given, stderr=subprocess.STDOUT, cwd=TOP, text=True, errors="replace", **how)[:2]
 
 
 # ---- man pages
@@ -117,8 +113,8 @@ def of_page(name):
     statuses = set(re.findall(r"^\.TP\n\.B (\d+)$", sections["EXIT STATUS"], re.M))
     yield f"its statuses {sorted(statuses)}", statuses, statuses_of_docs(name)
     first, *_, last = [it.name for it in program.commands if it.name != "help"]
-    tries = ([], {}), (["--help"], {}), ([last], {"input": "?"}), ([first], {"stdin": os.open(TOP, os.O_RDONLY)})
-    for words, how in tries:
+    folder = {"given": None, "stdin": os.open(TOP, os.O_RDONLY)}
+    for words, how in ([], {}), (["--help"], {}), ([last], {"given": "?"}), ([first], folder):
         status, _ = printed([TOP / "bin" / name, *words], **how)
         yield f"status {status} of {words}", str(status) in statuses
     yield from of_examples(sections)
@@ -225,4 +221,4 @@ def test_completions(check, name):
 
 
 def test_stored_completions():
-    assert module_of(TOP / "tools/completions").differing() == [], "tools/completions writes them"
+    assert printed([TOP / "tools/completions", "--check"]) == (0, "")

@@ -10,7 +10,6 @@ tests/prefixes/NAME.txt has a line for each prefix of the plan beside it: its by
 or how many lines are printed, as a second reader of plans found them.
 What RULES.md says of the lines of runs has to stand there.
 """
-import os
 import re
 import resource
 
@@ -20,7 +19,9 @@ from hypothesis import given
 from answers import findings
 from failing_builds import failing_builds
 from no_steps import NO_STEPS
-from programs import HOST, MEMORY, PLANS, RUNS, TOP, Ran, files, named, needs, over, run
+from programs import (
+    HOST, LITTLE_MEMORY, MEMORY, PLANS, RUNS, TOP, Ran, fault_at, files, limited, named, needs, of_devices, over, plan_of, run,
+)
 from random_plans import CHANGED_PLANS, changed_plans, examples, random_plans
 
 pytestmark = needs(HOST, MEMORY)
@@ -30,10 +31,6 @@ over_both_stores = pytest.mark.parametrize("program", [HOST, MEMORY], ids=lambda
 
 def replay(plan, program=HOST, words=("replay",), **how):
     return run(program, words, plan, **how)
-
-
-def read(path, otherwise):
-    return path.read_bytes() if path.exists() else otherwise
 
 
 # ---- stored texts
@@ -60,9 +57,8 @@ def test_run_in_threads(path):
 
 @over("path", "tests/faults", suffix="txt")
 def test_fault(path):
-    head, err = path.read_bytes().split(b"\n", 1)
-    words = read(path.with_suffix(".args"), b"replay\n").split(b"\n")[:-1]
-    assert run(HOST, words, read(path.with_suffix(".toml"), b"")) == Ran(int(head.split()[1]), b"", err)
+    words, given, wanted = fault_at(path)
+    assert run(HOST, words, given) == wanted
 
 
 def rows_of_rules():
@@ -82,8 +78,7 @@ def test_rule_stands_in_its_run(rule, name, number, text):
 
 @pytest.mark.parametrize("text", NO_STEPS)
 def test_no_step(text):
-    given = f'pages = 1\n[[build]]\nsteps = ["{text}"]\n'.encode()
-    assert replay(given) == Ran(1, b"", b"plan 22 step 0 0\n")
+    assert replay(plan_of([[text]], pages=1)) == Ran(1, b"", b"plan 22 step 0 0\n")
 
 
 def test_prefixes(check):
@@ -99,8 +94,7 @@ def test_prefixes(check):
 
 
 def plan_with(builds, steps, turns):
-    build = '[[build]]\nsteps = [' + '"undo",' * steps + "]\n"
-    return ("pages = 1\norder = [" + "0," * turns + "]\n" + build * builds).encode()
+    return plan_of([["undo"] * steps] * builds, pages=1, order=[0] * turns)
 
 
 @over_both_stores
@@ -143,11 +137,10 @@ def test_many_lives(program):
     """Eight builds live 35 times, turn about; then their turns are idle."""
     lives = [[it for _ in range(35) for it in life(build)] for build in range(8)]
     turns = [place % 8 for place in range(16384)]
-    builds = "".join("[[build]]\nsteps = [" + "".join(f'"{step}",' for step, _ in steps) + "]\n" for steps in lives)
     text = "".join(f"{build} {steps[place][0]} = {steps[place][1]}\n" for place in range(35 * 29) for build, steps in enumerate(lives))
     text += "".join(f"{build} - idle\n" for build in turns[35 * 29 * 8 :]) + "free 64\n"
-    given = f"pages = 64\nhistory = 16384\norder = {turns}\n{builds}".encode()
-    assert replay(given, program) == Ran(0, text.encode(), b"")
+    plan = plan_of([[step for step, _ in steps] for steps in lives], pages=64, history=16384, order=turns)
+    assert replay(plan, program) == Ran(0, text.encode(), b"")
 
 
 @pytest.mark.parametrize("build", failing_builds(), ids=lambda it: f"{it[0]}")
@@ -179,29 +172,19 @@ def test_script_of_calls():
 # ---- the surroundings
 
 
-DEVICE = Ran(5, b"", b"device\n")
-
-
 def test_devices(check):
-    first = (TOP / "plans/first.toml").read_bytes()
-    check("a folder as standard input", replay(None, stdin=os.open(TOP, os.O_RDONLY)), DEVICE)
-    check("a full standard output", replay(first, stdout=open("/dev/full", "wb")), DEVICE)
-    check("a closed standard output", replay(first, preexec_fn=lambda: os.close(1)), DEVICE)
-    check("a closed standard input", replay(None, preexec_fn=lambda: os.close(0)), DEVICE)
+    check.all(of_devices(HOST, ["replay"], (TOP / "plans/first.toml").read_bytes()))
     check("a full standard error", replay(b"", stderr=open("/dev/full", "wb")), Ran(1, b"", b""))
 
 
 def test_small_stacks():
     """The stacks of threads have the size of the limit too."""
-    small = lambda: resource.setrlimit(resource.RLIMIT_STACK, (1 << 17, 1 << 17))
     plan, text = ((TOP / f"plans/three-workers.{it}").read_bytes() for it in ("toml", "run.txt"))
-    assert run(HOST, ["run"], plan, preexec_fn=small) == Ran(0, text, b"")
+    assert run(HOST, ["run"], plan, preexec_fn=limited((resource.RLIMIT_STACK, 1 << 17))) == Ran(0, text, b"")
 
 
 def test_little_memory():
-    """The pages alone take all of these 16 MiB."""
-    little = lambda: resource.setrlimit(resource.RLIMIT_AS, (1 << 24, 1 << 24))
-    assert replay(b"pages = 4096\n[[build]]\nsteps = []\n", preexec_fn=little) == Ran(3, b"", b"memory\n")
+    assert replay(plan_of([[]], pages=4096), **LITTLE_MEMORY) == Ran(3, b"", b"memory\n")
 
 
 # ---- random plans
@@ -209,7 +192,7 @@ def test_little_memory():
 
 def ask(words, plan):
     """An answer within a second of the processor's time."""
-    return run(HOST, words, plan, preexec_fn=lambda: resource.setrlimit(resource.RLIMIT_CPU, (1, 1)))
+    return run(HOST, words, plan, preexec_fn=limited((resource.RLIMIT_CPU, 1)))
 
 
 @examples(CHANGED_PLANS)

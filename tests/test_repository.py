@@ -3,13 +3,12 @@ import configparser
 import io
 import os
 import shutil
-import subprocess
 from typing import NamedTuple
 
 import pytest
 
 import progress
-from programs import SECONDS, TOP, module_of
+from programs import SECONDS, TOP, module_of, ran, run
 
 ANOTHER, NAMED = "rattle-kit-0 logic 0", (TOP / "rattle-toolchain").read_text().strip()
 # A toolchain of another version, which has no crates.
@@ -42,11 +41,10 @@ def toolchain(tmp_path):
 
 @pytest.mark.parametrize("words", TOOLS.values(), ids=TOOLS)
 def test_another_toolchain(toolchain, words):
-    env = {**os.environ, "PATH": toolchain}
-    ran = subprocess.run(words, cwd=TOP, env=env, stdin=subprocess.DEVNULL, capture_output=True, text=True, timeout=SECONDS)
+    came = run(words[0], words[1:], "", cwd=TOP, env={**os.environ, "PATH": toolchain})
     note = f"note: the toolchain on the PATH is `{ANOTHER}`, and rattle-toolchain names `{NAMED}`"
-    said = ran.stderr.splitlines()
-    assert said and said[0] == said[-1] == note and len(said) > 1, ran.stderr
+    said = came.err.splitlines()
+    assert said and said[0] == said[-1] == note and len(said) > 1, came.err
 
 
 def test_each_tool_checks_the_version():
@@ -58,8 +56,7 @@ def test_each_tool_checks_the_version():
 
 def attribute(name, paths):
     """The value of an attribute of git for each path."""
-    ran = subprocess.run(["git", "check-attr", name, "--", *paths], cwd=TOP, capture_output=True, text=True, check=True)
-    return [line.rsplit(": ", 1)[1] for line in ran.stdout.splitlines()]
+    return [line.rsplit(": ", 1)[1] for line in ran(["git", "check-attr", name, "--", *paths], cwd=TOP).splitlines()]
 
 
 @pytest.mark.skipif(not (TOP / ".git").exists(), reason="this is no clone")
@@ -147,9 +144,33 @@ def test_gate_passes_on_what_it_reads(monkeypatch, tmp_path, capfd):
     said = []
     told = progress.Progress(["one", "two", "three"], 4)
     monkeypatch.setattr(told, "say", lambda *how, is_done: said.append((*how, is_done)))
-    assert module_of(TOP / "tools/gate").run(env, told) == 1
+    assert module_of(TOP / "tools/gate").run(["rt", "ci"], env, told) == 1
     assert capfd.readouterr().out == LINES
     assert said == [("one", "is kept", False), ("two", "proved", True), ("three", "NOT PROVED", True)]
+
+
+# ---- make try
+
+# What `rt try` is called with, and then a line of the program and one of the build.
+TRIED = """\
+#!/bin/sh
+[ "$1" = version ] && exec cat "$NAMED"
+echo "$PWD: $* < $(cat)"
+echo "realmview: no plan" >&2
+echo "checked: ended" >&2
+exit 2
+"""
+
+
+def test_try_runs_a_program_over_a_file(tmp_path):
+    (tmp_path / "rt").write_text(TRIED)
+    (tmp_path / "rt").chmod(0o755)
+    env = {**os.environ, "PATH": f"{tmp_path}{os.pathsep}{os.environ['PATH']}", "NAMED": f"{TOP}/rattle-toolchain"}
+    (tmp_path / "a.toml").write_text("pages = 8")
+    words = ["realmview", f"{tmp_path}/a.toml", "--", "why", "--text"]
+    status, said, errors = run("tools/try", words, "", cwd=TOP, env=env)
+    assert said == f"{TOP}/crates/realmview: try -- why --text < pages = 8\n"
+    assert errors.splitlines()[1:] == ["realmview: no plan"] and status == 2
 
 
 # ---- linters
@@ -157,8 +178,8 @@ def test_gate_passes_on_what_it_reads(monkeypatch, tmp_path, capfd):
 
 def scripts(head, *suffixes):
     """The files of the repository with a suffix, or with this in their first line."""
-    listed = subprocess.run(["git", "ls-files", "--cached", "--others", "--exclude-standard"], cwd=TOP, capture_output=True, text=True, check=True)
-    paths = [TOP / it for it in listed.stdout.splitlines() if (TOP / it).is_file()]
+    listed = ran(["git", "ls-files", "--cached", "--others", "--exclude-standard"], cwd=TOP)
+    paths = [TOP / it for it in listed.splitlines() if (TOP / it).is_file()]
     is_one = lambda it: it.suffix in suffixes or not it.suffix and it.read_bytes().startswith(b"#!") and head in it.read_bytes().split(b"\n")[0]
     return [it for it in paths if is_one(it)]
 
@@ -178,5 +199,4 @@ def test_linter_finds_nothing(name):
     if not shutil.which(name):
         pytest.skip(f"there is no {name}")
     found = scripts(*kind)
-    ran = subprocess.run([*words, *found], cwd=TOP, capture_output=True, text=True, timeout=4 * SECONDS)
-    assert found and (ran.returncode, ran.stdout) == (0, ""), ran.stdout + ran.stderr
+    assert found and run(words[0], [*words[1:], *found], "", cwd=TOP, timeout=4 * SECONDS)[:2] == (0, "")

@@ -14,21 +14,16 @@ from typing import NamedTuple
 import pytest
 
 from programs import JUDGE, TRACER, needs
+from random_rmm.lives import OTHERS
 from rmm_logs import log_of, paths, with_settings
 from second_rmm.bench import Bench
 from second_rmm.command import LAST, LISTED, TF
-from second_rmm.facts import VALUES, Settings
 
 pytestmark = needs(TRACER)
 COUNTS = re.compile(r"(\d+) same, (\d+) allowed, (\d+) wrong")
 SECONDS = 300
 # One random trace of so many is answered with each freedom but the first, and of so many with each setting alone.
 SHARE, SHARE_OF_SETTINGS, FIRST = 4, 8, 3
-# The other value of each setting that has two.
-OTHERS = {
-    name: next(it for it in values if it != getattr(Settings(), name))
-    for name, values in VALUES.items() if not isinstance(values, range) and name != "vmid_bits"
-}
 
 
 class Freedom(NamedTuple):

@@ -12,7 +12,6 @@ import copy
 import hashlib
 import re
 from collections.abc import Iterator
-from dataclasses import replace
 from pathlib import Path
 
 import pytest
@@ -20,6 +19,7 @@ import pytest
 from programs import TOP, named
 from rmm_cases import AFTER_ENTRY, ALIKE, COMMENTS, ENTRY, NO_COMMANDS, NO_COMMANDS_EITHER, REALM, VERDICTS
 from rmm_laws import of_entries, of_roles, of_teardown
+from rmm_line_laws import Kept, kept
 from rmm_lines import differences, raw
 from rmm_logs import paths, without_answers
 from second_rmm.bench import Bench
@@ -53,10 +53,8 @@ def of_other_answers(path: Path) -> Iterator[Finding]:
     yield None if is_well else f"{path.name}: an answer that is another is not found"
 
 
-def snapshot(machine: Machine) -> list[tuple[object, ...]]:
-    """All that a machine is, in copies."""
-    rec = lambda it: it and replace(it, asked=replace(it.asked), steps=[*it.steps], results=[*it.results])
-    return [(it.state, it.page, (*it.table,), it.realm and replace(it.realm), rec(it.rec)) for it in machine.granules]
+def snapshot(machine: Machine) -> list[Kept]:
+    return [kept(it) for it in machine.granules]
 
 
 def of_refusals(path: Path) -> Iterator[Finding]:

@@ -18,7 +18,7 @@ import pytest
 from hypothesis import assume, given
 
 from no_steps import NO_STEPS
-from programs import HOST, PLANS, RUNS, TOP, files, named, needs, over, run
+from programs import HOST, PLANS, RUNS, TOP, files, named, needs, over, plan_of, run
 from random_plans import CHANGED_PLANS, changed_plans, examples
 
 SCHEMA = jsonschema.Draft202012Validator(json.loads((TOP / "plans/plan.schema.json").read_text()))
@@ -51,10 +51,6 @@ def is_taken(plan):
     return None if ran.err == b"plan 20 syntax\n" else ran.status == 0
 
 
-def plan_of(step):
-    return f"pages = 1\n[[build]]\nsteps = [{json.dumps(step)}]\n".encode()
-
-
 def no_steps():
     """Texts that are none, and the greatest numbers with one more."""
     yield from NO_STEPS
@@ -67,8 +63,7 @@ def no_steps():
 
 
 def plan_with(builds, steps, turns):
-    build = f"[[build]]\nsteps = {['undo'] * steps}\n"
-    return f"pages = 1\norder = {turns}\n{build * builds}".encode()
+    return plan_of([["undo"] * steps] * builds, pages=1, order=turns)
 
 
 def limits():
@@ -100,8 +95,8 @@ def test_limits(check):
 
 
 def test_steps(check):
-    check.all((f"the step {step}", is_accepted(plan_of(step))) for step in GREATEST)
-    check.all((f"no step: {step!r}", is_accepted(plan_of(step)), False) for step in no_steps())
+    check.all((f"the step {step}", is_accepted(plan_of([[step]], pages=1))) for step in GREATEST)
+    check.all((f"no step: {step!r}", is_accepted(plan_of([[step]], pages=1)), False) for step in no_steps())
 
 
 @needs(HOST)

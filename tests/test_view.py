@@ -3,7 +3,8 @@
 Of each plan of plans/, plans/guide/ and tests/runs/, `history` and then `apply` have to print the map at the end of the run
 that is stored beside it; with `--erase B` at either of the two, they have to print what `realmhost replay --erase B` prints,
 for each build.
-`calls` has to print a trace of which `rmitrace check` finds each answer the same.
+`calls` has to print a trace of which `rmitrace check` finds each answer the same, or of a refused call allowed. With `--c` it has
+to print the rows that `examples/drive.py --c` makes of that trace.
 tests/histories/NAME.history is the standard input of `apply`, or of what NAME.args has, one word a line; NAME.txt is what is
 wanted: a line `status N`, standard output, and standard error, which begins behind a line `--`. They are written by hand.
 tests/lines/ has single lines, by hand too: those that `apply` has to take for an event or for an opening, and those that are none.
@@ -13,18 +14,23 @@ as well, and NAME.all that of `why --all`; of each plan, `why` has to print what
 each refusal and nothing else, and the data of its page has to have the same words.
 Of each plan that realmhost replays, `check` has to find no error, and of each that it refuses, one; so too of random plans.
 """
+import contextlib
+import io
 import json
 import os
 import re
-import resource
+import sys
 import tempfile
 
 import pytest
 from hypothesis import given
 
 from answers import fault_of_a_check, map_of
-from programs import HOST, PLANS, RUNS, TOP, TRACER, VIEW, files, named, needs, over, run
+from programs import HOST, LITTLE_MEMORY, PLANS, RUNS, TOP, TRACER, VIEW, data_of, files, named, needs, of_devices, over, run
 from random_plans import CHANGED_PLANS, broken_plans, examples, random_plans
+
+sys.path.append(str(TOP / "examples"))
+from c_table import Table
 
 pytestmark = needs(HOST, VIEW, TRACER)
 
@@ -57,6 +63,54 @@ def test_calls(check, path):
         answered = sum(b" = " in it for it in lines)
         wanted = b"%d same, 0 allowed, 0 wrong\n" % answered
         check("calls, answered", run(TRACER, ["check"], calls), (0 if answered else 1, wanted, b""))
+
+
+# A plan of one build, in which the RMM refuses steps: each with the lines of its call, or with that there is none. The RMM
+# is that of TRACES.md, at 0x80000000. Parameters and pages of runs are after 16 pages, and the last page of a run is 0x80051000.
+OTHERWISE = "# no call: RMM 1.0 has none for it, or may answer otherwise"
+REFUSED = (
+    ("take 3", None), ("delegate 0", None), ("delegate 0", "rmi_granule_delegate 0x80000000 = RMI_ERROR_INPUT"), ("delegate 8", None),
+    ("delegate 1", None), ("realm 0 1", None), ("data 2 0 3", "rmi_data_create 0x80000000 0x80002000 0x0 0x80003000 0x1 = RMI_ERROR_INPUT"),
+    ("unknown 2 1", "rmi_data_create_unknown 0x80000000 0x80002000 0x1000 = RMI_ERROR_INPUT"),
+    ("rtt 4 0 2", "rmi_rtt_create 0x80000000 0x80004000 0x0 2 = RMI_ERROR_INPUT"), ("fill 0 1", OTHERWISE), ("delegate 4", None),
+    ("rtt 4 0 3", "rmi_rtt_create 0x80000000 0x80004000 0x0 3 = RMI_ERROR_RTT 1"), ("rtt 4 67108864 2", OTHERWISE),
+    ("ripas 511 2", OTHERWISE), ("ripas 0 0", "rmi_rtt_init_ripas 0x80000000 0x0 0x0 = RMI_ERROR_INPUT"), ("ripas 0 1", OTHERWISE),
+    ("delegate 5", None), ("delegate 6", None), ("rec 5 6", None), ("enter 0", "rmi_rec_enter 0x80005000 0x80051000 = RMI_ERROR_REALM"),
+    ("activate", None), ("activate", "rmi_realm_activate 0x80000000 = RMI_ERROR_REALM"), ("enter 0", None),
+    ("enter 0", "rmi_rec_enter 0x80005000 0x80051000 = RMI_ERROR_REC"), ("enter 1", OTHERWISE), ("poke 0 0 0 1", OTHERWISE),
+)
+
+
+def test_refused_calls(check):
+    """The RMM's refusals are calls with their words, where RMM 1.0 has the same."""
+    steps = [step for step, _ in REFUSED]
+    plan = f"pages = 16\naux = 1\norder = {[0] * len(steps)}\n[[build]]\nsteps = {steps}\n".encode()
+    status, calls, err = run(VIEW, ["calls"], plan)
+    check("calls", (status, err), (0, b""))
+    turns = re.split(r"^# 0 (.*) = (.*)\n", calls.decode(), flags=re.M)[1:]
+    found = [(step, lines.rstrip("\n") if answer.startswith("no 13") else None) for step, answer, lines in zip(*[iter(turns)] * 3)]
+    check("refused calls", found, list(REFUSED))
+
+
+def rows_of(text):
+    """The rows of a table of C, without what the trace alone has: the field of an exit, and zeros at an end."""
+    rows = [it for it in text.splitlines() if it.startswith("{") and not re.search(r"LOAD.*, 0x1}, .out", it)]
+    rows = [re.sub(r"(, 0x0)+}, .out", "}, .out", it) for it in rows]
+    rows = [re.sub(r"(, 0)+}, .compared", "}, .compared", it) for it in rows]
+    return [re.sub(r"(, .\w+ = 0x0)+}}", "}}", it) for it in rows]
+
+
+@over("path", *PLANS, RUNS)
+def test_rows_of_calls(check, path):
+    """The rows of C are those that the driver makes of the trace."""
+    status, rows, err = run(VIEW, ["calls", "--c", "--base", "0x88000000"], path.read_bytes())
+    check("calls", (status, err), (0, b""))
+    trace = run(VIEW, ["calls", "--base", "0x88000000"], path.read_bytes())[1].decode()
+    with contextlib.redirect_stdout(io.StringIO()) as made:
+        Table().trace(path.name, [it for it in trace.splitlines() if not it.startswith("#")])
+    check("rows", rows_of(rows.decode()), rows_of(made.getvalue()))
+    turns = [it.removeprefix("# ") for it in trace.splitlines() if it.startswith("#")]
+    check("turns", [it.removeprefix("// ") for it in rows.decode().splitlines() if it.startswith("//")], turns)
 
 
 def test_bases(check):
@@ -188,11 +242,6 @@ def refused_of(out):
             yield {"turn": number, **{kind: it for kind, _, it in words if kind in ("error", "help")}}
 
 
-def data_of(page):
-    """The data in a page."""
-    return json.loads(page[page.index(b'{"run":') :].split(b"</script>", 1)[0])
-
-
 def without_ok(out):
     """A run with all checks, without those that passed; each as many as are counted above them."""
     lines, left = [], 0
@@ -297,33 +346,25 @@ def test_the_largest_history(check):
     check("a line of 16 MiB", run(VIEW, ["apply"], long), (1, b"", b"line 2 is no event\n"))
 
 
-def test_devices(check):
-    history = b"history 1 1 1 0 16 1\n0 take 0 0\n"
-    closed = lambda number: lambda: os.close(number)
-    check("no line feed at the end", run(VIEW, ["apply"], history[:-1]), (0, b"0 page 0 UNDELEGATED 0\nfree 0\n", b""))
-    check("a folder as standard input", run(VIEW, ["apply"], None, stdin=os.open(TOP, os.O_RDONLY)), (5, b"", b"device\n"))
-    check("a full standard output", run(VIEW, ["apply"], history, stdout=open("/dev/full", "wb")), (5, b"", b"device\n"))
-    check("a closed standard output", run(VIEW, ["apply"], history, preexec_fn=closed(1)), (5, b"", b"device\n"))
-    check("a closed standard input", run(VIEW, ["apply"], None, preexec_fn=closed(0)), (5, b"", b"device\n"))
+HISTORY = b"history 1 1 1 0 16 1\n0 take 0 0\n"
+
+
+@pytest.mark.parametrize("word", ["apply", "check", "explore", "history", "json", "why"])
+def test_devices(check, word):
+    check.all(of_devices(VIEW, [word], HISTORY if word == "apply" else (TOP / "plans/first.toml").read_bytes()))
+
+
+def test_surroundings(check):
+    check("no line feed at the end", run(VIEW, ["apply"], HISTORY[:-1]), (0, b"0 page 0 UNDELEGATED 0\nfree 0\n", b""))
     check("a full standard error", run(VIEW, ["apply"], b"", stderr=open("/dev/full", "wb")), (1, b"", b""))
-    plan = (TOP / "plans/first.toml").read_bytes()
-    check("a history to a full output", run(VIEW, ["history"], plan, stdout=open("/dev/full", "wb")), (5, b"", b"device\n"))
-    check("reasons to a full output", run(VIEW, ["why"], plan, stdout=open("/dev/full", "wb")), (5, b"", b"device\n"))
-    check("reasons of a folder", run(VIEW, ["why"], None, stdin=os.open(TOP, os.O_RDONLY)), (5, b"", b"device\n"))
-    check("orders to a full output", run(VIEW, ["explore"], plan, stdout=open("/dev/full", "wb")), (5, b"", b"device\n"))
-    check("orders of a folder", run(VIEW, ["explore"], None, stdin=os.open(TOP, os.O_RDONLY)), (5, b"", b"device\n"))
-    check("a check to a full output", run(VIEW, ["check"], plan, stdout=open("/dev/full", "wb")), (5, b"", b"device\n"))
-    check("a check of a folder", run(VIEW, ["check"], None, stdin=os.open(TOP, os.O_RDONLY)), (5, b"", b"device\n"))
-    # The pages alone take all of these 16 MiB.
-    little = lambda: resource.setrlimit(resource.RLIMIT_AS, (1 << 24, 1 << 24))
-    large = b"history 1 4096 1 0 16 1\n"
-    check("too little memory", run(VIEW, ["apply"], large, preexec_fn=little), (3, b"", b"memory\n"))
+    check("too little memory", run(VIEW, ["apply"], b"history 1 4096 1 0 16 1\n", **LITTLE_MEMORY), (3, b"", b"memory\n"))
     check("help to a full output", run(VIEW, ["--help"], stdout=open("/dev/full", "wb")), (5, b"", b"device\n"))
 
 
 NO_WORDS = (
     [], ["look"], ["apply", "--erase", "8"], ["history", "--erase"], ["check", "--erase", "0"], ["explore", "--most-states"],
     ["explore", "--most-states", "4294967296"], ["explore", "--seed", "-1"], ["explore", "--erase", "0"], ["why", "one", "two"], ["help", "look"],
+    ["json", "--erase", "0"], ["json", "plan", "more"],
 )
 
 

@@ -3,8 +3,7 @@ import textwrap
 from itertools import pairwise
 from pathlib import Path
 
-from drawing import picture, path, rect, text
-from life_picture import MARKER, HEAD
+from drawing import HEAD, MARKER, path, picture, rect, text
 
 CRATES = Path(__file__).resolve().parent.parent / "crates.txt"
 TITLE = "The crates"

@@ -22,6 +22,12 @@ FONTS = (
     f"text{{font:12px {SANS}}}.m{{font:12px {MONO}}}.w{{font:11px {MONO}}}.s{{font-size:11px}}.h{{font-size:17px}}"
     ".b{font-weight:600}.edge,.line,.cross{fill:none}"
 )
+# The end of an arrow, and the definition that a picture with arrows begins with.
+HEAD = ' marker-end="url(#head)"'
+MARKER = (
+    '<defs><marker id="head" viewBox="0 0 8 8" refX="6" refY="4" markerWidth="8" markerHeight="8" orient="auto">'
+    '<path d="M0 0L8 4L0 8z" class="soft"/></marker></defs>'
+)
 
 
 def paint(page):

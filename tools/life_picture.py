@@ -1,5 +1,5 @@
 """The picture of the life of a page: which step leads from which state to which, and where the page is cleared."""
-from drawing import cell, path, picture, rect, text
+from drawing import HEAD, MARKER, cell, path, picture, rect, text
 
 TITLE = "The life of a page"
 SAID = (
@@ -16,11 +16,6 @@ BECOMES = (
     ("rec", ("REC", "REC_AUX"), "a virtual processor"),
 )
 TOP, HEIGHT, MIDDLE, ROW, BOTTOM = 76, 354, 250, 54, 411
-HEAD = ' marker-end="url(#head)"'
-MARKER = (
-    '<defs><marker id="head" viewBox="0 0 8 8" refX="6" refY="4" markerWidth="8" markerHeight="8" orient="auto">'
-    '<path d="M0 0L8 4L0 8z" class="soft"/></marker></defs>'
-)
 
 
 def zone(x, width, said):

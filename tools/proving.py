@@ -49,11 +49,14 @@ def is_built(crate):
 
 
 def keep(libraries, stamps):
-    """Keeps the statements of libraries that `rt ci` has just proved and left in out/rlib/, each where the crate is still that of
-    its stamp, which was taken before."""
+    """Keeps what `rt ci` has just made of libraries, each where the crate is still that of its stamp, which was taken before:
+    the statements that it has left in out/rlib/, and the archives of static ones."""
     for crate in libraries:
-        to = f"{crate.folder}/{FOLDER}/{crate.name}.rlib"
-        make(crate, to, lambda it: it.stamp() == stamps[it.name] and bool(shutil.copytree(it.rlib, to)))
+        found, copied = (f"{crate.folder}/out/lib{crate.name}.a", shutil.copy) if crate.is_static else (crate.rlib, shutil.copytree)
+        to = place_of(crate) if crate.is_static else f"{crate.folder}/{FOLDER}/{crate.name}.rlib"
+        # (of an archive that an earlier run has proved, nothing is made)
+        if os.path.exists(found):
+            make(crate, to, lambda it: it.stamp() == stamps[it.name] and bool(copied(found, to)))
 
 
 def make(crate, made, work):

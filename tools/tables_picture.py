@@ -1,5 +1,5 @@
 """The picture of the tables in plans/guide/tables.toml before its undo: from the descriptor by walks down to level 3."""
-from drawing import cell, path, picture, rect, text
+from drawing import HEAD, MARKER, cell, path, picture, rect, text
 
 TITLE = "The tables of the plan, before its undo"
 SAID = (
@@ -18,11 +18,6 @@ PLACES = (
     ("RTT", "page 3: level 3", 658, TOP, 150, ("0", "1", "", "511")),
     ("RTT", "page 4: level 3", 658, BELOW, 150, ("512", "513", "", "1023")),
 )
-MARKER = (
-    '<defs><marker id="head" viewBox="0 0 8 8" refX="6" refY="4" markerWidth="8" markerHeight="8" orient="auto">'
-    '<path d="M0 0L8 4L0 8z" class="soft"/></marker></defs>'
-)
-HEAD = ' marker-end="url(#head)"'
 FACTS = (
     ("A row has the number of an entry, and the IPA granules that the entry is for: 262,144 of them", "soft"),
     ("in a table of level 1 (1 GiB), 512 in one of level 2 (2 MiB), one in a table of level 3 (4 KiB).", "soft"),

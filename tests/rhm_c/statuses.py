@@ -67,7 +67,7 @@ def answers():
     wanted("the same", host.commit(0, "enter", 0, 0, answer=(2**64 - 2, 0)), "RHM_DIVERGED", REALM)
     wanted("a delegation", host.commit(0, "delegate", 8, answer=(INPUT, 0)), "RHM_NOT_EXPECTED")
     wanted("a delegation", host.commit(0, "delegate", 8, answer=(0, 9)), "RHM_DONE")
-    wanted("a block", host.prepare(0, "take", 9), "RHM_DONE")
+    wanted("a block", host.prepare(0, "take", 9), "RHM_NO_BLOCK")
     wanted("a block", host.commit(0, "take", 9), "RHM_NO_BLOCK", 9)
 
 

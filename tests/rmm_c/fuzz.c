@@ -1,16 +1,20 @@
-/* Random calls, loads, stores and steps of guests, as the bytes of libFuzzer ask for them. After each of them is checked:
+/* Random calls, loads, stores, steps of guests and lines of traces, as the bytes of libFuzzer ask for them. After each
+ * of them is checked:
  *
  *   - a call is refused exactly if a check decides it, and its word is one that is allowed;
  *   - a call that is refused or is no command changes the state of no granule, and is decided by the same check again;
  *   - X5 and X6 stay, and so do X1 to X4 of what is no command;
  *   - the pages of the host have the bytes that it stored. A granule that comes back from the RMM is zero, and only an
  *     entry or an interrupt writes to pages of the host's;
- *   - an access writes its own bytes and no others, and is refused as a whole.
+ *   - an access writes its own bytes and no others, and is refused as a whole;
+ *   - the text of a line ends with a zero in its room, and no byte after that is written. A call by a line is one by
+ *     registers.
  *
  * PLANTED is the number of a wrong library that has to be found. Without libFuzzer, as with -DALONE, a program replays
  * the inputs of the files that it is given. */
 #include "life.h"
 
+#include <inttypes.h>
 #include <stdlib.h>
 
 enum { COMMANDS = 0x1a, CHECKS = 77, FIRST_COMMAND = 0x150, AROUND = 16 };
@@ -26,6 +30,8 @@ static const uint64_t BASE = 0x80000000, GRANULE = RMM_GRANULE_SIZE;
 /* What the host stored, of each granule that is its own. */
 static uint8_t stored_pages[PAGE_COUNT][RMM_GRANULE_SIZE];
 static rmm_handle handle = RMM_CLOSED;
+/* The machine of random lines, which have platforms of their own. */
+static rmm_handle other_handle = RMM_CLOSED;
 
 #define HOLDS(IT)                                                       \
     do {                                                                \
@@ -41,11 +47,43 @@ static rmm_handle handle = RMM_CLOSED;
 #define PLANTED 0
 #endif
 
-static void call(rmm_registers *registers)
+/* A line, and its answer in a room that has to be kept to. */
+static uint64_t answered(rmm_handle *to, const char *line, char *answer, size_t capacity)
+{
+    char room[RMM_ANSWER_SIZE + AROUND], before[sizeof room];
+    memset(room, 'x', sizeof room);
+    memset(before, 'x', sizeof before);
+    uint64_t count = rmm_line(to, line, strlen(line), room, capacity);
+    HOLDS(count < RMM_ANSWER_SIZE);
+    size_t kept = count < capacity ? (size_t)count + 1 : capacity;
+    if (PLANTED == 5 && count >= capacity && capacity != 0)
+        room[kept - 1] = '.';
+    HOLDS(kept == 0 || memchr(room, 0, sizeof room) == room + kept - 1);
+    HOLDS(memcmp(room + kept, before, sizeof room - kept) == 0);
+    memcpy(answer, room, capacity);
+    return count;
+}
+
+/* A call as a line. Its answer has X0 first. */
+static void call_by_line(rmm_registers *it)
+{
+    char line[160], answer[RMM_ANSWER_SIZE];
+    const uint64_t x[] = {it->x0, it->x1, it->x2, it->x3, it->x4, it->x5, it->x6};
+    int length = snprintf(line, sizeof line, "smc");
+    for (unsigned k = 0; k < sizeof x / sizeof x[0]; k++)
+        length += snprintf(line + length, sizeof line - (size_t)length, " 0x%" PRIx64, x[k]);
+    answered(&handle, line, answer, sizeof answer);
+    it->x0 = strtoull(answer, NULL, 16);
+}
+
+static void call(rmm_registers *registers, bool is_line)
 {
     uint64_t asked = registers->x0, operand = registers->x1;
     uint8_t byte = 1;
-    rmm_smc(&handle, registers);
+    if (is_line)
+        call_by_line(registers);
+    else
+        rmm_smc(&handle, registers);
     bool is_delegate = asked == RMM_FID_GRANULE_DELEGATE, is_refused = registers->x0 != RMM_SUCCESS;
     if (PLANTED == 1 && is_delegate && is_refused)
         rmm_store(&handle, BASE + (operand & 0x1f000), &byte, 1);
@@ -189,7 +227,7 @@ static void check_refused(const rmm_registers *asked, uint64_t check, const uint
     check_page(asked->x2);
 }
 
-static void perform(rmm_registers asked)
+static void perform(rmm_registers asked, bool is_line)
 {
     uint64_t states[PAGE_COUNT];
     read_states(states);
@@ -200,7 +238,7 @@ static void perform(rmm_registers asked)
     if (number < COMMANDS)
         met[number * CHECKS + check] = 1;
     bool is_success_allowed = rmm_is_allowed(&handle, &asked, RMM_SUCCESS);
-    call(&after);
+    call(&after, is_line);
     HOLDS(after.x5 == asked.x5 && after.x6 == asked.x6);
     if (after.x0 == RMM_NOT_SUPPORTED) {
         HOLDS(check == 0 && after.x1 == asked.x1 && after.x2 == asked.x2 && after.x3 == asked.x3 && after.x4 == asked.x4);
@@ -230,7 +268,7 @@ static void call_next(void)
     for (size_t k = 0; k < strlen(kinds); k++)
         *registers[k] = next_operand(kinds[k]);
     asked.x6 = which;
-    perform(asked);
+    perform(asked, which % 8 == 7);
 }
 
 /* Bytes between others, which have to stay. */
@@ -337,9 +375,34 @@ static void read_next(void)
     (void)rmm_result(&handle, address, number, &result);
 }
 
+/* Words of a question, and sometimes a byte between two. */
+static void line_next(void)
+{
+    static const char *const words[] = {
+        "platform", "0x80000000", "16", "0x80001000", "aux", "1", "layout", "eac5", "repeat", "rmi_granule_delegate",
+        "rmi_granule_undelegate", "smc", "0xc4000151", "state", "sum", "load", "store", "fill", "0", "realm_params",
+        "s2sz", "33", "vmid", "rtt_base", "rtt_level_start", "2", "rtt_num_start", "8", "rmi_realm_create", "rim",
+        "realm", "rec", "saw", "guest", "spin", "interrupt", "rmi_version", "0x10000", "=", "#",
+    };
+    char line[512] = "", answer[RMM_ANSWER_SIZE];
+    size_t length = 0, capacity = next();
+    for (unsigned left = next() % 12; left > 0; left--) {
+        const char *word = words[next() % (sizeof words / sizeof words[0])];
+        uint8_t between = next();
+        line[length++] = between < 250 || between == 0 ? ' ' : (char)between;
+        memcpy(line + length, word, strlen(word));
+        length += strlen(word);
+    }
+    line[length] = 0;
+    answered(&other_handle, line + (length != 0), answer, capacity < 128 ? capacity : RMM_ANSWER_SIZE);
+}
+
 static void step_next(void)
 {
-    switch (next() % 12) {
+    switch (next() % 13) {
+    case 12:
+        line_next();
+        return;
     case 0:
         access_next();
         return;
@@ -407,6 +470,7 @@ int LLVMFuzzerTestOneInput(const uint8_t *bytes, size_t count)
         step_next();
     check_pages();
     rmm_close(&handle);
+    rmm_close(&other_handle);
     return 0;
 }
 

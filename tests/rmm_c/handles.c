@@ -1,4 +1,5 @@
-/* Closed handles, settings out of their range, two machines at once, accesses that a host may not make, and judgements.
+/* Closed handles, settings out of their range, two machines at once, accesses that a host may not make, judgements, and
+ * the texts of lines.
  * The last line is `N checks passed`. */
 #include "life.h"
 
@@ -136,6 +137,36 @@ static bool accesses(void)
     return true;
 }
 
+static uint64_t line(rmm_handle *handle, const char *text, char *answer, size_t capacity)
+{
+    return rmm_line(handle, text, strlen(text), answer, capacity);
+}
+
+/* A text is cut before the zero that ends it, and the bytes after that stay. A platform gives a fresh machine. */
+static bool lines(void)
+{
+    rmm_handle handle = RMM_CLOSED;
+    char answer[16] = "...............";
+    CHECKED(line(&handle, "state 0x80000000", answer, 16) == 10 && strcmp(answer, "no command") == 0 && !handle.is_open);
+    CHECKED(answer[10] == 0 && answer[11] == '.' && answer[14] == '.');
+    CHECKED(line(&handle, "platform 0x80000000 0", answer, 16) == 10 && !handle.is_open);
+    CHECKED(line(&handle, "platform 0x80000000 4", answer, 16) == 0 && answer[0] == 0 && handle.is_open);
+    CHECKED(line(&handle, "rmi_granule_delegate 0x80000000 = RMI_ERROR_INPUT # it is", answer, 16) == 11);
+    CHECKED(strcmp(answer, "RMI_SUCCESS") == 0);
+    CHECKED(line(&handle, "state 0x80000000", answer, 5) == 9 && strcmp(answer, "DELE") == 0 && answer[5] == 'U');
+    CHECKED(line(&handle, "state 0x80000000", answer, 10) == 9 && strcmp(answer, "DELEGATED") == 0 && answer[10] == 'S');
+    CHECKED(line(&handle, "state 0x80001000", answer, 1) == 11 && answer[0] == 0 && answer[1] == 'E');
+    CHECKED(line(&handle, "state 0x80001000", answer, 0) == 11 && answer[0] == 0);
+    CHECKED(line(&handle, "# state", answer, 16) == 0 && line(&handle, "", answer, 16) == 0);
+    CHECKED(line(&handle, "state 0x80000000\n", answer, 16) == 10 && strcmp(answer, "no command") == 0);
+    CHECKED(line(&handle, "platform 0x80000000 4 aux 17", answer, 16) == 10);
+    CHECKED(line(&handle, "state 0x80000000", answer, 16) == 9 && line(&handle, "platform 0x80000000 2", answer, 16) == 0);
+    CHECKED(line(&handle, "state 0x80000000", answer, 16) == 11 && strcmp(answer, "UNDELEGATED") == 0);
+    CHECKED(line(&handle, "state 0x80002000", answer, 16) == 4 && strcmp(answer, "none") == 0);
+    rmm_close(&handle);
+    return true;
+}
+
 /* A guest has 16 steps at a time, and an address that is none of a REC has no guest. */
 static bool guests(void)
 {
@@ -143,12 +174,14 @@ static bool guests(void)
     rmm_step wait = {RMM_STEP_WFI, 0, 0, 0, 0};
     rmm_rec rec;
     uint64_t word = 0;
+    memset(&rec, 0xff, sizeof rec);
     CHECKED(opened(&handle, PAGE_COUNT) == RMM_OPENED && make_realm(&handle, 1, 3));
     for (unsigned k = 0; k < 16; k++)
         CHECKED(rmm_guest(&handle, REC, &wait) == RMM_QUEUED);
     CHECKED(rmm_guest(&handle, REC, &wait) == RMM_FULL);
     CHECKED(rmm_guest(&handle, REC + 8, &wait) == RMM_NO_REC && rmm_guest(&handle, RD, &wait) == RMM_NO_REC);
-    CHECKED(rmm_read_rec(&handle, REC, &rec) && rec.step_count == 16 && rec.state == RMM_READY && rec.is_runnable);
+    CHECKED(rmm_read_rec(&handle, REC, &rec) && rec.step_count == 16 && rec.state == RMM_READY);
+    CHECKED(rec.is_runnable == 1 && rec.is_psci_pending == 0);
     CHECKED(!rmm_read_rec(&handle, REC + 8, &rec) && !rmm_interrupt(&handle, REC, &word));
     CHECKED(!rmm_read_word(&handle, RD, 512, &word) && !rmm_read_word(&handle, RD, UINT64_MAX, &word));
     rmm_close(&handle);
@@ -206,8 +239,8 @@ static bool measurement(void)
 
 int main(void)
 {
-    if (!closed() || !settings() || !two_machines() || !accesses() || !guests() || !judgements() ||
-        !measurement())
+    if (!closed() || !settings() || !two_machines() || !accesses() || !lines() || !guests() ||
+        !judgements() || !measurement())
         return 1;
     printf("%u checks passed\n", passed);
     return 0;

@@ -213,8 +213,8 @@ static void rec(rmm_handle *handle)
     rmm_rec it;
     uint64_t pc, gpr;
     if (rmm_read_rec(handle, n[0], &it) && rmm_read_word(handle, n[0], 31, &pc) && rmm_read_word(handle, n[0], 0, &gpr))
-        printf("%" PRIx64 " - %" PRIx64 " %d %d %" PRIx64 " %" PRIx64, it.state, it.mpidr, it.is_runnable,
-               it.is_psci_pending, pc, gpr);
+        printf("%" PRIx64 " - %" PRIx64 " %" PRIx64 " %" PRIx64 " %" PRIx64 " %" PRIx64, it.state, it.mpidr,
+               it.is_runnable, it.is_psci_pending, pc, gpr);
     else
         printf("none");
 }

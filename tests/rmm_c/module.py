@@ -40,7 +40,7 @@ def made(rmm):
 def of_text():
     """The example of the module's text has the values beside it."""
     lines = [it.strip() for it in module.__doc__.splitlines() if it.startswith("        rmm.")]
-    assert len(lines) == 6
+    assert len(lines) == 7
     with Rmm(granules=2048, base=0x80000000, aux=2) as rmm:
         for line in lines:
             code, _, wanted = line.partition("  #")
@@ -82,6 +82,9 @@ def of_values():
         assert rmm.store(PARAMS, b"abc") is True and rmm.load(PARAMS + 1, 3) == b"bc\0" and rmm.load(PARAMS, 0) == b""
         assert rmm.load(RD, 1) is None and rmm.store(RD, b"1") is False and rmm.load(PARAMS, 4097) is None
         assert rmm.guest(RD, "wfi") == "no REC" and rmm.results(RD) == []
+        for operands in ("write", 0x1000), ("spin", 1), ("read", 0, 1, 2), ("host_call", 1, 2, 3, 4, 5), ("cpu_on", 1, 2):
+            raised(TypeError, lambda: rmm.guest(RD, *operands))
+        raised(ValueError, lambda: rmm.guest(RD, "jump"))
         raised(AttributeError, lambda: rmm.granule_delegate(RD).top)
         answer = rmm.granule_delegate(RD)
         assert (answer.status, answer.index, answer.check, answer.allowed) == (1, 0, "gran_state", (1,))

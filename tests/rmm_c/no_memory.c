@@ -1,4 +1,4 @@
-/* Refuses each allocation of rmm_open in turn, and counts what is not given back.
+/* Refuses each allocation of rmm_open and of rmm_line in turn, and counts what is not given back.
  * Link it with -Wl,--wrap=malloc,--wrap=realloc,--wrap=free. The last line is
  * `N allocations were refused, each in turn`. */
 #include "life.h"
@@ -71,6 +71,32 @@ static const char *fault(rmm_handle *handle, long n, bool *is_open)
     return handle->is_open || out != 0 ? "a block is not given back" : NULL;
 }
 
+static uint64_t line(rmm_handle *handle, long n, const char *text, char *answer, size_t capacity)
+{
+    granted = n;
+    uint64_t count = rmm_line(handle, text, strlen(text), answer, capacity);
+    granted = ALL;
+    return count;
+}
+
+/* How many allocations of lines are refused; -1 if an answer comes without them, or a block is not given back. */
+static long lines(rmm_handle *handle)
+{
+    char answer[16] = "as before";
+    long n = 0, blocks = 0;
+    for (; line(handle, n, "platform 0x80000000 16", answer, sizeof answer) == RMM_NOT_ANSWERED; n++)
+        if (handle->is_open || strcmp(answer, "as before") != 0 || out != 0 || n == 1000)
+            return -1;
+    blocks = out;
+    for (long k = 0; line(handle, k, "state 0x80000000", answer, sizeof answer) == RMM_NOT_ANSWERED; k++, n++)
+        if (k == 1000)
+            return -1;
+    if (!handle->is_open || strcmp(answer, "UNDELEGATED") != 0 || out != blocks)
+        return -1;
+    rmm_close(handle);
+    return out == 0 ? n : -1;
+}
+
 int main(void)
 {
     rmm_handle handle = RMM_CLOSED;
@@ -83,6 +109,11 @@ int main(void)
             return 1;
         }
     }
-    printf("%ld allocations were refused, each in turn\n", n - 1);
+    long of_lines = lines(&handle);
+    if (of_lines < 1) {
+        printf("a line is answered without its memory, or keeps a block\n");
+        return 1;
+    }
+    printf("%ld allocations were refused, each in turn\n", n - 1 + of_lines);
     return n == 1 || !is_open;
 }

@@ -1,4 +1,4 @@
-"""The model as a program: it answers the lines of a trace, or compares the answers in one."""
+"""The model as a program: it answers each line of a trace as soon as it is read, or compares the answers in one."""
 import sys
 from pathlib import Path
 
@@ -11,12 +11,12 @@ USAGE = "usage: second_rmm answer < TRACE\n       second_rmm check [--each] [--s
 
 
 def main(words: list[str]) -> int:
-    text = sys.stdin.buffer.read().decode(errors="surrogateescape")
-    lines = text.removesuffix("\n").split("\n") if text else []
+    lines = (it.decode(errors="surrogateescape").removesuffix("\n") for it in sys.stdin.buffer)
     if words == ["answer"]:
         bench = Bench()
         for line in lines:
             sys.stdout.buffer.write((bench.line(line) + "\n").encode(errors="surrogateescape"))
+            sys.stdout.buffer.flush()
         return 0
     if words[:1] == ["check"] and {*words[1:]} <= {"--each", "--stop"}:
         said, status = report(lines, "--stop" in words, is_each="--each" in words)

@@ -3,7 +3,7 @@
 //! commands.
 //!
 //! `plain_rmm` reads a script as `crates/test_memory` does, and prints the same sum. `plain_rmm lines` performs the
-//! raw operations of `tests/rmm_lines.py`, so that `tests/rmm_program.py` tries it by the traces.
+//! raw operations of `tests/rmm_lines.py`, so that `tests/rmm_lines.py --by` tries it by the traces.
 mod abi;
 mod enter;
 mod entry;

@@ -10,7 +10,7 @@ use granule_addr::BuildId;
 use realm_model::Event;
 
 /// The reason why a shared host is not closed.
-#[derive(Clone, Copy, Debug, PartialEq, Eq)]
+#[derive(Clone, Copy, PartialEq, Eq)]
 pub enum CloseFault {
     /// The build does not have exactly one seat.
     SeatMissing(BuildId),

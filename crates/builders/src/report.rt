@@ -3,7 +3,7 @@ use granule_addr::{BuildId, RecNo};
 use host_commands::{Refusal, Reply, Undone};
 
 /// The question of a line of a report.
-#[derive(Clone, Copy, Debug, PartialEq, Eq)]
+#[derive(Clone, Copy, PartialEq, Eq)]
 pub enum Asked {
     /// The step at that index of the plan, from 0.
     Step(usize),
@@ -14,7 +14,7 @@ pub enum Asked {
 }
 
 /// The answer of a line of a report.
-#[derive(Clone, Copy, Debug, PartialEq, Eq)]
+#[derive(Clone, Copy, PartialEq, Eq)]
 pub enum Answer {
     /// The command was accepted.
     Replied(Reply),
@@ -28,7 +28,7 @@ pub enum Answer {
 }
 
 /// One line of a report.
-#[derive(Clone, Copy, Debug, PartialEq, Eq)]
+#[derive(Clone, Copy, PartialEq, Eq)]
 pub struct ReportLine {
     pub asked: Asked,
     pub answer: Answer,

@@ -30,7 +30,16 @@ pub enum ViewSubcommand {
     /// Write a plan with an order that gives each build all the turns that it needs.
     Order(SchedulingPolicy),
     /// Write the run of a plan as calls on an RMM by registers, whose memory begins at an address.
-    Calls(BaseAddress),
+    Calls(BaseAddress, CallsForm),
+}
+
+/// The form in which calls are written.
+#[derive(Clone, Copy, Drop)]
+pub enum CallsForm {
+    /// The lines of a trace by registers.
+    Trace,
+    /// The rows of a table of C.
+    Rows,
 }
 
 /// The schedules of a plan whose outcomes are asked for.
@@ -165,10 +174,13 @@ const CALLS: &str = "Print a plan's run as calls on an RMM, a trace for rmitrace
 
 const CALLS_EXAMPLES: &str = "Examples:
   realmview calls plans/first.toml
-  realmview calls --base 0x88000000 plans/failed-build.toml | rmitrace check";
+  realmview calls --base 0x88000000 plans/failed-build.toml | rmitrace check
+  realmview calls --c plans/first.toml > rows.inc";
 
 const BASE_HELP: &str =
     "Place granule 0 at this address, a multiple of 0x1000 [default: 0x80000000]";
+
+const C_HELP: &str = "Print the rows of a table of C, for examples/c/table.c";
 
 const NO_BASE: &str =
     "--base is not an address as 0x80000000: a multiple of 0x1000 below 0x400000000000";
@@ -244,7 +256,7 @@ const REALMVIEW: Program = Program {
             about: CALLS,
             examples: CALLS_EXAMPLES,
             file: PLAN,
-            options: &[Opt::Text("base", "HEX", BASE_HELP)],
+            options: &[Opt::Text("base", "HEX", BASE_HELP), Opt::Flag("c", C_HELP)],
         },
         Subcommand {
             name: "check",
@@ -278,6 +290,15 @@ fn base_by(calls: &ArgMatches) -> Result<BaseAddress, BadOption> {
     }
 }
 
+// The form of calls, by the words that were matched.
+fn form_by(calls: &ArgMatches) -> CallsForm {
+    if calls.get_flag("c") {
+        CallsForm::Rows
+    } else {
+        CallsForm::Trace
+    }
+}
+
 // How builds take turns, by the words that were matched.
 fn turns_by(order: &ArgMatches) -> SchedulingPolicy {
     if order.get_flag("one-by-one") {
@@ -299,7 +320,7 @@ fn asked_by(name: &str, matches: &ArgMatches) -> Result<ViewSubcommand, BadOptio
         }),
         "explore" => Ok(ViewSubcommand::Explore(schedules_by(matches)?)),
         "order" => Ok(ViewSubcommand::Order(turns_by(matches))),
-        "calls" => Ok(ViewSubcommand::Calls(base_by(matches)?)),
+        "calls" => Ok(ViewSubcommand::Calls(base_by(matches)?, form_by(matches))),
         _ => Ok(ViewSubcommand::Check),
     }
 }

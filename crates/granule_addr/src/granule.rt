@@ -7,7 +7,7 @@ use std::marker::Model;
 pub const MOST_PAGES: u16 = 4096;
 
 /// The number of a granule: its address is the number times 4,096. RMM 1.0, Granule.
-#[derive(Clone, Copy, Debug, Default, PartialEq, Eq)]
+#[derive(Clone, Copy, Default, PartialEq, Eq)]
 pub struct Gran(u16);
 
 impl Model for Gran {

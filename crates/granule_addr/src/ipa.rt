@@ -6,7 +6,7 @@ use crate::{IpaWidth, Level};
 use std::marker::Model;
 
 /// The number of an IPA granule: its IPA is the number times 4,096. RMM 1.0, Realm address space.
-#[derive(Clone, Copy, Debug, PartialEq, Eq)]
+#[derive(Clone, Copy, PartialEq, Eq)]
 pub struct IpaGran(u32);
 
 impl Model for IpaGran {

@@ -4,7 +4,7 @@ ghost use Rattle.std.specs.Prelude.{◌≡◌, ◌<◌, nat_lt, Some, None, if�
 use std::marker::Model;
 
 /// The offset of a byte in a page, 0 to 4095.
-#[derive(Clone, Copy, Debug, PartialEq, Eq)]
+#[derive(Clone, Copy, PartialEq, Eq)]
 pub struct PageOff(u16);
 
 impl Model for PageOff {

@@ -7,7 +7,7 @@ use crate::Gran;
 use std::marker::Model;
 
 /// The IPA width of a realm, 39 to 43 bits. RMM 1.0, Realm attributes; the range is this profile's own.
-#[derive(Clone, Copy, Debug, PartialEq, Eq)]
+#[derive(Clone, Copy, PartialEq, Eq)]
 pub struct IpaWidth(u8);
 
 impl Model for IpaWidth {
@@ -61,7 +61,7 @@ impl IpaWidth {
 
 /// The starting tables of a realm: the first of them, and the width of the address space, which gives the number of
 /// adjacent granules. RMM 1.0, Realm attributes: RTT base address and IPA width.
-#[derive(Clone, Copy, Debug, PartialEq, Eq)]
+#[derive(Clone, Copy, PartialEq, Eq)]
 pub struct Root {
     pub first: Gran,
     pub width: IpaWidth,

@@ -3,7 +3,7 @@ use granule_addr::Gran;
 use realm_model::GranuleState;
 
 /// The attributes that the RMM keeps of a granule. RMM 1.0, Granule attributes.
-#[derive(Clone, Copy, Debug, PartialEq, Eq)]
+#[derive(Clone, Copy)]
 pub struct Granule {
     pub state: GranuleState,
     /// The RD of the realm that the granule belongs to.

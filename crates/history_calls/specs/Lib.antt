@@ -1,3 +1,5 @@
 pub mod Frame
 pub mod Actions
 pub mod Runs
+pub mod Made
+pub mod Prepared

@@ -15,7 +15,7 @@ use rmi_abi::Call;
 pub const MOST_ACTIONS: usize = 5;
 
 /// The operations of a host for one event.
-type Actions = ArrayVec<HostAction, MOST_ACTIONS>;
+pub type Actions = ArrayVec<HostAction, MOST_ACTIONS>;
 
 // The address of a page of a realm's address space, in bytes.
 fn ipa_of(ipa: IpaGran) -> u64

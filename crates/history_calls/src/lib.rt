@@ -1,4 +1,5 @@
-//! The calls of a history: the operations of a host on an RMM by registers for each event.
+//! The calls of a history: the operations of a host on an RMM by registers for each event, and for a command or an undo
+//! before it is performed.
 //!
 //! An event names granules by their numbers in the machine of the history. A frame places that machine at an address.
 //! After it are granules of the host: one for the parameters of realms, one for those of RECs, and one for each REC that
@@ -11,11 +12,15 @@
 mod action;
 mod actions;
 mod frame;
+mod free_block;
+pub mod law;
+mod prepared;
 mod runs;
 mod text;
 
 pub use action::HostAction;
-pub use actions::{MOST_ACTIONS, actions_of};
+pub use actions::{Actions, actions_of};
 pub use frame::{Frame, HOST_GRANULES, MOST_RUNS};
+pub use prepared::{actions_asked, actions_back};
 pub use runs::RunPages;
 pub use text::{push_action, push_platform};

@@ -1,5 +1,6 @@
 //! The text of operations, as lines of a trace by registers with their answers.
 use crate::{Frame, HostAction};
+use realm_model::{Rmi, Status};
 use rmi_abi::Call;
 use std::alloc::AllocError;
 
@@ -37,6 +38,7 @@ fn push_plain_call(text: &mut String, call: Call) -> Result<(), AllocError> {
             push_words(text, "rmi_rec_create", &[rd, rec, params])
         }
         Call::RecDestroy { rec } => push_words(text, "rmi_rec_destroy", &[rec]),
+        Call::RecEnter { rec, run } => push_words(text, "rmi_rec_enter", &[rec, run]),
         _ => Ok(()),
     }
 }
@@ -144,7 +146,8 @@ fn push_rec_params(
 fn push_of_rec(text: &mut String, action: &HostAction) -> Result<(), AllocError> {
     match action {
         HostAction::Enter { rec, run } => {
-            push_words(text, "rmi_rec_enter", &[*rec, *run])?;
+            let (rec, run) = (*rec, *run);
+            push_call(text, Call::RecEnter { rec, run })?;
             text.push_str(" = RUNNING")
         }
         HostAction::Interrupt { rec } => {
@@ -168,10 +171,8 @@ fn push_of_rec(text: &mut String, action: &HostAction) -> Result<(), AllocError>
     }
 }
 
-/// Appends an operation with its answer, as a line of a trace by registers without its line feed.
-///
-/// `AllocError`: the text may have a part of the line.
-pub fn push_action(text: &mut String, action: &HostAction) -> Result<(), AllocError> {
+// Appends an operation that is done, with its answer.
+fn push_done(text: &mut String, action: &HostAction) -> Result<(), AllocError> {
     match action {
         HostAction::Fill {
             address,
@@ -199,11 +200,46 @@ pub fn push_action(text: &mut String, action: &HostAction) -> Result<(), AllocEr
     }
 }
 
+// Appends a call that is refused.
+fn push_refused(text: &mut String, call: Call, rmi: Rmi) -> Result<(), AllocError> {
+    push_call(text, call)?;
+    match rmi.status {
+        Status::Input => text.push_str(" = RMI_ERROR_INPUT"),
+        Status::Realm => text.push_str(" = RMI_ERROR_REALM"),
+        Status::Rec => text.push_str(" = RMI_ERROR_REC"),
+        Status::Rtt => {
+            text.push_str(" = RMI_ERROR_RTT")?;
+            push_number(text, rmi.index as u64)
+        }
+    }
+}
+
+/// Appends an operation with its answer, as a line of a trace by registers. If there is a refusal, a call is refused with
+/// it, and the REC that is not entered gets no step of a guest.
+///
+/// `AllocError`: the text may have a part of the line.
+pub fn push_action(
+    text: &mut String,
+    action: &HostAction,
+    refusal: Option<Rmi>,
+) -> Result<(), AllocError> {
+    match (action, refusal) {
+        (HostAction::Spin { .. }, Some(_)) => return Ok(()),
+        (HostAction::Call { call, .. }, Some(rmi)) => push_refused(text, *call, rmi)?,
+        (HostAction::Enter { rec, run }, Some(rmi)) => {
+            let (rec, run) = (*rec, *run);
+            push_refused(text, Call::RecEnter { rec, run }, rmi)?;
+        }
+        _ => push_done(text, action)?,
+    }
+    text.push_str("\n")
+}
+
 /// Appends the line that opens the machine of a frame: all granules are UNDELEGATED, and the host's follow those of the
 /// history.
 pub fn push_platform(text: &mut String, frame: Frame, auxiliaries: u8) -> Result<(), AllocError> {
     push_words(text, "platform", &[frame.base()])?;
     push_number(text, frame.granules() as u64)?;
     push_field(text, " aux", auxiliaries as u64)?;
-    text.push_str(" vmid_bits 8 s2sz 43 max_recs_order 15")
+    text.push_str(" vmid_bits 8 s2sz 43 max_recs_order 15\n")
 }

@@ -8,7 +8,7 @@ use granule_addr::{PageOff, RecNo};
 ///
 /// Pages are named by the build's own numbers, from 0 in the order of taking. IPA granules and levels are numbers as
 /// they were written: the RMM refuses one that no realm has.
-#[derive(Debug, PartialEq, Eq, Drop)]
+#[derive(Drop)]
 pub enum Cmd {
     /// A block of 2^order pages is leased.
     Take {
@@ -82,7 +82,7 @@ pub enum Cmd {
 }
 
 /// The next action of a builder on its build.
-#[derive(Debug, PartialEq, Eq, Drop)]
+#[derive(Drop)]
 pub enum Step {
     Ask(Cmd),
     /// The newest open operation of the build is reversed.

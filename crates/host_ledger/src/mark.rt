@@ -5,7 +5,7 @@ ghost use Rattle.host_ledger.specs.Marks.{is_same_mark};
 use granule_addr::BuildId;
 
 /// A point of a build to which it can go back: the number of operations it had open, and the place in the history.
-#[derive(Clone, Copy, Debug, PartialEq, Eq)]
+#[derive(Clone, Copy)]
 pub struct Mark {
     pub(crate) build: BuildId,
     pub(crate) length: u16,

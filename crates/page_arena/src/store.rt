@@ -117,7 +117,7 @@ pub trait PageStore {
 }
 
 /// The reason why a store is not built: the size is not 1 to 4,096 pages, or there is no memory for it.
-#[derive(Clone, Copy, Debug, PartialEq, Eq, Error)]
+#[derive(Clone, Copy, Debug, Error)]
 pub enum BuildError {
     #[error("a machine has 1 to 4096 pages")]
     BadSize,

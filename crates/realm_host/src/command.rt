@@ -64,7 +64,7 @@ impl<S: PageStore> Host<S> {
 }
 
 /// The answer of a host to a step.
-#[derive(Clone, Copy, Debug, PartialEq, Eq)]
+#[derive(Clone, Copy)]
 pub enum HostAnswer {
     Replied(Reply),
     Undone(Undone),

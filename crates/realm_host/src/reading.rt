@@ -16,7 +16,7 @@ use realm_objects::Rec;
 use rtt::Entry;
 
 /// A granule: its state, the build that leases it, and the RD of the realm that it belongs to.
-#[derive(Clone, Copy, Debug, PartialEq, Eq)]
+#[derive(Clone, Copy)]
 pub struct GranuleView {
     pub state: GranuleState,
     pub build: Option<BuildId>,
@@ -24,7 +24,7 @@ pub struct GranuleView {
 }
 
 /// A row of a realm's translation: its level, the first IPA granule that it covers, and its entry. RMM 1.0, RTT entry.
-#[derive(Clone, Copy, Debug, PartialEq, Eq)]
+#[derive(Clone, Copy)]
 pub struct RowView {
     pub level: Level,
     pub first: IpaGran,

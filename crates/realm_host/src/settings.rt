@@ -5,7 +5,7 @@ use realm_model::{LEAST_HISTORY, MOST_HISTORY};
 
 /// The numbers that a host is booted with: VMIDs, auxiliary granules of each REC, events of each build in the history,
 /// and builds.
-#[derive(Clone, Copy, Debug, PartialEq, Eq)]
+#[derive(Clone, Copy)]
 pub struct Settings {
     pub vmids: u8,
     pub aux: u8,

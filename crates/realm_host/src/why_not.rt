@@ -7,7 +7,7 @@ use realm_model::Event;
 use thiserror::Error;
 
 /// The reason why a recorded event cannot be applied.
-#[derive(Clone, Copy, Debug, PartialEq, Eq, Error)]
+#[derive(Clone, Copy, Debug, Error)]
 pub enum WhyNot {
     /// It takes more room of the history than its build has left, or its build has 512 operations open already and it
     /// would add one.

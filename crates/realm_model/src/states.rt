@@ -1,7 +1,7 @@
 //! States of granules, realms, RECs and table entries.
 
 /// The state of a granule. RMM 1.0, Granule state.
-#[derive(Clone, Copy, Debug, PartialEq, Eq)]
+#[derive(Clone, Copy, PartialEq, Eq)]
 pub enum GranuleState {
     Undelegated,
     Delegated,
@@ -13,14 +13,14 @@ pub enum GranuleState {
 }
 
 /// The state of a realm. RMM 1.0, Realm state.
-#[derive(Clone, Copy, Debug, PartialEq, Eq)]
+#[derive(Clone, Copy)]
 pub enum RealmState {
     New,
     Active,
 }
 
 /// The state of a REC. RMM 1.0, REC state.
-#[derive(Clone, Copy, Debug, PartialEq, Eq)]
+#[derive(Clone, Copy)]
 pub enum RecState {
     Ready,
     Running,
@@ -30,7 +30,7 @@ pub enum RecState {
 /// state.
 ///
 /// UNASSIGNED and ASSIGNED are also the HIPAS of what the entry maps; TABLE is no HIPAS.
-#[derive(Clone, Copy, Debug, PartialEq, Eq)]
+#[derive(Clone, Copy, PartialEq, Eq)]
 pub enum EntryState {
     Unassigned,
     Assigned,
@@ -38,7 +38,7 @@ pub enum EntryState {
 }
 
 /// The state of an IPA as its realm sees it. RMM 1.0, RIPAS.
-#[derive(Clone, Copy, Debug, PartialEq, Eq)]
+#[derive(Clone, Copy, PartialEq, Eq)]
 pub enum Ripas {
     Empty,
     Ram,

@@ -16,7 +16,7 @@ use std::marker::Model;
 /// A realm descriptor: the attributes of a realm beside its RECs and its tables.
 ///
 /// RMM 1.0, Realm attributes.
-#[derive(Debug, Drop)]
+#[derive(Drop)]
 pub struct RealmDesc {
     state: RealmState,
     vmid: Vmid,

@@ -11,7 +11,7 @@ use std::marker::Model;
 /// A realm execution context (REC): the attributes of one beside its granule.
 ///
 /// RMM 1.0, REC attributes.
-#[derive(Debug, Drop)]
+#[derive(Drop)]
 pub struct Rec {
     number: RecNo,
     state: RecState,

@@ -1,4 +1,2 @@
-pub mod Asked
-pub mod Decided
 pub mod Handles
 pub mod Values

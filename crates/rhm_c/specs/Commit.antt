@@ -15,7 +15,7 @@ use Rattle.realm_host.specs.declared.command.HostAnswer.{HostAnswer}
 use Rattle.realm_host.specs.declared.command.HostAnswer.TheVariants.{Refused}
 use Rattle.rhm_c.specs.Answer.{only, refused_as, answered_as, IsAnsweredAs, IsOnly}
 use Rattle.rhm_c.specs.Command.{no_such_build}
-use Rattle.rhm_c.specs.Prepared.{actions_asked, actions_back}
+use Rattle.history_calls.specs.Prepared.{actions_asked, actions_back}
 use Rattle.rhm_c.specs.declared.answer.CallAnswer.{CallAnswer}
 use Rattle.rhm_c.specs.declared.command.RawCommand.{RawCommand}
 use Rattle.rhm_c.specs.declared.commit.FirmwareAnswer.{FirmwareAnswer}

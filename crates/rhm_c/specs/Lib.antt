@@ -4,7 +4,6 @@ pub mod Settings
 pub mod Command
 pub mod Answer
 pub mod Action
-pub mod Prepared
 pub mod Preparing
 pub mod Commit
 pub mod Undoing

@@ -10,7 +10,7 @@ use Rattle.rhm_c.specs.Action.{raw_actions}
 use Rattle.rhm_c.specs.Answer.{refusal_status}
 use Rattle.rhm_c.specs.Command.{command_asked, build_in, no_such_build}
 use Rattle.rhm_c.specs.declared.placed_host.PlacedHost.{PlacedHost}
-use Rattle.rhm_c.specs.Prepared.{actions_asked, actions_back}
+use Rattle.history_calls.specs.Prepared.{actions_asked, actions_back}
 use Rattle.rhm_c.specs.declared.action.RawActions.{RawActions}
 use Rattle.rhm_c.specs.declared.command.RawCommand.{RawCommand}
 

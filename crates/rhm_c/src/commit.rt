@@ -7,14 +7,13 @@ ghost use Rattle.rhm_c.specs.Command as commands;
 ghost use Rattle.rhm_c.specs.Answer.{IsOnHandle};
 ghost use Rattle.rhm_c.specs.Commit as commits;
 
-use crate::actions::{Actions, actions_asked, actions_back};
 use crate::answer::{CallAnswer, closed, done, only, refused, reply_value};
 use crate::asking::given;
 use crate::command::{asked, build_of};
 use crate::placed_host::PlainHost;
 use crate::{HostHandle, RawCommand};
 use granule_addr::BuildId;
-use history_calls::{Frame, HostAction};
+use history_calls::{Actions, Frame, HostAction, actions_asked, actions_back};
 use host_commands::{Cmd, Refusal};
 use std::alloc::Global;
 

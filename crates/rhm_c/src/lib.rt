@@ -10,7 +10,6 @@
 
 mod abort;
 mod action;
-mod actions;
 mod answer;
 mod asking;
 mod command;
@@ -18,7 +17,6 @@ mod commit;
 mod handle;
 mod held;
 mod history;
-pub mod law;
 mod marks;
 mod open;
 mod parts;

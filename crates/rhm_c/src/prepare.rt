@@ -3,12 +3,11 @@ ghost use Rattle.std.specs.Prelude.{◌≡◌};
 ghost use Rattle.rhm_c.specs.Preparing as preparing;
 
 use crate::action::raw_actions;
-use crate::actions::{Actions, actions_asked, actions_back};
 use crate::answer::refusal_status;
 use crate::command::{asked, build_of};
 use crate::placed_host::PlainHost;
 use crate::{HostHandle, RawActions, RawCommand};
-use history_calls::Frame;
+use history_calls::{Actions, Frame, actions_asked, actions_back};
 use host_commands::Refusal;
 use std::alloc::Global;
 

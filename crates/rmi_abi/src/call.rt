@@ -5,7 +5,7 @@ ghost use Rattle.rmi_abi.specs.Call as calls;
 use crate::Registers;
 
 /// The 23 commands of the RMI with their operands. RMM 1.0, RMI commands.
-#[derive(Clone, Copy, Debug, PartialEq, Eq)]
+#[derive(Clone, Copy)]
 pub enum Call {
     Version {
         requested: u64,

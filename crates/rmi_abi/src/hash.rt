@@ -1,7 +1,7 @@
 //! Hash algorithms.
 
 /// The hash of a realm's measurements. RMM 1.0, RmiHashAlgorithm.
-#[derive(Clone, Copy, Debug, PartialEq, Eq)]
+#[derive(Clone, Copy)]
 pub enum HashAlgorithm {
     Sha256,
     Sha512,

@@ -7,7 +7,7 @@ use page_arena::word_in;
 /// The parameters that a host gives a realm. RMM 1.0, RmiRealmParams.
 ///
 /// The starting level is the 64 bits of the page: a negative one is above 3.
-#[derive(Clone, Copy, Debug, PartialEq, Eq)]
+#[derive(Clone, Copy)]
 pub struct RealmParams {
     pub flags: u64,
     pub s2sz: u8,

@@ -5,7 +5,7 @@ ghost use Rattle.rmi_abi.specs.Answer as answers;
 use crate::Word;
 
 /// The registers X0 to X6 of a call. SMCCC 1.2.
-#[derive(Clone, Copy, Debug, PartialEq, Eq)]
+#[derive(Clone, Copy)]
 pub struct Registers {
     pub x0: u64,
     pub x1: u64,
@@ -17,7 +17,7 @@ pub struct Registers {
 }
 
 /// The result word of a command, and its outputs X1 to X4.
-#[derive(Clone, Copy, Debug, PartialEq, Eq)]
+#[derive(Clone, Copy)]
 pub struct SmcResult {
     pub word: Word,
     pub x1: u64,

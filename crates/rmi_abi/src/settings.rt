@@ -5,14 +5,14 @@ ghost use Rattle.rmi_abi.specs.Settings as ranges;
 use std::marker::Model;
 
 /// The layout of feature register 0: that of RMM 1.0-rel0, or of the drafts up to 1.0-eac5.
-#[derive(Clone, Copy, Debug, PartialEq, Eq)]
+#[derive(Clone, Copy)]
 pub enum Layout {
     Rel0,
     Eac5,
 }
 
 /// The settings of an RMM. A choice that the standard leaves open has the default that is the likeliest.
-#[derive(Clone, Copy, Debug, PartialEq, Eq)]
+#[derive(Clone, Copy)]
 pub struct RmmSettings {
     /// The address of the first granule.
     pub base: u64,
@@ -113,7 +113,7 @@ impl RmmSettings {
 }
 
 /// Settings that are in range.
-#[derive(Clone, Copy, Debug, PartialEq, Eq)]
+#[derive(Clone, Copy)]
 pub struct Platform {
     settings: RmmSettings,
 }

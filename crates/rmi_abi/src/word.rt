@@ -3,7 +3,7 @@ ghost use Rattle.std.specs.Prelude.{◌≡◌};
 ghost use Rattle.rmi_abi.specs.Word as words;
 
 /// A result word: a status, and for two of them an index. RMM 1.0, RmiCommandReturnCode.
-#[derive(Clone, Copy, Debug, PartialEq, Eq)]
+#[derive(Clone, Copy)]
 pub enum Word {
     Success,
     ErrorInput,

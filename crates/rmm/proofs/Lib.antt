@@ -4,6 +4,7 @@ pub mod NewRecs
 pub mod Pages
 pub mod Ranges
 pub mod RequestedRanges
+pub mod Results
 pub mod Runs
 pub mod SideBySide
 pub mod StatesDiffer

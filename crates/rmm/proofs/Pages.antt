@@ -1,5 +1,5 @@
 -- A page that is written word by word.
-use Rattle.std.proofs.Common.{◌≡◌, ◌≢◌, ℕ, zero, suc, ◌+◌, ◌<◌, ◌≤◌, List, [], length, set, ap, sym, ◌∙◌, add-one, arith}
+use Rattle.std.proofs.Common.{◌≡◌, ◌≢◌, ℕ, zero, suc, ◌+◌, ◌<◌, ◌≤◌, List, [], length, set, refl, ap, sym, ◌∙◌, add-one, arith}
 use Rattle.std.proofs.lemmas.List.{get_or-set_same, get_or-set_other, set-set, set-get_or, length-set}
 use Rattle.page_arena.specs.Word.{page_with_word}
 use Rattle.rmm_model.specs.Machine.{Machine, page_in, with_page, with_word}
@@ -16,6 +16,14 @@ with_words-more m granule count f page inside =
     (ap (λ (old : List ℕ). set (set m.pages granule written) granule (page_with_word old count (f count))) (get_or-set_same m.pages granule written [] inside)
     ∙ set-set m.pages granule written (page_with_word written count (f count))
     ∙ ap (λ (n : ℕ). set m.pages granule (with_words n f page)) (sym (add-one count)))
+
+-- the same words
+pub with_words-same : (count : ℕ) (f g : ℕ → ℕ) (page : List ℕ) → ((k : ℕ) → f k ≡ g k) → with_words count f page ≡ with_words count g page
+unfolding with_words
+with_words-same zero f g page same = refl
+with_words-same (suc count) f g page same =
+    ap (λ (p : List ℕ). page_with_word p count (f count)) (with_words-same count f g page same)
+    ∙ ap (page_with_word (with_words count g page) count) (same count)
 
 -- another page stays
 pub page_in-other : (m : Machine) (granule other : ℕ) (page : List ℕ) → other ≢ granule → page_in (with_page m granule page) other ≡ page_in m other

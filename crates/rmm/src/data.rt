@@ -66,6 +66,7 @@ fn find_vacancy<S: PageStore>(
 }
 
 // RMI_DATA_CREATE_UNKNOWN
+#[inline(never)]
 #[tactic(auto, unfolding(rmm_model::specs::Command::DataCreateUnknown::data_create_unknown))]
 pub fn data_create_unknown<S: PageStore>(
     granules: &mut Granules<S>,
@@ -90,7 +91,7 @@ pub fn data_create_unknown<S: PageStore>(
             write(granules, &vacancy.found, ipa, entry);
             SmcResult::only(Word::Success)
         }
-        Err(refusal) => refusal.answer,
+        Err(refusal) => refusal.into_answer(),
     }
 }
 
@@ -154,6 +155,7 @@ fn find_mapped<S: PageStore>(
 }
 
 // RMI_DATA_DESTROY
+#[inline(never)]
 #[tactic(auto, unfolding(rmm_model::specs::Command::DataDestroy::data_destroy))]
 pub fn data_destroy<S: PageStore>(granules: &mut Granules<S>, rd: u64, ipa: u64) -> SmcResult
     ensures answer { result
@@ -172,6 +174,6 @@ pub fn data_destroy<S: PageStore>(granules: &mut Granules<S>, rd: u64, ipa: u64)
                 ..SmcResult::only(Word::Success)
             }
         }
-        Err(refusal) => refusal.answer,
+        Err(refusal) => refusal.into_answer(),
     }
 }

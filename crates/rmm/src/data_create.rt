@@ -185,6 +185,7 @@ fn write_page<S: PageStore>(granules: &mut Granules<S>, place: &NewPage, page: u
 }
 
 // RMI_DATA_CREATE
+#[inline(never)]
 #[tactic(auto, unfolding(rmm_model::specs::Command::DataCreate::data_create))]
 pub fn data_create<S: PageStore>(
     granules: &mut Granules<S>,
@@ -206,6 +207,6 @@ pub fn data_create<S: PageStore>(
             set_rim(granules, &place.owner, &rim);
             SmcResult::only(Word::Success)
         }
-        Err(refusal) => refusal.answer,
+        Err(refusal) => refusal.into_answer(),
     }
 }

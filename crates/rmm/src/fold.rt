@@ -80,6 +80,7 @@ fn find_foldable<S: PageStore>(
 }
 
 // RMI_RTT_FOLD
+#[inline(never)]
 #[tactic(auto, unfolding(rmm_model::specs::Command::RttFold::rtt_fold))]
 pub fn rtt_fold<S: PageStore>(
     granules: &mut Granules<S>,
@@ -102,6 +103,6 @@ pub fn rtt_fold<S: PageStore>(
                 ..SmcResult::only(Word::Success)
             }
         }
-        Err(refusal) => refusal.answer,
+        Err(refusal) => refusal.into_answer(),
     }
 }

@@ -56,7 +56,7 @@ pub fn granule_delegate<S: PageStore>(granules: &mut Granules<S>, address: u64) 
             blank(granules, granule, RmmGranuleState::Delegated);
             SmcResult::only(Word::Success)
         }
-        Err(refusal) => refusal.answer,
+        Err(refusal) => refusal.into_answer(),
     }
 }
 
@@ -71,6 +71,6 @@ pub fn granule_undelegate<S: PageStore>(granules: &mut Granules<S>, address: u64
             blank(granules, granule, RmmGranuleState::Undelegated);
             SmcResult::only(Word::Success)
         }
-        Err(refusal) => refusal.answer,
+        Err(refusal) => refusal.into_answer(),
     }
 }

@@ -1,7 +1,9 @@
 //! Loads and stores of the host.
-ghost use Rattle.std.specs.Prelude.{◌≡◌, ◌<◌, is_some, IfSome};
+ghost use Rattle.std.specs.Prelude.{◌≡◌, ◌<◌, length, is_some, IfSome};
+ghost use Rattle.std.specs.Option.{option_copied};
 ghost use Rattle.rmm_model.specs.Machine.{granule_count, number_of};
 ghost use Rattle.rmm_model.specs.Host as hosts;
+ghost use Rattle.rmm.specs.Bytes as by_bytes;
 ghost use Rattle.rmm.specs.Reading.{word_shown};
 
 use granule_addr::Gran;
@@ -35,6 +37,21 @@ pub fn load<S: PageStore>(granules: &Granules<S>, address: u64) -> Option<u64>
     }
     match host_granule(granules, address) {
         Some(granule) => Some(word_in(granules.page(granule), (address % 4096 / 8) as usize)),
+        None => None,
+    }
+}
+
+// The bytes from an address on, which are in one granule; `None` comes where the host may not.
+pub fn load_bytes<S: PageStore>(granules: &Granules<S>, address: u64, count: usize) -> Option<&[u8]>
+    ensures bytes { option_copied result ≡ by_bytes.loaded_bytes granules.now address count }
+    ensures count { IfSome result (λ bytes. length bytes.now ≡ count) }
+{
+    let offset = (address % 4096) as usize;
+    if count > 4096 - offset {
+        return None;
+    }
+    match host_granule(granules, address) {
+        Some(granule) => Some(&granules.page(granule)[offset..offset + count]),
         None => None,
     }
 }
@@ -73,6 +90,24 @@ pub fn store<S: PageStore>(granules: &mut Granules<S>, address: u64, word: u64) 
     match host_granule(granules, address) {
         Some(granule) => {
             granules.set_word(granule, (address % 4096 / 8) as u16, word);
+            true
+        }
+        None => false,
+    }
+}
+
+// Stores bytes from an address on, in one granule; `false`, with nothing changed, comes where the host may not.
+pub fn store_bytes<S: PageStore>(granules: &mut Granules<S>, address: u64, bytes: &[u8]) -> bool
+    ensures answer { result ≡ by_bytes.can_access_bytes granules.old address (length bytes.now) }
+    ensures machine { granules.new ≡ by_bytes.after_store_bytes granules.old address bytes.now }
+{
+    let offset = (address % 4096) as usize;
+    if bytes.len() > 4096 - offset {
+        return false;
+    }
+    match host_granule(granules, address) {
+        Some(granule) => {
+            granules.write(granule, offset as u16, bytes);
             true
         }
         None => false,

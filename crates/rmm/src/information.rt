@@ -54,6 +54,6 @@ pub fn rec_aux_count<S: PageStore>(granules: &Granules<S>, rd: u64) -> SmcResult
             x1: granules.settings().aux as u64,
             ..SmcResult::only(Word::Success)
         },
-        Err(refusal) => refusal.answer,
+        Err(refusal) => refusal.into_answer(),
     }
 }

@@ -101,6 +101,7 @@ fn rim_with_ripas(realm: &RmmRealm, size: u64, base: u64, count: u16) -> [u8; 64
 // ---- the command
 
 // RMI_RTT_INIT_RIPAS
+#[inline(never)]
 #[tactic(auto, unfolding(rmm_model::specs::Command::RttInitRipas::rtt_init_ripas))]
 pub fn rtt_init_ripas<S: PageStore>(
     granules: &mut Granules<S>,
@@ -127,6 +128,6 @@ pub fn rtt_init_ripas<S: PageStore>(
                 ..SmcResult::only(Word::Success)
             }
         }
-        Err(refusal) => refusal.answer,
+        Err(refusal) => refusal.into_answer(),
     }
 }

@@ -1,9 +1,11 @@
 //! The monitor, and its one call.
-ghost use Rattle.std.specs.Prelude.{◌≡◌};
+ghost use Rattle.std.specs.Prelude.{◌≡◌, length, IfSome};
+ghost use Rattle.std.specs.Option.{option_copied};
 ghost use Rattle.rmm_model.specs.Call.{rmi, performed};
 ghost use Rattle.rmm_model.specs.Guest.{queued};
 ghost use Rattle.rmm_model.specs.Command.RecEnter.{interrupted};
 ghost use Rattle.rmm_model.specs.Host.{can_access, can_fill, loaded, state_shown, after_store, after_fill};
+ghost use Rattle.rmm.specs.Bytes.{can_access_bytes, loaded_bytes, after_store_bytes};
 ghost use Rattle.rmm.specs.Reading.{word_shown};
 
 use crate::data::{data_create_unknown, data_destroy};
@@ -11,7 +13,7 @@ use crate::data_create::data_create;
 use crate::fold::rtt_fold;
 use crate::granule::{granule_delegate, granule_undelegate};
 use crate::guest::queue;
-use crate::host::{fill, load, state, store, word};
+use crate::host::{fill, load, load_bytes, state, store, store_bytes, word};
 use crate::information::{features, rec_aux_count, version};
 use crate::init_ripas::rtt_init_ripas;
 use crate::psci::psci_complete;
@@ -87,6 +89,15 @@ impl<S: PageStore> Rmm<S> {
         load(&self.granules, address)
     }
 
+    /// Loads that many bytes from an address on, within one granule; `None` comes where the host faults, and for bytes of
+    /// more than one granule.
+    pub fn load_bytes(&self, address: u64, count: usize) -> Option<&[u8]>
+        ensures bytes { option_copied result ≡ loaded_bytes self.now address count }
+        ensures count { IfSome result (λ bytes. length bytes.now ≡ count) }
+    {
+        load_bytes(&self.granules, address, count)
+    }
+
     /// The state of the granule that begins at an address, with its realm or its REC; `None` comes if there is none. No
     /// host sees it.
     pub fn state(&self, address: u64) -> Option<RmmGranuleState>
@@ -109,6 +120,15 @@ impl<S: PageStore> Rmm<S> {
         ensures machine { self.new ≡ after_store self.old address word }
     {
         store(&mut self.granules, address, word)
+    }
+
+    /// Stores bytes from an address on, within one granule; `false`, with nothing changed, comes where the host faults,
+    /// and for bytes of more than one granule.
+    pub fn store_bytes(&mut self, address: u64, bytes: &[u8]) -> bool
+        ensures answer { result ≡ can_access_bytes self.old address (length bytes.now) }
+        ensures machine { self.new ≡ after_store_bytes self.old address bytes.now }
+    {
+        store_bytes(&mut self.granules, address, bytes)
     }
 
     /// Writes one value to each byte of the page at an address; `false`, with nothing changed, comes where the host
@@ -147,6 +167,7 @@ impl<S: PageStore> Rmm<S> {
 }
 
 // Does what a call asks, and returns its answer.
+#[inline(always)]
 #[tactic(auto, unfolding(rmm_model::specs::Call::performed))]
 fn perform<S: PageStore>(granules: &mut Granules<S>, call: Call) -> SmcResult
     ensures answer { result ≡ (performed call granules.old).0 }

@@ -146,6 +146,7 @@ fn find_request<S: PageStore>(
 }
 
 // RMI_PSCI_COMPLETE
+#[inline(never)]
 #[tactic(auto, unfolding(rmm_model::specs::Command::PsciComplete::psci_complete))]
 pub fn psci_complete<S: PageStore>(
     granules: &mut Granules<S>,
@@ -172,6 +173,6 @@ pub fn psci_complete<S: PageStore>(
             }
             SmcResult::only(Word::Success)
         }
-        Err(refusal) => refusal.answer,
+        Err(refusal) => refusal.into_answer(),
     }
 }

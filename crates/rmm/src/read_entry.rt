@@ -35,6 +35,7 @@ fn find_entry<S: PageStore>(
 }
 
 // RMI_RTT_READ_ENTRY
+#[inline(never)]
 #[tactic(auto, unfolding(rmm_model::specs::Command::RttReadEntry::rtt_read_entry))]
 pub fn rtt_read_entry<S: PageStore>(
     granules: &Granules<S>,
@@ -47,6 +48,6 @@ pub fn rtt_read_entry<S: PageStore>(
 {
     match find_entry(granules, rd, ipa, level) {
         Ok(answer) => answer,
-        Err(refusal) => refusal.answer,
+        Err(refusal) => refusal.into_answer(),
     }
 }

@@ -91,6 +91,6 @@ pub fn realm_activate<S: PageStore>(granules: &mut Granules<S>, rd: u64) -> SmcR
             granules.set(found.granule, kept);
             SmcResult::only(Word::Success)
         }
-        Err(refusal) => refusal.answer,
+        Err(refusal) => refusal.into_answer(),
     }
 }

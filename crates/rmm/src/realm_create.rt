@@ -198,6 +198,7 @@ fn find_realm<S: PageStore>(
 }
 
 // RMI_REALM_CREATE
+#[inline(never)]
 #[tactic(auto, unfolding(rmm_model::specs::Command::RealmCreate::realm_create))]
 pub fn realm_create<S: PageStore>(granules: &mut Granules<S>, rd: u64, params: u64) -> SmcResult
     ensures answer { result
@@ -216,6 +217,6 @@ pub fn realm_create<S: PageStore>(granules: &mut Granules<S>, rd: u64, params: u
             granules.set_vmid(found.realm.vmid, true);
             SmcResult::only(Word::Success)
         }
-        Err(refusal) => refusal.answer,
+        Err(refusal) => refusal.into_answer(),
     }
 }

@@ -45,6 +45,7 @@ fn remove_tables<S: PageStore>(granules: &mut Granules<S>, realm: &RmmRealm)
 }
 
 // RMI_REALM_DESTROY
+#[inline(never)]
 #[tactic(auto, unfolding(rmm_model::specs::Command::RealmDestroy::realm_destroy))]
 pub fn realm_destroy<S: PageStore>(granules: &mut Granules<S>, rd: u64) -> SmcResult
     ensures answer { result ≡ (outcome (command.realm_destroy rd granules.old) granules.old).0 }
@@ -57,6 +58,6 @@ pub fn realm_destroy<S: PageStore>(granules: &mut Granules<S>, rd: u64) -> SmcRe
             granules.set_vmid(found.realm.vmid, false);
             SmcResult::only(Word::Success)
         }
-        Err(refusal) => refusal.answer,
+        Err(refusal) => refusal.into_answer(),
     }
 }

@@ -209,6 +209,7 @@ fn find_new<S: PageStore>(
 }
 
 // RMI_REC_CREATE
+#[inline(never)]
 #[tactic(auto, unfolding(rmm_model::specs::Command::RecCreate::rec_create))]
 pub fn rec_create<S: PageStore>(
     granules: &mut Granules<S>,
@@ -244,6 +245,6 @@ pub fn rec_create<S: PageStore>(
             granules.set(found.rd, kept);
             SmcResult::only(Word::Success)
         }
-        Err(refusal) => refusal.answer,
+        Err(refusal) => refusal.into_answer(),
     }
 }

@@ -60,6 +60,7 @@ fn find_ready<S: PageStore>(granules: &Granules<S>, rec: u64) -> Result<Gran, Fa
 }
 
 // RMI_REC_DESTROY
+#[inline(never)]
 #[tactic(auto, unfolding(rmm_model::specs::Command::RecDestroy::rec_destroy))]
 pub fn rec_destroy<S: PageStore>(granules: &mut Granules<S>, rec: u64) -> SmcResult
     ensures answer { result ≡ (outcome (command.rec_destroy rec granules.old) granules.old).0 }
@@ -78,6 +79,6 @@ pub fn rec_destroy<S: PageStore>(granules: &mut Granules<S>, rec: u64) -> SmcRes
             blank(granules, granule, RmmGranuleState::Delegated);
             SmcResult::only(Word::Success)
         }
-        Err(refusal) => refusal.answer,
+        Err(refusal) => refusal.into_answer(),
     }
 }

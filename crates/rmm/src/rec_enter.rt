@@ -11,7 +11,9 @@ ghost use Rattle.rmm_model.specs.Command.RecEnter as command;
 ghost use Rattle.rmm.specs.Found.{IsEntry};
 
 use crate::access::{read, write};
-use crate::guest::{first_step, owner_realm, past_step, push_result, rec_in, rec_named};
+use crate::guest::{
+    add_result, first_step, owner_realm, past, past_step, push_result, rec_in, rec_named,
+};
 use crate::host::host_granule;
 use crate::operand::host_page;
 use crate::realm::error_realm;
@@ -83,8 +85,10 @@ fn end_step<S: PageStore>(granules: &mut Granules<S>, g: Gran, r: &StepResult)
     ensures machine { granules.new ≡ command.with_step_ended granules.old g r.now }
     ensures count { granule_count granules.new ≡ granule_count granules.old }
 {
-    past_step(granules, g);
-    push_result(granules, g, r);
+    match granules.rec(g) {
+        Some(rec) => add_result(granules, g, &past(&rec), r),
+        None => add_result(granules, g, &past(&RmmRec::new(false, 0)), r),
+    }
 }
 
 // The guest gets the result of its PSCI request, if that is complete.
@@ -99,8 +103,7 @@ fn push_psci<S: PageStore>(granules: &mut Granules<S>, g: Gran, request: PsciReq
             psci: PsciRequest::None,
             ..rec
         };
-        set_rec(granules, g, idle);
-        push_result(granules, g, &StepResult::Psci(value));
+        add_result(granules, g, &idle, &StepResult::Psci(value));
     }
 }
 
@@ -116,8 +119,7 @@ fn push_ripas<S: PageStore>(granules: &mut Granules<S>, g: Gran, flags: u64)
         ripas: RipasRequest::NONE,
         ..rec
     };
-    set_rec(granules, g, idle);
-    push_result(granules, g, &result);
+    add_result(granules, g, &idle, &result);
 }
 
 // The guest gets the host's answer of a host call.
@@ -440,6 +442,7 @@ fn find_entry<S: PageStore>(
 }
 
 // RMI_REC_ENTER
+#[inline(never)]
 #[tactic(auto, unfolding(rmm_model::specs::Command::RecEnter::rec_enter))]
 pub fn rec_enter<S: PageStore>(granules: &mut Granules<S>, rec: u64, address: u64) -> SmcResult
     ensures answer { result ≡ (outcome (command.rec_enter rec address granules.old) granules.old).0 }
@@ -455,7 +458,7 @@ pub fn rec_enter<S: PageStore>(granules: &mut Granules<S>, rec: u64, address: u6
                 SmcResult::only(Word::Running)
             }
         }
-        Err(refusal) => refusal.answer,
+        Err(refusal) => refusal.into_answer(),
     }
 }
 

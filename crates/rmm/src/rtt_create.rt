@@ -10,7 +10,7 @@ ghost use Rattle.rmm.specs.Found.{IsVacancy};
 use crate::operand::{check_entry, check_ipa, delegated, realm_of};
 use crate::walking::write;
 use granule_addr::Gran;
-use page_arena::{PageStore, set_word_in};
+use page_arena::PageStore;
 use rmi_abi::{SmcResult, Word};
 use rmm_granules::Granules;
 use rmm_model::{ChildWords, FailedCondition, RmmGranule, RmmGranuleState, RmmRttEntry, RttWalk};
@@ -27,6 +27,7 @@ pub struct Vacancy {
 }
 
 // Writes the children of a mapping to a table.
+#[inline(never)]
 fn write_mappings<S: PageStore>(
     granules: &mut Granules<S>,
     table: Gran,
@@ -38,11 +39,8 @@ fn write_mappings<S: PageStore>(
     requires mapping { repeated_byte parent ≡ None }
     ensures { granules.new ≡ with_page granules.old table (children_page parent level) }
 {
-    let words = ChildWords::new(parent, level);
     let mut page = [0; 4096];
-    for index in 0..512u16 {
-        set_word_in(&mut page, index as usize, words.word(index));
-    }
+    ChildWords::new(parent, level).write(&mut page);
     granules.write(table, 0, &page);
 }
 
@@ -93,6 +91,7 @@ fn find_vacancy<S: PageStore>(
 }
 
 // RMI_RTT_CREATE
+#[inline(never)]
 #[tactic(auto, unfolding(rmm_model::specs::Command::RttCreate::rtt_create))]
 pub fn rtt_create<S: PageStore>(
     granules: &mut Granules<S>,
@@ -117,6 +116,6 @@ pub fn rtt_create<S: PageStore>(
             write(granules, &vacancy.found, ipa, RmmRttEntry::Table(rtt));
             SmcResult::only(Word::Success)
         }
-        Err(refusal) => refusal.answer,
+        Err(refusal) => refusal.into_answer(),
     }
 }

@@ -88,6 +88,7 @@ fn find_unused<S: PageStore>(
 }
 
 // RMI_RTT_DESTROY
+#[inline(never)]
 #[tactic(auto, unfolding(rmm_model::specs::Command::RttDestroy::rtt_destroy))]
 pub fn rtt_destroy<S: PageStore>(
     granules: &mut Granules<S>,
@@ -113,6 +114,6 @@ pub fn rtt_destroy<S: PageStore>(
                 ..SmcResult::only(Word::Success)
             }
         }
-        Err(refusal) => refusal.answer,
+        Err(refusal) => refusal.into_answer(),
     }
 }

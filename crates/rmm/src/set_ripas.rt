@@ -26,12 +26,12 @@ pub struct RequestedRange {
     pub found: RttWalk,
 }
 
-// Whether a range ends within what a REC asked for. That of a REC of the realm begins at a protected address too.
+// Whether a range ends within what a REC asked for. The addresses of one of a REC of the realm begin at a protected one.
 fn is_within(realm: &RmmRealm, asking: &RmmRec, is_owner: bool, base: u64, top: u64) -> bool
     requires { realm.now.s2sz ≤ 48 }
     ensures { result ≡ command.is_within realm.now asking.now is_owner base top }
 {
-    top <= asking.ripas.top && (!is_owner || is_protected(realm, base))
+    top <= asking.ripas.top && (!is_owner || top <= base || is_protected(realm, base))
 }
 
 // Whether a REC is one of the realm of an RD.
@@ -59,7 +59,8 @@ fn check_request(
     base: u64,
     top: u64,
 ) -> Result<(), FailedCondition>
-    requires { realm.now.s2sz ≤ 48 }
+    requires width { realm.now.s2sz ≤ 48 }
+    requires size { base < top }
     ensures refusal { refusal_in result
         ≡ first_failing (command.ripas_request_checks realm.now asking.now is_owner base top) }
     ensures in_space { OnOk result (base < 2 ^ realm.now.s2sz) }
@@ -117,6 +118,7 @@ fn find_range<S: PageStore>(
 }
 
 // RMI_RTT_SET_RIPAS
+#[inline(never)]
 #[tactic(auto, unfolding(rmm_model::specs::Command::RttSetRipas::rtt_set_ripas))]
 pub fn rtt_set_ripas<S: PageStore>(
     granules: &mut Granules<S>,
@@ -150,6 +152,6 @@ pub fn rtt_set_ripas<S: PageStore>(
                 ..SmcResult::only(Word::Success)
             }
         }
-        Err(refusal) => refusal.answer,
+        Err(refusal) => refusal.into_answer(),
     }
 }

@@ -165,6 +165,7 @@ fn unprotected_access<S: PageStore>(
 }
 
 // The granule that an address of a guest is in, or what comes of an access there.
+#[inline(always)]
 #[tactic(auto, unfolding(rmm_model::specs::Step::access))]
 pub fn access<S: PageStore>(
     granules: &Granules<S>,
@@ -371,6 +372,7 @@ fn system_register(iss: u64, value: u64) -> StepOutcome
 }
 
 // What comes of a step that accesses no memory.
+#[inline(always)]
 pub fn call_outcome(
     settings: &RmmSettings,
     realm: &RmmRealm,

@@ -55,6 +55,7 @@ fn find_vacancy<S: PageStore>(
 }
 
 // RMI_RTT_MAP_UNPROTECTED
+#[inline(never)]
 #[tactic(auto, unfolding(rmm_model::specs::Command::RttMapUnprotected::rtt_map_unprotected))]
 pub fn rtt_map_unprotected<S: PageStore>(
     granules: &mut Granules<S>,
@@ -73,7 +74,7 @@ pub fn rtt_map_unprotected<S: PageStore>(
             write(granules, &found, ipa, RmmRttEntry::AssignedNs(desc));
             SmcResult::only(Word::Success)
         }
-        Err(refusal) => refusal.answer,
+        Err(refusal) => refusal.into_answer(),
     }
 }
 
@@ -135,6 +136,7 @@ fn find_mapped<S: PageStore>(
 }
 
 // RMI_RTT_UNMAP_UNPROTECTED
+#[inline(never)]
 #[tactic(auto, unfolding(rmm_model::specs::Command::RttUnmapUnprotected::rtt_unmap_unprotected))]
 pub fn rtt_unmap_unprotected<S: PageStore>(
     granules: &mut Granules<S>,
@@ -155,6 +157,6 @@ pub fn rtt_unmap_unprotected<S: PageStore>(
                 ..SmcResult::only(Word::Success)
             }
         }
-        Err(refusal) => refusal.answer,
+        Err(refusal) => refusal.into_answer(),
     }
 }

@@ -10,7 +10,7 @@ use rmm_trace::place::{DASH, RMI_SUCCESS};
 use rmm_trace::{Atom, Sentence, TraceWord, read_words};
 
 /// The verdict on an answer that is written: ours, a refusal by another check, or neither.
-#[derive(Clone, Copy, Debug, PartialEq, Eq)]
+#[derive(Clone, Copy)]
 pub enum Verdict {
     Same,
     Allowed,

@@ -9,7 +9,7 @@ use rmm_trace::place::{PLATFORM, PSCI_DENIED, PSCI_SUCCESS};
 use rmm_trace::{Atom, Sentence, TraceWord, atom_number, operand};
 
 /// The form of an operand: none, a number by its base, or a status of PSCI.
-#[derive(Clone, Copy, Debug, PartialEq, Eq)]
+#[derive(Clone, Copy)]
 pub enum OperandForm {
     Absent,
     Decimal,

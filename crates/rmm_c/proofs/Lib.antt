@@ -1,3 +1,2 @@
 pub mod Allowed
-pub mod Bytes
 pub mod Values

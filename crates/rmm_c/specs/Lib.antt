@@ -1,5 +1,6 @@
 pub mod Guest
 pub mod Judging
+pub mod Lines
 pub mod Memory
 pub mod Owned
 pub mod Reading

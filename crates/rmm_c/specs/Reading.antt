@@ -1,5 +1,5 @@
 -- Readings of a machine as C has them. The numbers of states are this library's, but for those of RmiRipas and RmiHashAlgorithm.
-use Rattle.std.specs.Prelude.{◌≡◌, ℕ, ◌+◌, ◌*◌, ◌%◌, ◌^◌, Bool, Option, is_some, unwrap_or, option_map, option_and_then}
+use Rattle.std.specs.Prelude.{◌≡◌, ℕ, ◌+◌, ◌*◌, ◌%◌, ◌^◌, Bool, if◌then◌else◌, Option, is_some, unwrap_or, option_map, option_and_then}
 use Rattle.rmi_abi.specs.declared.hash.HashAlgorithm.{HashAlgorithm}
 use Rattle.rmi_abi.specs.declared.hash.HashAlgorithm.TheVariants.{Sha256, Sha512}
 use Rattle.rmm_model.specs.declared.granule.RmmGranuleState.{RmmGranuleState}
@@ -51,6 +51,10 @@ abbrev pub hash_code : HashAlgorithm → ℕ
 hash_code Sha256 = 0
 hash_code Sha512 = 1
 
+-- a fact as a number: 1 if it holds
+abbrev pub flag : Bool → ℕ
+flag holds = if holds then 1 else 0
+
 -- ---- granules, realms and RECs by address
 
 abbrev pub state_code_shown : ℕ → Machine → Option ℕ
@@ -84,8 +88,8 @@ rec_attributes rec = record {
   ripas_value = ripas_code rec.ripas.ripas;
   step_count = rec.step_count;
   result_count = rec.result_count;
-  is_runnable = rec.is_runnable;
-  is_psci_pending = is_pending rec.psci;
+  is_runnable = flag rec.is_runnable;
+  is_psci_pending = flag (is_pending rec.psci);
 }
 
 -- the REC at an address

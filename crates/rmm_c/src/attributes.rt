@@ -28,7 +28,7 @@ pub struct RealmAttributes {
 /// The attributes of a REC. RMM 1.0, REC attributes.
 ///
 /// `state` is 0 for READY and 1 for RUNNING. `ripas_base`, `ripas_top` and `ripas_value` are what is left of the change
-/// of RIPAS that it asked for.
+/// of RIPAS that it asked for. What is a fact is 1 if it holds, and 0 if not: C may not have written it before.
 #[repr(C)]
 #[derive(Drop)]
 pub struct RecAttributes {
@@ -39,8 +39,8 @@ pub struct RecAttributes {
     pub ripas_value: u64,
     pub step_count: u64,
     pub result_count: u64,
-    pub is_runnable: bool,
-    pub is_psci_pending: bool,
+    pub is_runnable: u64,
+    pub is_psci_pending: u64,
 }
 
 // The number of a granule's state.
@@ -86,6 +86,13 @@ fn rec_state_code(state: RmmRecState) -> u64
     }
 }
 
+// A fact as a number.
+fn flag(holds: bool) -> u64
+    ensures { result ≡ shown.flag holds }
+{
+    if holds { 1 } else { 0 }
+}
+
 // Whether the host has to complete a request.
 fn is_pending(psci: PsciRequest) -> bool
     ensures { result ≡ completion.is_pending psci }
@@ -127,7 +134,7 @@ pub(crate) fn rec_attributes(rec: &RmmRec) -> RecAttributes
         ripas_value: u64::from(rec.ripas.ripas.code()),
         step_count: u64::from(rec.step_count),
         result_count: u64::from(rec.result_count),
-        is_runnable: rec.is_runnable,
-        is_psci_pending: is_pending(rec.psci),
+        is_runnable: flag(rec.is_runnable),
+        is_psci_pending: flag(is_pending(rec.psci)),
     }
 }

@@ -1,6 +1,6 @@
 //! The RMM by registers for C: each function of `include/rmm.h` is exported here, and its contract has its result.
 //!
-//! C keeps a handle, and the handle owns an RMM on the heap. `rmm_open` alone takes memory. No call has a
+//! C keeps a handle, and the handle owns an RMM on the heap. `rmm_open` and `rmm_line` alone take memory. No call has a
 //! precondition but those of its pointers, which `include/rmm.h` has at each function.
 #![tactic(auto)]
 
@@ -9,6 +9,7 @@ mod guest;
 mod handle;
 mod held;
 mod judging;
+mod line;
 mod memory;
 mod open;
 mod parts;

@@ -53,9 +53,10 @@ one_less level h = let low = leb-true level 3 h in le-leb (level - 1) 3 (omega a
 pub one_below : (start level : ℕ) → nat_le (start + 1) level ≡ true → nat_le 1 level ≡ true
 one_below start level h = let low = leb-true (start + 1) level h in le-leb 1 level (omega arith)
 
-from_owner : (owner is : Bool) → owner ≡ true → (not owner || is) ≡ true → is ≡ true
-from_owner true is owned h = h
-from_owner false is owned h = cc
+from_owner : (owner none is : Bool) → owner ≡ true → none ≡ false → (not owner || (none || is)) ≡ true → is ≡ true
+from_owner true false is owned some h = h
+from_owner true true is owned some h = cc
+from_owner false none is owned some h = cc
 
 half_in_space : (s2sz ipa : ℕ) → nat_lt ipa (2 ^ (s2sz - 1)) ≡ true → nat_lt ipa (2 ^ s2sz) ≡ true
 half_in_space s2sz ipa h = lt-ltb ipa (2 ^ s2sz) (half_fits s2sz ipa (ltb-true ipa (2 ^ (s2sz - 1)) h))
@@ -152,12 +153,13 @@ module _ (m : Machine) (rd ipa : ℕ) where
       (not-false (is_protected (realm_at m rd) ipa) (known 2 cs BaseBound (not (is_protected (realm_at m rd) ipa)) (list_all (sure 1 cs) (RdState ∷ [])) three.0 bound_is).0)
 
   -- the walk to the start of a range that a REC of the realm asked for
-  pub request_walk : (cs : List Check) (owner ends : Bool) → list_all (sure 2 cs) before_request ≡ true
+  pub request_walk : (cs : List Check) (owner ends none : Bool) → list_all (sure 2 cs) before_request ≡ true
+      → sure 2 cs Size ≡ ((not none && true) || false)
       → sure 2 cs RdState ≡ ((not (is_none (realm_of (state_at m rd))) && list_all (sure 1 cs) (RdBound ∷ [])) || false)
       → sure 2 cs RecOwner ≡ ((not (not owner) && list_all (sure 1 cs) (RecGranState ∷ RdState ∷ [])) || false)
-      → sure 2 cs TopBound ≡ ((not (not (ends && (not owner || is_protected (realm_at m rd) ipa))) && list_all (sure 1 cs) (RecState ∷ [])) || false)
+      → sure 2 cs TopBound ≡ ((not (not (ends && (not owner || (none || is_protected (realm_at m rd) ipa)))) && list_all (sure 1 cs) (RecState ∷ [])) || false)
       → can_walk m rd ipa 3 ≡ true
-  request_walk cs owner ends made rd_is owner_is top_is =
+  request_walk cs owner ends none made size_is rd_is owner_is top_is =
       let end : Bool = sure 2 cs BaseBound && (sure 2 cs TopBound && true) in
       let one = and_parts (sure 2 cs Size) (sure 2 cs RecGranState && (sure 2 cs RdState && (sure 2 cs RecState && (sure 2 cs RecOwner && end)))) made in
       let two = and_parts (sure 2 cs RecGranState) (sure 2 cs RdState && (sure 2 cs RecState && (sure 2 cs RecOwner && end))) one.1 in
@@ -167,7 +169,8 @@ module _ (m : Machine) (rd ipa : ℕ) where
       let six = and_parts (sure 2 cs BaseBound) (sure 2 cs TopBound && true) five.1 in
       let seven = and_parts (sure 2 cs TopBound) true six.1 in
       let owned = not-false owner (known 2 cs RecOwner (not owner) (list_all (sure 1 cs) (RecGranState ∷ RdState ∷ [])) five.0 owner_is).0 in
-      let within : Bool = ends && (not owner || is_protected (realm_at m rd) ipa) in
+      let some : none ≡ false = (known 2 cs Size none true one.0 size_is).0 in
+      let within : Bool = ends && (not owner || (none || is_protected (realm_at m rd) ipa)) in
       let both = not-false within (known 2 cs TopBound (not within) (list_all (sure 1 cs) (RecState ∷ [])) seven.0 top_is).0 in
       may_walk_page (known 2 cs RdState (is_none (realm_of (state_at m rd))) (list_all (sure 1 cs) (RdBound ∷ [])) three.0 rd_is).0
-      (from_owner owner (is_protected (realm_at m rd) ipa) owned (and_parts ends (not owner || is_protected (realm_at m rd) ipa) both).1)
+      (from_owner owner none (is_protected (realm_at m rd) ipa) owned some (and_parts ends (not owner || (none || is_protected (realm_at m rd) ipa)) both).1)

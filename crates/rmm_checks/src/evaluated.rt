@@ -10,7 +10,7 @@ use rmm_model::Condition;
 use std::marker::Model;
 
 /// The outcome of a check. A check is made if each check that it comes after was made and passed.
-#[derive(Clone, Copy, Debug, PartialEq, Eq)]
+#[derive(Clone, Copy)]
 pub enum CheckOutcome {
     NotMade,
     Passed,

@@ -143,7 +143,7 @@ fn begins_at(asking: &RmmRec, base: u64) -> bool
     base == asking.ripas.base
 }
 
-// Whether a range ends within what a REC asked for, and begins at a protected address where the REC is one of the realm.
+// Whether a range ends within what a REC asked for. The addresses of one of a REC of the realm begin at a protected one.
 fn is_within<S: PageStore>(
     granules: &Granules<S>,
     rd: u64,
@@ -154,7 +154,7 @@ fn is_within<S: PageStore>(
 ) -> bool
     ensures { result ≡ setting.is_within (realm_at granules.now rd) asking.now is_owner base top }
 {
-    top <= asking.ripas.top && (!is_owner || is_protected(granules, rd, base))
+    top <= asking.ripas.top && (!is_owner || top <= base || is_protected(granules, rd, base))
 }
 
 // Whether the REC at an address is one of the realm of an RD.

@@ -87,7 +87,7 @@ blanked m g t rd page address sound inside same =
     (granule_at-same k g (of_no_realm Delegated) inside, page_in-same (with_granule k g (of_no_realm Delegated)) g zero_page (omega arith), λ y other. granule_at-other k g y (of_no_realm Delegated) other)
 
 -- the address of a table or of a page is that of the granule to which its entry leads
-table_address : (m : Machine) (entry : RmmRttEntry) (g : ℕ) → LeadsInside m entry → table_below m entry ≡ Some g → IsBegin m (descriptor_of entry) × (g ≡ number_of m (descriptor_of entry))
+pub table_address : (m : Machine) (entry : RmmRttEntry) (g : ℕ) → LeadsInside m entry → table_below m entry ≡ Some g → IsBegin m (descriptor_of entry) × (g ≡ number_of m (descriptor_of entry))
 table_address m (Table address) g leads named = (leads, (named_number m address g named).1)
 table_address m _ g leads named = absurd (cc)
 

@@ -14,6 +14,8 @@ use Rattle.rmm_model.specs.declared.granule.RmmGranule.{RmmGranule}
 use Rattle.rmm_model.specs.declared.granule.RmmGranuleState.{RmmGranuleState}
 use Rattle.rmm_model.specs.declared.granule.RmmGranuleState.TheVariants.{Undelegated, Rd, Rec as IsRec, Data}
 use Rattle.rmm_model.specs.declared.realm.RmmRealm.{RmmRealm}
+use Rattle.rmm_model.specs.declared.realm.RmmRealmState.{RmmRealmState}
+use Rattle.rmm_model.specs.declared.realm.RmmRealmState.TheVariants.{New, Active, SystemOff as IsSystemOff}
 use Rattle.rmm_model.specs.declared.rec.LastExit.{LastExit}
 use Rattle.rmm_model.specs.declared.rec.LastExit.TheVariants.{Other, HostCall, RipasChange, EmulatableAbort, UnprotectedAbort, SystemRegister}
 use Rattle.rmm_model.specs.declared.rec.PsciRequest.{PsciRequest}
@@ -32,22 +34,24 @@ use Rattle.rmm_model.specs.Granule.{of_realm, realm_of, rec_of}
 use Rattle.rmm_model.specs.Guest.{rec_in, is_rec_named, first_step, past_step, with_result, with_step, queued}
 use Rattle.rmm_model.specs.Host.{is_host_page}
 use Rattle.rmm_model.specs.Machine.{Machine, granule_at, page_in, is_aligned, is_inside, number_of, state_at, with_word}
-use Rattle.rmm_model.specs.Realm.{IsServed}
+use Rattle.rmm_model.specs.Realm.{IsServed, is_new}
 use Rattle.rmm_model.specs.Step.{access, after_write, is_exit}
 use Rattle.rmm_model.specs.Command.Operand.{rec_at}
 use Rattle.rmm_model.specs.Command.PsciComplete.{is_same_owner, request_checks, psci_complete, with_rec, with_target}
-use Rattle.rmm_model.specs.Command.RecEnter.{rec_enter, owner_realm, realm_by, with_realm_off, with_system_off, with_copied, with_gprs, with_gic, with_exit_gic, with_exit_words, with_exit, after_exit, with_step_ended, with_psci_result, emulated, with_host_answer, after_entry, step_outcome, with_exit_of, after_step, with_step_passed, after_step_in, after_first_step, first_step_outcome, continued, after_steps, runs_at, interrupted}
-use Rattle.rmm_laws.specs.Apart.{Touches, realm_of_rec}
+use Rattle.rmm_model.specs.Command.RecEnter.{rec_enter, enter_checks, owner_realm, realm_by, state_of, is_system_off, with_realm_off, with_system_off, with_copied, with_gprs, with_gic, with_exit_gic, with_exit_words, with_exit, after_exit, with_step_ended, with_psci_result, emulated, with_host_answer, after_entry, step_outcome, with_exit_of, after_step, with_step_passed, after_step_in, after_first_step, first_step_outcome, continued, after_steps, runs_at, interrupted}
+use Rattle.rmm_laws.specs.Apart.{realm_of_rec}
 use Rattle.rmm_laws.specs.Owner.{is_rd}
 use Rattle.rmm_laws.specs.Proper.{IsProper}
 use Rattle.rmm_laws.specs.Role.{IsLinked}
+use Rattle.rmm_laws.specs.State.{IsRealmIn, HasRim}
 use Rattle.rmm_laws.proofs.Accesses.{IsPlainAt, IsPlainIfOk, accessed}
 use Rattle.rmm_laws.proofs.PageWords.{length-page_with_word, length-with_words_from}
-use Rattle.rmm_laws.proofs.Orders.{is_memory_state, owner_is, rd_of}
+use Rattle.rmm_laws.proofs.Orders.{is_memory_state, owner_is, rd_is, rd_of}
 use Rattle.rmm_laws.proofs.Passed.{Passed, yes_from, some_same, realm_of-is, rec_of-some, rec_of-there, rec_named-is}
 use Rattle.rmm_laws.proofs.Plain.{host_inside, host_plain}
 use Rattle.rmm_laws.proofs.Recs.{IsGoing, going_first, going_rec, going_word, going_words, going_plain, going_realm}
-use Rattle.rmm_laws.proofs.Touching.{IsMine}
+use Rattle.rmm_laws.proofs.States.{IsAsBefore}
+use Rattle.rmm_laws.proofs.Touching.{Touches, IsMine}
 use Rattle.rmm_laws.proofs.Writes.{granule_at-other}
 
 module _ (o : Machine) (w : ℕ) where
@@ -165,7 +169,7 @@ module _ (o : Machine) (w : ℕ) where
   going_realm_off g rd m (Some realm) named is going =
       let there = realm_of-is (granule_at m rd).state realm is in
       let s = served m rd realm going.proper there in
-      going_realm o w g rd m realm _ going named there refl refl refl refl refl (record { few = s.few; inside = s.inside; most = s.most; level = s.level; width = s.width; served = s.served })
+      going_realm o w g rd m realm _ going named there refl refl refl refl refl refl refl (record { few = s.few; inside = s.inside; most = s.most; level = s.level; width = s.width; served = s.served })
   going_realm_off g rd m None named is going = going
 
   going_off : (g : ℕ) (m : Machine) (owner : Option ℕ) → owner ≡ Some w → IsGoing o w g m → IsGoing o w g (with_system_off m owner)
@@ -235,6 +239,7 @@ module _ (o : Machine) (w : ℕ) where
         touches = (going_rec o w g m rec going).touches;
         owned = ap (λ (r : RmmGranule). r.owner) still ∙ owned;
         mine = mine;
+        states = (going_rec o w g m rec going).states;
       })
       (cases_eq h g)
 
@@ -263,6 +268,11 @@ rec_there : (m n : Machine) (address w : ℕ) → not (is_aligned address) ≡ f
 rec_there m n address w aligned inside is owned touches =
     subst (λ (o : Option ℕ). Touches m n o) (sym (rec_named-is m address aligned inside is ∙ owned)) touches
 
+active_if : (s : RmmRealmState) → is_new s ≡ false → is_system_off s ≡ false → s ≡ Active
+active_if Active not_new not_off = refl
+active_if New not_new not_off = absurd (cc)
+active_if IsSystemOff not_new not_off = absurd (cc)
+
 module _ (rec address : ℕ) (m : Machine) (proper : IsProper m) (ok : Passed (rec_enter rec address m).checks) where
   entered_is : (granule_at m (number_of m rec)).state ≡ IsRec (rec_at m rec)
   unfolding rec_enter
@@ -281,6 +291,21 @@ module _ (rec address : ℕ) (m : Machine) (proper : IsProper m) (ok : Passed (r
 
   pub entered : IsProper (rec_enter rec address m).machine
   entered = record { linked = entry_going.proper; ordered = entry_going.ordered }
+
+  -- each realm is in the state that it was in, or it is that of the REC, and is off
+  pub entered_states : (rd : ℕ) (realm : RmmRealm) → (granule_at (rec_enter rec address m).machine rd).state ≡ Rd realm
+      → IsAsBefore m rd realm ⊎ ((realm.state ≡ IsSystemOff) × ((granule_at m (number_of m rec)).owner ≡ Some rd) × IsRealmIn m rd Active × HasRim m rd realm.rim)
+  unfolding rec_enter enter_checks
+  entered_states rd realm at =
+      ⊎_elim
+      (λ (same : IsAsBefore m rd realm). inl same)
+      (λ (off : (rd ≡ of_entered.0) × (realm.state ≡ IsSystemOff) × HasRim m rd realm.rim).
+      let owned : (granule_at m (number_of m rec)).owner ≡ Some rd = of_entered.1 ∙ ap (λ (x : ℕ). Some x) (sym off.0) in
+      let there = rd_is (granule_at m rd).state (subst (λ (x : ℕ). is_rd (granule_at m x).state ≡ true) (sym off.0) of_entered.2) in
+      let state : state_of (owner_realm m (number_of m rec)) ≡ there.0.state = ap (λ (x : Option ℕ). state_of (realm_by m x)) owned ∙ ap (λ (s : RmmGranuleState). state_of (realm_of s)) there.1 in
+      let active : state_of (owner_realm m (number_of m rec)) ≡ Active = active_if (state_of (owner_realm m (number_of m rec))) ok.1.1.1.1.1.1.0 ok.1.1.1.1.1.1.1.0 in
+      inr (off.1, owned, (there.0, there.1, sym state ∙ active), off.2))
+      (entry_going.states rd realm at)
 
   pub entered_touches : Touches m (rec_enter rec address m).machine (realm_of_rec m rec)
   unfolding rec_enter

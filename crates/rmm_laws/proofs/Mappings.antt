@@ -278,9 +278,12 @@ ripas_inited rd base top m proper ok =
     let kept = keep_ripas m found.table (entry_index found.level base) (change_count m (init_changeable m.settings) found base top) Ram proper table (change_count-few m (init_changeable m.settings) found base top) in
     keep_realm _ (number_of m rd) realm _ kept is refl refl refl (record { few = s.few; inside = s.inside; most = s.most; level = s.level; width = s.width; served = s.served })
 
-pub owned_protected : (realm : RmmRealm) (b c : Bool) (base : ℕ) → not b ≡ false → (c && (not b || is_protected realm base)) ≡ true → is_protected realm base ≡ true
-owned_protected realm b c base owns is =
-    ⊎_elim (λ (never : not b ≡ true). absurd (both_ways (not b) owns never)) (λ (sure : is_protected realm base ≡ true). sure) (or_cases (not b) (is_protected realm base) (and_parts c (not b || is_protected realm base) is).1)
+pub second_holds : (b c : Bool) → b ≡ false → (b || c) ≡ true → c ≡ true
+second_holds b c none either = ⊎_elim (λ (never : b ≡ true). absurd (both_ways b none never)) (λ (sure : c ≡ true). sure) (or_cases b c either)
+
+pub owned_protected : (realm : RmmRealm) (b c d : Bool) (base : ℕ) → not b ≡ false → d ≡ false → (c && (not b || (d || is_protected realm base))) ≡ true → is_protected realm base ≡ true
+owned_protected realm b c d base owns some is =
+    second_holds d (is_protected realm base) some (second_holds (not b) (d || is_protected realm base) owns (and_parts c (not b || (d || is_protected realm base)) is).1)
 
 pub ripas_set : (rd rec base top : ℕ) (m : Machine) → IsLinked m → Passed (rtt_set_ripas rd rec base top m).checks → IsLinked (rtt_set_ripas rd rec base top m).machine
 unfolding rtt_set_ripas with_ripas_from ripas_request_checks
@@ -288,7 +291,7 @@ ripas_set rd rec base top m proper ok =
     let realm : RmmRealm = realm_at m rd in
     let is = realm_of-some (state_at m rd) ok.1.1.1.0 in
     let rec_is = rec_of-some (state_at m rec) ok.1.1.1.1.1.1.0 in
-    let within = protected_within realm base (owned_protected realm (is_rec_of m rd rec) _ base ok.1.1.1.1.1.1.1.1.1.0 (yes_from _ ok.1.1.1.1.1.1.1.1.1.1.1.0)) in
+    let within = protected_within realm base (owned_protected realm (is_rec_of m rd rec) _ (nat_le top base) base ok.1.1.1.1.1.1.1.1.1.0 ok.0 (yes_from _ ok.1.1.1.1.1.1.1.1.1.1.1.0)) in
     let s = served m (number_of m rd) realm proper is in
     let table = place_table m proper (number_of m rd) base 3 realm is within s.level in
     let found : RttWalk = walk m realm base 3 in

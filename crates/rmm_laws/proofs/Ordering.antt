@@ -256,7 +256,7 @@ set_ripas_ordered rd rec base top m proper ok =
     let found : RttWalk = walk m realm base 3 in
     let is = realm_of-some (state_at m rd) ok.1.1.1.0 in
     let rec_is = rec_of-some (state_at m rec) ok.1.1.1.1.1.1.0 in
-    let within = protected_within realm base (owned_protected realm (is_rec_of m rd rec) _ base ok.1.1.1.1.1.1.1.1.1.0 (yes_from _ ok.1.1.1.1.1.1.1.1.1.1.1.0)) in
+    let within = protected_within realm base (owned_protected realm (is_rec_of m rd rec) _ (nat_le top base) base ok.1.1.1.1.1.1.1.1.1.0 ok.0 (yes_from _ ok.1.1.1.1.1.1.1.1.1.1.1.0)) in
     let level = (served m (number_of m rd) realm proper.linked is).level in
     ordered_rec _ (number_of m rec) (rec_at m rec) _ (number_inside m rec (yes_from (is_inside m rec) ok.1.1.1.1.1.0)) rec_is
     (ordered_table m (walk m realm base 3).table _ (place_table m proper.linked (number_of m rd) base 3 realm is within level) proper.ordered

@@ -355,6 +355,20 @@ module _ (m : Machine) (proper : IsProper m) (rd : ℕ) (realm : RmmRealm) (is :
       (start_or_none realm h))
       (cases_eq h rd)) proper.ordered.halves
 
+  pub gone_like : (gone.settings ≡ m.settings) × (length gone.granules ≡ length m.granules)
+  gone_like = (sym was.settings, sym was.count)
+
+  -- a granule that was DELEGATED is so still
+  pub gone_spare : (h : ℕ) → (granule_at m h).state ≡ Delegated → (granule_at gone h).state ≡ Delegated
+  gone_spare h free =
+      ⊎_elim
+      (λ (here : h ≡ rd). ap (λ (x : ℕ). (granule_at gone x).state) here ∙ ap (λ (r : RmmGranule). r.state) rd_gone)
+      (λ (other : h ≢ rd). ⊎_elim
+      (λ (start : IsStart realm h). ap (λ (x : ℕ). (granule_at gone x).state) start.2 ∙ ap (λ (r : RmmGranule). r.state) (start_gone start.0 start.1).0)
+      (λ (no_start : NoStart realm h). sym (ap (λ (r : RmmGranule). r.state) (was.beside h other no_start).0) ∙ free)
+      (start_or_none realm h))
+      (cases_eq h rd)
+
   realm_gone_ordered : IsOrdered gone
   realm_gone_ordered = record { each = orderly_gone; recs = recs_gone; halves = halves_gone }
 

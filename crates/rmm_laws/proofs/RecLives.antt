@@ -23,7 +23,7 @@ use Rattle.rmm_model.specs.Walk.{granule_named}
 use Rattle.rmm_model.specs.Command.Auxiliary.{with_aux}
 use Rattle.rmm_model.specs.Command.Operand.{realm_at}
 use Rattle.rmm_model.specs.Command.RecCreate.{rec_create, all_from, is_apart, can_be_aux, aux_checks, rec_word, rec_page, with_created_rec}
-use Rattle.rmm_laws.specs.Apart.{Touches, rd_named}
+use Rattle.rmm_laws.specs.Apart.{rd_named}
 use Rattle.rmm_laws.specs.Half.{HasHalves}
 use Rattle.rmm_laws.specs.Owner.{is_rd, is_owner, IsOrderly, IsOrderlyAt, is_rec_in, IsOrdered}
 use Rattle.rmm_laws.specs.Proper.{IsProper}
@@ -34,7 +34,7 @@ use Rattle.rmm_laws.proofs.Orders.{is_counter, counted, plain_in, total-set, tot
 use Rattle.rmm_laws.proofs.PageWords.{length-with_words, word_of_page-with_words}
 use Rattle.rmm_laws.proofs.Passed.{Passed, yes_from, some_same, is_delegated-true, realm_of-some, rd_named-is}
 use Rattle.rmm_laws.proofs.Recs.{keep_realm}
-use Rattle.rmm_laws.proofs.Touching.{touch_page, touch_granule, untouched}
+use Rattle.rmm_laws.proofs.Touching.{Touches, touch_page, touch_granule, untouched}
 use Rattle.rmm_laws.proofs.Uses.{IsMore, added, removed}
 use Rattle.rmm_laws.proofs.Wiping.{some_of, none_of, either_same, first_named, IsWiped, all_wiped, all_total, touch_wiped}
 use Rattle.rmm_laws.proofs.Writes.{is_user, granule_at-same, granule_at-other, page_in-same, page_in-other, named-same, uses-same, uses-plain, used_at-same, leads-same, begin-same, taken_inside, sound-with_granule, sound-with_page}

@@ -8,6 +8,7 @@ use Rattle.rmm_model.specs.declared.granule.RmmGranule.{RmmGranule}
 use Rattle.rmm_model.specs.declared.granule.RmmGranuleState.{RmmGranuleState}
 use Rattle.rmm_model.specs.declared.granule.RmmGranuleState.TheVariants.{Undelegated, Rd, Rec as IsRec, RecAux, Data, Rtt}
 use Rattle.rmm_model.specs.declared.realm.RmmRealm.{RmmRealm}
+use Rattle.rmm_model.specs.declared.realm.RmmRealmState.TheVariants.{SystemOff as IsSystemOff}
 use Rattle.rmm_model.specs.declared.rec.RmmRec.{RmmRec}
 use Rattle.rmm_model.specs.Granule.{of_no_realm}
 use Rattle.rmm_model.specs.Machine.{Machine, granule_at, page_in, with_granule, with_page, with_word}
@@ -19,12 +20,13 @@ use Rattle.rmm_model.specs.Command.PsciComplete.{with_rec}
 use Rattle.rmm_laws.specs.Owner.{IsOrdered}
 use Rattle.rmm_laws.specs.Proper.{IsProper}
 use Rattle.rmm_laws.specs.Role.{used, has_user, state_uses, IsLinked}
+use Rattle.rmm_laws.specs.State.{HasRim}
 use Rattle.rmm_laws.proofs.Keeping.{keep_page, keep_granule}
 use Rattle.rmm_laws.proofs.Orders.{is_memory_state, ordered_realm, ordered_rec, ordered_rec_page, ordered_memory}
 use Rattle.rmm_laws.proofs.PageWords.{length-page_with_word, length-with_words_from, word_of_page-with_words_from_other}
 use Rattle.rmm_laws.proofs.Plain.{keep_plain_page}
-use Rattle.rmm_laws.specs.Apart.{Touches}
-use Rattle.rmm_laws.proofs.Touching.{IsMine, untouched, mine_before, touch_granule, touch_page}
+use Rattle.rmm_laws.proofs.States.{IsAsBefore, same_realm, write_back}
+use Rattle.rmm_laws.proofs.Touching.{Touches, IsMine, untouched, mine_before, touch_granule, touch_page}
 use Rattle.rmm_laws.proofs.Writes.{is_user, granule_at-same, granule_at-other, taken_inside}
 
 -- memory uses nothing
@@ -90,10 +92,11 @@ pub record IsGoing (o : Machine) (w : ℕ) (g : ℕ) (m : Machine) : Type 0 wher
   pub touches : Touches o m (Some w)
   pub owned : (granule_at m g).owner ≡ Some w
   pub mine : IsMine o (Some w) g
+  pub states : (rd : ℕ) (realm : RmmRealm) → (granule_at m rd).state ≡ Rd realm → IsAsBefore o rd realm ⊎ ((rd ≡ w) × (realm.state ≡ IsSystemOff) × HasRim o rd realm.rim)
 
 -- a REC before any write
 pub going_first : (g w : ℕ) (m : Machine) (rec : RmmRec) → IsProper m → (granule_at m g).state ≡ IsRec rec → (granule_at m g).owner ≡ Some w → IsGoing m w g m
-going_first g w m rec proper is owned = record { proper = proper.linked; ordered = proper.ordered; rec = rec; is = is; touches = untouched m (Some w); owned = owned; mine = inl (inr owned) }
+going_first g w m rec proper is owned = record { proper = proper.linked; ordered = proper.ordered; rec = rec; is = is; touches = untouched m (Some w); owned = owned; mine = inl (inr owned); states = λ rd realm at. inl (realm, at, refl, refl) }
 
 module _ (o : Machine) (w : ℕ) where
   pub going_inside : (g : ℕ) (m : Machine) → IsGoing o w g m → g < length m.granules
@@ -111,6 +114,10 @@ module _ (o : Machine) (w : ℕ) where
         touches = touch_granule o m (Some w) g kept going.touches going.mine;
         owned = ap (λ (r : RmmGranule). r.owner) now ∙ going.owned;
         mine = going.mine;
+        states = λ rd realm at. ⊎_elim
+            (λ (written : (rd ≡ g) × (IsRec rec ≡ Rd realm)). (let never = written.1 in absurd (cc)))
+            (λ (before : (granule_at m rd).state ≡ Rd realm). going.states rd realm before)
+            (write_back m g rd kept realm at);
       }
 
   pub going_page : (g : ℕ) (m : Machine) (page : List ℕ) → IsGoing o w g m → length page ≡ 4096 → ((k : ℕ) → k < 16 → aux_of page k ≡ aux_of (page_in m g) k) → IsGoing o w g (with_page m g page)
@@ -124,6 +131,7 @@ module _ (o : Machine) (w : ℕ) where
         touches = touch_page o m (Some w) g page going.touches going.mine;
         owned = going.owned;
         mine = going.mine;
+        states = going.states;
       }
 
   -- a word of the REC's page that names no auxiliary granule
@@ -151,12 +159,14 @@ module _ (o : Machine) (w : ℕ) where
     touches = touch_page o m (Some w) h page going.touches (mine_before o m (Some w) h going.touches mine);
     owned = going.owned;
     mine = going.mine;
+    states = going.states;
   }
 
-  -- the realm of an RD
+  -- the realm of an RD, which is off
   pub going_realm : (g rd : ℕ) (m : Machine) (realm other : RmmRealm) → IsGoing o w g m → rd ≡ w → (granule_at m rd).state ≡ Rd realm → other.table_count ≡ realm.table_count → other.first_table ≡ realm.first_table
-      → other.start_level ≡ realm.start_level → other.rec_count ≡ realm.rec_count → other.s2sz ≡ realm.s2sz → IsServed (length m.granules) other → IsGoing o w g (with_granule m rd (of_no_realm (Rd other)))
-  going_realm g rd m realm other going named is count first level recs space served =
+      → other.start_level ≡ realm.start_level → other.rec_count ≡ realm.rec_count → other.s2sz ≡ realm.s2sz → other.state ≡ IsSystemOff → other.rim ≡ realm.rim → IsServed (length m.granules) other
+      → IsGoing o w g (with_granule m rd (of_no_realm (Rd other)))
+  going_realm g rd m realm other going named is count first level recs space off rim served =
       let apart : g ≢ rd = λ same. (
       let states : (granule_at m g).state ≡ (granule_at m rd).state = ap (λ (k : ℕ). (granule_at m k).state) same in
       let rec_is = going.is in
@@ -170,4 +180,18 @@ module _ (o : Machine) (w : ℕ) where
         touches = touch_granule o m (Some w) rd (of_no_realm (Rd other)) going.touches (inl (inl named));
         owned = ap (λ (r : RmmGranule). r.owner) still ∙ going.owned;
         mine = going.mine;
+        states = λ x new at. ⊎_elim
+            (λ (written : (x ≡ rd) × (Rd other ≡ Rd new)).
+            let it : other ≡ new = same_realm written.1 in
+            let before : HasRim o rd realm.rim = ⊎_elim
+            (λ (same : IsAsBefore o rd realm). (same.0, same.1, same.3))
+            (λ (off_before : (rd ≡ w) × (realm.state ≡ IsSystemOff) × HasRim o rd realm.rim). off_before.2)
+            (going.states rd realm is) in
+            inr (
+              written.0 ∙ named,
+              ap (λ (r : RmmRealm). r.state) (sym it) ∙ off,
+              (before.0, ap (λ (y : ℕ). (granule_at o y).state) written.0 ∙ before.1, before.2 ∙ sym rim ∙ ap (λ (r : RmmRealm). r.rim) it),
+            ))
+            (λ (before : (granule_at m x).state ≡ Rd new). going.states x new before)
+            (write_back m rd x (of_no_realm (Rd other)) new at);
       }

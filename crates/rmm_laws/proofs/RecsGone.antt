@@ -1,5 +1,5 @@
 -- RMI_REC_DESTROY keeps the roles and the owners of granules.
-use Rattle.std.proofs.Common.{◌≡◌, ◌≢◌, ℕ, ◌+◌, ◌-◌, ◌<◌, inl, inr, ◌==◌, ◌&&◌, Bool, true, length, Option, Some, option_map, refl, sym, ap, subst, ◌∙◌, ⊎_elim, arith}
+use Rattle.std.proofs.Common.{◌≡◌, ◌≢◌, ℕ, ◌+◌, ◌-◌, ◌<◌, ◌⊎◌, inl, inr, ◌==◌, ◌&&◌, Bool, true, false, length, Option, Some, None, option_map, refl, sym, ap, subst, ◌∙◌, ⊎_elim, arith}
 use Rattle.std.specs.Prelude.{nat_lt, is_some, cond, IfSome}
 use Rattle.std.specs.List.{count_by}
 use Rattle.std.proofs.lemmas.Bool.{cases_eq, cond-true, and_left, and_from, eq-eqb, ne_eqb, lt-ltb, both_ways}
@@ -19,7 +19,7 @@ use Rattle.rmm_model.specs.Walk.{granule_named}
 use Rattle.rmm_model.specs.Command.Auxiliary.{aux_granule, with_aux}
 use Rattle.rmm_model.specs.Command.Operand.{rec_at}
 use Rattle.rmm_model.specs.Command.RecDestroy.{rec_destroy, with_one_less, without_rec_of, without_rec}
-use Rattle.rmm_laws.specs.Apart.{Touches, realm_of_rec}
+use Rattle.rmm_laws.specs.Apart.{realm_of_rec}
 use Rattle.rmm_laws.specs.Back.{IsBeside}
 use Rattle.rmm_laws.specs.Half.{HasHalves}
 use Rattle.rmm_laws.specs.Owner.{is_rd, is_owner, IsOrderly, IsOrderlyAt, is_rec_in}
@@ -30,7 +30,7 @@ use Rattle.rmm_laws.proofs.Orders.{owner_is, rd_is, rd_of, is_counter, counted, 
 use Rattle.rmm_laws.proofs.Passed.{Passed, some_same, rec_of-some, rec_named-is}
 use Rattle.rmm_laws.proofs.RecLives.{IsRecMade, rec_gone}
 use Rattle.rmm_laws.proofs.Recs.{keep_realm}
-use Rattle.rmm_laws.proofs.Touching.{mine_before, touch_blank, touch_granule, untouched}
+use Rattle.rmm_laws.proofs.Touching.{Touches, mine_before, touch_blank, touch_granule, untouched}
 use Rattle.rmm_laws.proofs.Walks.{right, one_place}
 use Rattle.rmm_laws.proofs.Wiping.{first_named, IsWiped, all_wiped, all_total, touch_wiped}
 use Rattle.rmm_laws.proofs.Writes.{named-same, granule_at-same, granule_at-other, page_in-same, page_in-other, taken_inside, sound-with_granule, sound-with_page}
@@ -334,3 +334,44 @@ module _ (rec : ℕ) (m : Machine) (proper : IsProper m) (ok : Passed (rec_destr
   pub destroyed_beside : OthersStay (rec_destroy rec m).machine
   unfolding rec_destroy
   destroyed_beside = subst (λ (k : Machine). OthersStay (with_blank (with_aux k here (of_no_realm Delegated) m.settings.aux) here Delegated)) (sym less_is) others_stay
+
+  -- the realm whose REC it was
+  destroyed_of : realm_of_rec m rec ≡ Some w
+  unfolding rec_destroy
+  destroyed_of = rec_named-is m rec ok.0 ok.1.0 ok.1.1.0 ∙ of_rec.1
+
+  -- each granule is as it was, DELEGATED, or the RD of the realm
+  abbrev AllChanged : Machine → Type 0
+  AllChanged n = (n.settings ≡ m.settings) × (length n.granules ≡ length m.granules)
+      × ((h : ℕ) → (granule_at n h ≡ granule_at m h) ⊎ (((is_rd (granule_at m h).state ≡ false) × (granule_at n h ≡ of_no_realm Delegated)) ⊎ ((realm_of_rec m rec ≡ Some h) × (is_rd (granule_at n h).state ≡ true) × ((granule_at n h).owner ≡ None))))
+
+  all_changed : AllChanged after
+  all_changed =
+      let aux : ℕ = m.settings.aux in
+      let count = length-set m.granules w (of_no_realm (Rd (with_one_less realm))) in
+      let less_is_rd : is_rd (granule_at less w).state ≡ true = ap (λ (r : RmmGranule). is_rd r.state) w_now in
+      let apart = rd_apart less here aux less_linked (rec_at m rec) still_rec refl w less_is_rd in
+      let w_then : granule_at after w ≡ of_no_realm (Rd (with_one_less realm)) = (beside_gone less here aux less_linked (rec_at m rec) still_rec refl w apart.0 apart.1).0 ∙ w_now in (
+        (clean less here aux less_linked (rec_at m rec) still_rec refl).settings,
+        gone_count less here aux less_linked (rec_at m rec) still_rec refl ∙ count,
+        λ h. ⊎_elim
+            (λ (it : h ≡ w).
+            inr (inr (destroyed_of ∙ ap (λ (x : ℕ). Some x) (sym it), ap (λ (x : ℕ). is_rd (granule_at after x).state) it ∙ ap (λ (r : RmmGranule). is_rd r.state) w_then, ap (λ (x : ℕ). (granule_at after x).owner) it ∙ ap (λ (r : RmmGranule). r.owner) w_then)))
+            (λ (other : h ≢ w). ⊎_elim
+            (λ (gone_here : h ≡ here).
+            inr (inl (ap (λ (x : ℕ). is_rd (granule_at m x).state) gone_here ∙ ap is_rd rec_is, ap (granule_at after) gone_here ∙ all_back.0.0)))
+            (λ (ne : h ≢ here). ⊎_elim
+            (λ (it : (i : ℕ) × (i < aux) × (granule_named less (aux_of (page_in less here) i) ≡ Some h)).
+            let was : granule_at m h ≡ record { state = RecAux; owner = (granule_at less here).owner } =
+            sym (granule_at-other m w h (of_no_realm (Rd (with_one_less realm))) other) ∙ aux_there less here aux less_linked (rec_at m rec) still_rec refl it.0 h it.1 it.2 in
+            inr (inl (ap (λ (r : RmmGranule). is_rd r.state) was, (aux_gone less here aux less_linked (rec_at m rec) still_rec refl it.0 h it.1 it.2).0)))
+            (λ (none : (i : ℕ) → i < aux → granule_named less (aux_of (page_in less here) i) ≢ Some h).
+            inl ((beside_gone less here aux less_linked (rec_at m rec) still_rec refl h ne none).0 ∙ granule_at-other m w h (of_no_realm (Rd (with_one_less realm))) other))
+            (first_named (λ (i : ℕ). granule_named less (aux_of (page_in less here) i)) h aux))
+            (cases_eq h here))
+            (cases_eq h w),
+      )
+
+  pub destroyed_changed : AllChanged (rec_destroy rec m).machine
+  unfolding rec_destroy
+  destroyed_changed = subst (λ (k : Machine). AllChanged (with_blank (with_aux k here (of_no_realm Delegated) m.settings.aux) here Delegated)) (sym less_is) all_changed

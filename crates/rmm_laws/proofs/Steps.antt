@@ -5,6 +5,7 @@ use Rattle.std.proofs.lemmas.Bool.{cases_Bool, cases_eq, cases_lt, and_from, eq-
 use Rattle.std.proofs.lemmas.List.{get_or_past}
 use Rattle.rmi_abi.specs.declared.call.Call.TheVariants.{DataDestroy, RealmDestroy, RecDestroy, RttCreate, RttDestroy, RttUnmapUnprotected}
 use Rattle.rmi_abi.specs.declared.word.Word.TheVariants.{Success}
+use Rattle.rmm_model.specs.declared.entry.RmmRipas.{RmmRipas}
 use Rattle.rmm_model.specs.declared.entry.RmmRttEntry.{RmmRttEntry}
 use Rattle.rmm_model.specs.declared.entry.RmmRttEntry.TheVariants.{Unassigned, Assigned, Table, UnassignedNs, AssignedNs}
 use Rattle.rmm_model.specs.declared.granule.RmmGranule.{RmmGranule}
@@ -30,7 +31,7 @@ use Rattle.rmm_laws.specs.Apart.{rd_named}
 use Rattle.rmm_laws.specs.Half.{IsOfHalf, HasHalves}
 use Rattle.rmm_laws.specs.Owner.{is_rec_in}
 use Rattle.rmm_laws.specs.Proper.{IsProper}
-use Rattle.rmm_laws.specs.Role.{IsLinked, LeadsInside}
+use Rattle.rmm_laws.specs.Role.{IsSound, IsLinked, LeadsInside}
 use Rattle.rmm_laws.specs.Step.{HasNextStep, HasRemoval}
 use Rattle.rmm_laws.specs.Walk.{IsTableOf, Serves, walked_to}
 use Rattle.rmm_laws.proofs.Entries.{named_inside}
@@ -176,10 +177,24 @@ live_start m first (suc count) some =
     (suc rest.0, omega arith, subst (λ (g : ℕ). has_live (page_in m g) ≡ true) next_one rest.2))
     (cases_Bool (has_live (page_in m first)))
 
+-- ---- the address at which a granule begins
+
+pub begin_number : (m : Machine) (g : ℕ) → number_of m (m.settings.base + g * 4096) ≡ g
+unfolding number_of
+begin_number m g = omega arith
+
+pub begin_aligned : (m : Machine) (g : ℕ) → IsSound m → (m.settings.base + g * 4096) % 4096 ≡ 0
+begin_aligned m g sound = let base = sound.platform.base_aligned in omega arith
+
+pub begin_inside : (m : Machine) (g : ℕ) → g < length m.granules → is_inside m (m.settings.base + g * 4096) ≡ true
+unfolding is_inside
+begin_inside m g within =
+    let number : (m.settings.base + g * 4096 - m.settings.base) / 4096 ≡ g = omega arith in
+    and_from _ _ (le-leb m.settings.base (m.settings.base + g * 4096) (omega arith)) (lt-ltb _ _ (subst (λ (n : ℕ). n < length m.granules) (sym number) within))
+
 -- ---- the next step
 
-module _ (m : Machine) (proper : IsProper m) (rd spare : ℕ) (named : rd_named m rd ≡ Some (number_of m rd)) (spare_aligned : spare % 4096 ≡ 0) (spare_inside : is_inside m spare ≡ true)
-    (spare_free : (granule_at m (number_of m spare)).state ≡ Delegated) where
+module _ (m : Machine) (proper : IsProper m) (rd : ℕ) (named : rd_named m rd ≡ Some (number_of m rd)) where
   abbrev realm : RmmRealm
   realm = realm_at m rd
 
@@ -222,103 +237,86 @@ module _ (m : Machine) (proper : IsProper m) (rd spare : ℕ) (named : rd_named 
         next m proper.linked (number_of m rd) ipa (record { table = table; level = l }) child (record { table = there; level = server.depth })
         (ap (λ (j : ℕ). table_below m (entry_in_page (page_in m table) j)) address.1 ∙ leads)
 
-    unfold_step : l < 3 → ipa < 2 ^ realm.s2sz → is_table (entry_in_page (page_in m table) i) ≡ false → HasNextStep m rd spare
-    unfold_step upper within leaf =
-        let back : l + 1 - 1 ≡ l = omega arith in (
-          RttCreate rd spare ipa (l + 1),
-          (refl, refl),
-          block_step m rd spare ipa (l + 1) named spare_aligned spare_inside spare_free (omega arith) (omega arith) (subst (λ (n : ℕ). ipa % entry_size n ≡ 0) (sym back) address.2) within
-              (subst (λ (n : ℕ). (walk m realm ipa n).level ≡ n) (sym back) reaches)
-              (subst (λ (n : ℕ). is_table (entry_at m (walk m realm ipa n) ipa) ≡ false) (sym back) (ap is_table entry_is ∙ leaf)),
-        )
-
-    destroy_step : (child : ℕ) → table_below m (entry_in_page (page_in m table) i) ≡ Some child → ipa < 2 ^ realm.s2sz → has_live (page_in m child) ≡ false → HasNextStep m rd spare
-    destroy_step child leads within dead =
-        let back : l + 1 - 1 ≡ l = omega arith in
-        let below = child_there child leads in
-        let most = subst (λ (n : ℕ). n ≤ 3) below.level (proper.linked.most child (ap (λ (r : RmmGranule). r.state) below.table)) in (
-          RttDestroy rd ipa (l + 1),
-          refl,
-          table_step m rd ipa (l + 1) child named (omega arith) most (subst (λ (n : ℕ). ipa % entry_size n ≡ 0) (sym back) address.2) within
-              (subst (λ (n : ℕ). (walk m realm ipa n).level ≡ n) (sym back) reaches)
-              (subst (λ (n : ℕ). table_below m (entry_at m (walk m realm ipa n) ipa) ≡ Some child) (sym back) (ap (table_below m) entry_is ∙ leads)) dead,
-        )
-
     page_size : l ≡ 3 → ipa % 4096 ≡ 0
     unfolding entry_size
     page_size deepest = subst (λ (n : ℕ). ipa % entry_size n ≡ 0) deepest address.2
 
-    -- by the entry
-    step_by : (e : RmmRttEntry) → entry_in_page (page_in m table) i ≡ e → is_live e ≡ true → IsOfHalf realm ipa e → LeadsInside m e
-        → ((child : ℕ) → table_below m (entry_in_page (page_in m table) i) ≡ Some child → has_live (page_in m child) ≡ true → HasNextStep m rd spare) → HasNextStep m rd spare
-    step_by (Unassigned ripas) at live kind leads rest = absurd (cc)
-    step_by UnassignedNs at live kind leads rest = absurd (cc)
-    step_by (Assigned ripas a) at live kind leads rest =
-        ⊎_elim
-        (λ (upper : l < 3). unfold_step upper (half realm.s2sz ipa kind) (ap is_table at))
-        (λ (least : 3 ≤ l).
-        let deepest : l ≡ 3 = (let f = few in omega arith) in (
-          DataDestroy rd ipa,
-          refl,
-          page_step m rd ipa a ripas proper named (page_size deepest) (lt-ltb ipa (2 ^ (realm.s2sz - 1)) kind) (subst (λ (n : ℕ). (walk m realm ipa n).level ≡ n) deepest reaches)
-              (subst (λ (n : ℕ). entry_at m (walk m realm ipa n) ipa ≡ Assigned ripas a) deepest (entry_is ∙ at)),
-        ))
-        (cases_lt l 3)
-    step_by (AssignedNs desc) at live kind leads rest = (
-      RttUnmapUnprotected rd ipa l,
-      refl,
-      mapping_step m rd ipa l desc named
-          (subst (λ (n : ℕ). m.settings.block_level ≤ n) at_place.1 (proper.ordered.halves.is.block table i at_place.0 index (ap is_assigned_ns at))) (omega arith) few address.2
-          (and_from (not (is_protected realm ipa)) (is_in_space realm ipa) (ap not (le-ltb ipa (2 ^ (realm.s2sz - 1)) kind.0)) (lt-ltb ipa (2 ^ realm.s2sz) kind.1)) reaches (entry_is ∙ at),
-    )
-    step_by (Table a) at live kind leads rest =
-        let below : table_below m (entry_in_page (page_in m table) i) ≡ Some (number_of m a) = ap (table_below m) at ∙ named_inside m a leads.0 in
-        ⊎_elim
-        (λ (some : has_live (page_in m (number_of m a)) ≡ true). rest (number_of m a) below some)
-        (λ (dead : has_live (page_in m (number_of m a)) ≡ false). destroy_step (number_of m a) below kind dead)
-        (cases_Bool (has_live (page_in m (number_of m a))))
+    -- a page at level 3
+    leaf_step : (ripas : RmmRipas) (a : ℕ) → l ≡ 3 → entry_in_page (page_in m table) i ≡ Assigned ripas a → IsOfHalf realm ipa (Assigned ripas a) → (performed (DataDestroy rd ipa) m).0.word ≡ Success
+    leaf_step ripas a deepest at kind =
+        page_step m rd ipa a ripas proper named (page_size deepest) (lt-ltb ipa (2 ^ (realm.s2sz - 1)) kind) (subst (λ (n : ℕ). (walk m realm ipa n).level ≡ n) deepest reaches)
+        (subst (λ (n : ℕ). entry_at m (walk m realm ipa n) ipa ≡ Assigned ripas a) deepest (entry_is ∙ at))
 
-  next_from : (fuel table i : ℕ) → 4 ≤ proper.linked.level table + fuel → IsTableOf m (number_of m rd) table → i < 512 → is_live (entry_in_page (page_in m table) i) ≡ true → HasNextStep m rd spare
-  next_from zero table i enough there index live = (let most = proper.linked.most table (ap (λ (r : RmmGranule). r.state) there) in absurd (omega arith))
-  next_from (suc fuel) table i enough there index live =
+    -- with a spare granule
+    module _ (spare : ℕ) (spare_aligned : spare % 4096 ≡ 0) (spare_inside : is_inside m spare ≡ true) (spare_free : (granule_at m (number_of m spare)).state ≡ Delegated) where
+      unfold_step : (ripas : RmmRipas) (a : ℕ) → l < 3 → ipa < 2 ^ realm.s2sz → entry_in_page (page_in m table) i ≡ Assigned ripas a → HasNextStep m rd spare
+      unfold_step ripas a upper within at =
+          let back : l + 1 - 1 ≡ l = omega arith in (
+            RttCreate rd spare ipa (l + 1),
+            (refl, refl, (ripas, a, subst (λ (n : ℕ). entry_at m (walk m realm ipa n) ipa ≡ Assigned ripas a) (sym back) (entry_is ∙ at))),
+            block_step m rd spare ipa (l + 1) named spare_aligned spare_inside spare_free (omega arith) (omega arith) (subst (λ (n : ℕ). ipa % entry_size n ≡ 0) (sym back) address.2) within
+                (subst (λ (n : ℕ). (walk m realm ipa n).level ≡ n) (sym back) reaches)
+                (subst (λ (n : ℕ). is_table (entry_at m (walk m realm ipa n) ipa) ≡ false) (sym back) (ap is_table (entry_is ∙ at))),
+          )
+
+      destroy_step : (child : ℕ) → table_below m (entry_in_page (page_in m table) i) ≡ Some child → ipa < 2 ^ realm.s2sz → has_live (page_in m child) ≡ false → HasNextStep m rd spare
+      destroy_step child leads within dead =
+          let back : l + 1 - 1 ≡ l = omega arith in
+          let below = child_there child leads in
+          let most = subst (λ (n : ℕ). n ≤ 3) below.level (proper.linked.most child (ap (λ (r : RmmGranule). r.state) below.table)) in (
+            RttDestroy rd ipa (l + 1),
+            refl,
+            table_step m rd ipa (l + 1) child named (omega arith) most (subst (λ (n : ℕ). ipa % entry_size n ≡ 0) (sym back) address.2) within
+                (subst (λ (n : ℕ). (walk m realm ipa n).level ≡ n) (sym back) reaches)
+                (subst (λ (n : ℕ). table_below m (entry_at m (walk m realm ipa n) ipa) ≡ Some child) (sym back) (ap (table_below m) entry_is ∙ leads)) dead,
+          )
+
+      -- by the entry
+      step_by : (e : RmmRttEntry) → entry_in_page (page_in m table) i ≡ e → is_live e ≡ true → IsOfHalf realm ipa e → LeadsInside m e
+          → ((child : ℕ) → table_below m (entry_in_page (page_in m table) i) ≡ Some child → has_live (page_in m child) ≡ true → HasNextStep m rd spare) → HasNextStep m rd spare
+      step_by (Unassigned ripas) at live kind leads rest = absurd (cc)
+      step_by UnassignedNs at live kind leads rest = absurd (cc)
+      step_by (Assigned ripas a) at live kind leads rest =
+          ⊎_elim
+          (λ (upper : l < 3). unfold_step ripas a upper (half realm.s2sz ipa kind) at)
+          (λ (least : 3 ≤ l).
+          let deepest : l ≡ 3 = (let f = few in omega arith) in
+          (DataDestroy rd ipa, refl, leaf_step ripas a deepest at kind))
+          (cases_lt l 3)
+      step_by (AssignedNs desc) at live kind leads rest = (
+        RttUnmapUnprotected rd ipa l,
+        refl,
+        mapping_step m rd ipa l desc named
+            (subst (λ (n : ℕ). m.settings.block_level ≤ n) at_place.1 (proper.ordered.halves.is.block table i at_place.0 index (ap is_assigned_ns at))) (omega arith) few address.2
+            (and_from (not (is_protected realm ipa)) (is_in_space realm ipa) (ap not (le-ltb ipa (2 ^ (realm.s2sz - 1)) kind.0)) (lt-ltb ipa (2 ^ realm.s2sz) kind.1)) reaches (entry_is ∙ at),
+      )
+      step_by (Table a) at live kind leads rest =
+          let below : table_below m (entry_in_page (page_in m table) i) ≡ Some (number_of m a) = ap (table_below m) at ∙ named_inside m a leads.0 in
+          ⊎_elim
+          (λ (some : has_live (page_in m (number_of m a)) ≡ true). rest (number_of m a) below some)
+          (λ (dead : has_live (page_in m (number_of m a)) ≡ false). destroy_step (number_of m a) below kind dead)
+          (cases_Bool (has_live (page_in m (number_of m a))))
+
+  -- a page of memory at level 3 of a table of the realm
+  pub page_removal : (table i : ℕ) (ripas : RmmRipas) (a : ℕ) → IsTableOf m (number_of m rd) table → i < 512 → proper.linked.level table ≡ 3 → entry_in_page (page_in m table) i ≡ Assigned ripas a
+      → (ipa : ℕ) × ((performed (DataDestroy rd ipa) m).0.word ≡ Success)
+  page_removal table i ripas a there index deepest at =
       let server = serves_some m proper.linked (number_of m rd) realm is table there in
       let s : IsServer m proper.linked (number_of m rd) realm is table = record { levels = server.0; first = server.1; serves = server.2; depth = server.3 } in
-      step_by table i there index s (entry_in_page (page_in m table) i) refl live (of_half table i there index s) (proper.linked.inside table i (ap (λ (r : RmmGranule). r.state) there) index)
-      (λ child leads some.
-      let below = child_there table i there index s child leads in
-      let deeper = below.level in
-      let depth = server.3 in
-      let entry = live_entry (page_in m child) some in
-      next_from fuel child entry.0 (omega arith) below.table entry.1 entry.2)
-
-  pub next_step : (table i : ℕ) → IsTableOf m (number_of m rd) table → i < 512 → is_live (entry_in_page (page_in m table) i) ≡ true → HasNextStep m rd spare
-  next_step table i there index live = next_from 4 table i (omega arith) there index live
-
-  -- the address at which a granule begins
-  begin_number : (g : ℕ) → number_of m (m.settings.base + g * 4096) ≡ g
-  unfolding number_of
-  begin_number g = omega arith
-
-  begin_aligned : (g : ℕ) → (m.settings.base + g * 4096) % 4096 ≡ 0
-  begin_aligned g = let base = proper.linked.sound.platform.base_aligned in omega arith
-
-  begin_inside : (g : ℕ) → g < length m.granules → is_inside m (m.settings.base + g * 4096) ≡ true
-  unfolding is_inside
-  begin_inside g within =
-      let number : (m.settings.base + g * 4096 - m.settings.base) / 4096 ≡ g = omega arith in
-      and_from _ _ (le-leb m.settings.base (m.settings.base + g * 4096) (omega arith)) (lt-ltb _ _ (subst (λ (n : ℕ). n < length m.granules) (sym number) within))
+      let first : ℕ = server.1 + i * entry_size (realm.start_level + server.0) in
+      (first, leaf_step table i there index s ripas a (sym server.3 ∙ deepest) at (subst (IsOfHalf realm first) at (of_half table i there index s)))
 
   -- a REC of the realm that does not run
   rec_removal : (g : ℕ) (rec : RmmRec) → granule_at m g ≡ of_realm (number_of m rd) (IsRec rec) → is_running rec.state ≡ false → HasRemoval m rd
   rec_removal g rec there ready =
       let a : ℕ = m.settings.base + g * 4096 in
-      let state : state_at m a ≡ IsRec rec = ap (λ (h : ℕ). (granule_at m h).state) (begin_number g) ∙ ap (λ (r : RmmGranule). r.state) there in
+      let state : state_at m a ≡ IsRec rec = ap (λ (h : ℕ). (granule_at m h).state) (begin_number m g) ∙ ap (λ (r : RmmGranule). r.state) there in
       let within : g < length m.granules = (let s = ap (λ (r : RmmGranule). r.state) there in taken_inside m g (λ free. cc)) in
       let tests : is_rec_named m (m.settings.base + g * 4096) ≡ true =
-      and_from (is_aligned a && is_inside m a) (is_some (rec_of (state_at m a))) (and_from (is_aligned a) (is_inside m a) (eq-eqb (a % 4096) 0 (begin_aligned g)) (begin_inside g within))
+      and_from (is_aligned a && is_inside m a) (is_some (rec_of (state_at m a))) (and_from (is_aligned a) (is_inside m a) (eq-eqb (a % 4096) 0 (begin_aligned m g proper.linked.sound)) (begin_inside m g within))
       (ap (λ (s : RmmGranuleState). is_some (rec_of s)) state) in
       let at : rec_at m a ≡ rec = ap (λ (s : RmmGranuleState). unwrap_or (rec_of s) no_rec) state in
-      let owner : (granule_at m (number_of m a)).owner ≡ Some (number_of m rd) = ap (λ (h : ℕ). (granule_at m h).owner) (begin_number g) ∙ ap (λ (r : RmmGranule). r.owner) there in
+      let owner : (granule_at m (number_of m a)).owner ≡ Some (number_of m rd) = ap (λ (h : ℕ). (granule_at m h).owner) (begin_number m g) ∙ ap (λ (r : RmmGranule). r.owner) there in
       (RecDestroy a, cond-true (is_rec_named m a) (granule_at m (number_of m a)).owner None tests ∙ owner, rec_step m a tests (ap (λ (r : RmmRec). is_running r.state) at ∙ ready))
 
   -- a REC of the realm among the first granules, or none
@@ -344,24 +342,41 @@ module _ (m : Machine) (proper : IsProper m) (rd spare : ℕ) (named : rd_named 
       (λ (past : length m.granules ≤ g). ap (is_rec_in (number_of m rd)) (get_or_past m.granules g (of_no_realm Undelegated) past))
       (cases_lt g (length m.granules))
 
-  -- a realm without RECs has a next step, or it can be destroyed
-  without_recs : ((g : ℕ) → is_rec_in (number_of m rd) (granule_at m g) ≡ false) → HasNextStep m rd spare ⊎ HasRemoval m rd
-  without_recs none =
-      ⊎_elim
-      (λ (some : has_live_table m realm.first_table realm.table_count ≡ true).
-      let start = live_start m realm.first_table realm.table_count some in
-      let entry = live_entry (page_in m (realm.first_table + start.0)) start.2 in
-      inl (next_step (realm.first_table + start.0) entry.0 (start_table m proper.linked (number_of m rd) start.0 realm is start.1) entry.1 entry.2))
-      (λ (dead : has_live_table m realm.first_table realm.table_count ≡ false). inr (RealmDestroy rd, refl, realm_step m rd proper named none dead))
-      (cases_Bool (has_live_table m realm.first_table realm.table_count))
+  module _ (spare : ℕ) (spare_aligned : spare % 4096 ≡ 0) (spare_inside : is_inside m spare ≡ true) (spare_free : (granule_at m (number_of m spare)).state ≡ Delegated) where
+    next_from : (fuel table i : ℕ) → 4 ≤ proper.linked.level table + fuel → IsTableOf m (number_of m rd) table → i < 512 → is_live (entry_in_page (page_in m table) i) ≡ true → HasNextStep m rd spare
+    next_from zero table i enough there index live = (let most = proper.linked.most table (ap (λ (r : RmmGranule). r.state) there) in absurd (omega arith))
+    next_from (suc fuel) table i enough there index live =
+        let server = serves_some m proper.linked (number_of m rd) realm is table there in
+        let s : IsServer m proper.linked (number_of m rd) realm is table = record { levels = server.0; first = server.1; serves = server.2; depth = server.3 } in
+        step_by table i there index s spare spare_aligned spare_inside spare_free (entry_in_page (page_in m table) i) refl live (of_half table i there index s) (proper.linked.inside table i (ap (λ (r : RmmGranule). r.state) there) index)
+        (λ child leads some.
+        let below = child_there table i there index s child leads in
+        let deeper = below.level in
+        let depth = server.3 in
+        let entry = live_entry (page_in m child) some in
+        next_from fuel child entry.0 (omega arith) below.table entry.1 entry.2)
 
-  -- a realm none of whose RECs runs is never stuck
-  pub step_or_end : ((g : ℕ) (rec : RmmRec) → granule_at m g ≡ of_realm (number_of m rd) (IsRec rec) → is_running rec.state ≡ false) → HasNextStep m rd spare ⊎ HasRemoval m rd
-  step_or_end ready =
-      ⊎_elim
-      (λ (some : (g : ℕ) × (is_rec_in (number_of m rd) (granule_at m g) ≡ true)).
-      let it = rec_in (number_of m rd) (granule_at m some.0) some.1 in
-      let there : granule_at m some.0 ≡ of_realm (number_of m rd) (IsRec it.0) = ap (λ (s : RmmGranuleState). record { state = s; owner = (granule_at m some.0).owner }) it.1 ∙ ap (λ (o : Option ℕ). record { state = IsRec it.0; owner = o }) it.2 in
-      inr (rec_removal some.0 it.0 there (ready some.0 it.0 there)))
-      (λ (none : (g : ℕ) → g < length m.granules → is_rec_in (number_of m rd) (granule_at m g) ≡ false). without_recs (no_rec_past none))
-      (some_rec_or_none (length m.granules))
+    pub next_step : (table i : ℕ) → IsTableOf m (number_of m rd) table → i < 512 → is_live (entry_in_page (page_in m table) i) ≡ true → HasNextStep m rd spare
+    next_step table i there index live = next_from 4 table i (omega arith) there index live
+
+    -- a realm without RECs has a next step, or it can be destroyed
+    without_recs : ((g : ℕ) → is_rec_in (number_of m rd) (granule_at m g) ≡ false) → HasNextStep m rd spare ⊎ HasRemoval m rd
+    without_recs none =
+        ⊎_elim
+        (λ (some : has_live_table m realm.first_table realm.table_count ≡ true).
+        let start = live_start m realm.first_table realm.table_count some in
+        let entry = live_entry (page_in m (realm.first_table + start.0)) start.2 in
+        inl (next_step (realm.first_table + start.0) entry.0 (start_table m proper.linked (number_of m rd) start.0 realm is start.1) entry.1 entry.2))
+        (λ (dead : has_live_table m realm.first_table realm.table_count ≡ false). inr (RealmDestroy rd, refl, realm_step m rd proper named none dead))
+        (cases_Bool (has_live_table m realm.first_table realm.table_count))
+
+    -- a realm none of whose RECs runs is never stuck
+    pub step_or_end : ((g : ℕ) (rec : RmmRec) → granule_at m g ≡ of_realm (number_of m rd) (IsRec rec) → is_running rec.state ≡ false) → HasNextStep m rd spare ⊎ HasRemoval m rd
+    step_or_end ready =
+        ⊎_elim
+        (λ (some : (g : ℕ) × (is_rec_in (number_of m rd) (granule_at m g) ≡ true)).
+        let it = rec_in (number_of m rd) (granule_at m some.0) some.1 in
+        let there : granule_at m some.0 ≡ of_realm (number_of m rd) (IsRec it.0) = ap (λ (s : RmmGranuleState). record { state = s; owner = (granule_at m some.0).owner }) it.1 ∙ ap (λ (o : Option ℕ). record { state = IsRec it.0; owner = o }) it.2 in
+        inr (rec_removal some.0 it.0 there (ready some.0 it.0 there)))
+        (λ (none : (g : ℕ) → g < length m.granules → is_rec_in (number_of m rd) (granule_at m g) ≡ false). without_recs (no_rec_past none))
+        (some_rec_or_none (length m.granules))

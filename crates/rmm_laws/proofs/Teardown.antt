@@ -46,7 +46,7 @@ use Rattle.rmm_laws.proofs.Writes.{granule_at-same, page_in-same}
 
 -- ---- commands whose checks pass
 
-none_failing : (cs : List Check) → Passed cs → first_failing cs ≡ None
+pub none_failing : (cs : List Check) → Passed cs → first_failing cs ≡ None
 none_failing [] ok = refl
 none_failing (c ∷ cs) ok = cond-false c.fails (Some c.refusal) (first_failing cs) ok.0 ∙ none_failing cs ok.1
 

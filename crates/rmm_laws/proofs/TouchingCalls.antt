@@ -31,14 +31,14 @@ use Rattle.rmm_model.specs.Command.RttInitRipas.{rtt_init_ripas, range_checks}
 use Rattle.rmm_model.specs.Command.RttMapUnprotected.{rtt_map_unprotected}
 use Rattle.rmm_model.specs.Command.RttSetRipas.{rtt_set_ripas, ripas_request_checks, is_rec_of}
 use Rattle.rmm_model.specs.Command.RttUnmapUnprotected.{rtt_unmap_unprotected}
-use Rattle.rmm_laws.specs.Apart.{Touches, rd_named}
+use Rattle.rmm_laws.specs.Apart.{rd_named}
 use Rattle.rmm_laws.specs.Role.{Used, used, entry_uses, IsLinked}
 use Rattle.rmm_laws.proofs.Guests.{same_owner}
 use Rattle.rmm_laws.proofs.Mappings.{place_is, served, protected_within, unprotected_within, owned_protected, by_memory, some_of}
 use Rattle.rmm_laws.proofs.Ordering.{memory_is}
 use Rattle.rmm_laws.proofs.Passed.{Passed, yes_from, is_delegated-true, is_undelegated-true, realm_of-some, rd_named-is}
 use Rattle.rmm_laws.proofs.Realms.{all_delegated, start_is, or_none}
-use Rattle.rmm_laws.proofs.Touching.{IsMine, untouched, touch_granule, touch_page, touch_blank}
+use Rattle.rmm_laws.proofs.Touching.{Touches, IsMine, untouched, touch_granule, touch_page, touch_blank}
 use Rattle.rmm_laws.proofs.Walks.{IsPlace, next, right, uses-entry, entry_index-few}
 
 -- the granule at an address, as the RD of a realm
@@ -94,7 +94,7 @@ realm_create_touches rd params m ok =
     let starts = and_parts _ (are_delegated m (number_of m p.rtt_base) p.rtt_num_start) (yes_from _ ok.1.1.1.1.1.1.1.1.1.1.1.0) in
     let tables = made_touches m (number_of m rd) p.rtt_num_start (realm_for m p) (λ i lt. all_delegated m (number_of m p.rtt_base) p.rtt_num_start i starts.1 lt) in
     let there = touch_granule m _ None (number_of m rd) _ tables (spare m None (number_of m rd) free) in
-    record { each = there.each }
+    record { settings = there.settings; count = there.count; each = there.each }
 
 gone_touches : (m : Machine) (rd k : ℕ) (realm : RmmRealm) → ((i : ℕ) → i < k → (granule_at m (realm.first_table + i)).owner ≡ Some (number_of m rd)) → Touches m (without_tables m realm k) (By m rd)
 unfolding without_tables
@@ -111,7 +111,7 @@ realm_destroy_touches rd m proper ok =
     let dead = (or_none (nat_lt 0 realm.rec_count) (has_live_table m realm.first_table realm.table_count) ok.1.1.1.0).1 in
     let tables = gone_touches m rd realm.table_count realm (λ i lt. ap (λ (r : RmmGranule). r.owner) (start_is m proper (number_of m rd) realm is dead i lt).0) in
     let there = touch_blank m (without_tables m realm realm.table_count) (By m rd) (number_of m rd) Delegated tables (own_rd m rd) in
-    record { each = there.each })
+    record { settings = there.settings; count = there.count; each = there.each })
 
 -- ---- tables
 
@@ -219,7 +219,7 @@ set_ripas_touches rd rec base top m proper ok =
     by_rd m (rtt_set_ripas rd rec base top m).machine rd ok.1.0 ok.1.1.0 ok.1.1.1.0
     (let realm : RmmRealm = realm_at m rd in
     let is = realm_of-some (state_at m rd) ok.1.1.1.0 in
-    let within = protected_within realm base (owned_protected realm (is_rec_of m rd rec) _ base ok.1.1.1.1.1.1.1.1.1.0 (yes_from _ ok.1.1.1.1.1.1.1.1.1.1.1.0)) in
+    let within = protected_within realm base (owned_protected realm (is_rec_of m rd rec) _ (nat_le top base) base ok.1.1.1.1.1.1.1.1.1.0 ok.0 (yes_from _ ok.1.1.1.1.1.1.1.1.1.1.1.0)) in
     let owner = same_owner (granule_at m (number_of m rec)).owner (Some (number_of m rd)) (yes_from (is_rec_of m rd rec) ok.1.1.1.1.1.1.1.1.1.0) in
     touch_granule m _ (By m rd) (number_of m rec) _
     (touch_page m m (By m rd) (walk m realm base 3).table _ (untouched m (By m rd)) (own_place m proper rd base 3 is within (served m (number_of m rd) realm proper is).level))

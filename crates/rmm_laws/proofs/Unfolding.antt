@@ -70,7 +70,7 @@ module _ (m : Machine) (proper : IsLinked m) (rd rtt ipa level : ℕ) (place : R
   unfolding entry_at
   entry_is k = uses-entry m proper rd ipa place i k end index ∙ ap (λ (e : RmmRttEntry). entry_uses m (Some rd) place.level e k) is
 
-  page_in_machine : (k : ℕ) → k < page_count place.level → number_of m a + k < length m.granules
+  pub page_in_machine : (k : ℕ) → k < page_count place.level → number_of m a + k < length m.granules
   page_in_machine k lt =
       let gives = entry_is k ∙ block_uses m proper rd ipa place end ripas a few k begin lt in
       let it : (granule_at m (number_of m a + k)).state ≡ Data = sym (ap (λ (u : Used). u.attributes.state) (right m proper t i k (used Data (Some rd) 0 (number_of m a + k)) gives)) in
@@ -87,7 +87,7 @@ module _ (m : Machine) (proper : IsLinked m) (rd rtt ipa level : ℕ) (place : R
       let high : j * c ≤ 511 * c = grind arith in
       child_begin m proper rd ipa place end ripas a few begin j (page_in_machine (j * c) (omega arith))
 
-  child_entry_is : (j : ℕ) → j < 512 → entry_in_page content j ≡ Assigned ripas (a + j * entry_size (place.level + 1))
+  pub child_entry_is : (j : ℕ) → j < 512 → entry_in_page content j ≡ Assigned ripas (a + j * entry_size (place.level + 1))
   unfolding children_page entry_in_page
   child_entry_is j lt =
       let levels : entry_size level ≡ entry_size (place.level + 1) = ap entry_size (sym one_below) in

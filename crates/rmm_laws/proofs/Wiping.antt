@@ -13,14 +13,14 @@ use Rattle.rmm_model.specs.Realm.{IsServed}
 use Rattle.rmm_model.specs.Rec.{aux_of}
 use Rattle.rmm_model.specs.Walk.{granule_named}
 use Rattle.rmm_model.specs.Command.Auxiliary.{with_wiped_if, aux_granule, with_aux}
-use Rattle.rmm_laws.specs.Apart.{IsSameAt, Touches}
+use Rattle.rmm_laws.specs.Apart.{IsSameAt}
 use Rattle.rmm_laws.specs.Owner.{is_rec_in}
 use Rattle.rmm_laws.specs.Role.{Used, IsSound}
 use Rattle.rmm_laws.proofs.Accesses.{named_number}
 use Rattle.rmm_laws.proofs.Entries.{number_inside}
 use Rattle.rmm_laws.proofs.Orders.{is_counter, plain_in, total-alike}
 use Rattle.rmm_laws.proofs.Passed.{some_same}
-use Rattle.rmm_laws.proofs.Touching.{IsMine}
+use Rattle.rmm_laws.proofs.Touching.{Touches, IsMine}
 use Rattle.rmm_laws.proofs.Writes.{granule_at-same, granule_at-other, page_in-same, page_in-other, named-same, sound-with_granule, sound-with_page}
 
 pub some_of : (o : Option ℕ) → is_some o ≡ true → o ≡ Some (unwrap_or o 0)
@@ -165,6 +165,8 @@ module _ (m : Machine) (g : ℕ) (kept : RmmGranule) (served : (n : ℕ) → IfS
 pub touch_wiped : (o m : Machine) (named_realm : Option ℕ) (g : ℕ) (kept : RmmGranule) (served : (n : ℕ) → IfSome (realm_of kept.state) (IsServed n)) (k : ℕ) (n : Machine) → Touches o m named_realm → IsWiped m g kept served k n
     → ((i h : ℕ) → i < k → granule_named m (aux_of (page_in m g) i) ≡ Some h → IsMine o named_realm h) → Touches o n named_realm
 touch_wiped o m named_realm g kept served k n before wiped mine = record {
+  settings = wiped.settings ∙ before.settings;
+  count = wiped.count ∙ before.count;
   each = λ x. ⊎_elim
       (λ (aux : (i : ℕ) × (i < k) × (granule_named m (aux_of (page_in m g) i) ≡ Some x)). inr (mine aux.0 x aux.1 aux.2))
       (λ (none : (i : ℕ) → i < k → granule_named m (aux_of (page_in m g) i) ≢ Some x).

@@ -51,10 +51,6 @@ IsSpare m g = ((granule_at m g).state ≡ Undelegated) ⊎ ((granule_at m g).sta
 abbrev pub IsSameAt : Machine → Machine → ℕ → Type 0
 IsSameAt m n g = (granule_at n g ≡ granule_at m g) × (page_in n g ≡ page_in m g)
 
--- Each granule is as it was, or of the realm that a call is on, or of none.
-pub record Touches (m n : Machine) (named : Option ℕ) : Type 0 where
-  pub each : (g : ℕ) → IsSameAt m n g ⊎ (IsOfRealm m named g ⊎ IsSpare m g)
-
 -- a granule is of another realm than the one that a call is on
 abbrev pub IsOfAnother : Machine → Option Call → ℕ → Type 0
 IsOfAnother m (Some call) g = (IsOfRealm m (named_realm m call) g → ⊥) × (IsSpare m g → ⊥)

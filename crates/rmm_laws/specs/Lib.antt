@@ -1,9 +1,11 @@
 pub mod Apart
 pub mod Back
+pub mod Fold
 pub mod Half
 pub mod Owner
 pub mod Proper
 pub mod Refusal
 pub mod Role
+pub mod State
 pub mod Step
 pub mod Walk

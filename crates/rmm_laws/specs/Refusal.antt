@@ -1,7 +1,10 @@
 -- Refusals: of calls, of steps that a guest is given, of interrupts, and of accesses of a guest.
-use Rattle.std.specs.Prelude.{◌≡◌, ◌≢◌, ℕ, ◌-◌, ◌^◌, ◌⊎◌, true, false, Option, Some}
+use Rattle.std.specs.Prelude.{◌≡◌, ◌≢◌, ℕ, ◌-◌, ◌%◌, ◌^◌, ◌≤◌, ◌⊎◌, Bool, true, false, List, [], ◌∷◌, Option, Some}
 use Rattle.rmi_abi.specs.declared.call.Call.{Call}
 use Rattle.rmi_abi.specs.declared.call.Call.TheVariants.{RecEnter}
+use Rattle.rmi_abi.specs.declared.word.Word.{Word}
+use Rattle.rmi_abi.specs.declared.word.Word.TheVariants.{Success, Running}
+use Rattle.rmm_model.specs.declared.granule.RmmGranuleState.TheVariants.{Undelegated}
 use Rattle.rmm_model.specs.declared.step.GuestStep.{GuestStep}
 use Rattle.rmm_model.specs.declared.step.GuestStep.TheVariants.{Write, Read, Fetch}
 use Rattle.rmm_model.specs.declared.step.Queued.{Queued}
@@ -10,7 +13,7 @@ use Rattle.rmm_model.specs.declared.step.StepOutcome.{StepOutcome}
 use Rattle.rmm_model.specs.declared.step.StepOutcome.TheVariants.{Result as IsResult}
 use Rattle.rmm_model.specs.declared.step.StepResult.TheVariants.{Done}
 use Rattle.rmm_model.specs.Guest.{rec_in, is_rec_named}
-use Rattle.rmm_model.specs.Machine.{Machine, number_of}
+use Rattle.rmm_model.specs.Machine.{Machine, is_inside, is_secure, number_of, state_at}
 use Rattle.rmm_model.specs.Rec.{is_running}
 use Rattle.rmm_model.specs.Command.Operand.{rec_at}
 
@@ -18,10 +21,30 @@ use Rattle.rmm_model.specs.Command.Operand.{rec_at}
 abbrev pub IsRefused : ℕ → Type 0
 IsRefused x0 = (x0 ≢ 0) × (x0 ≢ 2 ^ 64 - 2)
 
--- a call enters a REC, which is RUNNING in the machine after it
+-- a word refuses a call: it is neither RMI_SUCCESS nor that of a REC that runs on
+abbrev pub is_refusal : Word → Bool
+is_refusal Success = false
+is_refusal Running = false
+is_refusal _ = true
+
+-- a word is one of a list
+abbrev pub IsOneOf : Word → List Word → Type 0
+IsOneOf word [] = ⊥
+IsOneOf word (first ∷ rest) = (first ≡ word) ⊎ IsOneOf word rest
+
+-- a call enters a REC, which is not RUNNING in the machine before it, and RUNNING in the one after it
 abbrev pub IsRecEnter : Machine → Machine → Option Call → Type 0
-IsRecEnter m n (Some (RecEnter rec run)) = is_running (rec_in n (number_of m rec)).state ≡ true
+IsRecEnter m n (Some (RecEnter rec run)) = (is_running (rec_in m (number_of m rec)).state ≡ false) × (is_running (rec_in n (number_of m rec)).state ≡ true)
 IsRecEnter m n _ = ⊥
+
+-- A host's access at an address faults: the address is no multiple of a size, or it is in no granule of the machine.
+-- Or the granule is not UNDELEGATED, or it is of the secure world.
+abbrev pub IsFault : Machine → ℕ → ℕ → Type 0
+IsFault m size address = (address % size ≢ 0) ⊎ ((is_inside m address ≡ false) ⊎ ((state_at m address ≢ Undelegated) ⊎ (is_secure m address ≡ true)))
+
+-- no REC begins at an address, or its guest has 16 steps already
+abbrev pub IsNotGiven : Machine → ℕ → Type 0
+IsNotGiven m address = (is_rec_named m address ≡ false) ⊎ (16 ≤ (rec_at m address).step_count)
 
 -- no REC begins at an address, or it does not run
 abbrev pub IsNotRunning : Machine → ℕ → Type 0

@@ -1,23 +1,34 @@
 -- Calls that take a realm down, one step at a time. RMM 1.0, Realm destruction.
-use Rattle.std.specs.Prelude.{◌≡◌, ℕ, Some}
+use Rattle.std.specs.Prelude.{◌≡◌, ℕ, ◌-◌, List, [], ◌∷◌, Some}
+use Rattle.granule_addr.specs.Page.{zero_page}
 use Rattle.rmi_abi.specs.declared.call.Call.{Call}
-use Rattle.rmi_abi.specs.declared.call.Call.TheVariants.{DataDestroy, RealmDestroy, RecDestroy, RttCreate, RttDestroy, RttUnmapUnprotected}
+use Rattle.rmi_abi.specs.declared.call.Call.TheVariants.{DataDestroy, GranuleUndelegate, RealmDestroy, RecDestroy, RttCreate, RttDestroy, RttUnmapUnprotected}
 use Rattle.rmi_abi.specs.declared.word.Word.TheVariants.{Success}
+use Rattle.rmm_model.specs.declared.entry.RmmRipas.{RmmRipas}
+use Rattle.rmm_model.specs.declared.entry.RmmRttEntry.TheVariants.{Assigned}
+use Rattle.rmm_model.specs.declared.granule.RmmGranuleState.TheVariants.{Undelegated}
 use Rattle.rmm_model.specs.Call.{performed}
-use Rattle.rmm_model.specs.Machine.{Machine, number_of}
-use Rattle.rmm_laws.specs.Apart.{realm_of_rec}
+use Rattle.rmm_model.specs.Granule.{of_no_realm}
+use Rattle.rmm_model.specs.Machine.{Machine, granule_at, page_in, number_of}
+use Rattle.rmm_model.specs.Walk.{entry_at, walk}
+use Rattle.rmm_model.specs.Command.Operand.{realm_at}
+use Rattle.rmm_laws.specs.Apart.{realm_of_rec, IsOfRealm, IsSameAt, IsSpare}
+
+-- the walk of an address of a realm towards a level ends at an ASSIGNED entry
+abbrev pub IsAssignedAt : Machine → ℕ → ℕ → ℕ → Type 0
+IsAssignedAt m rd ipa level = (ripas : RmmRipas) × (address : ℕ) × (entry_at m (walk m (realm_at m rd) ipa level) ipa ≡ Assigned ripas address)
 
 -- A call takes a page, a mapping or a table from the realm at an address. Or it unfolds a block, with a spare granule.
-abbrev pub IsTeardown : ℕ → ℕ → Call → Type 0
-IsTeardown rd spare (DataDestroy of ipa) = of ≡ rd
-IsTeardown rd spare (RttUnmapUnprotected of ipa level) = of ≡ rd
-IsTeardown rd spare (RttDestroy of ipa level) = of ≡ rd
-IsTeardown rd spare (RttCreate of rtt ipa level) = (of ≡ rd) × (rtt ≡ spare)
-IsTeardown rd spare _ = ⊥
+abbrev pub IsTeardown : Machine → ℕ → ℕ → Call → Type 0
+IsTeardown m rd spare (DataDestroy of ipa) = of ≡ rd
+IsTeardown m rd spare (RttUnmapUnprotected of ipa level) = of ≡ rd
+IsTeardown m rd spare (RttDestroy of ipa level) = of ≡ rd
+IsTeardown m rd spare (RttCreate of rtt ipa level) = (of ≡ rd) × (rtt ≡ spare) × IsAssignedAt m rd ipa (level - 1)
+IsTeardown m rd spare _ = ⊥
 
 -- Such a call of the realm succeeds.
 abbrev pub HasNextStep : Machine → ℕ → ℕ → Type 0
-HasNextStep m rd spare = (call : Call) × IsTeardown rd spare call × ((performed call m).0.word ≡ Success)
+HasNextStep m rd spare = (call : Call) × IsTeardown m rd spare call × ((performed call m).0.word ≡ Success)
 
 -- A call removes a REC of the realm at an address, or that realm.
 abbrev pub IsRemoval : Machine → ℕ → Call → Type 0
@@ -28,3 +39,31 @@ IsRemoval m rd _ = ⊥
 -- Such a call of the realm succeeds.
 abbrev pub HasRemoval : Machine → ℕ → Type 0
 HasRemoval m rd = (call : Call) × IsRemoval m rd call × ((performed call m).0.word ≡ Success)
+
+-- ---- whole teardowns
+
+-- A call is one of the teardown of the realm at an address: it removes a page, a mapping, a table or a REC of it, or the
+-- realm. Or it unfolds a block of it, or undelegates a granule.
+abbrev pub IsOfTeardown : Machine → ℕ → Call → Type 0
+IsOfTeardown m rd (DataDestroy of ipa) = of ≡ rd
+IsOfTeardown m rd (RttUnmapUnprotected of ipa level) = of ≡ rd
+IsOfTeardown m rd (RttDestroy of ipa level) = of ≡ rd
+IsOfTeardown m rd (RttCreate of rtt ipa level) = (of ≡ rd) × IsAssignedAt m rd ipa (level - 1)
+IsOfTeardown m rd (RecDestroy rec) = realm_of_rec m rec ≡ Some (number_of m rd)
+IsOfTeardown m rd (RealmDestroy of) = of ≡ rd
+IsOfTeardown m rd (GranuleUndelegate address) = Unit {0}
+IsOfTeardown m rd _ = ⊥
+
+-- Such calls, one after the other, all succeed, and lead from a machine to another.
+abbrev pub LeadsDown : ℕ → Machine → List Call → Machine → Type 0
+LeadsDown rd m [] n = m ≡ n
+LeadsDown rd m (call ∷ calls) n = IsOfTeardown m rd call × ((performed call m).0.word ≡ Success) × LeadsDown rd (performed call m).1 calls n
+
+-- Some such calls lead to a machine in which each granule that the realm has now, the RD too, is UNDELEGATED and zero.
+-- Each granule of another realm is as it was.
+pub record CanBeTornDown (m : Machine) (rd : ℕ) : Type 0 where
+  pub calls : List Call
+  pub after : Machine
+  pub succeed : LeadsDown rd m calls after
+  pub others : (granule : ℕ) → (IsOfRealm m (Some (number_of m rd)) granule → ⊥) → (IsSpare m granule → ⊥) → IsSameAt m after granule
+  pub free : (granule : ℕ) → IsOfRealm m (Some (number_of m rd)) granule → (granule_at after granule ≡ of_no_realm Undelegated) × (page_in after granule ≡ zero_page)

@@ -9,7 +9,7 @@ use sha2::{Digest, Sha256, Sha512};
 
 /// An event that extends a measurement. RMM 1.0, RmmMeasurementDescriptorData, RmmMeasurementDescriptorRec and
 /// RmmMeasurementDescriptorRipas.
-#[derive(Clone, Copy, Debug, PartialEq, Eq)]
+#[derive(Clone, Copy)]
 pub enum Extension {
     /// A page of data: its address, the flags of RMI_DATA_CREATE, and its digest or zeros.
     Data {

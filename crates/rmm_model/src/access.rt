@@ -5,7 +5,7 @@ ghost use Rattle.rmm_model.specs.Access as accesses;
 use page_arena::word_in;
 
 /// The size of an access. Arm Architecture Reference Manual, SAS of ISS encoding for an exception from a Data Abort.
-#[derive(Clone, Copy, Debug, PartialEq, Eq)]
+#[derive(Clone, Copy)]
 pub enum AccessSize {
     Byte,
     Halfword,

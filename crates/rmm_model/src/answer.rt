@@ -6,10 +6,25 @@ use crate::Condition;
 use rmi_abi::{SmcResult, Word};
 
 /// The condition by which a command is refused, and the answer.
-#[derive(Clone, Copy, PartialEq, Eq, Drop)]
+#[derive(Clone, Copy, Drop)]
 pub struct FailedCondition {
     pub condition: Condition,
     pub answer: SmcResult,
+}
+
+impl FailedCondition {
+    /// The answer, copied field by field: so a caller keeps it in registers, where a copy of the whole goes through memory.
+    pub fn into_answer(self) -> SmcResult
+        ensures { result ≡ self.answer }
+    {
+        SmcResult {
+            word: self.answer.word,
+            x1: self.answer.x1,
+            x2: self.answer.x2,
+            x3: self.answer.x3,
+            x4: self.answer.x4,
+        }
+    }
 }
 
 /// RMI_ERROR_INPUT by a condition.

@@ -1,7 +1,7 @@
 //! Failure conditions of commands.
 
 /// The conditions by which commands fail, by their names in the standard. RMM 1.0, failure conditions of RMI commands.
-#[derive(Clone, Copy, PartialEq, Eq)]
+#[derive(Clone, Copy)]
 pub enum Condition {
     Version,
     GranAlign,

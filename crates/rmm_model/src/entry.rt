@@ -5,7 +5,7 @@ ghost use Rattle.rmm_model.specs.Entry as entries;
 use crate::entry_size;
 
 /// The RIPAS of an address. RMM 1.0, RmmRipas.
-#[derive(Clone, Copy, Debug, PartialEq, Eq)]
+#[derive(Clone, Copy)]
 pub enum RmmRipas {
     Empty,
     Ram,
@@ -16,7 +16,7 @@ pub enum RmmRipas {
 ///
 /// An ASSIGNED entry has the address of a page or block, a TABLE that of a table, an ASSIGNED_NS the descriptor that
 /// the host gave.
-#[derive(Clone, Copy, Debug, PartialEq, Eq)]
+#[derive(Clone, Copy)]
 pub enum RmmRttEntry {
     Unassigned(RmmRipas),
     Assigned(RmmRipas, u64),
@@ -26,7 +26,7 @@ pub enum RmmRttEntry {
 }
 
 /// The entries whose RIPAS a command changes: UNASSIGNED ones, and which others.
-#[derive(Clone, Copy, Debug, PartialEq, Eq)]
+#[derive(Clone, Copy)]
 pub struct Changeable {
     /// ASSIGNED entries.
     pub assigned: bool,

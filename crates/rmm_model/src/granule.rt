@@ -5,7 +5,7 @@ use crate::{RmmRealm, RmmRec};
 use granule_addr::Gran;
 
 /// The state of a granule; an RD has its realm, a REC its attributes. RMM 1.0, RmmGranuleState.
-#[derive(Clone, Copy, Debug, PartialEq, Eq)]
+#[derive(Clone, Copy)]
 pub enum RmmGranuleState {
     Undelegated,
     Delegated,
@@ -17,7 +17,7 @@ pub enum RmmGranuleState {
 }
 
 /// The attributes of a granule beside its page: its state, and the RD of the realm that owns it.
-#[derive(Clone, Copy, Debug, PartialEq, Eq)]
+#[derive(Clone, Copy)]
 pub struct RmmGranule {
     pub state: RmmGranuleState,
     pub owner: Option<Gran>,

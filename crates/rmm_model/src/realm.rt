@@ -7,7 +7,7 @@ use granule_addr::Gran;
 use rmi_abi::HashAlgorithm;
 
 /// The state of a realm. RMM 1.0, RmmRealmState.
-#[derive(Clone, Copy, Debug, PartialEq, Eq)]
+#[derive(Clone, Copy)]
 pub enum RmmRealmState {
     New,
     Active,
@@ -18,7 +18,7 @@ pub enum RmmRealmState {
 ///
 /// `rim` is the initial measurement, the digest of `hash` with zeros up to 64 bytes. The starting tables are
 /// `table_count` adjacent granules. `next_rec` counts the RECs that the realm was given, `rec_count` those that it has.
-#[derive(Clone, Copy, Debug, PartialEq, Eq)]
+#[derive(Clone, Copy)]
 pub struct RmmRealm {
     pub state: RmmRealmState,
     pub hash: HashAlgorithm,
@@ -33,7 +33,7 @@ pub struct RmmRealm {
 }
 
 /// The end of a walk: a table and its level. RMM 1.0, RttWalkResult.
-#[derive(Clone, Copy, Debug, PartialEq, Eq)]
+#[derive(Clone, Copy)]
 pub struct RttWalk {
     pub table: Gran,
     pub level: u8,

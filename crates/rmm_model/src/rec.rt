@@ -6,7 +6,7 @@ use crate::RmmRipas;
 use page_arena::word_in;
 
 /// The state of a REC. RMM 1.0, RmmRecState.
-#[derive(Clone, Copy, Debug, PartialEq, Eq)]
+#[derive(Clone, Copy)]
 pub enum RmmRecState {
     Ready,
     Running,
@@ -16,7 +16,7 @@ pub enum RmmRecState {
 /// ripas_destroyed.
 ///
 /// The address is the one up to which the host has changed the RIPAS. Address and top are 0 if there is no request.
-#[derive(Clone, Copy, Debug, PartialEq, Eq)]
+#[derive(Clone, Copy)]
 pub struct RipasRequest {
     pub base: u64,
     pub top: u64,
@@ -26,7 +26,7 @@ pub struct RipasRequest {
 
 /// The PSCI request of a REC: none, one that the host has to complete, or the result of one that is complete.
 /// RMM 1.0, attribute psci_pending.
-#[derive(Clone, Copy, Debug, PartialEq, Eq)]
+#[derive(Clone, Copy)]
 pub enum PsciRequest {
     None,
     CpuOn {
@@ -41,7 +41,7 @@ pub enum PsciRequest {
 }
 
 /// The last exit of a REC, which its next entry has to answer. RMM 1.0, attributes host_call and emulatable_abort.
-#[derive(Clone, Copy, Debug, PartialEq, Eq)]
+#[derive(Clone, Copy)]
 pub enum LastExit {
     /// No exit, or one that no entry answers.
     Other,
@@ -59,7 +59,7 @@ pub enum LastExit {
 ///
 /// Its registers and the addresses of its auxiliary granules are words of its page. While it is RUNNING, `run` is the
 /// address of its run page. The steps that its guest has yet to perform are a ring in its page.
-#[derive(Clone, Copy, Debug, PartialEq, Eq)]
+#[derive(Clone, Copy)]
 pub struct RmmRec {
     pub state: RmmRecState,
     pub is_runnable: bool,

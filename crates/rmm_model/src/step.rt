@@ -80,7 +80,7 @@ pub enum StepOutcome {
 }
 
 /// The answer to a step that a guest is given.
-#[derive(Clone, Copy, Debug, PartialEq, Eq)]
+#[derive(Clone, Copy)]
 pub enum Queued {
     Queued,
     Full,

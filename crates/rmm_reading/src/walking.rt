@@ -66,6 +66,7 @@ fn start_of(realm: &RmmRealm, ipa: u64, count: u16) -> RttWalk
 /// The end of the walk of an address towards a level. RMM 1.0, RttWalk.
 ///
 /// It is at the level, or above it at an entry that leads to no table.
+#[inline(always)]
 pub fn walk<S: PageStore>(granules: &Granules<S>, realm: &RmmRealm, ipa: u64, to: u8) -> RttWalk
     requires served { IsServed (granule_count granules.now) realm.now }
     requires in_space { ipa < 2 ^ realm.now.s2sz }

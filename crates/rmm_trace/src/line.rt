@@ -17,7 +17,7 @@ use crate::word::TraceWord;
 pub const MOST_LINE: usize = 65_536;
 
 /// The kinds of lines.
-#[derive(Clone, Copy, Debug, PartialEq, Eq)]
+#[derive(Clone, Copy)]
 pub enum LineKind {
     /// A comment, or an empty line.
     Remark,

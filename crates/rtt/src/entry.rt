@@ -9,7 +9,7 @@ use std::marker::Model;
 
 /// An entry of a translation table. UNASSIGNED entries lead to nothing, ASSIGNED ones to a page of data, and TABLE ones
 /// to a table. TABLE entries have no RIPAS of their own. RMM 1.0, RTT entry.
-#[derive(Clone, Copy, Debug, PartialEq, Eq)]
+#[derive(Clone, Copy, PartialEq, Eq)]
 pub struct Entry {
     pub state: EntryState,
     pub ripas: Ripas,

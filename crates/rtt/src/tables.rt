@@ -17,7 +17,7 @@ use page_arena::PageStore;
 use std::marker::Model;
 
 /// The tables of a realm: its RD, and its starting tables. Nothing is kept beside their pages.
-#[derive(Clone, Copy, Debug, PartialEq, Eq)]
+#[derive(Clone, Copy)]
 pub struct Tables {
     /// The granule of the realm's RD.
     pub rd: Gran,
@@ -106,7 +106,7 @@ pub fn find<S: PageStore>(
 }
 
 /// The end of a walk: the level of a table, and the entry there. RMM 1.0, RTT walk.
-#[derive(Clone, Copy, Debug, PartialEq, Eq)]
+#[derive(Clone, Copy)]
 pub struct Walk {
     pub level: Level,
     pub entry: Entry,

@@ -11,6 +11,7 @@
 #![tactic(auto)]
 
 mod applying;
+mod call_rows;
 mod checking;
 mod fault;
 mod history_lines;
@@ -29,12 +30,13 @@ mod plan_schedules;
 mod plan_text;
 mod plan_title;
 mod printing;
+mod refused_calls;
 mod running;
 pub mod schedules;
 
 pub use applying::apply;
 pub use checking::{ViewOutcome, check};
-pub use command_line::realmview::{Schedules, SchedulingPolicy, ViewSubcommand};
+pub use command_line::realmview::{CallsForm, Schedules, SchedulingPolicy, ViewSubcommand};
 pub use fault::ViewError;
 pub use law::{histories_do_not_stop, what_is_applied_is_legal};
 pub use plan_calls::Calls;

@@ -45,7 +45,9 @@ pub fn run<R: Read, W: Write, P: Progress>(
             print(&exploring, alloc, source, input, output)?;
         }
         ViewSubcommand::Order(turns) => reorder(alloc, source, input, output, turns)?,
-        ViewSubcommand::Calls(base) => print(&Calls { base }, alloc, source, input, output)?,
+        ViewSubcommand::Calls(base, form) => {
+            print(&Calls { base, form }, alloc, source, input, output)?
+        }
         ViewSubcommand::Why { all } => print(&Reasons { all }, alloc, source, input, output)?,
     }
     Ok(ViewOutcome::Done)

@@ -19,10 +19,11 @@ use Rattle.rmm_model.specs.Command.RipasRange.{size_checks, progress_checks, cha
 abbrev pub set_changeable : RipasRequest → Changeable
 set_changeable request = record { assigned = true; destroyed = request.changes_destroyed }
 
--- A range ends within what a REC asked for. If the REC is one of the realm, the range begins at a protected address too. What a
--- guest asks for is below the end of the protected half; the definition holds for every machine.
+-- A range ends within what a REC asked for. What a guest asks for is protected, so each address of such a range is. The definition
+-- holds for every machine: the addresses of a range, if the REC is one of the realm, begin at a protected one.
 abbrev pub is_within : RmmRealm → RmmRec → Bool → ℕ → ℕ → Bool
-is_within realm asking is_owner base top = nat_le top asking.ripas.top && (not is_owner || is_protected realm base)
+is_within realm asking is_owner base top = 
+    nat_le top asking.ripas.top && (not is_owner || (nat_le top base || is_protected realm base))
 
 -- a REC of the realm that does not run, and the range that it asked for from its address on
 unfoldable pub ripas_request_checks : RmmRealm → RmmRec → Bool → ℕ → ℕ → List Check

@@ -30,7 +30,7 @@ returns g c =
     let cs : List Check = ((size_checks c.args.base c.args.top ++ rd_checks m c.args.rd) ++ rec_checks RecAlign RecBound RecGranState m c.args.rec) ++ ripas_request_checks realm asking (is_rec_of m c.args.rd c.args.rec) c.args.base c.args.top in
     let groups : Adds c.new-checks.result cs c.add_request.new.checks = on (on (on (told c.is_empty.ensures c.input.ensures.rows) c.add_rd.ensures.rows) c.add_rec.ensures.rows) c.add_request.ensures.rows in
     let before = from_none c.new-checks.ensures groups in
-    let may : is_made c.add_request.new.checks before_request ≡ true → can_walk m c.args.rd c.args.base 3 ≡ true = λ made. request_walk m c.args.rd c.args.base cs (is_rec_of m c.args.rd c.args.rec) (nat_le c.args.top asking.ripas.top) (made_in cs before_request 2 before made) refl refl refl in
+    let may : is_made c.add_request.new.checks before_request ≡ true → can_walk m c.args.rd c.args.base 3 ≡ true = λ made. request_walk m c.args.rd c.args.base cs (is_rec_of m c.args.rd c.args.rec) (nat_le c.args.top asking.ripas.top) (nat_le c.args.top c.args.base) (made_in cs before_request 2 before made) refl refl refl refl in
     let rows = c.add_progress.ensures.rows found.level (can_change (set_changeable asking.ripas) entry)
     (λ made. let can = may made in (c.reach-reached.ensures.level can, c.can_change-changes.ensures ∙ ap (λ (it : Changeable). can_change it c.reach-reached.result.entry) (c.set_changeable-changeable.ensures ∙ ap (λ (r : RmmRec). set_changeable r.ripas) c.rec_at-asking.ensures) ∙ ap (can_change (set_changeable asking.ripas)) (c.reach-reached.ensures.entry can))) (absent_in cs BaseAlign before refl) in
     from_none c.new-checks.ensures (on groups rows)

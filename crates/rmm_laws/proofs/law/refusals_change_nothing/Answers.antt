@@ -1,6 +1,6 @@
-use Rattle.std.specs.Prelude.{if◌then◌else◌}
-use Rattle.std.proofs.Common.{◌≡◌, ◌≢◌, ℕ, ◌-◌, ◌^◌, ◌&&◌, Bool, true, false, not, List, [], ◌∷◌, Option, Some, None, Result, Ok, Err, refl, sym, ap, ◌∙◌, ⊎_elim, arith}
-use Rattle.std.proofs.lemmas.Bool.{cases_Bool, and_parts, and_left, and_right, both_ways, cond-true, cond-false, not-true}
+use Rattle.std.specs.Prelude.{nat_lt, if◌then◌else◌}
+use Rattle.std.proofs.Common.{◌≡◌, ◌≢◌, ℕ, ◌-◌, ◌%◌, ◌^◌, ◌⊎◌, inl, inr, ◌==◌, ◌&&◌, Bool, true, false, not, List, [], ◌∷◌, Option, Some, None, Result, Ok, Err, refl, sym, ap, ◌∙◌, ⊎_elim, arith}
+use Rattle.std.proofs.lemmas.Bool.{cases_Bool, and_parts, and_left, and_right, both_ways, cond-true, cond-false, le-ltb, ne_eqb, not-true}
 use Rattle.rmi_abi.specs.declared.call.Call.{Call}
 use Rattle.rmi_abi.specs.declared.call.Call.TheVariants.{Version, GranuleDelegate, GranuleUndelegate, DataCreateUnknown, DataDestroy, RealmActivate, RealmCreate, RealmDestroy, RecCreate, RecDestroy, RecEnter, PsciComplete, RttCreate, RttDestroy, RttMapUnprotected, RttReadEntry, RttUnmapUnprotected, Features, RttFold, RecAuxCount, DataCreate, RttInitRipas, RttSetRipas}
 use Rattle.rmi_abi.specs.declared.registers.Registers.{Registers}
@@ -11,6 +11,8 @@ use Rattle.rmi_abi.specs.RecRun.{flags_in}
 use Rattle.rmi_abi.specs.Word.{number}
 use Rattle.rmm_model.specs.declared.access.AccessSize.{AccessSize}
 use Rattle.rmm_model.specs.declared.answer.FailedCondition.{FailedCondition}
+use Rattle.rmm_model.specs.declared.granule.RmmGranuleState.{RmmGranuleState}
+use Rattle.rmm_model.specs.declared.granule.RmmGranuleState.TheVariants.{Undelegated}
 use Rattle.rmm_model.specs.declared.realm.RmmRealm.{RmmRealm}
 use Rattle.rmm_model.specs.declared.step.GuestStep.{GuestStep}
 use Rattle.rmm_model.specs.declared.step.GuestStep.TheVariants.{Write, Read, Fetch}
@@ -20,9 +22,11 @@ use Rattle.rmm_model.specs.declared.step.StepOutcome.{StepOutcome}
 use Rattle.rmm_model.specs.Access.{low_bytes}
 use Rattle.rmm_model.specs.Call.{command_of, performed, rmi, rmi_at}
 use Rattle.rmm_model.specs.Check.{Command, Check, decided, first_failing}
-use Rattle.rmm_model.specs.Guest.{is_rec_named}
+use Rattle.rmm_model.specs.Granule.{is_undelegated}
+use Rattle.rmm_model.specs.Guest.{is_rec_named, rec_in, with_step}
+use Rattle.rmm_model.specs.Host.{is_host_page}
 use Rattle.rmm_model.specs.Rec.{is_running}
-use Rattle.rmm_model.specs.Command.Operand.{rec_at}
+use Rattle.rmm_model.specs.Command.Operand.{is_host_s, rec_at}
 use Rattle.rmm_model.specs.Command.DataCreate.{data_create, source_checks, target_checks}
 use Rattle.rmm_model.specs.Command.DataCreateUnknown.{data_create_unknown}
 use Rattle.rmm_model.specs.Command.DataDestroy.{data_destroy}
@@ -46,60 +50,15 @@ use Rattle.rmm_model.specs.Command.RttSetRipas.{rtt_set_ripas, ripas_request_che
 use Rattle.rmm_model.specs.Command.RttUnmapUnprotected.{rtt_unmap_unprotected}
 use Rattle.rmm_model.specs.Command.Version.{version}
 use Rattle.rmm_model.specs.Command.RecEnter.{rec_enter, entered_answer, after_steps, after_entry, enter_checks, step_outcome, after_step, runs_at, interrupted}
-use Rattle.rmm_model.specs.Machine.{Machine, number_of, page_in}
+use Rattle.rmm_model.specs.Machine.{Machine, is_inside, is_secure, number_of, page_in, state_at}
 use Rattle.rmm_model.specs.Step.{access, tried, after_write}
-use Rattle.rmm_laws.specs.Refusal.{IsRefused, IsRecEnter, IsAccess, IsNotDone}
+use Rattle.rmm_laws.specs.Refusal.{IsRefused, IsRecEnter, IsFault, IsNotGiven, IsAccess, IsNotDone}
+use Rattle.rmm_laws.proofs.Answered.{IsOwn, own, not_refused}
 use Rattle.rmm_laws.proofs.Passed.{Passed, passed}
 use Rattle.rmm_laws.proofs.Running.{entered_runs}
 use Rattle.rmm_laws.proofs.law.refusals_change_nothing.Goals as goal
 
 -- ---- calls
-
--- the words of commands that are performed
-abbrev IsOwn : Word → Type 0
-IsOwn Success = Unit {0}
-IsOwn Running = Unit {0}
-IsOwn _ = ⊥
-
--- a REC that is entered leaves or runs on
-entered : (leaves : Bool) → IsOwn (entered_answer leaves).word
-entered true = tt
-entered false = tt
-
--- the own answer of no command refuses
-own : (call : Call) (m : Machine) → IsOwn (command_of call m).answer.word
-unfolding version features granule_delegate granule_undelegate realm_create realm_activate rec_aux_count rtt_read_entry rtt_create rtt_destroy realm_destroy rtt_fold rtt_map_unprotected rtt_unmap_unprotected data_create data_create_unknown data_destroy rtt_init_ripas rtt_set_ripas rec_create rec_destroy rec_enter psci_complete
-own (Version requested) m = tt
-own (Features index) m = tt
-own (GranuleDelegate address) m = tt
-own (GranuleUndelegate address) m = tt
-own (RealmCreate rd params) m = tt
-own (RealmActivate rd) m = tt
-own (RecAuxCount rd) m = tt
-own (RttReadEntry rd ipa level) m = tt
-own (RttCreate rd rtt ipa level) m = tt
-own (RttDestroy rd ipa level) m = tt
-own (RealmDestroy rd) m = tt
-own (RttFold rd ipa level) m = tt
-own (RttMapUnprotected rd ipa level descriptor) m = tt
-own (RttUnmapUnprotected rd ipa level) m = tt
-own (DataCreate rd page ipa source flags) m = tt
-own (DataCreateUnknown rd page ipa) m = tt
-own (DataDestroy rd ipa) m = tt
-own (RttInitRipas rd base top) m = tt
-own (RttSetRipas rd rec base top) m = tt
-own (RecCreate rd rec params) m = tt
-own (RecDestroy rec) m = tt
-own (RecEnter rec run) m =
-    let g = number_of m rec in
-    let flags = flags_in (page_in m (number_of m run)) in
-    entered (after_steps (after_entry m g run flags) g flags 16).0
-own (PsciComplete calling target status) m = tt
-
-not_refused : (word : Word) → IsOwn word → IsRefused (number word) → ⊥
-not_refused Success is refused = refused.0 refl
-not_refused Running is refused = refused.1 refl
-not_refused _ is refused = is
 
 by_command : (f : Option FailedCondition) (c : Command) (m : Machine) → IsOwn c.answer.word → IsRefused (number (decided f c m).0.word) → (decided f c m).1 ≡ m
 by_command (Some refusal) c m mine is = refl
@@ -180,11 +139,11 @@ stays false is = refl
 
 -- only the own answer of REC_ENTER has that word
 enters : (call : Call) (m : Machine) → Passed (command_of call m).checks → runs (command_of call m).answer.word ≡ true → IsRecEnter m (command_of call m).machine (Some call)
-unfolding version features granule_delegate granule_undelegate realm_create realm_activate rec_aux_count rtt_read_entry rtt_create rtt_destroy realm_destroy rtt_fold rtt_map_unprotected rtt_unmap_unprotected data_create data_create_unknown data_destroy rtt_init_ripas rtt_set_ripas rec_create rec_destroy rec_enter psci_complete
+unfolding version features granule_delegate granule_undelegate realm_create realm_activate rec_aux_count rtt_read_entry rtt_create rtt_destroy realm_destroy rtt_fold rtt_map_unprotected rtt_unmap_unprotected data_create data_create_unknown data_destroy rtt_init_ripas rtt_set_ripas rec_create rec_destroy rec_enter enter_checks psci_complete
 enters (RecEnter rec run) m ok is =
     let g = number_of m rec in
     let flags = flags_in (page_in m (number_of m run)) in
-    entered_runs rec run m ok (stays (after_steps (after_entry m g run flags) g flags 16).0 is)
+    (ok.1.1.1.1.1.1.1.1.0, entered_runs rec run m ok (stays (after_steps (after_entry m g run flags) g flags 16).0 is))
 enters _ m ok is = absurd (cc)
 
 by_word : (f : Option FailedCondition) (call : Call) (m : Machine) → first_failing (command_of call m).checks ≡ f → number (decided f (command_of call m) m).0.word ≡ 2 ^ 64 - 2
@@ -203,11 +162,26 @@ returns-clause-running c = λ r m is. by_running (call_in r) r m is
 
 -- ---- the host
 
+not_undelegated : (s : RmmGranuleState) → s ≢ Undelegated → is_undelegated s ≡ false
+not_undelegated Undelegated other = absurd (other refl)
+not_undelegated _ other = refl
+
+-- a fault is at no page of the host, or not at a multiple of the size
+no_access : (m : Machine) (size address : ℕ) → IsFault m size address → (address % size == 0 && is_host_page m address) ≡ false
+no_access m size address (inl odd) = and_left (address % size == 0) (is_host_page m address) (ne_eqb (address % size) 0 odd)
+no_access m size address (inr (inl outside)) = and_right (address % size == 0) (is_host_page m address) (and_left (is_inside m address) (is_host_s m address) outside)
+no_access m size address (inr (inr (inl taken))) =
+    and_right (address % size == 0) (is_host_page m address)
+    (and_right (is_inside m address) (is_host_s m address) (and_left (is_undelegated (state_at m address)) (not (is_secure m address)) (not_undelegated (state_at m address) taken)))
+no_access m size address (inr (inr (inr secure))) =
+    and_right (address % size == 0) (is_host_page m address)
+    (and_right (is_inside m address) (is_host_s m address) (and_right (is_undelegated (state_at m address)) (not (is_secure m address)) (ap not secure)))
+
 pub returns-clause-stores : goal.returns-clause-stores
-returns-clause-stores c = λ m address word is. cond-false _ _ _ is
+returns-clause-stores c = λ m address word fault. cond-false _ _ _ (no_access m 8 address fault)
 
 pub returns-clause-fills : goal.returns-clause-fills
-returns-clause-fills c = λ m address value is. cond-false _ _ _ is
+returns-clause-fills c = λ m address value fault. cond-false _ _ _ (no_access m 4096 address fault)
 
 -- ---- guests
 
@@ -222,9 +196,34 @@ not_given false has_place m n not_queued = refl
 pub returns-clause-steps : goal.returns-clause-steps
 returns-clause-steps c = λ m rec w not_queued. not_given _ _ m _ not_queued
 
+given_none : (is_rec has_place : Bool) (m n : Machine) → (is_rec ≡ false) ⊎ (has_place ≡ false) → ((by_tests is_rec has_place m n).0 ≢ IsQueued) × ((by_tests is_rec has_place m n).1 ≡ m)
+given_none true true m n (inl never) = absurd (cc)
+given_none true true m n (inr never) = absurd (cc)
+given_none true false m n none = (λ same. cc, refl)
+given_none false has_place m n none = (λ same. cc, refl)
+
+no_place : (m : Machine) (rec : ℕ) → IsNotGiven m rec → (is_rec_named m rec ≡ false) ⊎ (nat_lt (rec_in m (number_of m rec)).step_count 16 ≡ false)
+no_place m rec (inl none) = inl none
+no_place m rec (inr full) = inr (le-ltb (rec_in m (number_of m rec)).step_count 16 full)
+
+pub returns-clause-not_given : goal.returns-clause-not_given
+returns-clause-not_given c = λ m rec w none. given_none (is_rec_named m rec) (nat_lt (rec_in m (number_of m rec)).step_count 16) m (with_step m (number_of m rec) w) (no_place m rec none)
+
+-- an interrupt that is answered None
+abbrev ended : Bool → Word → Machine → Machine → Option Word × Machine
+ended runs word n m = if runs then (Some word, n) else (None, m)
+
+by_runs : (runs : Bool) (word : Word) (n m : Machine) → (ended runs word n m).0 ≡ None → (ended runs word n m).1 ≡ m
+by_runs true word n m none = absurd (cc)
+by_runs false word n m none = refl
+
 pub returns-clause-interrupts : goal.returns-clause-interrupts
 unfolding interrupted
-returns-clause-interrupts c = λ m rec still.
+returns-clause-interrupts c = λ m rec none. by_runs (runs_at m rec) _ _ m none
+
+pub returns-clause-not_running : goal.returns-clause-not_running
+unfolding interrupted
+returns-clause-not_running c = λ m rec still.
     cond-false (runs_at m rec) _ _
     (⊎_elim
     (λ (none : is_rec_named m rec ≡ false). and_left (is_rec_named m rec) (is_running (rec_at m rec).state) none)

@@ -30,7 +30,7 @@ pub returns-clause-nothing_else : goal.returns-clause-nothing_else
 returns-clause-nothing_else c = nothing_else
 
 pub returns-clause-next : goal.returns-clause-next
-returns-clause-next c = λ m rd spare table i proper named aligned inside free there index live. next_step m proper rd spare named aligned inside free table i there index live
+returns-clause-next c = λ m rd spare table i proper named aligned inside free there index live. next_step m proper rd named spare aligned inside free table i there index live
 
 pub returns-clause-end : goal.returns-clause-end
-returns-clause-end c = λ m rd spare proper named aligned inside free ready. step_or_end m proper rd spare named aligned inside free ready
+returns-clause-end c = λ m rd spare proper named aligned inside free ready. step_or_end m proper rd named spare aligned inside free ready

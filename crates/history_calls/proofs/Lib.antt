@@ -1,0 +1,4 @@
+pub mod Asked
+pub mod Decided
+pub mod FreeBlocks
+pub mod Made

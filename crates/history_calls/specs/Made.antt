@@ -1,0 +1,45 @@
+-- The operations of a history, made one after another on an RMM.
+use Rattle.std.specs.Prelude.{◌≡◌, ℕ, List, [], ◌∷◌, map, Option, Some, None, Ok, Err, option_map, option_and_then}
+use Rattle.realm_model.specs.declared.act.Act.{Act}
+use Rattle.realm_model.specs.declared.act.Event.{Event}
+use Rattle.realm_model.specs.declared.act.RealmAndRec.{RealmAndRec}
+use Rattle.realm_model.specs.Act.{named}
+use Rattle.realm_model.specs.History.{replay}
+use Rattle.realm_model.specs.Machine.{Limits, Machine, seen}
+use Rattle.realm_model.specs.Outcome.{outcome_of}
+use Rattle.realm_model.specs.Places.{rd_of, rec_named, rec_granule}
+use Rattle.realm_model.specs.Step.{step, used_vmids}
+use Rattle.realm_model.specs.Update.{Outcome, machine_after_all}
+use Rattle.realm_model.specs.World.{World, opening, realm_of}
+
+-- the RD of a build's realm, and the granule of the REC there that an operation names
+abbrev pub subject_in : World → ℕ → Act → RealmAndRec
+subject_in world build act = record {
+  realm = rd_of build world;
+  rec = option_and_then (rec_granule (realm_of build world)) (rec_named act);
+}
+
+-- the machine after a command that is not refused
+abbrev pub machine_if_done : Outcome → Machine → Option Machine
+machine_if_done (Ok updates) machine = Some (machine_after_all updates machine)
+machine_if_done (Err rmi) machine = None
+
+-- The machine of an RMM after the calls of an operation, which name its granules and the RD of a realm. That a block is
+-- leased changes no granule, and one that is given back is filled with zeros.
+abbrev pub machine_after_calls : Limits → Option ℕ → Act → Machine → Option Machine
+machine_after_calls limits rd act machine =
+    machine_if_done (outcome_of limits.vmids limits.aux (used_vmids machine) act (option_map (seen machine) rd) (map (seen machine) (named act))) machine
+
+-- The machine after the calls of each event in turn, from a world on. The world says which realm is a build's, and the
+-- machine is that of the RMM alone.
+abbrev pub machine_after_events : Limits → World → List Event → Machine → Option Machine
+machine_after_events limits world [] machine = Some machine
+machine_after_events limits world (event ∷ events) machine =
+    option_and_then (λ (next : World). option_and_then (machine_after_events limits next events)
+    (machine_after_calls limits (subject_in world event.build event.act).realm event.act machine)) (step limits world event)
+
+-- The calls of a history lead an RMM that has just been built to the machine of the history's world.
+abbrev pub LeadsToItsMachine : Limits → List Event → Type 0
+LeadsToItsMachine limits history =
+    (world : World) → replay limits history ≡ Some world
+    → machine_after_events limits (opening limits) history (opening limits).machine ≡ Some world.machine

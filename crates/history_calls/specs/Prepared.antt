@@ -1,0 +1,164 @@
+-- The operations of a host on an RMM for a command, or for an undo, that is not performed yet.
+use Rattle.std.specs.Prelude.{◌≡◌, ℕ, [], ◌∷◌, Bool, true, false, Option, Some, None, Result, Ok, Err, unwrap_or, option_map, option_and_then, if◌then◌else◌}
+use Rattle.std.specs.List.{last_or}
+use Rattle.arrayvec.specs.ArrayVec.{ArrayVec}
+use Rattle.realm_model.specs.declared.act.Act.{Act}
+use Rattle.realm_model.specs.declared.act.RealmAndRec.{RealmAndRec}
+use Rattle.realm_model.specs.declared.states.GranuleState.{GranuleState}
+use Rattle.realm_model.specs.declared.states.GranuleState.TheVariants.{Undelegated}
+use Rattle.realm_model.specs.Act.{reverse_of}
+use Rattle.realm_model.specs.Command.Check.{error_input, error_rec, is_ready}
+use Rattle.realm_model.specs.Machine.{cell_at}
+use Rattle.realm_model.specs.Running.{next_number}
+use Rattle.realm_model.specs.World.{realm_of}
+use Rattle.host_commands.specs.declared.cmd.Cmd.{Cmd}
+use Rattle.host_commands.specs.declared.cmd.Cmd.TheVariants.{Take, Fill, Peek, Enter, Exit, Poke}
+use Rattle.host_commands.specs.declared.refusal.Refusal.{Refusal}
+use Rattle.host_commands.specs.declared.refusal.Refusal.TheVariants.{NothingToUndo, Rmi}
+use Rattle.host_commands.specs.declared.reply.Allocated.{Allocated}
+use Rattle.host_commands.specs.Acts.{act_of}
+use Rattle.host_commands.specs.Checks.{checks_of, first_that_holds}
+use Rattle.host_ledger.specs.Summary.{summary_of}
+use Rattle.host_ledger.specs.View.{HostView, world_of, open_of, granule_of_page}
+use Rattle.host_ledger.specs.Vmids.{lowest_vmid}
+use Rattle.history_calls.specs.declared.action.HostAction.{HostAction}
+use Rattle.history_calls.specs.Actions.{actions_of}
+use Rattle.history_calls.specs.Frame.{Place}
+use Rattle.history_calls.specs.Made.{subject_in}
+use Rattle.realm_host.specs.Allocation.{granules_named, act_asked}
+use Rattle.realm_host.specs.Answer.{IsActOf}
+use Rattle.realm_host.specs.Call.{Ask, Undo}
+use Rattle.realm_host.specs.Readings.{rec_at}
+use Rattle.realm_host.specs.Refusals.{no_block, refusal_of}
+use Rattle.realm_objects.specs.Attributes.{RecAttributes}
+
+-- ---- an operation of a build
+
+-- the realm of a build, and the REC there that an operation names
+abbrev pub subject_of : HostView → ℕ → Act → RealmAndRec
+subject_of host build act = subject_in (world_of host) build act
+
+-- the operations on the RMM; the exits of a run go to the page of a number
+abbrev pub actions_for : Place → HostView → ℕ → ℕ → Act → ArrayVec HostAction
+actions_for place host build run act = record { items = actions_of place (subject_of host build act) run act }
+
+-- ---- a command
+
+-- What is allocated for a command before it is performed: the lowest free VMID, and the next number of a REC. The byte
+-- of a Peek is not known yet.
+abbrev pub allocated_before : HostView → ℕ → Allocated
+allocated_before host build = record {
+  vmid = unwrap_or (lowest_vmid host) 1;
+  number = next_number (realm_of build (world_of host));
+  byte = 0;
+}
+
+-- the operation of a command but a Take
+abbrev pub act_before : HostView → ℕ → Cmd → Option Act
+act_before host build cmd = act_of cmd (granules_named host build cmd) (allocated_before host build)
+
+abbrev pub is_peek : Cmd → Bool
+is_peek (Peek page offset) = true
+is_peek _ = false
+
+-- It is the operation that the host performs, unless the command is the read of a page.
+abbrev pub IsPreparedAsAsked : HostView → ℕ → Cmd → Type 0
+IsPreparedAsAsked host build cmd = is_peek cmd ≡ false → act_before host build cmd ≡ act_asked host build cmd
+
+-- a Take needs nothing of the RMM, and any other command without an operation is an input error
+abbrev pub without_act : Cmd → Result (ArrayVec HostAction) Refusal
+without_act (Take order) = Ok (record { items = [] })
+without_act _ = Err (Rmi error_input)
+
+-- ---- refusals of the model that need no answer of an RMM
+
+-- the hypervisor accesses a page only if its granule is UNDELEGATED
+abbrev pub access_refusal : Option GranuleState → Option Refusal
+access_refusal (Some state) = elim state [ Undelegated ↦ None | _ ↦ Some (Rmi error_input) ]
+access_refusal None = Some (Rmi error_input)
+
+-- no call names a REC that there is not
+abbrev pub entry_refusal : Option (ℕ × RecAttributes) → Option Refusal
+entry_refusal (Some rec) = None
+entry_refusal None = Some (Rmi error_input)
+
+-- only a REC that runs stops running
+abbrev pub exit_refusal : Option (ℕ × RecAttributes) → Option Refusal
+exit_refusal (Some rec) = if is_ready rec.1.state then Some (Rmi error_rec) else None
+exit_refusal None = Some (Rmi error_input)
+
+-- the state of a page of a build
+abbrev pub state_of_leased : HostView → ℕ → ℕ → Option GranuleState
+state_of_leased host build page = option_map (λ g. (cell_at (world_of host).machine g).state) (granule_of_page host build page)
+
+-- The refusal of a command that makes no call, or that names a REC which the realm has not.
+abbrev pub refused_before : HostView → ℕ → Cmd → Option Refusal
+refused_before host build (Take order) = first_that_holds (no_block host order ∷ [])
+refused_before host build (Fill page value) = access_refusal (state_of_leased host build page)
+refused_before host build (Peek page offset) = access_refusal (state_of_leased host build page)
+refused_before host build (Enter number) = entry_refusal (rec_at (world_of host) build number)
+refused_before host build (Exit number) = exit_refusal (rec_at (world_of host) build number)
+refused_before host build (Poke number ipa offset value) = entry_refusal (rec_at (world_of host) build number)
+refused_before host build _ = None
+
+-- ---- the operations for a command
+
+-- a refusal, or what comes without one
+abbrev pub unless_refused : Option Refusal → Result (ArrayVec HostAction) Refusal → Result (ArrayVec HostAction) Refusal
+unless_refused (Some refusal) actions = Err refusal
+unless_refused None actions = actions
+
+abbrev pub actions_of_act : Place → HostView → ℕ → ℕ → Cmd → Option Act → Result (ArrayVec HostAction) Refusal
+actions_of_act place host build run cmd (Some act) = Ok (actions_for place host build run act)
+actions_of_act place host build run cmd None = without_act cmd
+
+-- the operations, or the refusal of the model that comes before
+abbrev pub actions_or_refusal : Place → HostView → ℕ → ℕ → Cmd → Option Act → Result (ArrayVec HostAction) Refusal
+actions_or_refusal place host build run cmd act = unless_refused (refused_before host build cmd) (actions_of_act place host build run cmd act)
+
+-- The operations on the RMM for a command; or the refusal of the host, or of its model, that comes before the call.
+abbrev pub actions_asked : Place → HostView → ℕ → ℕ → Cmd → Result (ArrayVec HostAction) Refusal
+actions_asked place host build run cmd =
+    unless_refused (first_that_holds (checks_of (summary_of host) build cmd)) (actions_or_refusal place host build run cmd (act_before host build cmd))
+
+-- ---- theorems of commands
+
+-- A command is refused before its call as the host that is asked for it refuses it.
+abbrev pub IsRefusedAsAsked : Place → HostView → ℕ → ℕ → Cmd → Type 0
+IsRefusedAsAsked place host build run cmd =
+    (refusal : Refusal) → actions_asked place host build run cmd ≡ Err refusal → refusal_of host build (Ask cmd) ≡ Some refusal
+
+-- a command that makes no call
+abbrev pub makes_no_call : Cmd → Bool
+makes_no_call (Take order) = true
+makes_no_call (Fill page value) = true
+makes_no_call (Peek page offset) = true
+makes_no_call (Exit number) = true
+makes_no_call _ = false
+
+-- Once it is prepared, the host that is asked for it does not refuse it.
+abbrev pub IsDecidedBefore : Place → HostView → ℕ → ℕ → Cmd → Type 0
+IsDecidedBefore place host build run cmd =
+    makes_no_call cmd ≡ true → (actions : ArrayVec HostAction) → actions_asked place host build run cmd ≡ Ok actions
+    → refusal_of host build (Ask cmd) ≡ None
+
+-- ---- an undo
+
+-- the reverse of the newest operation that a build has open
+abbrev pub newest_back : HostView → ℕ → Option Act
+newest_back host build = option_and_then reverse_of (last_or None (open_of host build))
+
+abbrev pub actions_of_back : Place → HostView → ℕ → Option Act → Result (ArrayVec HostAction) Refusal
+actions_of_back place host build (Some back) = Ok (actions_for place host build 0 back)
+actions_of_back place host build None = Err NothingToUndo
+
+-- The operations on the RMM for an undo, or its refusal.
+abbrev pub actions_back : Place → HostView → ℕ → Result (ArrayVec HostAction) Refusal
+actions_back place host build = unless_refused (refusal_of host build Undo) (actions_of_back place host build (newest_back host build))
+
+-- An undo is prepared as the host performs it: with the host's refusal, or for the operation that the host records. Once
+-- it is prepared, the host does not refuse it.
+pub record IsUndoPrepared (place : Place) (host : HostView) (build : ℕ) : Type 0 where
+  pub refused : (refusal : Refusal) → refusal_of host build Undo ≡ Some refusal → actions_back place host build ≡ Err refusal
+  pub performed : (act : Act) → refusal_of host build Undo ≡ None → IsActOf host build Undo act → actions_back place host build ≡ Ok (actions_for place host build 0 act)
+  pub decided : (actions : ArrayVec HostAction) → actions_back place host build ≡ Ok actions → refusal_of host build Undo ≡ None

@@ -1,0 +1,37 @@
+//! Theorems on the calls of histories, and on commands and undos that are prepared.
+ghost use Rattle.std.specs.Prelude.{ℕ, List};
+ghost use Rattle.realm_model.specs.declared.act.Event.{Event};
+ghost use Rattle.realm_model.specs.Machine.{Limits};
+ghost use Rattle.host_commands.specs.declared.cmd.Cmd.{Cmd};
+ghost use Rattle.host_ledger.specs.View.{HostView};
+ghost use Rattle.history_calls.specs.Frame.{Place};
+ghost use Rattle.history_calls.specs.Made.{LeadsToItsMachine};
+ghost use Rattle.history_calls.specs.Prepared.{IsPreparedAsAsked, IsRefusedAsAsked, IsDecidedBefore, IsUndoPrepared};
+
+/// The calls of a history, made in its order on an RMM that has just been built, are accepted, and lead to the machine
+/// that the history's world has. A host's RMM has that machine.
+pub fn calls_lead_to_the_machine()
+    ensures { (limits : Limits) (history : List Event) → LeadsToItsMachine limits history }
+{}
+
+/// The operation that is prepared for a command is the one that the host performs when the command is committed. This
+/// holds of each command but the read of a page, whose byte is not known before.
+pub fn prepared_is_performed()
+    ensures { (host : HostView) (build : ℕ) (cmd : Cmd) → IsPreparedAsAsked host build cmd }
+{}
+
+/// The refusal of a command that is prepared is the one of the host that is asked for it.
+pub fn refused_as_asked()
+    ensures { (place : Place) (host : HostView) (build run : ℕ) (cmd : Cmd) → IsRefusedAsAsked place host build run cmd }
+{}
+
+/// A Take, a Fill, a Peek or an Exit that is prepared is not refused when it is committed. It makes no call of an RMM, from
+/// which the model could diverge.
+pub fn decided_before()
+    ensures { (place : Place) (host : HostView) (build run : ℕ) (cmd : Cmd) → IsDecidedBefore place host build run cmd }
+{}
+
+/// An undo is prepared as the host performs it. If the RMM has performed its call, the model does not refuse it.
+pub fn undo_as_prepared()
+    ensures { (place : Place) (host : HostView) (build : ℕ) → IsUndoPrepared place host build }
+{}

@@ -1,5 +1,0 @@
-use Rattle.rhm_c.proofs.Decided.{decided_before}
-use Rattle.rhm_c.proofs.law.decided_before.Goals as goal
-
-pub returns : goal.returns
-returns c = λ place host build run cmd. decided_before place host build run cmd

@@ -1,5 +1,0 @@
-use Rattle.rhm_c.proofs.Decided.{refused_as_asked}
-use Rattle.rhm_c.proofs.law.refused_as_asked.Goals as goal
-
-pub returns : goal.returns
-returns c = λ place host build run cmd. refused_as_asked place host build run cmd

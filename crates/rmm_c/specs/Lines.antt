@@ -1,0 +1,41 @@
+-- Lines of a trace on a handle.
+use Rattle.std.specs.Prelude.{◌≡◌, ◌⊎◌, ℕ, List, [], ◌∷◌, ◌++◌, length, take, drop, Option}
+use Rattle.rmm_model.specs.Machine.{Machine}
+use Rattle.rmm_trace.specs.declared.line.LineKind.{LineKind}
+use Rattle.rmm_trace.specs.declared.line.LineKind.TheVariants.{Remark, Question, Neither}
+use Rattle.rmm_trace.specs.declared.line.RmmTraceLine.{RmmTraceLine}
+use Rattle.rmm_trace.specs.declared.word.TraceWord.{TraceWord}
+use Rattle.rmm_trace.specs.declared.table.TheConstants.{GROUPS, START}
+use Rattle.rmm_trace.specs.Lines.{line_in}
+use Rattle.rmm_answers.specs.declared.reply.TraceReply.{TraceReply}
+use Rattle.rmm_answers.specs.Answering.{answered}
+use Rattle.rmm_answers.specs.Replies.{no_answer, no_command, reply_text}
+
+abbrev pub answered_by : LineKind → List TraceWord → Option Machine → TraceReply × Option Machine
+answered_by Remark q m = (no_answer, m)
+answered_by Question q m = answered q m
+answered_by Neither q m = (no_command, m)
+
+-- our answer to a line, and the machine after it: a remark asks nothing
+abbrev pub line_answered : RmmTraceLine → Option Machine → TraceReply × Option Machine
+line_answered line m = answered_by line.kind line.words.items m
+
+-- the same of the bytes of a line
+abbrev pub on_line : List ℕ → Option Machine → TraceReply × Option Machine
+on_line bytes m = line_answered (line_in GROUPS START bytes) m
+
+-- a text in a buffer, as snprintf of C11 puts it there: as much as there is room for before a zero
+abbrev pub put_text : List ℕ → List ℕ → List ℕ
+put_text text [] = []
+put_text text (b ∷ bs) = let kept = take (length bs) text in kept ++ 0 ∷ drop (length kept) bs
+
+-- A line is answered: its text is in the buffer, and the length of the text is returned.
+pub record IsLineAnswered (bytes old : List ℕ) (before : Option Machine) (returned : ℕ) (new : List ℕ) (after : Option Machine) : Type 0 where
+  pub count : returned ≡ length (reply_text (on_line bytes before).0)
+  pub text : new ≡ put_text (reply_text (on_line bytes before).0) old
+  pub machine : after ≡ (on_line bytes before).1
+
+-- A line is not answered for want of memory: the buffer is as it was, and the line was performed or nothing has changed.
+pub record IsLineLost (bytes old : List ℕ) (before : Option Machine) (new : List ℕ) (after : Option Machine) : Type 0 where
+  pub text : new ≡ old
+  pub machine : (after ≡ before) ⊎ (after ≡ (on_line bytes before).1)

@@ -1,0 +1,15 @@
+use Rattle.std.proofs.Common.{inl}
+use Rattle.rmi_abi.specs.Call.{call_in}
+use Rattle.rmm_model.specs.Call.{rmi}
+use Rattle.rmm_laws.proofs.StateCalls.{call_rims, queued_states, interrupt_states}
+use Rattle.rmm_laws.proofs.law.rims_are_measured.Goals as goal
+
+pub returns-clause-calls : goal.returns-clause-calls
+unfolding rmi
+returns-clause-calls c = λ r m proper. call_rims (call_in r) r m proper
+
+pub returns-clause-steps : goal.returns-clause-steps
+returns-clause-steps c = λ m rec w rd realm is. (let old = queued_states m rec w rd realm is in inl (old.0, old.1, old.3))
+
+pub returns-clause-interrupts : goal.returns-clause-interrupts
+returns-clause-interrupts c = λ m rec rd realm is. (let old = interrupt_states m rec rd realm is in inl (old.0, old.1, old.3))

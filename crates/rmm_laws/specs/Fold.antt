@@ -1,0 +1,20 @@
+-- Tables that are made and folded again. RMM 1.0, RMI_RTT_CREATE and RMI_RTT_FOLD.
+use Rattle.std.specs.Prelude.{◌≡◌, ◌≢◌, ℕ, ◌<◌, true}
+use Rattle.rmm_model.specs.declared.entry.RmmRttEntry.{RmmRttEntry}
+use Rattle.rmm_model.specs.declared.granule.RmmGranuleState.TheVariants.{Rtt}
+use Rattle.rmm_model.specs.Entry.{is_mapping}
+use Rattle.rmm_model.specs.Machine.{Machine, granule_at, page_in}
+use Rattle.rmm_model.specs.Table.{entry_in_page}
+use Rattle.rmm_model.specs.Command.RttFold.{is_aligned_above}
+
+-- an entry can replace a table of a level: the memory of a mapping is aligned, and there are blocks above that level
+abbrev pub CanReplaceTable : Machine → RmmRttEntry → ℕ → Type 0
+CanReplaceTable m entry level = (is_aligned_above entry level ≡ true) × (is_mapping entry ≡ true → m.settings.block_level < level)
+
+-- Each granule has the attributes that it had, each entry of a table is as it was, and so is the page of each other
+-- granule.
+pub record IsAlike (m n : Machine) : Type 0 where
+  pub settings : n.settings ≡ m.settings
+  pub granules : (granule : ℕ) → granule_at n granule ≡ granule_at m granule
+  pub entries : (table i : ℕ) → (granule_at m table).state ≡ Rtt → i < 512 → entry_in_page (page_in n table) i ≡ entry_in_page (page_in m table) i
+  pub pages : (granule : ℕ) → (granule_at m granule).state ≢ Rtt → page_in n granule ≡ page_in m granule

@@ -1,0 +1,215 @@
+//! The operations of a host as rows of a table of C: `examples/c/table.h` has the form of a row, and
+//! `examples/c/table.c` runs them.
+use history_calls::{Frame, HostAction};
+use realm_model::Rmi;
+use rmi_abi::{Call, encode_call};
+use std::alloc::AllocError;
+
+// X0 after the entry of a REC whose guest runs on.
+const RUNNING: u64 = 0xFFFF_FFFF_FFFF_FFFE;
+
+// The numbers of the steps of a guest.
+const WRITE: u64 = 0;
+
+const SPIN: u64 = 12;
+
+// Appends numbers, with commas between them.
+fn push_numbers(text: &mut String, numbers: &[u64]) -> Result<(), AllocError> {
+    'places: for place in 0..numbers.len() {
+        if place > 0 {
+            text.push_str(", ")?;
+        }
+        let number = numbers[place];
+        write!(text, "{number:#x}")?;
+    }
+    Ok(())
+}
+
+// Appends the head of a row: its kind, what goes in, and what has to come out, all of which is compared.
+fn push_head(text: &mut String, kind: &str, given: &[u64], out: &[u64]) -> Result<(), AllocError> {
+    write!(text, "{{.kind = {kind}, .in = {{")?;
+    push_numbers(text, given)?;
+    text.push_str("}, .out = {")?;
+    if out.is_empty() {
+        text.push_str("0")?;
+    } else {
+        push_numbers(text, out)?;
+    }
+    let compared = match out.len() {
+        0 => "0x0",
+        1 => "0x1",
+        _ => "0x3",
+    };
+    write!(text, "}}, .compared = {compared}")
+}
+
+// Appends a row that has no more than its head.
+fn push_row(text: &mut String, kind: &str, given: &[u64], out: &[u64]) -> Result<(), AllocError> {
+    push_head(text, kind, given, out)?;
+    text.push_str("},\n")
+}
+
+// The number of registers that a command has specified after it.
+fn result_count(call: Call) -> u64 {
+    match call {
+        Call::RttDestroy { .. } | Call::DataDestroy { .. } => 3,
+        Call::RttInitRipas { .. } => 2,
+        _ => 1,
+    }
+}
+
+// Appends a call: X0 after it, and X1 if that is known.
+fn push_smc(text: &mut String, call: Call, x0: u64, x1: Option<u64>) -> Result<(), AllocError> {
+    let it = encode_call(call);
+    let given = [it.x0, it.x1, it.x2, it.x3, it.x4, it.x5, it.x6];
+    match x1 {
+        Some(x1) => push_head(text, "SMC", &given, &[x0, x1])?,
+        None => push_head(text, "SMC", &given, &[x0])?,
+    }
+    let results = result_count(call);
+    write!(text, ", .results = {results}}},\n")
+}
+
+// Appends the filling of granules.
+fn push_fill(text: &mut String, address: u64, granules: u16, value: u8) -> Result<(), AllocError> {
+    for granule in 0..granules {
+        let at = address.wrapping_add(4096 * u64::from(granule));
+        push_row(text, "FILL", &[at, u64::from(value)], &[])?;
+    }
+    Ok(())
+}
+
+// Appends the storing of a word of a page that is 0 before.
+fn push_store(text: &mut String, page: u64, offset: u64, word: u64) -> Result<(), AllocError> {
+    if word == 0 {
+        return Ok(());
+    }
+    push_row(text, "STORE", &[page.wrapping_add(offset), word], &[])
+}
+
+// Appends the writing of a realm's parameters. RMM 1.0, RmiRealmParams.
+fn push_realm_params(
+    text: &mut String,
+    page: u64,
+    width: u8,
+    vmid: u8,
+    tables: u64,
+    count: u16,
+) -> Result<(), AllocError> {
+    push_fill(text, page, 1, 0)?;
+    push_store(text, page, 0x008, u64::from(width))?;
+    push_store(text, page, 0x800, u64::from(vmid))?;
+    push_store(text, page, 0x808, tables)?;
+    push_store(text, page, 0x810, 1)?;
+    push_store(text, page, 0x818, u64::from(count))
+}
+
+// Appends the writing of a REC's parameters. RMM 1.0, RmiRecParams.
+fn push_rec_params(
+    text: &mut String,
+    page: u64,
+    mpidr: u64,
+    auxiliaries: &[u64],
+) -> Result<(), AllocError> {
+    push_fill(text, page, 1, 0)?;
+    push_store(text, page, 0x000, 1)?;
+    push_store(text, page, 0x100, mpidr)?;
+    push_store(text, page, 0x800, auxiliaries.len() as u64)?;
+    let mut offset: u64 = 0x808;
+    for address in auxiliaries {
+        push_store(text, page, offset, *address)?;
+        offset = offset.wrapping_add(8);
+    }
+    Ok(())
+}
+
+// Appends a step of the guest of a REC.
+fn push_step(text: &mut String, action: &HostAction) -> Result<(), AllocError> {
+    match action {
+        HostAction::Write { rec, ipa, value } => {
+            let (ipa, value) = (*ipa, u64::from(*value));
+            push_head(text, "GUEST", &[*rec, WRITE, ipa, value, 1], &[0])?;
+            write!(text, ", .text = \"write {ipa:#x} {value:#x}\"}},\n")
+        }
+        HostAction::Spin { rec } => {
+            push_head(text, "GUEST", &[*rec, SPIN], &[0])?;
+            text.push_str(", .text = \"spin\"},\n")
+        }
+        _ => Ok(()),
+    }
+}
+
+// Appends the rows of an operation that is done. That a guest has done a write, no row says.
+fn push_done(text: &mut String, action: &HostAction) -> Result<(), AllocError> {
+    match action {
+        HostAction::Fill {
+            address,
+            granules,
+            value,
+        } => push_fill(text, *address, *granules, *value),
+        HostAction::Load { address, byte } => {
+            let word = u64::from(*byte) * 0x0101_0101_0101_0101;
+            push_row(text, "LOAD", &[*address, 8], &[word])
+        }
+        HostAction::RealmParams {
+            page,
+            width,
+            vmid,
+            tables,
+            count,
+        } => push_realm_params(text, *page, *width, *vmid, *tables, *count),
+        HostAction::RecParams {
+            page,
+            mpidr,
+            auxiliaries,
+        } => push_rec_params(text, *page, *mpidr, auxiliaries.as_slice()),
+        HostAction::Call { call, x1 } => push_smc(text, *call, 0, *x1),
+        HostAction::Enter { rec, run } => {
+            let (rec, run) = (*rec, *run);
+            push_smc(text, Call::RecEnter { rec, run }, RUNNING, None)
+        }
+        HostAction::Interrupt { rec } => push_row(text, "INTERRUPT", &[*rec], &[0]),
+        _ => push_step(text, action),
+    }
+}
+
+/// Appends the rows of an operation, as `push_action` appends its line.
+///
+/// `AllocError`: the text may have a part of the rows.
+pub(crate) fn push_action_rows(
+    text: &mut String,
+    action: &HostAction,
+    refusal: Option<Rmi>,
+) -> Result<(), AllocError> {
+    match (action, refusal) {
+        (HostAction::Spin { .. }, Some(_)) => Ok(()),
+        (HostAction::Call { call, .. }, Some(rmi)) => push_smc(text, *call, rmi.word(), None),
+        (HostAction::Enter { rec, run }, Some(rmi)) => {
+            let (rec, run) = (*rec, *run);
+            push_smc(text, Call::RecEnter { rec, run }, rmi.word(), None)
+        }
+        _ => push_done(text, action),
+    }
+}
+
+/// Appends the row of the machine of a frame, as `push_platform` appends its line.
+pub(crate) fn push_platform_row(
+    text: &mut String,
+    frame: Frame,
+    auxiliaries: u8,
+) -> Result<(), AllocError> {
+    let (base, granules) = (frame.base(), frame.granules());
+    push_head(text, "PLATFORM", &[base, u64::from(granules)], &[])?;
+    write!(
+        text,
+        ", .text = \"platform {base:#x} {granules} aux {auxiliaries}"
+    )?;
+    text.push_str(" vmid_bits 8 s2sz 43 max_recs_order 15\", ")?;
+    write!(
+        text,
+        ".settings = &(const struct table_settings){{.aux = {auxiliaries:#x}"
+    )?;
+    text.push_str(
+        ", .vmid_bits = 0x8, .s2sz = 0x2b, .max_recs_order = 0xf, .block_level = 0x2}},\n",
+    )
+}

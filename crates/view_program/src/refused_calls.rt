@@ -1,0 +1,55 @@
+//! Commands that the RMM refuses, as calls.
+//!
+//! This project's RMM refuses some commands that RMM 1.0 accepts, or refuses with another word.
+use buddy::BuddyArena;
+use granule_addr::{BuildId, IpaGran, is_protected};
+use history_calls::{Actions, Frame, MOST_RUNS, actions_asked};
+use host_commands::Cmd;
+use realm_host::Host;
+use realm_model::{Rmi, Status};
+
+// The pages that one table of level 3 maps.
+const PAGES_OF_A_TABLE: u32 = 512;
+
+// Whether an IPA granule is in the half of a realm's address space that is not protected.
+fn is_unprotected(host: &Host<BuddyArena>, build: BuildId, ipa: u32) -> bool {
+    let Some(realm) = host.realm(build) else {
+        return false;
+    };
+    let width = realm.root().width;
+    match IpaGran::new(ipa, width.number()) {
+        Some(ipa) => !is_protected(ipa, width),
+        None => false,
+    }
+}
+
+// Whether one table of level 3 maps a run of pages.
+fn is_in_one_table(ipa: u32, count: u16) -> bool {
+    ipa % PAGES_OF_A_TABLE + u32::from(count) <= PAGES_OF_A_TABLE
+}
+
+// Whether the refusal of a command is the one of RMM 1.0, which has tables for unprotected IPAs, and changes the RIPAS of
+// as many pages as it can.
+fn is_of_the_standard(host: &Host<BuddyArena>, build: BuildId, cmd: &Cmd, rmi: Rmi) -> bool {
+    match (cmd, rmi.status) {
+        (Cmd::Rtt { ipa, .. }, Status::Input) => !is_unprotected(host, build, *ipa),
+        (Cmd::Ripas { ipa, count }, Status::Input) => is_in_one_table(*ipa, *count),
+        (Cmd::Ripas { .. }, Status::Rtt) | (Cmd::Poke { .. }, _) => false,
+        _ => true,
+    }
+}
+
+/// The operations for a command of a build that the RMM has just refused, if RMM 1.0 has the call and refuses it with the
+/// same word. The page for exits is one that no REC uses before all others are in use.
+pub(crate) fn refused_calls(
+    frame: Frame,
+    host: &Host<BuddyArena>,
+    build: BuildId,
+    cmd: &Cmd,
+    rmi: Rmi,
+) -> Option<Actions> {
+    if !is_of_the_standard(host, build, cmd, rmi) {
+        return None;
+    }
+    actions_asked(frame, host, build, MOST_RUNS - 1, cmd).ok()
+}
