@@ -10,21 +10,12 @@ use crate::signs::{EndSign, MapSign, RefusalSign};
 use crate::step_end::EndOfStep;
 use crate::tally::{Outcomes, PathTally};
 use schedule_graph::{
-    Count, Sign, count_all, count_all_with, count_all_without, first_with, first_without,
+    Count, PathNumber, Sign, count_all, count_all_with, count_all_without, first_with, first_without,
 };
 use std::alloc::{AllocError, Global};
 
-// A number once more.
-fn copy_of(alloc: Global, number: &Count) -> Result<Count, AllocError>
-    ensures { IfOk result (λ copy. copy ≡ number.now) }
-{
-    let mut copy = Count::zero(alloc);
-    copy.add(number)?;
-    Ok(copy)
-}
-
 // The numbers of the first layer; none if there is no layer.
-fn first_numbers(counts: &[Vec<Count>]) -> &[Count]
+fn first_numbers(counts: &[Vec<PathNumber>]) -> &[PathNumber]
     ensures { result.now ≡ slice_index_or (path_numbers_in counts.now) 0 [] }
 {
     match counts.get(0) {
@@ -34,11 +25,11 @@ fn first_numbers(counts: &[Vec<Count>]) -> &[Count]
 }
 
 // The number of the first state.
-fn root_of(alloc: Global, counts: &[Vec<Count>]) -> Result<Count, AllocError>
+fn root_of(alloc: Global, counts: &[Vec<PathNumber>]) -> Result<Count, AllocError>
     ensures { IfOk result (λ count. count ≡ count_at (slice_index_or (path_numbers_in counts.now) 0 []) 0) }
 {
     match first_numbers(counts).get(0) {
-        Some(count) => copy_of(alloc, count),
+        Some(count) => count.count(alloc),
         None => Ok(Count::zero(alloc)),
     }
 }
@@ -54,7 +45,7 @@ fn builds_of_path(alloc: Global, path: &[Label]) -> Result<Vec<usize>, AllocErro
 fn tally_with<K: Drop, S: Sign<Label>>(
     alloc: Global,
     layers: &[Layer],
-    all: &[Vec<Count>],
+    all: &[Vec<PathNumber>],
     sign: &S,
     thing: K,
 ) -> Result<Option<PathTally<K>>, AllocError>
@@ -139,7 +130,7 @@ fn add<K: Drop>(
 fn wholes_of(
     alloc: Global,
     graph: &Graph,
-    all: &[Vec<Count>],
+    all: &[Vec<PathNumber>],
 ) -> Result<Vec<PathTally<bool>>, AllocError>
     ensures { IfOk result (λ wholes. ArePathNumbers any_path (layers_of graph.now) (path_numbers_in all.now)
         → map count_of_tally wholes.items ≡ whole_tallies graph.now) }
@@ -160,7 +151,7 @@ fn wholes_of(
 fn end_tally(
     alloc: Global,
     graph: &Graph,
-    all: &[Vec<Count>],
+    all: &[Vec<PathNumber>],
     number: usize,
 ) -> Result<Option<PathTally<EndOfStep>>, AllocError>
     ensures { IfOk result (λ tally. ArePathNumbers any_path (layers_of graph.now) (path_numbers_in all.now)
@@ -176,7 +167,7 @@ fn end_tally(
 fn step_ends(
     alloc: Global,
     graph: &Graph,
-    all: &[Vec<Count>],
+    all: &[Vec<PathNumber>],
 ) -> Result<Vec<PathTally<EndOfStep>>, AllocError>
     ensures { IfOk result (λ ends. ArePathNumbers any_path (layers_of graph.now) (path_numbers_in all.now)
         → map count_of_tally ends.items ≡ all_added (end_tally graph.now) (length graph.now.ends.items)) }
@@ -224,7 +215,7 @@ fn smooth_of(
 fn map_tally(
     alloc: Global,
     graph: &Graph,
-    all: &[Vec<Count>],
+    all: &[Vec<PathNumber>],
     map: usize,
 ) -> Result<Option<PathTally<usize>>, AllocError>
     ensures { IfOk result (λ tally. ArePathNumbers any_path (layers_of graph.now) (path_numbers_in all.now)
@@ -248,7 +239,7 @@ fn only_map(alloc: Global) -> Result<PathTally<usize>, AllocError>
 fn maps_of(
     alloc: Global,
     graph: &Graph,
-    all: &[Vec<Count>],
+    all: &[Vec<PathNumber>],
 ) -> Result<Vec<PathTally<usize>>, AllocError>
     ensures { IfOk result (λ maps. ArePathNumbers any_path (layers_of graph.now) (path_numbers_in all.now)
         → map count_of_tally maps.items ≡ map_tallies graph.now) }
