@@ -1,4 +1,4 @@
-use Rattle.std.proofs.Common.{◌≡◌, ◌*◌, ◌^◌, ap, ◌∙◌, arith, mul-comm}
+use Rattle.std.proofs.Common.{◌≡◌, ◌*◌, ◌^◌, ap, ◌∙◌, arith, mul_comm}
 use Rattle.schedule_graph.proofs.Numbers.{doubled}
 use Rattle.schedule_graph.proofs.number.Count.shifted.Goals as goal
 
@@ -12,4 +12,4 @@ loop-double-preserved c =
 pub returns : goal.returns
 returns c =
     let all : c.loop-double._double ≡ 128 = (let past = c.loop-double-test.false in let most = c.loop-double.auto._double-end in omega arith) in
-    c.loop-double.invariant ∙ ap (λ k. c.args.self.now * 2 ^ k) all ∙ mul-comm c.args.self.now (2 ^ 128)
+    c.loop-double.invariant ∙ ap (λ k. c.args.self.now * 2 ^ k) all ∙ mul_comm c.args.self.now (2 ^ 128)
