@@ -168,7 +168,7 @@ impl Count {
         ensures { IfOk result (λ shifted. shifted ≡ 2 ^ 128 * self.now) }
     {
         let mut shifted = self.copy(alloc)?;
-        for _double in 0..128 {
+        for _double in 0u32..128 {
             let copy = shifted.copy(alloc)?;
             shifted.add(&copy)?;
         }
