@@ -47,9 +47,6 @@ impl Meter<'_> {
     fn tell_begin(&self, expected: Expected, most: u64) {
         let about = if expected.is_exact { "" } else { "about " };
         let _lost = match expected.orders {
-            Some(count) if count == most && expected.is_exact => {
-                eprintln!(self.rt; "{count} orders, all of them are run")
-            }
             Some(count) => eprintln!(self.rt; "{about}{count} orders, at most {most} are run"),
             None => eprintln!(self.rt; "more than 2^64 orders, at most {most} are run"),
         };

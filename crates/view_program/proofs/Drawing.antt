@@ -11,8 +11,7 @@ use Rattle.host_ledger.specs.View.{HostView}
 use Rattle.realm_plan.specs.Plan.{Plan}
 use Rattle.plan_replay.specs.Place.{first_place}
 use Rattle.plan_replay.specs.declared.place.PlanCursor.{PlanCursor}
-use Rattle.view_program.specs.Next.{could}
-use Rattle.view_program.specs.Chosen.{builds_left, lowest_of, Stage, first_stage, IsStageTurn, AreChosen, IsChosenRun, stage_at}
+use Rattle.view_program.specs.Chosen.{could, builds_left, lowest_of, Stage, first_stage, IsStageTurn, AreChosen, IsChosenRun, stage_at}
 use Rattle.view_program.specs.Drawn.{builds_with_steps, drawn, AreDrawn, IsDrawnTo}
 use Rattle.view_program.specs.declared.schedules.choice.Choice.{Choice}
 use Rattle.view_program.specs.declared.schedules.step_end.StepEnd.{StepEnd}

@@ -7,9 +7,8 @@ use Rattle.host_ledger.specs.View.{HostView}
 use Rattle.realm_plan.specs.Plan.{Plan}
 use Rattle.plan_replay.specs.Place.{first_place}
 use Rattle.plan_replay.specs.declared.place.PlanCursor.{PlanCursor}
-use Rattle.view_program.specs.Next.{could}
-use Rattle.view_program.specs.Chosen.{builds_left, lowest_of, Stage, first_stage, IsStageTurn, AreChosen, IsChosenRun, IsLowestAfter, CannotBeKept, stage_at}
-use Rattle.view_program.specs.Rotation.{in_rotation, lowest_from, AreInRotation, AreOneByOne, IsRotatedTo}
+use Rattle.view_program.specs.Chosen.{could, builds_left, lowest_of, Stage, first_stage, IsStageTurn, AreChosen, IsChosenRun, stage_at}
+use Rattle.view_program.specs.Rotation.{in_rotation, lowest_from, AreInRotation, IsRotatedTo}
 use Rattle.view_program.specs.declared.schedules.choice.Choice.{Choice}
 use Rattle.view_program.specs.declared.schedules.step_end.StepEnd.{StepEnd}
 use Rattle.view_program.proofs.Chosen.{found_is, lowest_is, AreChosen-more}
@@ -100,16 +99,3 @@ IsChosenRun-rotated plan host places noted choices to first none is =
       is.are_in_rotation,
       record { last = to; chosen = subst (λ s. AreChosen plan s choices to) begins is.chosen; whole = is.whole; host = refl; ends = refl },
     )
-
--- ---- one by one
-
-nothing_behind : (front : List Choice) (choice : Choice) (more : List Choice) → [] ≡ front ++ choice ∷ more → ⊥
-nothing_behind [] choice more is = cc
-nothing_behind (c ∷ front) choice more is = cc
-
--- where nothing was chosen before, there is nothing that cannot be kept to
-pub nothing_to_keep : (plan : Plan) (from : Stage) → CannotBeKept plan from [] → ⊥
-nothing_to_keep plan from cannot = nothing_behind cannot.front cannot.choice cannot.more cannot.parts
-
-pub one_by_one : (choices : List Choice) → IsLowestAfter [] choices → AreOneByOne choices
-one_by_one choices is = subst AreOneByOne (sym is.appended) is.lowest

@@ -1,11 +1,8 @@
-pub mod Next
 pub mod Chosen
 pub mod TurnsLeft
 pub mod Same
 pub mod Tally
 pub mod Totals
-pub mod Order
-pub mod Explored
 pub mod Drawn
 pub mod Reported
 pub mod OrderText

@@ -21,10 +21,6 @@ abbrev pub end_words : Option Refusal → List ℕ
 end_words None = codes "ok"
 end_words (Some refusal) = codes "no " ++ refusal_text refusal
 
--- the number of schedules: exactly `orders`, or more
-abbrev pub schedules_line : ℕ → Bool → List ℕ
-schedules_line orders is_whole = (if is_whole then codes "orders " else codes "orders more than ") ++ (decimal orders ++ 10 ∷ [])
-
 -- the number of schedules that were drawn
 abbrev pub drawn_line : ℕ → List ℕ
 drawn_line orders = codes "orders drawn " ++ (decimal orders ++ 10 ∷ [])
@@ -88,10 +84,6 @@ totals_text plan totals =
     flat_map (whole_line totals.orders) totals.wholes.items
     ++ (flat_map (build_lines plan totals) (range_with_len 0 (length plan.builds))
     ++ (flat_map (smooth_lines totals.orders totals.smooth.items) (range_with_len 0 (length plan.builds)) ++ flat_map (map_lines totals.orders) totals.maps.items))
-
--- the outcomes of all schedules, or of the first ones
-abbrev pub schedules_text : Plan → Totals → Bool → List ℕ
-schedules_text plan totals is_whole = schedules_line totals.orders is_whole ++ totals_text plan totals
 
 -- the outcomes of schedules that were drawn
 abbrev pub drawn_text : Plan → Totals → List ℕ

@@ -4,8 +4,7 @@ use Rattle.std.specs.List.{find, range_with_len}
 use Rattle.std.specs.Option.{option_or}
 use Rattle.host_ledger.specs.View.{HostView}
 use Rattle.realm_plan.specs.Plan.{Plan}
-use Rattle.view_program.specs.Next.{could}
-use Rattle.view_program.specs.Chosen.{builds_left, lowest_of, Stage, AreChosen, IsChosenRun}
+use Rattle.view_program.specs.Chosen.{could, builds_left, lowest_of, Stage, AreChosen, IsChosenRun}
 use Rattle.view_program.specs.Totals.{chosen_schedule}
 use Rattle.view_program.specs.declared.schedules.choice.Choice.{Choice}
 use Rattle.view_program.specs.declared.schedules.step_end.StepEnd.{StepEnd}

@@ -2,7 +2,7 @@
 ghost use Rattle.std.specs.Prelude.{◌≡◌, ◌++◌, OnOk, string_bytes};
 ghost use Rattle.std.specs.List.{flat_map};
 ghost use Rattle.realm_plan.specs.PlanView.{plan_view};
-ghost use Rattle.view_program.specs.Lines.{shown_text, schedules_line, drawn_line, whole_words, whole_line, end_line, step_lines, smooth_line, smooth_lines, map_lines};
+ghost use Rattle.view_program.specs.Lines.{shown_text, drawn_line, whole_words, whole_line, end_line, step_lines, smooth_line, smooth_lines, map_lines};
 
 use crate::schedules::schedule_text::ScheduleText;
 use crate::schedules::{StepEnd, Tally, Totals};
@@ -27,17 +27,6 @@ impl fmt::Display for EndWords {
             Some(refusal) => write!(f, "no {}", RefusalText(refusal)),
             None => f.write_str("ok"),
         }
-    }
-}
-
-/// Appends the line of the number of schedules: exactly `orders`, or more.
-pub(crate) fn push_count(text: &mut String, orders: u64, is_whole: bool) -> Result<(), AllocError>
-    ensures { OnOk result (string_bytes text.new ≡ string_bytes text.old ++ schedules_line orders is_whole) }
-{
-    if is_whole {
-        writeln!(text, "orders {orders}")
-    } else {
-        writeln!(text, "orders more than {orders}")
     }
 }
 

@@ -2,12 +2,9 @@
 ghost use Rattle.std.specs.Prelude.{◌≡◌, ◌++◌, OnOk, string_bytes};
 ghost use Rattle.std.specs.List.{flat_map, range_with_len};
 ghost use Rattle.realm_plan.specs.PlanView.{plan_view};
-ghost use Rattle.view_program.specs.Lines.{step_count, build_lines, smooth_lines, map_lines, totals_text, schedules_text, drawn_text};
+ghost use Rattle.view_program.specs.Lines.{step_count, build_lines, smooth_lines, map_lines, totals_text, drawn_text};
 
-use crate::schedules::exploration::Explored;
-use crate::schedules::lines::{
-    push_count, push_drawn_count, push_map, push_smooth, push_step, push_wholes,
-};
+use crate::schedules::lines::{push_drawn_count, push_map, push_smooth, push_step, push_wholes};
 use crate::schedules::{Tally, Totals};
 use realm_plan::Plan;
 use std::alloc::AllocError;
@@ -92,19 +89,10 @@ fn push_totals(text: &mut String, plan: &Plan, totals: &Totals) -> Result<(), Al
     Ok(())
 }
 
-/// Appends the outcomes of the schedules of a plan: how many there are, and in how many nothing was refused. For each
+/// Appends the outcomes of schedules that were drawn: how many there are, and in how many nothing was refused. For each
 /// step of each build, how it ended, in how many schedules and in which one first. For each build, the number of
 /// schedules in which it was never refused. Then the maps in the end. At an `Err` allocation failed, and the text may
 /// have a part of it.
-pub fn push_schedules(text: &mut String, plan: &Plan, explored: &Explored) -> Result<(), AllocError>
-    ensures { OnOk result (string_bytes text.new ≡ string_bytes text.old ++ schedules_text (plan_view plan.now) explored.now.totals explored.now.is_whole) }
-{
-    push_count(text, explored.totals.orders, explored.is_whole)?;
-    push_totals(text, plan, &explored.totals)
-}
-
-/// Appends the outcomes of schedules that were drawn, as `push_schedules` does, with another line for their number. At
-/// an `Err` allocation failed, and the text may have a part of it.
 pub fn push_drawn(text: &mut String, plan: &Plan, totals: &Totals) -> Result<(), AllocError>
     ensures { OnOk result (string_bytes text.new ≡ string_bytes text.old ++ drawn_text (plan_view plan.now) totals.now) }
 {
