@@ -254,7 +254,7 @@ def of_readme():
     text = README.read_text(encoding="utf-8")
     lines, inside = text.rstrip("\n").split("\n"), re.sub(r"^```.*?^```$", "", text, flags=re.M | re.S)
     yield f"README.md has {len(lines)} lines, more than {README_LINES}" if len(lines) > README_LINES else None
-    words = len(words_of(re.sub(r"<!--.*?-->|<[^>]*>", "", inside, flags=re.S)))
+    words = len(re.sub(r"[|#*`>-]", " ", inside).split())
     yield f"README.md has {words} words, more than {README_WORDS}" if words > README_WORDS else None
     first = next((number for number, line in enumerate(lines, 1) if line.startswith("$ ")), len(lines))
     yield f"README.md has its first command on line {first}, after {README_COMMAND}" if first > README_COMMAND else None

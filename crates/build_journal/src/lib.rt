@@ -1,5 +1,5 @@
-//! What is kept of builds beside the history: what each has open, what each leases, and the VMIDs in use; and the
-//! history, which grows by one event at a time.
+//! The records of builds beside the history: what each has open, what each leases, and the VMIDs in use. The history
+//! grows by one event at a time.
 //!
 //! The journal of a build is a stack of its open operations. Each operation that is open has a reverse.
 //!

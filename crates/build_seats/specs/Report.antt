@@ -83,7 +83,7 @@ is_over ending.Done = true
 is_over ending.Refused = true
 is_over ending.Cut = false
 
--- The report of the steps from an index and a standing on. The steps are taken in sequence, and after the first refusal
+-- The report of the steps from an index on, with a standing. The steps are taken in sequence, and after the first refusal
 -- the build is cleared.
 pub data IsWorkerReport : ℕ → StandingView → List Step → List Exchange → List ReportLine → Bool → Type 0 where
   no_step_left : {place : ℕ} {standing : StandingView} → IsWorkerReport place standing [] [] [] true
