@@ -114,7 +114,8 @@ pub fn push_step_outcomes(
     let orders = &outcomes.orders;
     push_wholes(text, orders, &outcomes.wholes)?;
     push_builds(text, plan, outcomes, builds)?;
-    push_smooths(text, orders, &outcomes.smooth, builds)
+    push_smooths(text, orders, &outcomes.smooth, builds)?;
+    Ok(())
 }
 
 /// Appends the outcomes of all schedules of a plan: how many there are, the outcomes of their steps, and the maps in
@@ -130,7 +131,8 @@ pub fn push_outcomes(
     let orders = &outcomes.steps.orders;
     push_count(text, orders)?;
     push_step_outcomes(text, plan, &outcomes.steps)?;
-    push_maps(text, orders, maps, &outcomes.maps)
+    push_maps(text, orders, maps, &outcomes.maps)?;
+    Ok(())
 }
 
 // The text of the outcomes of a plan's graph.

@@ -103,6 +103,7 @@ impl Totals {
         count_ends(alloc, &mut steps.ends, choices, ends)?;
         count_smooth(alloc, &mut steps.smooth, builds, choices, ends)?;
         count(alloc, &mut self.maps, map, choices)?;
-        self.steps.orders.add_one()
+        self.steps.orders.add_one()?;
+        Ok(())
     }
 }

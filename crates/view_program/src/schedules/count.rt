@@ -40,7 +40,8 @@ pub(crate) fn count<K: Eq + Drop>(
     ensures { OnOk result ((seen : List (Sighting _)) → map count_of_tally tallies.old.items ≡ counted K.eq seen
         → map count_of_tally tallies.new.items ≡ counted K.eq (seen ++ record { thing = thing; order = map (λ choice. choice.build) order.now } ∷ [])) }
 {
-    if bump(tallies, &thing)? {
+    let is_known = bump(tallies, &thing)?;
+    if is_known {
         return Ok(());
     }
     let first = builds_of(alloc, order)?;

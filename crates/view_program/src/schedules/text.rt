@@ -40,5 +40,6 @@ pub fn push_drawn(text: &mut String, plan: &Plan, totals: &Totals) -> Result<(),
 {
     push_drawn_count(text, &totals.steps.orders)?;
     push_step_outcomes(text, plan, &totals.steps)?;
-    push_maps(text, &totals.steps.orders, &totals.maps)
+    push_maps(text, &totals.steps.orders, &totals.maps)?;
+    Ok(())
 }

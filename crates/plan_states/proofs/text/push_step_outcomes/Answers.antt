@@ -18,4 +18,4 @@ returns c =
     let two = string_bytes c.push_builds.new.text in
     let three = string_bytes c.push_smooths.new.text in
     joined (string_bytes c.args.text.now) wholes (builds ++ smooth) one three (rw c.deref.ensures.value at c.in_ok-push_wholes.ensures)
-    (joined one builds smooth two three (rw are at c.in_ok-push_builds.ensures) (rw (are, c.deref-2.ensures.value) at c.push_smooths.ensures))
+    (joined one builds smooth two three (rw are at c.in_ok-push_builds.ensures) (rw (are, c.deref-2.ensures.value) at c.in_ok-push_smooths.ensures))

@@ -15,4 +15,4 @@ returns c =
     let two = string_bytes c.push_step_outcomes.new.text in
     let three = string_bytes c.push_maps.new.text in
     joined (string_bytes c.args.text.now) (drawn_line steps.orders) (middle ++ maps) one three c.in_ok-push_drawn_count.ensures
-    (joined one middle maps two three c.in_ok-push_step_outcomes.ensures (rw c.deref.ensures.value at c.push_maps.ensures))
+    (joined one middle maps two three c.in_ok-push_step_outcomes.ensures (rw c.deref.ensures.value at c.in_ok-push_maps.ensures))
