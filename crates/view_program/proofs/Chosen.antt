@@ -1,7 +1,6 @@
 -- The possible choices, and one more choice.
-use Rattle.std.proofs.Common.{◌≡◌, ℕ, zero, suc, ◌<◌, Bool, true, false, List, [], ◌∷◌, ◌++◌, length, get_or, take, drop, drop-cons, ◌+◌, Some, refl, ap, sym, subst, ◌∙◌, cond, arith}
+use Rattle.std.proofs.Common.{◌≡◌, ℕ, zero, suc, ◌<◌, Bool, true, false, List, [], ◌∷◌, ◌++◌, length, ◌+◌, Some, refl, sym, subst, ◌∙◌, cond, arith}
 use Rattle.std.specs.List.{find, range_with_len}
-use Rattle.std.proofs.lemmas.List.{take-append-drop, take_more}
 use Rattle.std.proofs.lemmas.List.FromFn.{get_or-map-range_with_len}
 use Rattle.realm_plan.specs.Plan.{Plan}
 use Rattle.plan_replay.specs.declared.place.PlanCursor.{PlanCursor}
@@ -34,9 +33,6 @@ could_is plan places left build is can =
 pub lowest_is : (left : List Bool) (build : ℕ) → lowest_of left ≡ Some build → could left build ≡ true
 unfolding lowest_of
 lowest_is left build is = found_is (could left) (range_with_len 0 8) build is
-
-pub open_inside : (plan : Plan) (places : List PlanCursor) (choice : Choice) → IsOpen plan places choice → choice.build < 8
-open_inside plan places choice is = (could_is plan places choice.left choice.build is.left is.could).0
 
 -- ---- one more choice
 

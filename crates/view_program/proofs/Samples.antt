@@ -5,7 +5,7 @@ use Rattle.host_ledger.specs.View.{HostView}
 use Rattle.realm_plan.specs.Plan.{Plan}
 use Rattle.realm_program.specs.Replay.{opening_host}
 use Rattle.view_program.specs.Chosen.{IsChosenRun}
-use Rattle.view_program.specs.Drawn.{AreDrawn, IsDrawn, AreSamples, IsSampled}
+use Rattle.view_program.specs.Drawn.{AreDrawn, IsDrawn, AreSamples}
 use Rattle.view_program.specs.Totals.{Visit, AreTotals}
 use Rattle.view_program.specs.declared.schedules.choice.Choice.{Choice}
 use Rattle.plan_states.specs.declared.step_end.EndOfStep.{EndOfStep}
@@ -37,11 +37,6 @@ IsSampling-more plan stream count now after old new so_far is = record {
   are_totals = is.counted so_far.visits so_far.are_totals;
   so_many = (let so_many = so_far.so_many in omega (arith, length-append so_far.visits (is.visit ∷ [])));
 }
-
-pub IsSampled-whole : (plan : Plan) (stream : Stream) (count : ℕ) (now : Stream) (totals : Totals) → IsSampling plan stream count now totals
-    → IsSampled plan (opening_host plan) stream count totals
-IsSampled-whole plan stream count now totals is =
-    record { visits = is.visits; after = now; are_samples = is.are_samples; are_totals = is.are_totals; so_many = is.so_many }
 
 -- The run of an order that is drawn, on a fresh host, counted.
 pub IsDrawnAndCounted-run :
