@@ -16,7 +16,8 @@ fn push_drawn_count(text: &mut String, orders: &Count) -> Result<(), AllocError>
 {
     text.push_str("orders drawn ")?;
     orders.push_to(text)?;
-    text.push_str("\n")
+    text.push_str("\n")?;
+    Ok(())
 }
 
 // Appends the maps.
