@@ -1,10 +1,7 @@
-mod Nexts
 mod TurnsLeft
 mod Chosen
 mod GoingOn
 mod Tallies
-mod Orders
-mod AllOrders
 mod Runs
 mod Counted
 mod Smooth
@@ -13,8 +10,6 @@ mod Rotating
 mod SameEnd
 mod Visits
 mod Samples
-mod Unseen
-mod Joined
 mod Faults
 mod Takings
 mod Legal

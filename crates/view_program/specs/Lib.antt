@@ -1,14 +1,10 @@
-pub mod Next
 pub mod Chosen
 pub mod TurnsLeft
 pub mod Same
 pub mod Tally
 pub mod Totals
-pub mod Order
-pub mod Explored
 pub mod Drawn
 pub mod Reported
-pub mod OrderText
 pub mod Exploring
 pub mod Lines
 pub mod Leaving

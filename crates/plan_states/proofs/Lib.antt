@@ -1,0 +1,5 @@
+pub mod Joined
+pub mod Builds
+pub mod Tallies
+pub mod Reached
+pub mod Unseen

@@ -1,0 +1,10 @@
+pub mod States
+pub mod Turned
+pub mod Reached
+pub mod TurnTaken
+pub mod Exploration
+pub mod Signs
+pub mod OrderText
+pub mod Lines
+pub mod Tallies
+pub mod StatesText
