@@ -9,7 +9,7 @@ import tomllib
 
 import pytest
 
-from programs import PLANS, TOP, VIEW, needs, over, run
+from programs import PLANS, VIEW, needs, over, run
 from schedule_graph import Graph, machine_of
 from second_host import Blocks, Build, Turn, map_of
 
@@ -75,17 +75,17 @@ def one_by_one(text: str) -> str | None:
     """What is to be told of a plan, by a run of each schedule; none if there are too many."""
     steps = [build["steps"] for build in tomllib.loads(text)["build"]]
     orders, wholes, ends, smooth, maps = 0, Shown(), Shown(), Shown(), Shown()
-    for order, run in each_schedule(Run(text, [])):
+    for order, ended in each_schedule(Run(text, [])):
         orders += 1
         if orders > MOST:
             return None
-        refused = {end[0] for end in run.ends if end[2] != "ok"}
+        refused = {end[0] for end in ended.ends if end[2] != "ok"}
         wholes.add("some step refused" if refused else "no step refused", order)
-        for end in run.ends:
+        for end in ended.ends:
             ends.add(end, order)
         for build in set(range(len(steps))) - refused:
             smooth.add(build, order)
-        maps.add(run.map(), order)
+        maps.add(ended.map(), order)
 
     def shown(thing) -> str:
         count, first = thing
@@ -131,10 +131,10 @@ def shortest(text: str, shows) -> list[int] | None:
     front = [[]]
     while front:
         runs = [Run(text, turns) for turns in front]
-        for turns, run in zip(front, runs):
-            if shows(run):
+        for turns, ended in zip(front, runs):
+            if shows(ended):
                 return turns
-        front = [[*turns, build] for turns, run in zip(front, runs) for build in run.left()]
+        front = [[*turns, build] for turns, ended in zip(front, runs) for build in ended.left()]
     return None
 
 
