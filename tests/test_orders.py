@@ -270,29 +270,18 @@ def on_a_terminal(words, given):
 def of_progress():
     """What is told while orders are run, where standard error is a terminal; where it is none, `run` sees that nothing is."""
     plan = (TOP / "plans/failed-build.toml").read_text()
-    turns = Counter(order_in(run(VIEW, ["order"], plan)[1])).values()
-    orders = math.factorial(sum(turns)) // math.prod(map(math.factorial, turns))
-    for words in (["--sample", "40000"],):
-        count = int(words[1])
-        status, out, told, took = on_a_terminal(["explore", *words], plan)
-        yield f"{words}, on a terminal", (status, out, ""), run(VIEW, ["explore", *words], plan)
-        first, *lines, last = told.split(CLEARED)
-        behind = f" of at most {count} orders run"
-        numbers = [int(line.removesuffix(behind)) for line in lines]
-        yield f"{words}, before", first, f"about {orders} orders, at most {count} are run\r\n"
-        yield f"{words}, lines", [f"{number}{behind}" for number in numbers], lines
-        yield f"{words}, the line is taken away", last, ""
-        yield f"{words}, numbers rise", [0, *numbers, count + 1], sorted({0, *numbers, count + 1})
-        yield f"{words}, how many lines", 2 <= len(lines) <= LINES_A_SECOND * took, True
-    for lengths, words, before in (
-        ((1, 1), [], ""),
-        ((8, 8), [], ""),
-        ((8, 8), ["--sample", "10000"], "12870 orders, at most 10000 are run\r\n"),
-        ((40, 40), ["--sample", "10000"], "more than 2^64 orders, at most 10000 are run\r\n"),
-    ):
-        plan = plan_of([["take 0"] * length for length in lengths], pages=64)
-        told = on_a_terminal(["explore", *words], plan)[2]
-        yield f"steps {lengths}, {words}, before", told.split(CLEARED)[0], before
+    words, count = ["explore", "--sample", "40000"], 40000
+    status, out, told, took = on_a_terminal(words, plan)
+    yield f"{words}, on a terminal", (status, out, ""), run(VIEW, words, plan)
+    first, *lines, last = told.split(CLEARED)
+    behind = f" of {count} orders run"
+    numbers = [int(line.removesuffix(behind)) for line in lines]
+    yield f"{words}, before and after", (first, last), ("", "")
+    yield f"{words}, lines", [f"{number}{behind}" for number in numbers], lines
+    yield f"{words}, numbers rise", [*numbers, count], sorted({*numbers, count})
+    yield f"{words}, how many lines", 2 <= len(lines) <= LINES_A_SECOND * took, True
+    plan = plan_of([["take 0"]] * 2, pages=64)
+    yield "all orders, on a terminal", on_a_terminal(["explore"], plan)[2], ""
 
 
 # ---- order

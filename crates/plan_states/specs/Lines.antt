@@ -13,6 +13,7 @@ use Rattle.plan_replay.specs.Run.{step_after}
 use Rattle.schedule_graph.specs.Number.{numeral}
 use Rattle.plan_states.specs.declared.tally.PathTally.{PathTally}
 use Rattle.plan_states.specs.declared.tally.Outcomes.{Outcomes}
+use Rattle.plan_states.specs.declared.tally.StepOutcomes.{StepOutcomes}
 use Rattle.plan_states.specs.declared.step_end.EndOfStep.{EndOfStep}
 use Rattle.plan_states.specs.OrderText.{schedule_text}
 
@@ -64,17 +65,17 @@ abbrev pub is_of_step : ℕ → ℕ → PathTally EndOfStep → Bool
 is_of_step build place tally = tally.thing.build == build && tally.thing.step == place
 
 -- the ends of the step, if the plan has it
-abbrev pub step_ends : Outcomes → ℕ → ℕ → Option PlanStep → List ℕ
+abbrev pub step_ends : StepOutcomes → ℕ → ℕ → Option PlanStep → List ℕ
 step_ends outcomes build place None = []
 step_ends outcomes build place (Some step) = flat_map (end_shown outcomes.orders step) (filter (is_of_step build place) outcomes.ends.items)
 
 abbrev pub step_number : Plan → ℕ → ℕ
 step_number plan build = unwrap_or (option_map length (slice_get plan.builds build)) 0
 
-abbrev pub ends_of_step : Plan → Outcomes → ℕ → ℕ → List ℕ
+abbrev pub ends_of_step : Plan → StepOutcomes → ℕ → ℕ → List ℕ
 ends_of_step plan outcomes build place = step_ends outcomes build place (step_after plan build place)
 
-abbrev pub ends_of_build : Plan → Outcomes → ℕ → List ℕ
+abbrev pub ends_of_build : Plan → StepOutcomes → ℕ → List ℕ
 ends_of_build plan outcomes build = flat_map (ends_of_step plan outcomes build) (range_with_len 0 (step_number plan build))
 
 -- the number of schedules in which the build was never refused, even if 0
@@ -83,13 +84,15 @@ never_refused_lines orders [] build = codes "never refused " ++ (decimal build +
 never_refused_lines orders (tally ∷ smooth) build = if tally.thing == build then never_refused_line orders tally else never_refused_lines orders smooth build
 
 -- The number of schedules in which nothing was refused. The number of those in which each step of each build ended in
--- each way, and in which each build was never refused. And the maps in the end.
-abbrev pub tallies_text : Plan → List (String Global) → Outcomes → List ℕ
-tallies_text plan maps outcomes =
+-- each way, and in which each build was never refused.
+abbrev pub step_outcomes_text : Plan → StepOutcomes → List ℕ
+step_outcomes_text plan outcomes =
     flat_map (refusals_line outcomes.orders) outcomes.wholes.items
     ++ (flat_map (ends_of_build plan outcomes) (range_with_len 0 (length plan.builds))
-    ++ (flat_map (never_refused_lines outcomes.orders outcomes.smooth.items) (range_with_len 0 (length plan.builds)) ++ flat_map (map_shown_by outcomes.orders maps) outcomes.maps.items))
+    ++ flat_map (never_refused_lines outcomes.orders outcomes.smooth.items) (range_with_len 0 (length plan.builds)))
 
 -- the outcomes of all schedules
 abbrev pub outcomes_text : Plan → List (String Global) → Outcomes → List ℕ
-outcomes_text plan maps outcomes = orders_line outcomes.orders ++ tallies_text plan maps outcomes
+outcomes_text plan maps outcomes =
+    orders_line outcomes.steps.orders
+    ++ (step_outcomes_text plan outcomes.steps ++ flat_map (map_shown_by outcomes.steps.orders maps) outcomes.maps.items)

@@ -89,8 +89,8 @@ map_tallies graph =
 
 -- The outcomes are those of the graph's paths.
 pub record AreOutcomes (builds : ℕ) (graph : Graph) (outcomes : Outcomes) : Type 0 where
-  pub orders : outcomes.orders ≡ length (paths_of graph)
-  pub wholes : map count_of_tally outcomes.wholes.items ≡ whole_tallies graph
-  pub ends : map count_of_tally outcomes.ends.items ≡ all_added (end_tally graph) (length graph.ends.items)
-  pub smooth : map count_of_tally outcomes.smooth.items ≡ all_added (smooth_tally graph) builds
+  pub orders : outcomes.steps.orders ≡ length (paths_of graph)
+  pub wholes : map count_of_tally outcomes.steps.wholes.items ≡ whole_tallies graph
+  pub ends : map count_of_tally outcomes.steps.ends.items ≡ all_added (end_tally graph) (length graph.ends.items)
+  pub smooth : map count_of_tally outcomes.steps.smooth.items ≡ all_added (smooth_tally graph) builds
   pub maps : map count_of_tally outcomes.maps.items ≡ map_tallies graph

@@ -6,7 +6,7 @@ ghost use Rattle.plan_states.specs.Lines.{share_text, orders_line, refusal_words
 
 use crate::schedule_text::ScheduleText;
 use crate::step_end::EndOfStep;
-use crate::tally::{Outcomes, PathTally};
+use crate::tally::{PathTally, StepOutcomes};
 use host_commands::Refusal;
 use plan_replay::step_after;
 use realm_plan::{Plan, PlanStep, RefusalText, StepText};
@@ -109,7 +109,7 @@ fn push_end(
 pub(crate) fn push_step(
     text: &mut String,
     plan: &Plan,
-    outcomes: &Outcomes,
+    outcomes: &StepOutcomes,
     build: usize,
     place: usize,
 ) -> Result<(), AllocError>
@@ -157,12 +157,12 @@ pub(crate) fn push_smooth(
     Ok(())
 }
 
-/// Appends the line of a map in the end, and the map.
-pub(crate) fn push_map(
+/// Appends the line of how many of `orders` schedules have a map in the end, and the map.
+pub fn push_map<K>(
     text: &mut String,
     orders: &Count,
     map: &str,
-    tally: &PathTally<usize>,
+    tally: &PathTally<K>,
 ) -> Result<(), AllocError>
     ensures { OnOk result (string_bytes text.new ≡ string_bytes text.old ++ map_shown orders.now map.now tally.now.first.items tally.now.count) }
 {

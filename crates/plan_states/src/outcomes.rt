@@ -8,9 +8,10 @@ use crate::edges::Label;
 use crate::graph::{Graph, Layer};
 use crate::signs::{EndSign, MapSign, RefusalSign};
 use crate::step_end::EndOfStep;
-use crate::tally::{Outcomes, PathTally};
+use crate::tally::{Outcomes, PathTally, StepOutcomes};
 use schedule_graph::{
-    Count, PathNumber, Sign, count_all, count_all_with, count_all_without, first_with, first_without,
+    Count, PathNumber, Sign, count_all, count_all_with, count_all_without, first_with,
+    first_without,
 };
 use std::alloc::{AllocError, Global};
 
@@ -267,11 +268,11 @@ pub fn outcomes_of(alloc: Global, builds: usize, graph: &Graph) -> Result<Outcom
     let smooth = smooth_of(alloc, graph, builds)?;
     let maps = maps_of(alloc, graph, &all)?;
     let orders = root_of(alloc, &all)?;
-    Ok(Outcomes {
+    let steps = StepOutcomes {
         orders,
         wholes,
         ends,
         smooth,
-        maps,
-    })
+    };
+    Ok(Outcomes { steps, maps })
 }

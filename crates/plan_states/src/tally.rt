@@ -10,9 +10,9 @@ pub struct PathTally<K> {
     pub first: Vec<usize>,
 }
 
-/// The outcomes of all schedules of a plan.
+/// The outcomes of the steps of schedules.
 #[derive(Drop)]
-pub struct Outcomes {
+pub struct StepOutcomes {
     /// The number of schedules.
     pub orders: Count,
     /// Whether any step of a schedule was refused.
@@ -21,6 +21,12 @@ pub struct Outcomes {
     pub ends: Vec<PathTally<EndOfStep>>,
     /// The builds that were never refused.
     pub smooth: Vec<PathTally<usize>>,
+}
+
+/// The outcomes of all schedules of a plan.
+#[derive(Drop)]
+pub struct Outcomes {
+    pub steps: StepOutcomes,
     /// The maps in the end, by their numbers.
     pub maps: Vec<PathTally<usize>>,
 }

@@ -4,12 +4,12 @@ ghost use Rattle.std.specs.List.{flat_map, range_with_len};
 ghost use Rattle.realm_plan.specs.PlanView.{plan_view};
 ghost use Rattle.plan_states.specs.Exploration.{HasNoGraph};
 ghost use Rattle.plan_states.specs.StatesText.{too_many_line, IsGraphText, IsStatesText};
-ghost use Rattle.plan_states.specs.Lines.{step_number, ends_of_build, never_refused_lines, map_shown_by, tallies_text, outcomes_text};
+ghost use Rattle.plan_states.specs.Lines.{step_number, ends_of_build, never_refused_lines, map_shown_by, step_outcomes_text, outcomes_text};
 
 use crate::graph::{Exploration, Graph, explore};
 use crate::lines::{push_count, push_map, push_smooth, push_step, push_wholes};
 use crate::outcomes::outcomes_of;
-use crate::tally::{Outcomes, PathTally};
+use crate::tally::{Outcomes, PathTally, StepOutcomes};
 use realm_plan::Plan;
 use realm_program::Fault;
 use schedule_graph::Count;
@@ -29,7 +29,7 @@ fn step_number(plan: &Plan, build: usize) -> usize
 fn push_build(
     text: &mut String,
     plan: &Plan,
-    outcomes: &Outcomes,
+    outcomes: &StepOutcomes,
     build: usize,
 ) -> Result<(), AllocError>
     ensures { OnOk result (string_bytes text.new ≡ string_bytes text.old ++ ends_of_build (plan_view plan.now) outcomes.now build) }
@@ -44,7 +44,7 @@ fn push_build(
 fn push_builds(
     text: &mut String,
     plan: &Plan,
-    outcomes: &Outcomes,
+    outcomes: &StepOutcomes,
     builds: usize,
 ) -> Result<(), AllocError>
     ensures { OnOk result (string_bytes text.new ≡ string_bytes text.old ++ flat_map (ends_of_build (plan_view plan.now) outcomes.now) (range_with_len 0 builds)) }
@@ -100,30 +100,26 @@ fn push_maps(
     Ok(())
 }
 
-// Appends the number of schedules in which nothing was refused. For each step of each build, appends how it ended, in
-// how many schedules and in which one first. For each build, appends the number of schedules in which it was never
-// refused. Appends the maps in the end.
-fn push_totals(
+/// Appends the outcomes of the steps of schedules. These are the number of schedules in which nothing was refused. For
+/// each step of each build, how it ended, in how many schedules and in which one first. For each build, the number of
+/// schedules in which it was never refused. At an `Err` allocation failed, and the text may have a part of it.
+pub fn push_step_outcomes(
     text: &mut String,
     plan: &Plan,
-    maps: &[String],
-    outcomes: &Outcomes,
+    outcomes: &StepOutcomes,
 ) -> Result<(), AllocError>
-    ensures { OnOk result (string_bytes text.new ≡ string_bytes text.old ++ tallies_text (plan_view plan.now) maps.now outcomes.now) }
+    ensures { OnOk result (string_bytes text.new ≡ string_bytes text.old ++ step_outcomes_text (plan_view plan.now) outcomes.now) }
 {
     let builds = plan.builds.len();
     let orders = &outcomes.orders;
     push_wholes(text, orders, &outcomes.wholes)?;
     push_builds(text, plan, outcomes, builds)?;
     push_smooths(text, orders, &outcomes.smooth, builds)?;
-    push_maps(text, orders, maps, &outcomes.maps)?;
     Ok(())
 }
 
-/// Appends the outcomes of all schedules of a plan: how many there are, and in how many nothing was refused. For each
-/// step of each build, how it ended, in how many schedules and in which one first. For each build, the number of
-/// schedules in which it was never refused. Then the maps in the end. At an `Err` allocation failed, and the text may
-/// have a part of it.
+/// Appends the outcomes of all schedules of a plan: how many there are, the outcomes of their steps, and the maps in
+/// the end. At an `Err` allocation failed, and the text may have a part of it.
 pub fn push_outcomes(
     text: &mut String,
     plan: &Plan,
@@ -132,8 +128,11 @@ pub fn push_outcomes(
 ) -> Result<(), AllocError>
     ensures { OnOk result (string_bytes text.new ≡ string_bytes text.old ++ outcomes_text (plan_view plan.now) maps.now outcomes.now) }
 {
-    push_count(text, &outcomes.orders)?;
-    push_totals(text, plan, maps, outcomes)
+    let orders = &outcomes.steps.orders;
+    push_count(text, orders)?;
+    push_step_outcomes(text, plan, &outcomes.steps)?;
+    push_maps(text, orders, maps, &outcomes.maps)?;
+    Ok(())
 }
 
 // The text of the outcomes of a plan's graph.

@@ -32,7 +32,11 @@ fn add_at(sum: &mut PathNumber, counts: &[PathNumber], state: usize) -> Result<(
 }
 
 // The number of paths from a state with these edges.
-fn count_from<L>(alloc: Global, edges: &[Edge<L>], next: &[PathNumber]) -> Result<PathNumber, AllocError>
+fn count_from<L>(
+    alloc: Global,
+    edges: &[Edge<L>],
+    next: &[PathNumber],
+) -> Result<PathNumber, AllocError>
     ensures { IfOk result (λ count. count ≡ path_count next.now edges.now) }
 {
     if edges.is_empty() {

@@ -176,7 +176,7 @@ impl Count {
     }
 
     /// Adds 1. At an `Err` allocation failed, and the number may be any.
-    pub(crate) fn add_one(&mut self) -> Result<(), AllocError>
+    pub fn add_one(&mut self) -> Result<(), AllocError>
         ensures { OnOk result (self.new ≡ self.old + 1) }
     {
         add_at(&mut self.digits, 0, 1)

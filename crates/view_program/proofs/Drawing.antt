@@ -14,7 +14,7 @@ use Rattle.plan_replay.specs.declared.place.PlanCursor.{PlanCursor}
 use Rattle.view_program.specs.Chosen.{could, builds_left, lowest_of, Stage, first_stage, IsStageTurn, AreChosen, IsChosenRun, stage_at}
 use Rattle.view_program.specs.Drawn.{builds_with_steps, drawn, AreDrawn, IsDrawnTo}
 use Rattle.view_program.specs.declared.schedules.choice.Choice.{Choice}
-use Rattle.view_program.specs.declared.schedules.step_end.StepEnd.{StepEnd}
+use Rattle.plan_states.specs.declared.step_end.EndOfStep.{EndOfStep}
 use Rattle.view_program.proofs.Chosen.{AreChosen-more}
 
 -- ---- what is drawn
@@ -94,7 +94,7 @@ IsDrawing-more plan stream from choices at choice to new now after is left draws
 })
 
 pub IsChosenRun-drawn :
-    (plan : Plan) (host : HostView) (places : List PlanCursor) (noted : List StepEnd) (stream after : Stream) (choices : List Choice) (to : Stage)
+    (plan : Plan) (host : HostView) (places : List PlanCursor) (noted : List EndOfStep) (stream after : Stream) (choices : List Choice) (to : Stage)
     → places ≡ replicate 8 first_place → noted ≡ []
     → IsDrawnTo plan stream (stage_at host places noted) choices to after
     → AreDrawn stream choices after × IsChosenRun plan host choices to.at.host to.ends

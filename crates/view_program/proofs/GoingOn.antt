@@ -7,7 +7,7 @@ use Rattle.view_program.specs.Chosen.{builds_left, lowest_of, Stage, first_stage
 use Rattle.view_program.specs.Rotation.{AreOneByOne}
 use Rattle.view_program.proofs.Chosen.{lowest_is, AreChosen-more}
 use Rattle.view_program.specs.declared.schedules.choice.Choice.{Choice}
-use Rattle.view_program.specs.declared.schedules.step_end.StepEnd.{StepEnd}
+use Rattle.plan_states.specs.declared.step_end.EndOfStep.{EndOfStep}
 use Rattle.plan_replay.specs.Place.{first_place}
 use Rattle.plan_replay.specs.declared.place.PlanCursor.{PlanCursor}
 
@@ -43,7 +43,7 @@ GoesOnTo-whole plan from front choices to left is same none =
 
 -- the run from boot
 pub IsChosenRun-lowest :
-    (plan : Plan) (host : HostView) (places : List PlanCursor) (noted : List StepEnd) (before choices : List Choice) (to : Stage)
+    (plan : Plan) (host : HostView) (places : List PlanCursor) (noted : List EndOfStep) (before choices : List Choice) (to : Stage)
     → places ≡ replicate 8 first_place → noted ≡ [] → before ≡ []
     → GoesOnTo plan (stage_at host places noted) before choices to
     → AreOneByOne choices × IsChosenRun plan host choices to.at.host to.ends

@@ -10,7 +10,6 @@ mod Rotating
 mod SameEnd
 mod Visits
 mod Samples
-mod Joined
 mod Faults
 mod Takings
 mod Legal

@@ -10,7 +10,7 @@ use Rattle.plan_replay.specs.declared.place.PlanCursor.{PlanCursor}
 use Rattle.view_program.specs.Chosen.{could, builds_left, lowest_of, Stage, first_stage, IsStageTurn, AreChosen, IsChosenRun, stage_at}
 use Rattle.view_program.specs.Rotation.{in_rotation, lowest_from, AreInRotation, IsRotatedTo}
 use Rattle.view_program.specs.declared.schedules.choice.Choice.{Choice}
-use Rattle.view_program.specs.declared.schedules.step_end.StepEnd.{StepEnd}
+use Rattle.plan_states.specs.declared.step_end.EndOfStep.{EndOfStep}
 use Rattle.view_program.proofs.Chosen.{found_is, lowest_is, AreChosen-more}
 
 -- ---- whose turn it is
@@ -89,7 +89,7 @@ IsRotatedTo-whole plan from choices to now left is same none = record {
 }
 
 pub IsChosenRun-rotated :
-    (plan : Plan) (host : HostView) (places : List PlanCursor) (noted : List StepEnd) (choices : List Choice) (to : Stage)
+    (plan : Plan) (host : HostView) (places : List PlanCursor) (noted : List EndOfStep) (choices : List Choice) (to : Stage)
     → places ≡ replicate 8 first_place → noted ≡ []
     → IsRotatedTo plan (stage_at host places noted) choices to
     → AreInRotation 0 choices × IsChosenRun plan host choices to.at.host to.ends

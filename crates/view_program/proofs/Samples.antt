@@ -8,7 +8,7 @@ use Rattle.view_program.specs.Chosen.{IsChosenRun}
 use Rattle.view_program.specs.Drawn.{AreDrawn, IsDrawn, AreSamples, IsSampled}
 use Rattle.view_program.specs.Totals.{Visit, AreTotals}
 use Rattle.view_program.specs.declared.schedules.choice.Choice.{Choice}
-use Rattle.view_program.specs.declared.schedules.step_end.StepEnd.{StepEnd}
+use Rattle.plan_states.specs.declared.step_end.EndOfStep.{EndOfStep}
 use Rattle.view_program.specs.declared.schedules.totals.Totals.{Totals}
 use Rattle.view_program.specs.Exploring.{IsAdded, IsDrawnAndCounted}
 
@@ -45,7 +45,7 @@ IsSampled-whole plan stream count now totals is =
 
 -- The run of an order that is drawn, on a fresh host, counted.
 pub IsDrawnAndCounted-run :
-    (plan : Plan) (stream after : Stream) (fresh to : HostView) (choices cs : List Choice) (ends es : List StepEnd) (old new : Totals)
+    (plan : Plan) (stream after : Stream) (fresh to : HostView) (choices cs : List Choice) (ends es : List EndOfStep) (old new : Totals)
     → fresh ≡ opening_host plan → cs ≡ choices → es ≡ ends
     → AreDrawn stream choices after × IsChosenRun plan fresh choices to ends
     → IsAdded plan to cs es old new

@@ -1,12 +1,9 @@
 -- A schedule that is run and counted.
-use Rattle.std.proofs.Common.{◌≡◌, ℕ, List, [], ◌∷◌, ◌++◌, length, string_bytes, vec_len, sym, ◌∙◌, ap, subst}
-use Rattle.std.proofs.lemmas.List.{length-map}
+use Rattle.std.proofs.Common.{◌≡◌, ℕ, List, [], ◌∷◌, ◌++◌, length, string_bytes, sym, ◌∙◌, ap, subst}
 use Rattle.std.specs.declared.alloc.Global.{Global}
 use Rattle.std.specs.declared.string.String.{String}
 use Rattle.host_ledger.specs.View.{HostView}
 use Rattle.realm_plan.specs.Plan.{Plan}
-use Rattle.realm_plan.specs.PlanView.{plan_view}
-use Rattle.realm_plan.specs.declared.plan.Plan as code
 use Rattle.plan_replay.specs.Run.{map_text}
 use Rattle.plan_replay.proofs.Settings.{fresh_like-run}
 use Rattle.realm_host.specs.Recorded.{fresh_like}
@@ -15,24 +12,21 @@ use Rattle.view_program.specs.Chosen.{IsChosenRun}
 use Rattle.view_program.specs.Totals.{Visit, AreTotals, chosen_schedule}
 use Rattle.view_program.proofs.Runs.{run_of_plan}
 use Rattle.view_program.specs.declared.schedules.choice.Choice.{Choice}
-use Rattle.view_program.specs.declared.schedules.step_end.StepEnd.{StepEnd}
+use Rattle.plan_states.specs.declared.step_end.EndOfStep.{EndOfStep}
 use Rattle.view_program.specs.declared.schedules.totals.Totals.{Totals}
 use Rattle.view_program.specs.Exploring.{IsAdded}
 
 -- a run leaves the settings as they were
 pub opens_same :
-    (plan : Plan) (fresh to : HostView) (choices : List Choice) (ends : List StepEnd)
+    (plan : Plan) (fresh to : HostView) (choices : List Choice) (ends : List EndOfStep)
     → fresh ≡ opening_host plan → IsChosenRun plan fresh choices to ends → opening_host plan ≡ fresh_like to
 opens_same plan fresh to choices ends opens is =
     let told = run_of_plan plan fresh choices to ends is in
     ap fresh_like (sym opens) ∙ fresh_like-run (record plan { order = chosen_schedule choices }) fresh to [] told.0 told.1
 
-pub builds_are : (plan : code.Plan) (n : ℕ) → n ≡ vec_len plan.builds → n ≡ length (plan_view plan).builds
-builds_are plan n is = is ∙ plan.builds.ok.0 ∙ sym (length-map plan.builds.items (λ b. b.items))
-
 -- a run with these turns and ends, as the slices have them
 pub IsAdded-run :
-    (plan : Plan) (host : HostView) (choices : List Choice) (ends : List StepEnd) (map_of_it : String Global) (old new : Totals) (n : ℕ)
+    (plan : Plan) (host : HostView) (choices : List Choice) (ends : List EndOfStep) (map_of_it : String Global) (old new : Totals) (n : ℕ)
     → n ≡ length plan.builds → string_bytes map_of_it ≡ map_text host
     → ((visits : List Visit) → AreTotals n visits old → AreTotals n (visits ++ record { choices = choices; ends = ends; map = map_of_it } ∷ []) new)
     → IsAdded plan host choices ends old new

@@ -10,7 +10,7 @@ use Rattle.plan_replay.specs.declared.answer.TurnAnswer.{TurnAnswer}
 use Rattle.plan_replay.specs.declared.answer.TurnAnswer.TheVariants.{Refused}
 use Rattle.plan_replay.specs.declared.place.PlanCursor.{PlanCursor}
 use Rattle.view_program.specs.declared.schedules.choice.Choice.{Choice}
-use Rattle.view_program.specs.declared.schedules.step_end.StepEnd.{StepEnd}
+use Rattle.plan_states.specs.declared.step_end.EndOfStep.{EndOfStep}
 
 -- ---- the possible choices
 
@@ -39,9 +39,9 @@ pub record IsOpen (plan : Plan) (places : List PlanCursor) (choice : Choice) : T
 -- The state of a run, and the ends of the steps that are used up.
 pub record Stage : Type 0 where
   pub at : Position
-  pub ends : List StepEnd
+  pub ends : List EndOfStep
 
-abbrev pub stage_at : HostView → List PlanCursor → List StepEnd → Stage
+abbrev pub stage_at : HostView → List PlanCursor → List EndOfStep → Stage
 stage_at host places ends = record { at = record { host = host; places = places }; ends = ends }
 
 abbrev pub refusal_in : TurnAnswer → Option Refusal
@@ -53,7 +53,7 @@ refusal_of_turn None = None
 refusal_of_turn (Some told) = refusal_in told.1
 
 -- the end of a turn's step, if the turn uses it up
-abbrev pub ended : Turn → ℕ → ℕ → List StepEnd
+abbrev pub ended : Turn → ℕ → ℕ → List EndOfStep
 ended turn before after =
     if before == after then [] else record { build = turn.build; step = before; refusal = refusal_of_turn turn.told } ∷ []
 
@@ -78,7 +78,7 @@ first_stage host = record { at = start host; ends = [] }
 
 -- A run of the plan in the schedule of these choices, until no build has a step left: it leads to `to`, and the steps
 -- ended as noted.
-pub record IsChosenRun (plan : Plan) (from : HostView) (choices : List Choice) (to : HostView) (noted : List StepEnd) : Type 0 where
+pub record IsChosenRun (plan : Plan) (from : HostView) (choices : List Choice) (to : HostView) (noted : List EndOfStep) : Type 0 where
   pub last : Stage
   pub chosen : AreChosen plan (first_stage from) choices last
   pub whole : lowest_of (builds_left plan last.at.places) ≡ None

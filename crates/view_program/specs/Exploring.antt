@@ -10,11 +10,11 @@ use Rattle.view_program.specs.Totals.{Visit, AreTotals}
 use Rattle.view_program.specs.Drawn.{IsDrawn}
 use Rattle.rand_core.specs.Stream.{Stream}
 use Rattle.view_program.specs.declared.schedules.choice.Choice.{Choice}
-use Rattle.view_program.specs.declared.schedules.step_end.StepEnd.{StepEnd}
+use Rattle.plan_states.specs.declared.step_end.EndOfStep.{EndOfStep}
 use Rattle.view_program.specs.declared.schedules.totals.Totals.{Totals}
 
 -- A run with these turns and ends led to this host, and is counted with its map.
-pub record IsAdded (plan : Plan) (host : HostView) (choices : List Choice) (ends : List StepEnd) (old new : Totals) : Type 0 where
+pub record IsAdded (plan : Plan) (host : HostView) (choices : List Choice) (ends : List EndOfStep) (old new : Totals) : Type 0 where
   pub map : String Global
   pub is_map : string_bytes map ≡ map_text host
   pub counted : (visits : List Visit) → AreTotals (length plan.builds) visits old

@@ -5,7 +5,6 @@ pub mod Tally
 pub mod Totals
 pub mod Drawn
 pub mod Reported
-pub mod OrderText
 pub mod Exploring
 pub mod Lines
 pub mod Leaving

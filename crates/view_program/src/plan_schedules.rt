@@ -5,7 +5,7 @@ ghost use Rattle.view_program.specs.Lines.{drawn_text};
 ghost use Rattle.view_program.specs.Orders.{IsDrawnText, IsSchedulesText, IsWithoutSchedules};
 
 use crate::plan_text::ViewText;
-use crate::schedules::{Expected, Progress, Totals, push_drawn, sample, schedule_in_rotation};
+use crate::schedules::{Progress, Totals, push_drawn, sample};
 use command_line::realmview::Schedules;
 use plan_states::states_text;
 use rand_core::SeedableRng;
@@ -23,18 +23,6 @@ fn text_of_drawn(alloc: Global, plan: &Plan, totals: &Totals) -> Result<String, 
     Ok(text)
 }
 
-// Reports the number of schedules of a plan, and of those that are drawn.
-fn tell_begin<P: Progress>(
-    alloc: Global,
-    plan: &Plan,
-    count: u32,
-    progress: &P,
-) -> Result<(), AllocError> {
-    let order = schedule_in_rotation(alloc, plan)?;
-    progress.begins(Expected::of(plan, &order), count);
-    Ok(())
-}
-
 // Runs `count` schedules that are drawn by the numbers of a seed, and returns the text of their outcomes.
 fn run_drawn_of<P: Progress>(
     alloc: Global,
@@ -45,7 +33,6 @@ fn run_drawn_of<P: Progress>(
 ) -> Result<String, AllocError>
     ensures { IfOk result (λ text. IsDrawnText count seed (plan_view plan.now) (string_bytes text)) }
 {
-    tell_begin(alloc, plan, count, progress)?;
     let mut numbers = Xoshiro256PlusPlus::seed_from_u64(seed as u64);
     let totals = sample(alloc, plan, count, &mut numbers, progress)?;
     text_of_drawn(alloc, plan, &totals)

@@ -9,11 +9,11 @@ ghost use Rattle.view_program.specs.Reported.{AreTold};
 ghost use Rattle.view_program.specs.Leaving.{IsUnseen};
 ghost use Rattle.view_program.specs.Totals.{chosen_schedule};
 ghost use Rattle.view_program.specs.declared.schedules.choice.Choice.{Choice};
-ghost use Rattle.view_program.specs.declared.schedules.step_end.StepEnd.{StepEnd};
+ghost use Rattle.plan_states.specs.declared.step_end.EndOfStep.{EndOfStep};
 
 /// A run of a schedule is a run of the plan that has this schedule.
 pub fn a_run_is_one_of_the_plan()
-    ensures { (plan : Plan) (host : HostView) (choices : List Choice) (to : HostView) (ends : List StepEnd)
+    ensures { (plan : Plan) (host : HostView) (choices : List Choice) (to : HostView) (ends : List EndOfStep)
         → IsChosenRun plan host choices to ends
         → (text : List ℕ) × IsReportedRun (record plan { order = chosen_schedule choices }) host to [] text }
 {}
@@ -21,7 +21,7 @@ pub fn a_run_is_one_of_the_plan()
 /// The ends that are noted of a run's steps are those in the lines of the run. Each end is that of a turn of the same
 /// build, with the refusal of its line, and they come in the sequence of the lines.
 pub fn ends_are_reported()
-    ensures { (plan : Plan) (host : HostView) (choices : List Choice) (to : HostView) (ends : List StepEnd)
+    ensures { (plan : Plan) (host : HostView) (choices : List Choice) (to : HostView) (ends : List EndOfStep)
         → IsChosenRun plan host choices to ends
         → AreTold (record plan { order = chosen_schedule choices }) host to ends }
 {}
@@ -29,7 +29,7 @@ pub fn ends_are_reported()
 /// Two ends of steps are counted as one exactly when they are the same. They then end the same step of the same build,
 /// with the same refusal and its numbers, or with none.
 pub fn end_texts_are_injective()
-    ensures { (one other : StepEnd) → (same_end one other ≡ true) ↔ (one ≡ other) }
+    ensures { (one other : EndOfStep) → (same_end one other ≡ true) ↔ (one ≡ other) }
 {}
 
 /// A build that has nothing open is not seen in a map: the map is that of the history without the build.

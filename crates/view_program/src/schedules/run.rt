@@ -8,10 +8,10 @@ ghost use Rattle.view_program.specs.Rotation.{AreOneByOne};
 ghost use Rattle.view_program.specs.TurnsLeft.{AreSteady, turns_left};
 
 use crate::schedules::choice::Choice;
-use crate::schedules::step_end::StepEnd;
 use host_commands::Refusal;
 use page_arena::PageStore;
 use plan_replay::{PlanCursor, TurnAnswer, step_after, take_turn};
+use plan_states::EndOfStep;
 use realm_host::Host;
 use realm_plan::Plan;
 use std::alloc::AllocError;
@@ -60,7 +60,7 @@ pub(crate) fn take_step<S: PageStore>(
     host: &mut Host<S>,
     plan: &Plan,
     places: &mut [PlanCursor; 8],
-    ends: &mut Vec<StepEnd>,
+    ends: &mut Vec<EndOfStep>,
     build: usize,
 ) -> Result<(), AllocError>
     requires left { (build < 8) × (has_left (plan_view plan.now) places.old build ≡ true) }
@@ -76,7 +76,7 @@ pub(crate) fn take_step<S: PageStore>(
     };
     let after = place_at(places, build);
     if after.done != before {
-        ends.push(StepEnd {
+        ends.push(EndOfStep {
             build,
             step: before,
             refusal: refusal_in(answer),
@@ -90,7 +90,7 @@ fn go_on<S: PageStore>(
     host: &mut Host<S>,
     plan: &Plan,
     places: &mut [PlanCursor; 8],
-    ends: &mut Vec<StepEnd>,
+    ends: &mut Vec<EndOfStep>,
     choices: &mut Vec<Choice>,
 ) -> Result<(), AllocError>
     requires steady { AreSteady (plan_view plan.now) places.old }
@@ -112,7 +112,7 @@ pub(crate) fn run_one_by_one<S: PageStore>(
     host: &mut Host<S>,
     plan: &Plan,
     choices: &mut Vec<Choice>,
-    ends: &mut Vec<StepEnd>,
+    ends: &mut Vec<EndOfStep>,
 ) -> Result<(), AllocError>
     ensures { OnOk result (AreOneByOne choices.new.items
         × IsChosenRun (plan_view plan.now) host.old choices.new.items host.new ends.new.items) }

@@ -1,15 +1,15 @@
 //! The run of schedules that are drawn.
-ghost use Rattle.std.specs.Prelude.{◌≡◌, ◌-◌, ◌^◌, ◌<◌, OnOk, IfOk};
+ghost use Rattle.std.specs.Prelude.{◌≡◌, OnOk, IfOk};
 ghost use Rattle.realm_plan.specs.PlanView.{plan_view};
 ghost use Rattle.realm_program.specs.Replay.{opening_host};
 ghost use Rattle.realm_host.specs.Recorded.{fresh_like};
 ghost use Rattle.view_program.specs.Exploring.{IsAdded, IsDrawnAndCounted};
 ghost use Rattle.view_program.specs.Drawn.{IsSampled};
 
-use crate::schedules::{Choice, Progress, StepEnd, Totals, run_drawn};
+use crate::schedules::{Choice, Progress, Totals, run_drawn};
 use buddy::BuddyArena;
 use plan_replay::map_text;
-use plan_states::leave_nothing;
+use plan_states::{EndOfStep, leave_nothing};
 use rand_core::Rng;
 use realm_host::Host;
 use realm_plan::Plan;
@@ -22,11 +22,10 @@ fn count_run(
     plan: &Plan,
     host: Host<BuddyArena>,
     choices: &[Choice],
-    ends: &[StepEnd],
+    ends: &[EndOfStep],
     totals: &mut Totals,
 ) -> Result<(), AllocError>
-    requires few { totals.old.orders < 2 ^ 64 - 1 }
-    requires opens { opening_host (plan_view plan.now) ≡ fresh_like host }
+    requires { opening_host (plan_view plan.now) ≡ fresh_like host }
     ensures { OnOk result (IsAdded (plan_view plan.now) host choices.now ends.now totals.old totals.new) }
 {
     let map = map_text(alloc, &host)?;
@@ -44,10 +43,9 @@ fn visit_drawn<R: Rng>(
     plan: &Plan,
     rng: &mut R,
     choices: &mut Vec<Choice>,
-    ends: &mut Vec<StepEnd>,
+    ends: &mut Vec<EndOfStep>,
     totals: &mut Totals,
 ) -> Result<(), AllocError>
-    requires { totals.old.orders < 2 ^ 64 - 1 }
     ensures { OnOk result (IsDrawnAndCounted (plan_view plan.now) (R.stream rng.old) (R.stream rng.new) totals.old totals.new) }
 {
     let mut host = boot::<BuddyArena>(alloc, plan)?;
@@ -71,9 +69,9 @@ pub fn sample<R: Rng, P: Progress>(
     let mut totals = Totals::new(alloc);
     let mut choices = Vec::new(alloc);
     let mut ends = Vec::new(alloc);
-    for _ in 0..count {
+    for done in 0..count {
+        progress.told(done, count);
         visit_drawn(alloc, plan, rng, &mut choices, &mut ends, &mut totals)?;
-        progress.told(totals.orders);
     }
     Ok(totals)
 }

@@ -1,5 +1,6 @@
 use Rattle.realm_plan.specs.PlanView.{plan_view}
-use Rattle.view_program.proofs.Visits.{builds_are, IsAdded-run}
+use Rattle.plan_states.proofs.Builds.{builds_are}
+use Rattle.view_program.proofs.Visits.{IsAdded-run}
 use Rattle.view_program.proofs.schedules.sampling.count_run.Goals as goal
 
 pub returns : goal.returns

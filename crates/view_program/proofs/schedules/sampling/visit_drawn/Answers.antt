@@ -3,8 +3,8 @@ use Rattle.view_program.proofs.Visits.{opens_same}
 use Rattle.view_program.proofs.Samples.{IsDrawnAndCounted-run}
 use Rattle.view_program.proofs.schedules.sampling.visit_drawn.Goals as goal
 
-pub count_run-requires-clause-opens : goal.count_run-requires-clause-opens
-count_run-requires-clause-opens g c =
+pub count_run-requires : goal.count_run-requires
+count_run-requires g c =
     opens_same (plan_view c.args.plan.now) c.in_ok-host.host c.run_drawn.new.host c.run_drawn.new.choices.items c.run_drawn.new.ends.items c.in_ok-host.ensures
     c.in_ok-run_drawn.ensures.1
 
