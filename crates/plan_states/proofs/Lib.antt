@@ -3,3 +3,5 @@ pub mod Builds
 pub mod Tallies
 pub mod Reached
 pub mod Unseen
+pub mod Cuts
+pub mod Refused

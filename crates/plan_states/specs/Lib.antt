@@ -8,3 +8,4 @@ pub mod OrderText
 pub mod Lines
 pub mod Tallies
 pub mod StatesText
+pub mod Shortest
