@@ -3,3 +3,4 @@ pub mod Builds
 pub mod Tallies
 pub mod Reached
 pub mod Unseen
+pub mod BuildsLeft

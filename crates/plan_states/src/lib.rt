@@ -19,6 +19,7 @@ mod step_end;
 mod tally;
 mod text;
 mod turns;
+mod whole;
 
 pub use edges::Label;
 pub use graph::{Exploration, Graph, explore};
@@ -28,3 +29,4 @@ pub use outcomes::outcomes_of;
 pub use step_end::EndOfStep;
 pub use tally::{Outcomes, PathTally, StepOutcomes};
 pub use text::{push_outcomes, push_step_outcomes, states_text};
+pub use whole::Progress;

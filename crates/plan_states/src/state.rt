@@ -4,6 +4,7 @@ ghost use Rattle.std.specs.Bool.{OnFalse};
 ghost use Rattle.realm_plan.specs.PlanView.{plan_view};
 ghost use Rattle.plan_states.specs.States.{at_rest, first_state, AreAllDone};
 
+use crate::whole::Progress;
 use plan_replay::step_after;
 use realm_plan::Plan;
 
@@ -61,6 +62,21 @@ impl State {
         let mut builds = self.builds;
         builds[build] = after;
         State { builds, blocks }
+    }
+
+    /// How many steps of each build are done.
+    pub(crate) fn progress(&self) -> Progress {
+        let it = &self.builds;
+        [
+            it[0].done as u16,
+            it[1].done as u16,
+            it[2].done as u16,
+            it[3].done as u16,
+            it[4].done as u16,
+            it[5].done as u16,
+            it[6].done as u16,
+            it[7].done as u16,
+        ]
     }
 
     /// Whether any build has a step left.
