@@ -4,3 +4,6 @@ pub mod Tallies
 pub mod Reached
 pub mod Unseen
 pub mod BuildsLeft
+pub mod Members
+pub mod Paths
+pub mod Schedules

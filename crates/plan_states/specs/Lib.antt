@@ -9,3 +9,4 @@ pub mod OrderText
 pub mod Lines
 pub mod Tallies
 pub mod StatesText
+pub mod Schedules

@@ -1,9 +1,11 @@
 -- Whole graphs: each state has a turn of each build that has a step left, and each turn leads on.
-use Rattle.std.specs.Prelude.{◌≡◌, ℕ, ◌+◌, ◌<◌, ◌==◌, ◌&&◌, nat_lt, Bool, true, false, not, List, [], map, filter, length, Option, Some, None, is_some, Vec, vec_items, vec_len, slice_get, slice_index_or, if◌then◌else◌}
+use Rattle.std.specs.Prelude.{◌≡◌, ℕ, ◌+◌, ◌<◌, ◌==◌, ◌&&◌, nat_lt, Bool, true, false, not, List, [], map, filter, length, Option, Some, None, is_some, Vec, vec_items, slice_get, slice_index_or, if◌then◌else◌}
 use Rattle.std.specs.List.{list_all, range_with_len}
 use Rattle.std.specs.declared.alloc.Global.{Global}
 use Rattle.realm_plan.specs.Plan.{Plan}
+use Rattle.realm_plan.specs.declared.step.PlanStep.{PlanStep}
 use Rattle.plan_replay.specs.Run.{step_after}
+use Rattle.plan_replay.specs.Turn.{undoes_many}
 use Rattle.schedule_graph.specs.declared.graph.Edge.{Edge}
 use Rattle.plan_states.specs.declared.edges.Label.{Label}
 use Rattle.plan_states.specs.declared.graph.Graph.{Graph}
@@ -32,10 +34,15 @@ abbrev pub is_end_of : ℕ → ℕ → Option EndOfStep → Bool
 is_end_of build step None = false
 is_end_of build step (Some end) = end.build == build && end.step == step
 
--- a turn of a build that has done so many steps uses up none, or the next one
-abbrev pub uses_next : List EndOfStep → ℕ → ℕ → Option ℕ → Bool
-uses_next ends build done None = true
-uses_next ends build done (Some number) = is_end_of build done (slice_get ends number)
+-- the step may take more turns than one
+abbrev pub takes_many : Option PlanStep → Bool
+takes_many None = false
+takes_many (Some step) = undoes_many step
+
+-- a turn of a build that has done so many steps uses up the next one, or none if that may take more turns
+abbrev pub uses_next : Plan → List EndOfStep → ℕ → ℕ → Option ℕ → Bool
+uses_next plan ends build done None = takes_many (step_after plan build done)
+uses_next plan ends build done (Some number) = is_end_of build done (slice_get ends number)
 
 -- the number of a build's steps that are done after a turn
 abbrev pub done_after : List ℕ → Label → ℕ → ℕ
@@ -52,7 +59,7 @@ has_map maps over (Some number) = over && nat_lt number maps
 -- a turn from one state leads to the other, by their progress
 abbrev pub leads_to : Plan → List EndOfStep → ℕ → List ℕ → Label → List ℕ → Bool
 leads_to plan ends maps done label then =
-    uses_next ends label.build (done_of done label.build) label.end
+    uses_next plan ends label.build (done_of done label.build) label.end
     && (are_done_after done label then && has_map maps (is_over plan then) label.map)
 
 abbrev pub leads_if_there : Plan → List EndOfStep → ℕ → List ℕ → Label → Option (List ℕ) → Bool
@@ -82,9 +89,10 @@ states_at graph depth = slice_index_or (map vec_items graph.progress.items) dept
 abbrev pub layer_at : Graph → ℕ → List (Vec (Edge Label) Global)
 layer_at graph depth = slice_index_or (map vec_items graph.layers.items) depth []
 
--- The first layer has the one state in which no step is done, and the states of each layer are whole.
+-- The first layer has the one state in which no step is done, and the states of each layer are whole. There is a map.
 pub record IsWhole (plan : Plan) (graph : Graph) : Type 0 where
-  pub as_many : vec_len graph.progress ≡ vec_len graph.layers
+  pub as_many : length graph.progress.items ≡ length graph.layers.items
   pub start : is_at_start (states_at graph 0) ≡ true
-  pub layers : (depth : ℕ) → depth < vec_len graph.layers
-      → IsLayerWhole plan graph.ends.items (vec_len graph.maps) (states_at graph depth) (states_at graph (depth + 1)) (layer_at graph depth)
+  pub maps : 0 < length graph.maps.items
+  pub layers : (depth : ℕ) → depth < length graph.layers.items
+      → IsLayerWhole plan graph.ends.items (length graph.maps.items) (states_at graph depth) (states_at graph (depth + 1)) (layer_at graph depth)

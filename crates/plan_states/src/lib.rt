@@ -8,6 +8,7 @@
 
 mod edges;
 mod graph;
+pub mod law;
 mod leftovers;
 mod lines;
 mod outcomes;

@@ -64,18 +64,24 @@ impl State {
         State { builds, blocks }
     }
 
+    // How many steps of a build are done; a plan has far fewer than 2^16.
+    fn done_by(&self, build: usize) -> u16
+        requires { build < 8 }
+    {
+        u16::try_from(self.builds[build].done).unwrap_or(u16::MAX)
+    }
+
     /// How many steps of each build are done.
     pub(crate) fn progress(&self) -> Progress {
-        let it = &self.builds;
         [
-            it[0].done as u16,
-            it[1].done as u16,
-            it[2].done as u16,
-            it[3].done as u16,
-            it[4].done as u16,
-            it[5].done as u16,
-            it[6].done as u16,
-            it[7].done as u16,
+            self.done_by(0),
+            self.done_by(1),
+            self.done_by(2),
+            self.done_by(3),
+            self.done_by(4),
+            self.done_by(5),
+            self.done_by(6),
+            self.done_by(7),
         ]
     }
 

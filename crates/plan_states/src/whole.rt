@@ -3,13 +3,16 @@ ghost use Rattle.std.specs.Prelude.{◌≡◌, ◌↔◌, ◌<◌, ◌^◌, IsTr
 ghost use Rattle.std.specs.Bool.{OnTrue};
 ghost use Rattle.std.specs.List.{list_all, range_with_len};
 ghost use Rattle.realm_plan.specs.PlanView.{plan_view};
-ghost use Rattle.plan_states.specs.Whole.{done_of, has_left, uses_next, done_after, are_done_after, is_over, is_at_start, has_map, leads_to, leads_on, states_at, layer_at, IsStateWhole, IsLayerWhole, IsWhole};
+ghost use Rattle.plan_replay.specs.Run.{step_after};
+ghost use Rattle.plan_replay.specs.Turn.{undoes_many};
+ghost use Rattle.plan_states.specs.Whole.{done_of, has_left, takes_many, uses_next, done_after, are_done_after, is_over, is_at_start, has_map, leads_to, leads_on, states_at, layer_at, IsStateWhole, IsLayerWhole, IsWhole};
 
 use crate::edges::Label;
 use crate::graph::Graph;
 use crate::step_end::EndOfStep;
+use host_commands::Step;
 use plan_replay::step_after;
-use realm_plan::Plan;
+use realm_plan::{Plan, PlanStep};
 use schedule_graph::Edge;
 
 /// How many steps of each build are done.
@@ -61,12 +64,29 @@ fn are_of_left(
     at == edges.len()
 }
 
-// Whether a turn of a build that has done so many steps uses up none, or the next one.
-fn uses_next(ends: &[EndOfStep], done: usize, label: &Label) -> bool
-    ensures { result ≡ uses_next ends.now label.now.build done label.now.end }
+// Whether a step undoes any number of operations, one a turn.
+fn undoes_many(step: &PlanStep) -> bool
+    ensures { result ≡ undoes_many step.now }
+{
+    matches!(step, PlanStep::Whole(Step::Abort | Step::Back))
+}
+
+// Whether a build's step after `done` others may take more turns than one.
+fn takes_many(plan: &Plan, build: usize, done: usize) -> bool
+    ensures { result ≡ takes_many (step_after (plan_view plan.now) build done) }
+{
+    match step_after(plan, build, done) {
+        Some(step) => undoes_many(step),
+        None => false,
+    }
+}
+
+// Whether a turn of a build that has done so many steps uses up the next one, or none if that may take more turns.
+fn uses_next(plan: &Plan, ends: &[EndOfStep], done: usize, label: &Label) -> bool
+    ensures { result ≡ uses_next (plan_view plan.now) ends.now label.now.build done label.now.end }
 {
     let Some(number) = label.end else {
-        return true;
+        return takes_many(plan, label.build, done);
     };
     match ends.get(number) {
         Some(end) => end.build == label.build && end.step == done,
@@ -125,7 +145,7 @@ fn leads_to(
 ) -> bool
     ensures { result ≡ leads_to (plan_view plan.now) ends.now maps done.now label.now then.now }
 {
-    uses_next(ends, done_of(done, label.build), label)
+    uses_next(plan, ends, done_of(done, label.build), label)
         && are_done_after(done, label, then)
         && has_map(maps, is_over(plan, then), label.map)
 }
@@ -242,7 +262,10 @@ fn is_at_start(states: &[Progress]) -> bool
 pub(crate) fn is_whole(plan: &Plan, graph: &Graph) -> bool
     ensures { OnTrue result (IsWhole (plan_view plan.now) graph.now) }
 {
-    if graph.progress.len() != graph.layers.len() || !is_at_start(states_at(graph, 0)) {
+    if graph.progress.len() != graph.layers.len() || graph.maps.is_empty() {
+        return false;
+    }
+    if !is_at_start(states_at(graph, 0)) {
         return false;
     }
     for depth in 0..graph.layers.len() {

@@ -1,0 +1,31 @@
+//! Theorems on the schedules of plans.
+ghost use Rattle.std.specs.Prelude.{◌≡◌, ℕ, Bool, true, false, List, [], All, AllPairs, Contains, map};
+ghost use Rattle.realm_plan.specs.Plan.{Plan};
+ghost use Rattle.plan_states.specs.Schedules.{by_turns, HasSingleTurns, IsRuleOf, IsSchedule};
+ghost use Rattle.plan_states.specs.Tallies.{builds_of_path, is_before, paths_of};
+ghost use Rattle.plan_states.specs.Whole.{IsWhole};
+ghost use Rattle.plan_states.specs.declared.graph.Graph.{Graph};
+
+/// The paths of a whole graph have all schedules, and no other sequence of builds. This holds for any rule that says
+/// which of eight builds have a step left after which turns. If the rule agrees with the graph's paths, each schedule by
+/// it is that of a path, and each path has one.
+pub fn every_schedule_is_a_path()
+    ensures found { (plan : Plan) (graph : Graph) (left : List ℕ → ℕ → Bool) → IsWhole plan graph → IsRuleOf plan graph left
+        → (order : List ℕ) → IsSchedule left [] order → Contains (map builds_of_path (paths_of graph)) order }
+    ensures no_others { (plan : Plan) (graph : Graph) (left : List ℕ → ℕ → Bool) → IsWhole plan graph → IsRuleOf plan graph left
+        → All (IsSchedule left []) (map builds_of_path (paths_of graph)) }
+{}
+
+/// The schedules of the paths of a whole graph rise: a path that comes earlier has the lower build at the first turn at
+/// which they differ. So no two paths have the same schedule, and a count of paths is one of schedules.
+pub fn path_schedules_rise()
+    ensures rise { (plan : Plan) (graph : Graph) → IsWhole plan graph
+        → AllPairs (λ (one other : List ℕ). is_before one other ≡ true) (map builds_of_path (paths_of graph)) }
+    ensures never_twice { (order : List ℕ) → is_before order order ≡ false }
+{}
+
+/// Where a plan has no abort and no way back, each step takes one turn. Then the rule needs no graph: a build has a step
+/// left if it had fewer turns than steps. So the paths of a whole graph are all interleavings of the builds' steps.
+pub fn single_turns_make_a_rule()
+    ensures { (plan : Plan) (graph : Graph) → IsWhole plan graph → HasSingleTurns plan → IsRuleOf plan graph (by_turns plan) }
+{}
