@@ -72,6 +72,11 @@ leads_on plan ends maps done next edge = leads_if_there plan ends maps done edge
 
 -- ---- states
 
+-- the edge is a turn of the build
+abbrev pub is_of_build : ℕ → Option (Edge Label) → Bool
+is_of_build build None = false
+is_of_build build (Some edge) = edge.label.build == build
+
 -- The state has one turn of each build that has a step left, from the lowest build on, and each leads on.
 pub record IsStateWhole (plan : Plan) (ends : List EndOfStep) (maps : ℕ) (done : List ℕ) (next : List (List ℕ)) (edges : List (Edge Label)) : Type 0 where
   pub builds : map (λ edge. edge.label.build) edges ≡ filter (has_left plan done) (range_with_len 0 8)

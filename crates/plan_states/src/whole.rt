@@ -1,11 +1,11 @@
 //! The test that a graph is whole: each state has a turn of each build that has a step left, and each turn leads on.
-ghost use Rattle.std.specs.Prelude.{◌≡◌, ◌↔◌, ◌<◌, ◌^◌, IsTrue, [], map, filter, vec_items, slice_index_or};
+ghost use Rattle.std.specs.Prelude.{◌≡◌, ◌<◌, ◌^◌, [], map, filter, vec_items, slice_get, slice_index_or};
 ghost use Rattle.std.specs.Bool.{OnTrue};
 ghost use Rattle.std.specs.List.{list_all, range_with_len};
 ghost use Rattle.realm_plan.specs.PlanView.{plan_view};
 ghost use Rattle.plan_replay.specs.Run.{step_after};
 ghost use Rattle.plan_replay.specs.Turn.{undoes_many};
-ghost use Rattle.plan_states.specs.Whole.{done_of, has_left, takes_many, uses_next, done_after, are_done_after, is_over, is_at_start, has_map, leads_to, leads_on, states_at, layer_at, IsStateWhole, IsLayerWhole, IsWhole};
+ghost use Rattle.plan_states.specs.Whole.{done_of, has_left, is_of_build, takes_many, uses_next, done_after, are_done_after, is_over, is_at_start, has_map, leads_to, leads_on, states_at, layer_at, IsStateWhole, IsLayerWhole, IsWhole};
 
 use crate::edges::Label;
 use crate::graph::Graph;
@@ -43,6 +43,16 @@ fn has_left(plan: &Plan, done: &Progress, build: usize) -> bool
     step_after(plan, build, done_of(done, build)).is_some()
 }
 
+// Whether there is an edge at a place, and it is a turn of this build.
+fn is_of_build(edges: &[Edge<Label>], at: usize, build: usize) -> bool
+    ensures { result ≡ is_of_build build (slice_get edges.now at) }
+{
+    match edges.get(at) {
+        Some(edge) => edge.label.build == build,
+        None => false,
+    }
+}
+
 // Whether the edges are those of the builds with a step left, one each.
 fn are_of_left(
     plan: &Plan,
@@ -50,12 +60,12 @@ fn are_of_left(
     builds: &[usize],
     edges: &[Edge<Label>],
 ) -> bool
-    ensures { IsTrue result ↔ (map (λ edge. edge.label.build) edges.now ≡ filter (has_left (plan_view plan.now) done.now) builds.now) }
+    ensures { OnTrue result (map (λ edge. edge.label.build) edges.now ≡ filter (has_left (plan_view plan.now) done.now) builds.now) }
 {
     let mut at = 0;
     for build in builds {
         if has_left(plan, done, *build) {
-            if at >= edges.len() || edges[at].label.build != *build {
+            if !is_of_build(edges, at, *build) {
                 return false;
             }
             at += 1;
