@@ -6,4 +6,5 @@ pub mod Unseen
 pub mod BuildsLeft
 pub mod Members
 pub mod Paths
+pub mod StepEnds
 pub mod Schedules

@@ -1,9 +1,10 @@
 -- The schedules of a whole graph's paths: none is missing, none is another one's, and they rise.
-use Rattle.std.proofs.Common.{◌≡◌, ℕ, zero, suc, ◌+◌, ◌<◌, ◌==◌, ◌&&◌, inl, inr, Bool, true, false, cond, List, [], ◌∷◌, ◌++◌, map, length, get_or, drop, All, Option, Some, None, Vec, Global, vec_items, is_some, refl, sym, ap, subst, ◌∙◌, arith, append_assoc, add-one, drop-cons, eqb-true}
-use Rattle.std.specs.Prelude.{AllPairs, Contains, count_by, slice_get}
+use Rattle.std.proofs.Common.{◌≡◌, ℕ, zero, suc, ◌+◌, ◌-◌, ◌<◌, ◌==◌, ◌&&◌, inl, inr, Bool, true, false, cond, List, [], ◌∷◌, ◌++◌, map, length, get_or, drop, All, Option, Some, None, Vec, Global, vec_items, is_some, refl, sym, ap, subst, ◌∙◌, arith, append_assoc, add-one, drop-cons, eqb-true}
+use Rattle.std.specs.Prelude.{AllPairs, Contains, count_by, filter, slice_get}
 use Rattle.std.specs.List.{list_all, range_with_len}
 use Rattle.std.proofs.lemmas.Bool.{and_parts, both_ways, false_from_ne_true}
 use Rattle.std.proofs.lemmas.List.{get_or_past, length-map, map-append}
+use Rattle.std.proofs.lemmas.List.Elements.{filter-append}
 use Rattle.std.proofs.lemmas.List.Sums.{sum_by-cons, sum_by_push}
 use Rattle.std.proofs.lemmas.Option.{slice_get-get_or, slice_get_within, get_or_from_slice_get}
 use Rattle.realm_plan.specs.Plan.{Plan}
@@ -11,13 +12,16 @@ use Rattle.plan_replay.specs.Run.{step_after}
 use Rattle.schedule_graph.specs.First.{layers_in}
 use Rattle.schedule_graph.specs.Paths.{Layer, Path, paths_by_edges, paths}
 use Rattle.schedule_graph.specs.declared.graph.Edge.{Edge}
-use Rattle.plan_states.specs.Schedules.{by_turns, used_by, HasSingleTurns, IsRuleOf, IsSchedule}
+use Rattle.plan_states.specs.Lines.{step_number}
+use Rattle.plan_states.specs.Schedules.{by_turns, end_at, ends_of_path, steps_ended, used_by, HasSingleTurns, IsRuleOf, IsSchedule}
 use Rattle.plan_states.specs.Tallies.{builds_of_path, is_before, layers_of, paths_of}
 use Rattle.plan_states.specs.Whole.{are_done_after, done_after, done_of, has_left, has_map, is_over, layer_at, leads_if_there, leads_on, states_at, takes_many, uses_next, IsStateWhole, IsWhole}
 use Rattle.plan_states.specs.declared.edges.Label.{Label}
 use Rattle.plan_states.specs.declared.graph.Graph.{Graph}
+use Rattle.plan_states.specs.declared.step_end.EndOfStep.{EndOfStep}
 use Rattle.plan_states.proofs.Members.{IsIn, IsMadeOf, in_left, in_map, of_map, in_filter, of_filter, at_list_all, in_range, of_range, in_contains, contains_in, all_in, Pairs, all_pairs, pairs_map, pairs_of_map, pairs_filter, pairs_range}
 use Rattle.plan_states.proofs.Paths.{Rises, in_by_edges, of_by_edges, some_by_edges, rising_by_edges}
+use Rattle.plan_states.proofs.StepEnds.{none_left, more_left, steps_of, turn_ends, steps_join}
 
 -- ---- steps that are used up
 
@@ -328,3 +332,54 @@ module _ (plan : Plan) (graph : Graph) (whole : IsWhole plan graph) where
         (turns_used front build (λ edge there.
         ends_from (length graph.layers.items) 0 0 (front ++ rest) edge (omega arith) (omega arith)
         (in_contains (front ++ rest) (paths_of graph) is) (in_left edge front rest there)))
+
+  -- ---- the steps that paths end
+
+  steps_more : (ends : List EndOfStep) (build : ℕ) (edge : Edge Label) (rest : Path Label)
+      → steps_ended ends build (edge ∷ rest) ≡ steps_of build (end_at ends edge.label.end) ++ steps_ended ends build rest
+  steps_more ends build edge rest =
+      ap (λ (es : List EndOfStep). map (λ (end : EndOfStep). end.step) es)
+      (filter-append (λ (end : EndOfStep). end.build == build) (end_at ends edge.label.end) (ends_of_path ends rest))
+      ∙ map-append (λ (end : EndOfStep). end.step) (filter (λ (end : EndOfStep). end.build == build) (end_at ends edge.label.end))
+      (filter (λ (end : EndOfStep). end.build == build) (ends_of_path ends rest))
+
+  steps_from : (n depth state : ℕ) (path : Path Label) (build : ℕ) → depth + n ≡ length graph.layers.items
+      → state < length (states_at graph depth) → build < 8 → IsIn path (paths_at depth state)
+      → steps_ended graph.ends.items build path
+      ≡ range_with_len (done_of (done_at depth state) build) (step_number plan build - done_of (done_at depth state) build)
+  steps_from zero depth state path build sum inside few is = absurd (none_past depth state (omega arith) inside)
+  steps_from (suc n) depth state path build sum inside few is =
+      let early : depth < length graph.layers.items = omega arith in
+      let done = done_of (done_at depth state) build in
+      elim (of_by_edges (paths_at (depth + 1)) (edges_at depth state) path
+      (subst (λ (ps : List (Path Label)). IsIn path ps) (paths_are depth state early inside) is))
+      as (λ _. steps_ended graph.ends.items build path ≡ range_with_len done (step_number plan build - done)) [
+        | inl end ↦
+            let no = false_from_ne_true (has_left plan (done_at depth state) build) (λ yes.
+                let way = edge_of depth state early inside build few yes in
+                subst (λ (edges : List (Edge Label)). IsIn way.one edges) end.0 way.is_in) in
+            let below = none_left plan build done no in
+            let nothing : 0 ≡ step_number plan build - done = omega arith in
+            ap (λ (p : Path Label). steps_ended graph.ends.items build p) end.1 ∙ ap (range_with_len done) nothing
+        | inr on ↦
+            let own = on.edge.label.build in
+            let to = leads depth state early inside on.edge on.is_in in
+            let it = build_left depth state early inside on.edge on.is_in in
+            let ends = turn_ends plan graph.ends.items build own (done_of (done_at depth state) own) on.edge.label.end to.uses in
+            let later = steps_from n (depth + 1) on.edge.to on.rest build (omega arith) to.inside few on.goes_on in
+            let one = λ (t : (build == own && is_some on.edge.label.end) ≡ true). eqb-true build own (and_parts (build == own) (is_some on.edge.label.end) t).0 in
+            ap (λ (p : Path Label). steps_ended graph.ends.items build p) on.is_path
+            ∙ steps_more graph.ends.items build on.edge on.rest
+            ∙ (λ i. ends i ++ later i)
+            ∙ steps_join (build == own && is_some on.edge.label.end) done (done_of (done_at depth state) own) (done_of (done_at (depth + 1) on.edge.to) build) (step_number plan build)
+            (to.done build few)
+            (λ t. ap (λ (b : ℕ). done_of (done_at depth state) b) (sym (one t)))
+            (λ t. more_left plan build done (subst (λ (b : ℕ). has_left plan (done_at depth state) b ≡ true) (sym (one t)) it.1))
+      ]
+
+  pub each_step_ends : All (λ (path : Path Label). (build : ℕ) → build < 8 → steps_ended graph.ends.items build path ≡ range_with_len 0 (step_number plan build)) (paths_of graph)
+  each_step_ends = all_in (λ (path : Path Label). (build : ℕ) → build < 8 → steps_ended graph.ends.items build path ≡ range_with_len 0 (step_number plan build)) (paths_of graph) (λ path is build few.
+      let first = one_first in
+      let none = none_done build few in
+      steps_from (length graph.layers.items) 0 0 path build (omega arith) (omega arith) few is
+      ∙ (λ i. range_with_len (none i) (step_number plan build - none i)) ∙ ap (range_with_len 0) (sub-zero (step_number plan build)))

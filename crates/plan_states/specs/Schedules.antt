@@ -1,5 +1,6 @@
 -- The schedules of a plan, against the paths of its graph.
-use Rattle.std.specs.Prelude.{◌≡◌, ◌<◌, ◌==◌, ◌&&◌, ℕ, Bool, true, false, List, [], ◌∷◌, ◌++◌, Contains, count_by, is_some}
+use Rattle.std.specs.Prelude.{◌≡◌, ◌<◌, ◌==◌, ◌&&◌, ℕ, Bool, true, false, List, [], ◌∷◌, ◌++◌, map, filter, Contains, count_by, Option, Some, None, is_some, option_to_list, slice_get}
+use Rattle.std.specs.List.{flat_map}
 use Rattle.realm_plan.specs.Plan.{Plan}
 use Rattle.plan_replay.specs.Run.{step_after}
 use Rattle.schedule_graph.specs.Paths.{Path}
@@ -7,6 +8,7 @@ use Rattle.plan_states.specs.Tallies.{builds_of_path, paths_of}
 use Rattle.plan_states.specs.Whole.{takes_many}
 use Rattle.plan_states.specs.declared.edges.Label.{Label}
 use Rattle.plan_states.specs.declared.graph.Graph.{Graph}
+use Rattle.plan_states.specs.declared.step_end.EndOfStep.{EndOfStep}
 
 -- A schedule, by a rule `left` for the builds that have a step left after given turns. Each build that has a turn has a
 -- step left, and no build has one in the end.
@@ -35,3 +37,17 @@ HasSingleTurns plan = (build done : ℕ) → takes_many (step_after plan build d
 -- the rule of such a plan: a build has used up one step in each of its turns
 abbrev pub by_turns : Plan → List ℕ → ℕ → Bool
 by_turns plan before build = is_some (step_after plan build (count_by (λ turn. build == turn) before))
+
+-- ---- the ends of a path
+
+abbrev pub end_at : List EndOfStep → Option ℕ → List EndOfStep
+end_at ends None = []
+end_at ends (Some number) = option_to_list (slice_get ends number)
+
+-- the ends of the steps that turns use up
+abbrev pub ends_of_path : List EndOfStep → Path Label → List EndOfStep
+ends_of_path ends path = flat_map (λ edge. end_at ends edge.label.end) path
+
+-- the steps of a build among them
+abbrev pub steps_ended : List EndOfStep → ℕ → Path Label → List ℕ
+steps_ended ends build path = map (λ end. end.step) (filter (λ end. end.build == build) (ends_of_path ends path))

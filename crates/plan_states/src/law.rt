@@ -1,9 +1,13 @@
 //! Theorems on the schedules of plans.
-ghost use Rattle.std.specs.Prelude.{◌≡◌, ℕ, Bool, true, false, List, [], All, AllPairs, Contains, map};
+ghost use Rattle.std.specs.Prelude.{◌≡◌, ◌<◌, ℕ, Bool, true, false, List, [], All, AllPairs, Contains, map};
+ghost use Rattle.std.specs.List.{range_with_len};
 ghost use Rattle.realm_plan.specs.Plan.{Plan};
-ghost use Rattle.plan_states.specs.Schedules.{by_turns, HasSingleTurns, IsRuleOf, IsSchedule};
+ghost use Rattle.schedule_graph.specs.Paths.{Path};
+ghost use Rattle.plan_states.specs.Lines.{step_number};
+ghost use Rattle.plan_states.specs.Schedules.{by_turns, steps_ended, HasSingleTurns, IsRuleOf, IsSchedule};
 ghost use Rattle.plan_states.specs.Tallies.{builds_of_path, is_before, paths_of};
 ghost use Rattle.plan_states.specs.Whole.{IsWhole};
+ghost use Rattle.plan_states.specs.declared.edges.Label.{Label};
 ghost use Rattle.plan_states.specs.declared.graph.Graph.{Graph};
 
 /// The paths of a whole graph have all schedules, and no other sequence of builds. This holds for any rule that says
@@ -28,4 +32,11 @@ pub fn path_schedules_rise()
 /// left if it had fewer turns than steps. So the paths of a whole graph are all interleavings of the builds' steps.
 pub fn single_turns_make_a_rule()
     ensures { (plan : Plan) (graph : Graph) → IsWhole plan graph → HasSingleTurns plan → IsRuleOf plan graph (by_turns plan) }
+{}
+
+/// Each path of a whole graph ends each step of each build once, in the sequence of the plan.
+pub fn paths_end_each_step()
+    ensures { (plan : Plan) (graph : Graph) → IsWhole plan graph
+        → All (λ (path : Path Label). (build : ℕ) → build < 8 → steps_ended graph.ends.items build path ≡ range_with_len 0 (step_number plan build))
+        (paths_of graph) }
 {}
