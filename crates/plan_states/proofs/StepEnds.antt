@@ -2,7 +2,7 @@
 use Rattle.std.proofs.Common.{◌≡◌, ℕ, suc, ◌+◌, ◌-◌, ◌<◌, ◌≤◌, ◌==◌, ◌&&◌, inl, inr, Bool, true, false, cond, List, [], ◌∷◌, ◌++◌, map, length, Option, Some, None, is_some, refl, sym, ap, ◌∙◌, arith, eqb-true, eq-eqb, ne_eqb}
 use Rattle.std.specs.Prelude.{filter, option_and_then, option_map, option_to_list, slice_get, unwrap_or}
 use Rattle.std.specs.List.{range_with_len}
-use Rattle.std.proofs.lemmas.Bool.{and_parts, cases_eq}
+use Rattle.std.proofs.lemmas.Bool.{and_parts, both_ways, cases_eq}
 use Rattle.std.proofs.lemmas.Option.{slice_get_cases}
 use Rattle.realm_plan.specs.Plan.{Plan}
 use Rattle.realm_plan.specs.declared.step.PlanStep.{PlanStep}
@@ -17,7 +17,7 @@ use Rattle.plan_states.specs.declared.step_end.EndOfStep.{EndOfStep}
 none_by : (o : Option (List PlanStep)) (k : ℕ) → is_some (option_and_then (λ steps. slice_get steps k) o) ≡ false → unwrap_or (option_map length o) 0 ≤ k
 none_by None k none = omega arith
 none_by (Some steps) k none = elim (slice_get_cases steps k).1 as (λ _. length steps ≤ k) [
-  | inl it ↦ (let some = it.2 in absurd cc)
+  | inl it ↦ absurd (both_ways (is_some (slice_get steps k)) none (ap (λ (o : Option PlanStep). is_some o) it.2))
   | inr it ↦ it.0
 ]
 
@@ -25,7 +25,7 @@ more_by : (o : Option (List PlanStep)) (k : ℕ) → is_some (option_and_then (�
 more_by None k more = absurd cc
 more_by (Some steps) k more = elim (slice_get_cases steps k).1 as (λ _. k < length steps) [
   | inl it ↦ it.1
-  | inr it ↦ (let none = it.1 in absurd cc)
+  | inr it ↦ absurd (both_ways (is_some (slice_get steps k)) (ap (λ (o : Option PlanStep). is_some o) it.1) more)
 ]
 
 pub none_left : (plan : Plan) (build k : ℕ) → is_some (step_after plan build k) ≡ false → step_number plan build ≤ k
