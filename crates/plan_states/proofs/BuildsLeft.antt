@@ -25,7 +25,7 @@ pub left_more :
     (left : ℕ → Bool) (builds : List ℕ) (i : ℕ) (edges : List (Edge Label)) (at : ℕ)
     → i < length builds → left (get_or builds i 0) ≡ true → is_of_build (get_or builds i 0) (slice_get edges at) ≡ true
     → builds_in (take at edges) ≡ filter left (take i builds) → builds_in (take (at + 1) edges) ≡ filter left (take (i + 1) builds)
-left_more left builds i edges at less yes is same = there (slice_get edges at) refl is
+left_more left builds i edges at less holds is same = there (slice_get edges at) refl is
   where
     there : (o : Option (Edge Label)) → slice_get edges at ≡ o → is_of_build (get_or builds i 0) o ≡ true
         → builds_in (take (at + 1) edges) ≡ filter left (take (i + 1) builds)
@@ -36,15 +36,15 @@ left_more left builds i edges at less yes is same = there (slice_get edges at) r
         ap builds_in (take_more edges at edge (slice_get_within edges at edge some))
         ∙ map-append (λ (e : Edge Label). e.label.build) (take at edges) (get_or edges at edge ∷ [])
         ∙ (λ j. same j ++ build j ∷ [])
-        ∙ sym (filter_more left builds i 0 less ∙ ap (λ (t : Bool). filter left (take i builds) ++ cond t (get_or builds i 0 ∷ []) []) yes)
+        ∙ sym (filter_more left builds i 0 less ∙ ap (λ (t : Bool). filter left (take i builds) ++ cond t (get_or builds i 0 ∷ []) []) holds)
 
 -- a build without one has none
 pub over_more :
     (left : ℕ → Bool) (builds : List ℕ) (i : ℕ) (these : List ℕ) → i < length builds → left (get_or builds i 0) ≡ false
     → these ≡ filter left (take i builds) → these ≡ filter left (take (i + 1) builds)
-over_more left builds i these less no same =
+over_more left builds i these less fails same =
     same
-    ∙ sym (filter_more left builds i 0 less ∙ ap (λ (t : Bool). filter left (take i builds) ++ cond t (get_or builds i 0 ∷ []) []) no
+    ∙ sym (filter_more left builds i 0 less ∙ ap (λ (t : Bool). filter left (take i builds) ++ cond t (get_or builds i 0 ∷ []) []) fails
     ∙ append-nil (filter left (take i builds)))
 
 pub all_left :

@@ -73,7 +73,7 @@ module _ (plan : Plan) (graph : Graph) (whole : IsWhole plan graph) where
 
   module _ (depth state : ℕ) (early : depth < length graph.layers.items) (inside : state < length (states_at graph depth)) where
     is_state : IsStateWhole plan graph.ends.items (length graph.maps.items) (done_at depth state) (states_at graph (depth + 1)) (edges_at depth state)
-    is_state = (whole.layers depth early).states state inside
+    is_state = (whole.layers depth early).each state inside
 
     edges_are : slice_get (get_or (layers_of graph) depth []) state ≡ Some (edges_at depth state)
     edges_are =
@@ -261,8 +261,8 @@ module _ (plan : Plan) (graph : Graph) (whole : IsWhole plan graph) where
         (subst (λ (ps : List (Path Label)). IsIn path ps) (paths_are depth state early reached.inside) is))
         as (λ _. IsSchedule left (builds_of_path before) (builds_of_path path)) [
           | inl end ↦ subst (λ (p : Path Label). IsSchedule left (builds_of_path before) (builds_of_path p)) (sym end.1)
-              (λ build few. here build few ∙ false_from_ne_true (has_left plan (done_at depth state) build) (λ yes.
-              let way = edge_of depth state early reached.inside build few yes in
+              (λ build few. here build few ∙ false_from_ne_true (has_left plan (done_at depth state) build) (λ holds.
+              let way = edge_of depth state early reached.inside build few holds in
               subst (λ (edges : List (Edge Label)). IsIn way.one edges) end.0 way.is_in))
           | inr on ↦
               let it = build_left depth state early reached.inside on.edge on.is_in in
@@ -312,9 +312,9 @@ module _ (plan : Plan) (graph : Graph) (whole : IsWhole plan graph) where
         ]
 
     both_count : (t s : Bool) (n m : ℕ) → s ≡ true → n ≡ m → cond t 1 0 + n ≡ cond (t && s) 1 0 + m
-    both_count true true n m yes same = omega arith
-    both_count false true n m yes same = omega arith
-    both_count t false n m yes same = absurd cc
+    both_count true true n m holds same = omega arith
+    both_count false true n m holds same = omega arith
+    both_count t false n m holds same = absurd cc
 
     turns_used : (front : Path Label) (build : ℕ) → ((edge : Edge Label) → IsIn edge front → is_some edge.label.end ≡ true)
         → count_by (λ (turn : ℕ). build == turn) (builds_of_path front) ≡ used_by front build
@@ -356,10 +356,10 @@ module _ (plan : Plan) (graph : Graph) (whole : IsWhole plan graph) where
       (subst (λ (ps : List (Path Label)). IsIn path ps) (paths_are depth state early inside) is))
       as (λ _. steps_ended graph.ends.items build path ≡ range_with_len done (step_number plan build - done)) [
         | inl end ↦
-            let no = false_from_ne_true (has_left plan (done_at depth state) build) (λ yes.
-                let way = edge_of depth state early inside build few yes in
+            let fails = false_from_ne_true (has_left plan (done_at depth state) build) (λ holds.
+                let way = edge_of depth state early inside build few holds in
                 subst (λ (edges : List (Edge Label)). IsIn way.one edges) end.0 way.is_in) in
-            let below = none_left plan build done no in
+            let below = none_left plan build done fails in
             let nothing : 0 ≡ step_number plan build - done = omega arith in
             ap (λ (p : Path Label). steps_ended graph.ends.items build p) end.1 ∙ ap (range_with_len done) nothing
         | inr on ↦

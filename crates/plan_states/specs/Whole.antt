@@ -49,7 +49,7 @@ abbrev pub done_after : List ℕ → Label → ℕ → ℕ
 done_after done label build = if build == label.build && is_some label.end then done_of done build + 1 else done_of done build
 
 abbrev pub are_done_after : List ℕ → Label → List ℕ → Bool
-are_done_after done label then = list_all (λ build. done_of then build == done_after done label build) (range_with_len 0 8)
+are_done_after done label after = list_all (λ build. done_of after build == done_after done label build) (range_with_len 0 8)
 
 -- a turn has a map, one of so many, exactly where no build has a step left
 abbrev pub has_map : ℕ → Bool → Option ℕ → Bool
@@ -58,13 +58,13 @@ has_map maps over (Some number) = over && nat_lt number maps
 
 -- a turn from one state leads to the other, by their progress
 abbrev pub leads_to : Plan → List EndOfStep → ℕ → List ℕ → Label → List ℕ → Bool
-leads_to plan ends maps done label then =
+leads_to plan ends maps done label after =
     uses_next plan ends label.build (done_of done label.build) label.end
-    && (are_done_after done label then && has_map maps (is_over plan then) label.map)
+    && (are_done_after done label after && has_map maps (is_over plan after) label.map)
 
 abbrev pub leads_if_there : Plan → List EndOfStep → ℕ → List ℕ → Label → Option (List ℕ) → Bool
 leads_if_there plan ends maps done label None = false
-leads_if_there plan ends maps done label (Some then) = leads_to plan ends maps done label then
+leads_if_there plan ends maps done label (Some after) = leads_to plan ends maps done label after
 
 -- an edge leads to a state of the next layer
 abbrev pub leads_on : Plan → List EndOfStep → ℕ → List ℕ → List (List ℕ) → Edge Label → Bool
@@ -84,7 +84,7 @@ pub record IsStateWhole (plan : Plan) (ends : List EndOfStep) (maps : ℕ) (done
 
 pub record IsLayerWhole (plan : Plan) (ends : List EndOfStep) (maps : ℕ) (states next : List (List ℕ)) (layer : List (Vec (Edge Label) Global)) : Type 0 where
   pub as_many : length states ≡ length layer
-  pub states : (place : ℕ) → place < length states
+  pub each : (place : ℕ) → place < length states
       → IsStateWhole plan ends maps (slice_index_or states place []) next (slice_index_or (map vec_items layer) place [])
 
 -- the states of a layer, by their progress
