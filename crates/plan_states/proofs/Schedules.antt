@@ -97,7 +97,7 @@ module _ (plan : Plan) (graph : Graph) (whole : IsWhole plan graph) where
         → (edge.label.build < 8) × (has_left plan (done_at depth state) edge.label.build ≡ true)
     build_left edge is =
         let it = of_filter (has_left plan (done_at depth state)) edge.label.build (range_with_len 0 8)
-            (subst (λ (builds : List ℕ). IsIn edge.label.build builds) is_state.builds (in_map (λ (e : Edge Label). e.label.build) edge (edges_at depth state) is)) in
+        (subst (λ (builds : List ℕ). IsIn edge.label.build builds) is_state.builds (in_map (λ (e : Edge Label). e.label.build) edge (edges_at depth state) is)) in
         ((of_range 0 8 edge.label.build it.0).1, it.1)
 
     edge_of : (build : ℕ) → build < 8 → has_left plan (done_at depth state) build ≡ true
@@ -124,7 +124,7 @@ module _ (plan : Plan) (graph : Graph) (whole : IsWhole plan graph) where
         at (Some then) there goes =
             let done = done_at depth state in
             let first = and_parts (uses_next plan graph.ends.items edge.label.build (done_of done edge.label.build) edge.label.end)
-                (are_done_after done edge.label then && has_map (length graph.maps.items) (is_over plan then) edge.label.map) goes in
+            (are_done_after done edge.label then && has_map (length graph.maps.items) (is_over plan then) edge.label.map) goes in
             let second = and_parts (are_done_after done edge.label then) (has_map (length graph.maps.items) (is_over plan then) edge.label.map) first.1 in
             record {
               inside = slice_get_within (states_at graph (depth + 1)) edge.to then there;
@@ -242,8 +242,8 @@ module _ (plan : Plan) (graph : Graph) (whole : IsWhole plan graph) where
         let early : depth < length graph.layers.items = omega arith in
         let way = edge_of depth state early reached.inside build is.0 (sym (rule_here (suc n) before depth state sum reached build is.0) ∙ is.1) in
         let later = found_from n (before ++ way.one ∷ []) (depth + 1) way.one.to order (omega arith) (reached_next before depth state early reached way.one way.is_in)
-            (subst (λ (builds : List ℕ). IsSchedule left builds order)
-            (sym (builds_more before way.one ∙ ap (λ (b : ℕ). builds_of_path before ++ b ∷ []) way.made)) is.2) in
+        (subst (λ (builds : List ℕ). IsSchedule left builds order)
+        (sym (builds_more before way.one ∙ ap (λ (b : ℕ). builds_of_path before ++ b ∷ []) way.made)) is.2) in
         record {
           path = way.one ∷ later.path;
           is_in = subst (λ (ps : List (Path Label)). IsIn (way.one ∷ later.path) ps) (sym (paths_are depth state early reached.inside))
@@ -270,8 +270,8 @@ module _ (plan : Plan) (graph : Graph) (whole : IsWhole plan graph) where
                 it.0,
                 here on.edge.label.build it.0 ∙ it.1,
                 subst (λ (builds : List ℕ). IsSchedule left builds (builds_of_path on.rest)) (builds_more before on.edge)
-                (schedule_from n (before ++ on.edge ∷ []) (depth + 1) on.edge.to on.rest (omega arith)
-                (reached_next before depth state early reached on.edge on.is_in) on.goes_on),
+                    (schedule_from n (before ++ on.edge ∷ []) (depth + 1) on.edge.to on.rest (omega arith)
+                    (reached_next before depth state early reached on.edge on.is_in) on.goes_on),
               )
         ]
 
@@ -357,8 +357,8 @@ module _ (plan : Plan) (graph : Graph) (whole : IsWhole plan graph) where
       as (λ _. steps_ended graph.ends.items build path ≡ range_with_len done (step_number plan build - done)) [
         | inl end ↦
             let fails = false_from_ne_true (has_left plan (done_at depth state) build) (λ holds.
-                let way = edge_of depth state early inside build few holds in
-                subst (λ (edges : List (Edge Label)). IsIn way.one edges) end.0 way.is_in) in
+            let way = edge_of depth state early inside build few holds in
+            subst (λ (edges : List (Edge Label)). IsIn way.one edges) end.0 way.is_in) in
             let below = none_left plan build done fails in
             let nothing : 0 ≡ step_number plan build - done = omega arith in
             ap (λ (p : Path Label). steps_ended graph.ends.items build p) end.1 ∙ ap (range_with_len done) nothing

@@ -23,9 +23,12 @@ has_left plan done build = is_some (step_after plan build (done_of done build))
 abbrev pub is_over : Plan → List ℕ → Bool
 is_over plan done = list_all (λ build. not (has_left plan done build)) (range_with_len 0 8)
 
+abbrev pub is_fresh : List ℕ → Bool
+is_fresh done = list_all (λ build. done_of done build == 0) (range_with_len 0 8)
+
 -- one state, in which no step is done
 abbrev pub is_at_start : List (List ℕ) → Bool
-is_at_start states = length states == 1 && list_all (λ build. done_of (slice_index_or states 0 []) build == 0) (range_with_len 0 8)
+is_at_start states = length states == 1 && is_fresh (slice_index_or states 0 [])
 
 -- ---- turns
 

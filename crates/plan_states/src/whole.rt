@@ -5,7 +5,7 @@ ghost use Rattle.std.specs.List.{list_all, range_with_len};
 ghost use Rattle.realm_plan.specs.PlanView.{plan_view};
 ghost use Rattle.plan_replay.specs.Run.{step_after};
 ghost use Rattle.plan_replay.specs.Turn.{undoes_many};
-ghost use Rattle.plan_states.specs.Whole.{done_of, has_left, is_of_build, takes_many, uses_next, done_after, are_done_after, is_over, is_at_start, has_map, leads_to, leads_on, states_at, layer_at, IsStateWhole, IsLayerWhole, IsWhole};
+ghost use Rattle.plan_states.specs.Whole.{done_of, has_left, is_of_build, takes_many, uses_next, done_after, are_done_after, is_over, is_fresh, is_at_start, has_map, leads_to, leads_on, states_at, layer_at, IsStateWhole, IsLayerWhole, IsWhole};
 
 use crate::edges::Label;
 use crate::graph::Graph;
@@ -54,12 +54,7 @@ fn is_of_build(edges: &[Edge<Label>], at: usize, build: usize) -> bool
 }
 
 // Whether the edges are those of the builds with a step left, one each.
-fn are_of_left(
-    plan: &Plan,
-    done: &Progress,
-    builds: &[usize],
-    edges: &[Edge<Label>],
-) -> bool
+fn are_of_left(plan: &Plan, done: &Progress, builds: &[usize], edges: &[Edge<Label>]) -> bool
     ensures { OnTrue result (map (λ edge. edge.label.build) edges.now ≡ filter (has_left (plan_view plan.now) done.now) builds.now) }
 {
     let mut at = 0;
@@ -121,9 +116,7 @@ fn are_done_after(done: &Progress, label: &Label, then: &Progress) -> bool
     ensures { result ≡ are_done_after done.now label.now then.now }
 {
     let builds = all_builds();
-    builds
-        .iter()
-        .all(|build| done_of(then, *build) == done_after(done, label, *build))
+    builds.iter().all(|build| done_of(then, *build) == done_after(done, label, *build))
 }
 
 // Whether no build has a step left.
@@ -177,6 +170,22 @@ fn leads_on(
     }
 }
 
+// Whether each edge leads to a state of the next layer that fits its turn.
+fn all_lead_on(
+    plan: &Plan,
+    ends: &[EndOfStep],
+    maps: usize,
+    done: &Progress,
+    next: &[Progress],
+    edges: &[Edge<Label>],
+) -> bool
+    ensures { result ≡ list_all (leads_on (plan_view plan.now) ends.now maps done.now next.now) edges.now }
+{
+    edges
+        .iter()
+        .all(|edge| leads_on(plan, ends, maps, done, next, edge))
+}
+
 // Whether a state has a turn of each build that has a step left, and each leads on.
 fn is_state_whole(
     plan: &Plan,
@@ -192,9 +201,7 @@ fn is_state_whole(
     if !are_of_left(plan, done, &builds, edges) {
         return false;
     }
-    edges
-        .iter()
-        .all(|edge| leads_on(plan, ends, maps, done, next, edge))
+    all_lead_on(plan, ends, maps, done, next, edges)
 }
 
 // The edges of a state; none if there is no such state.
@@ -257,13 +264,20 @@ fn ends_of(graph: &Graph) -> &[EndOfStep]
     &graph.ends
 }
 
+// Whether no step is done.
+fn is_fresh(done: &Progress) -> bool
+    ensures { result ≡ is_fresh done.now }
+{
+    let builds = all_builds();
+    builds.iter().all(|build| done_of(done, *build) == 0)
+}
+
 // Whether this is the one state in which no step is done.
 fn is_at_start(states: &[Progress]) -> bool
     ensures { result ≡ is_at_start states.now }
 {
-    let builds = all_builds();
     match states.get(0) {
-        Some(done) => states.len() == 1 && builds.iter().all(|build| done_of(done, *build) == 0),
+        Some(done) => states.len() == 1 && is_fresh(done),
         None => false,
     }
 }
