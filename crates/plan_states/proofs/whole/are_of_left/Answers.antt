@@ -1,4 +1,4 @@
-use Rattle.std.proofs.Common.{◌≡◌, ℕ, ◌+◌, map, get_or, take, sym, subst, arith}
+use Rattle.std.proofs.Common.{◌≡◌, ℕ, ◌+◌, get_or, take, sym, subst, arith}
 use Rattle.std.specs.Prelude.{filter}
 use Rattle.realm_plan.specs.PlanView.{plan_view}
 use Rattle.plan_states.specs.Whole.{has_left}
