@@ -84,6 +84,12 @@ of_filter p x (y ∷ xs) is =
       | false ↦ λ fails here. let it = of_filter p x xs here in (inr it.0, it.1)
     ] refl is
 
+-- tests that agree at each member keep the same
+pub filter_alike : {X : Type 0} (p q : X → Bool) (xs : List X) → ((x : X) → IsIn x xs → p x ≡ q x) → filter p xs ≡ filter q xs
+filter_alike p q [] each = refl
+filter_alike p q (x ∷ xs) each =
+    let rest = filter_alike p q xs (λ y is. each y (inr is)) in λ i. cond (each x (inl refl) i) (x ∷ rest i) (rest i)
+
 pub at_list_all : {X : Type 0} (p : X → Bool) (x : X) (xs : List X) → list_all p xs ≡ true → IsIn x xs → p x ≡ true
 at_list_all p x [] all is = absurd is
 at_list_all p x (y ∷ xs) all (inl same) = ap p (sym same) ∙ (and_parts (p y) (list_all p xs) all).0

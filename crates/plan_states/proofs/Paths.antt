@@ -1,10 +1,12 @@
 -- The paths from a state, by those of the states that its edges lead to.
-use Rattle.std.proofs.Common.{◌≡◌, ℕ, ◌<◌, ◌==◌, ◌⊎◌, inl, inr, true, false, List, [], ◌∷◌, map, refl, sym, subst, ◌∙◌, arith, ne_eqb, eq-eqb, lt-ltb}
+use Rattle.std.proofs.Common.{◌≡◌, ℕ, ◌<◌, ◌==◌, ◌⊎◌, inl, inr, true, false, List, [], ◌∷◌, ◌++◌, map, refl, sym, ap, subst, ◌∙◌, arith, ne_eqb, eq-eqb, lt-ltb}
 use Rattle.std.specs.Prelude.{nat_lt}
 use Rattle.std.specs.List.{flat_map}
 use Rattle.std.proofs.lemmas.Bool.{cond-true, cond-false}
+use Rattle.std.proofs.lemmas.List.{map-append}
 use Rattle.schedule_graph.specs.Paths.{Path, paths_by_edges}
 use Rattle.schedule_graph.specs.declared.graph.Edge.{Edge}
+use Rattle.plan_states.specs.Schedules.{by_builds}
 use Rattle.plan_states.specs.Tallies.{builds_of_path, is_before}
 use Rattle.plan_states.specs.declared.edges.Label.{Label}
 use Rattle.plan_states.proofs.Members.{IsIn, in_map, of_map, in_flat_map, of_flat_map, Pairs, pairs_append, pairs_map, pairs_weaker}
@@ -30,6 +32,11 @@ rises_here edge higher one other less =
     cond-false (edge.label.build == higher.label.build) (is_before (builds_of_path one) (builds_of_path other)) (nat_lt edge.label.build higher.label.build)
     (ne_eqb edge.label.build higher.label.build (λ same. omega arith))
     ∙ lt-ltb edge.label.build higher.label.build less
+
+builds_on : (edge : Edge Label) (ps : List (Path Label))
+    → map builds_of_path (map (λ (path : Path Label). edge ∷ path) ps) ≡ map (λ (order : List ℕ). edge.label.build ∷ order) (map builds_of_path ps)
+builds_on edge [] = refl
+builds_on edge (path ∷ ps) = λ i. (edge.label.build ∷ builds_of_path path) ∷ builds_on edge ps i
 
 -- ---- paths by edges
 
@@ -65,6 +72,25 @@ module _ (next : ℕ → List (Path Label)) where
   some_by_edges [] each = ([], inl refl)
   some_by_edges (edge ∷ edges) each =
       let it = each edge (inl refl) in (edge ∷ it.0, in_by_edges (edge ∷ edges) edge it.0 (inl refl) it.1)
+
+  -- ---- the schedules of paths
+
+  module _ (after : ℕ → List (List ℕ)) where
+    schedules_by_each : (edges : List (Edge Label))
+        → ((edge : Edge Label) → IsIn edge edges → map builds_of_path (next edge.to) ≡ after edge.label.build)
+        → map builds_of_path (flat_map by_edge edges)
+        ≡ flat_map (λ (build : ℕ). map (λ (order : List ℕ). build ∷ order) (after build)) (map (λ (edge : Edge Label). edge.label.build) edges)
+    schedules_by_each [] each = refl
+    schedules_by_each (edge ∷ edges) each =
+        let first = builds_on edge (next edge.to) ∙ ap (map (λ (order : List ℕ). edge.label.build ∷ order)) (each edge (inl refl)) in
+        let rest = schedules_by_each edges (λ other is. each other (inr is)) in
+        map-append builds_of_path (by_edge edge) (flat_map by_edge edges) ∙ (λ i. first i ++ rest i)
+
+    pub schedules_by_edges : (edges : List (Edge Label))
+        → ((edge : Edge Label) → IsIn edge edges → map builds_of_path (next edge.to) ≡ after edge.label.build)
+        → map builds_of_path (paths_by_edges next edges) ≡ by_builds after (map (λ (edge : Edge Label). edge.label.build) edges)
+    schedules_by_edges [] each = refl
+    schedules_by_edges (edge ∷ edges) each = schedules_by_each (edge ∷ edges) each
 
   -- ---- paths that rise
 

@@ -1,5 +1,5 @@
 -- The schedules of a whole graph's paths: none is missing, none is another one's, and they rise.
-use Rattle.std.proofs.Common.{◌≡◌, ℕ, zero, suc, ◌+◌, ◌-◌, ◌<◌, ◌==◌, ◌&&◌, inl, inr, Bool, true, false, cond, List, [], ◌∷◌, ◌++◌, map, length, get_or, drop, All, Option, Some, None, Vec, Global, vec_items, is_some, refl, sym, ap, subst, ◌∙◌, arith, append_assoc, add-one, drop-cons, eqb-true}
+use Rattle.std.proofs.Common.{◌≡◌, ℕ, zero, suc, ◌+◌, ◌-◌, ◌<◌, ◌≤◌, ◌==◌, ◌&&◌, inl, inr, Bool, true, false, cond, List, [], ◌∷◌, ◌++◌, map, length, get_or, drop, All, Option, Some, None, Vec, Global, vec_items, is_some, refl, sym, ap, subst, ◌∙◌, arith, append_assoc, add-one, drop-cons, eqb-true}
 use Rattle.std.specs.Prelude.{AllPairs, Contains, count_by, filter, slice_get}
 use Rattle.std.specs.List.{list_all, range_with_len}
 use Rattle.std.proofs.Math.Nat.{sub-zero}
@@ -14,14 +14,14 @@ use Rattle.schedule_graph.specs.First.{layers_in}
 use Rattle.schedule_graph.specs.Paths.{Layer, Path, paths_by_edges, paths}
 use Rattle.schedule_graph.specs.declared.graph.Edge.{Edge}
 use Rattle.plan_states.specs.Lines.{step_number}
-use Rattle.plan_states.specs.Schedules.{by_turns, end_at, ends_of_path, steps_ended, used_by, HasSingleTurns, IsRuleOf, IsSchedule}
+use Rattle.plan_states.specs.Schedules.{by_builds, by_turns, end_at, ends_of_path, schedules_after, steps_ended, used_by, HasSingleTurns, IsRuleOf, IsSchedule}
 use Rattle.plan_states.specs.Tallies.{builds_of_path, is_before, layers_of, paths_of}
 use Rattle.plan_states.specs.Whole.{are_done_after, done_after, done_of, has_left, has_map, is_over, layer_at, leads_if_there, leads_on, states_at, takes_many, uses_next, IsStateWhole, IsWhole}
 use Rattle.plan_states.specs.declared.edges.Label.{Label}
 use Rattle.plan_states.specs.declared.graph.Graph.{Graph}
 use Rattle.plan_states.specs.declared.step_end.EndOfStep.{EndOfStep}
-use Rattle.plan_states.proofs.Members.{IsIn, IsMadeOf, in_left, in_map, of_map, in_filter, of_filter, at_list_all, in_range, of_range, in_contains, contains_in, all_in, Pairs, all_pairs, pairs_map, pairs_of_map, pairs_filter, pairs_range}
-use Rattle.plan_states.proofs.Paths.{Rises, in_by_edges, of_by_edges, some_by_edges, rising_by_edges}
+use Rattle.plan_states.proofs.Members.{IsIn, IsMadeOf, in_left, in_map, of_map, in_filter, of_filter, filter_alike, at_list_all, in_range, of_range, in_contains, contains_in, all_in, Pairs, all_pairs, pairs_map, pairs_of_map, pairs_filter, pairs_range}
+use Rattle.plan_states.proofs.Paths.{Rises, in_by_edges, of_by_edges, some_by_edges, rising_by_edges, schedules_by_edges}
 use Rattle.plan_states.proofs.StepEnds.{none_left, more_left, steps_of, turn_ends, steps_join}
 
 -- ---- steps that are used up
@@ -228,6 +228,14 @@ module _ (plan : Plan) (graph : Graph) (whole : IsWhole plan graph) where
         rule before some.0 (reached.goes_on some.0 some.1) build few
         ∙ sym (ap (λ (done : ℕ). is_some (step_after plan build done)) (reached.done build few))
 
+    builds_by_rule : (n : ℕ) (before : Path Label) (depth state : ℕ) → depth + n ≡ length graph.layers.items → (early : depth < length graph.layers.items)
+        → (reached : IsReachedBy before depth state)
+        → map (λ (e : Edge Label). e.label.build) (edges_at depth state) ≡ filter (left (builds_of_path before)) (range_with_len 0 8)
+    builds_by_rule n before depth state sum early reached =
+        (is_state depth state early reached.inside).builds
+        ∙ filter_alike (has_left plan (done_at depth state)) (left (builds_of_path before)) (range_with_len 0 8) (λ build is.
+        sym (rule_here n before depth state sum reached build (of_range 0 8 build is).1))
+
     found_from : (n : ℕ) (before : Path Label) (depth state : ℕ) (order : List ℕ) → depth + n ≡ length graph.layers.items
         → IsReachedBy before depth state → IsSchedule left (builds_of_path before) order → IsFoundIn (paths_at depth state) order
     found_from zero before depth state order sum reached is = absurd (none_past depth state (omega arith) reached.inside)
@@ -280,6 +288,29 @@ module _ (plan : Plan) (graph : Graph) (whole : IsWhole plan graph) where
         let it = found_from (length graph.layers.items) [] 0 0 order (omega arith) reached_first is in
         contains_in order (map builds_of_path (paths_of graph))
         (subst (λ (builds : List ℕ). IsIn builds (map builds_of_path (paths_of graph))) it.builds (in_map builds_of_path it.path (paths_of graph) it.is_in))
+
+    abbrev goes_on_by : ℕ → List ℕ → ℕ → List (List ℕ)
+    goes_on_by most before build = schedules_after left most (before ++ build ∷ [])
+
+    list_from : (n most : ℕ) (before : Path Label) (depth state : ℕ) → depth + n ≡ length graph.layers.items → n ≤ most + 1
+        → IsReachedBy before depth state → map builds_of_path (paths_at depth state) ≡ schedules_after left most (builds_of_path before)
+    list_from zero most before depth state sum within reached = absurd (none_past depth state (omega arith) reached.inside)
+    list_from (suc n) zero before depth state sum within reached =
+        let early : depth < length graph.layers.items = omega arith in
+        ap (map builds_of_path) (paths_are depth state early reached.inside)
+        ∙ schedules_by_edges (paths_at (depth + 1)) (λ build. []) (edges_at depth state) (λ edge is.
+        absurd (none_past (depth + 1) edge.to (omega arith) (leads depth state early reached.inside edge is).inside))
+        ∙ ap (by_builds (λ build. [])) (builds_by_rule (suc n) before depth state sum early reached)
+    list_from (suc n) (suc most) before depth state sum within reached =
+        let early : depth < length graph.layers.items = omega arith in
+        ap (map builds_of_path) (paths_are depth state early reached.inside)
+        ∙ schedules_by_edges (paths_at (depth + 1)) (goes_on_by most (builds_of_path before)) (edges_at depth state) (λ edge is.
+        list_from n most (before ++ edge ∷ []) (depth + 1) edge.to (omega arith) (omega arith) (reached_next before depth state early reached edge is)
+        ∙ ap (schedules_after left most) (builds_more before edge))
+        ∙ ap (by_builds (goes_on_by most (builds_of_path before))) (builds_by_rule (suc n) before depth state sum early reached)
+
+    pub list_of_schedules : (most : ℕ) → length graph.layers.items ≤ most + 1 → map builds_of_path (paths_of graph) ≡ schedules_after left most []
+    list_of_schedules most within = list_from (length graph.layers.items) most [] 0 0 (omega arith) within reached_first
 
     pub paths_are_schedules : All (IsSchedule left []) (map builds_of_path (paths_of graph))
     paths_are_schedules = all_in (IsSchedule left []) (map builds_of_path (paths_of graph)) (λ order is.

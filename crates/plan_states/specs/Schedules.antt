@@ -1,6 +1,6 @@
 -- The schedules of a plan, against the paths of its graph.
-use Rattle.std.specs.Prelude.{◌≡◌, ◌<◌, ◌==◌, ◌&&◌, ℕ, Bool, true, false, List, [], ◌∷◌, ◌++◌, map, filter, Contains, count_by, Option, Some, None, is_some, option_to_list, slice_get}
-use Rattle.std.specs.List.{flat_map}
+use Rattle.std.specs.Prelude.{◌≡◌, ◌<◌, ◌==◌, ◌&&◌, ℕ, zero, suc, Bool, true, false, List, [], ◌∷◌, ◌++◌, map, filter, Contains, count_by, Option, Some, None, is_some, option_to_list, slice_get}
+use Rattle.std.specs.List.{flat_map, range_with_len}
 use Rattle.realm_plan.specs.Plan.{Plan}
 use Rattle.plan_replay.specs.Run.{step_after}
 use Rattle.schedule_graph.specs.Paths.{Path}
@@ -15,6 +15,17 @@ use Rattle.plan_states.specs.declared.step_end.EndOfStep.{EndOfStep}
 abbrev pub IsSchedule : (List ℕ → ℕ → Bool) → List ℕ → List ℕ → Type 0
 IsSchedule left before [] = (build : ℕ) → build < 8 → left before build ≡ false
 IsSchedule left before (build ∷ order) = (build < 8) × (left before build ≡ true) × IsSchedule left (before ++ build ∷ []) order
+
+-- Each of these builds may have the turn, and the schedule goes on after it. It ends where there is none.
+abbrev pub by_builds : (ℕ → List (List ℕ)) → List ℕ → List (List ℕ)
+by_builds next [] = [] ∷ []
+by_builds next (build ∷ builds) = flat_map (λ b. map (λ order. b ∷ order) (next b)) (build ∷ builds)
+
+-- all schedules by a rule after given turns, of at most so many turns more; the lowest comes first
+abbrev pub schedules_after : (List ℕ → ℕ → Bool) → ℕ → List ℕ → List (List ℕ)
+schedules_after left zero before = by_builds (λ build. []) (filter (left before) (range_with_len 0 8))
+schedules_after left (suc most) before =
+    by_builds (λ build. schedules_after left most (before ++ build ∷ [])) (filter (left before) (range_with_len 0 8))
 
 -- ---- rules of a graph
 

@@ -1,10 +1,10 @@
 //! Theorems on the schedules of plans.
-ghost use Rattle.std.specs.Prelude.{◌≡◌, ◌<◌, ℕ, Bool, true, false, List, [], All, AllPairs, Contains, map};
+ghost use Rattle.std.specs.Prelude.{◌≡◌, ◌+◌, ◌<◌, ◌≤◌, ℕ, Bool, true, false, List, [], All, AllPairs, Contains, length, map};
 ghost use Rattle.std.specs.List.{range_with_len};
 ghost use Rattle.realm_plan.specs.Plan.{Plan};
 ghost use Rattle.schedule_graph.specs.Paths.{Path};
 ghost use Rattle.plan_states.specs.Lines.{step_number};
-ghost use Rattle.plan_states.specs.Schedules.{by_turns, steps_ended, HasSingleTurns, IsRuleOf, IsSchedule};
+ghost use Rattle.plan_states.specs.Schedules.{by_turns, schedules_after, steps_ended, HasSingleTurns, IsRuleOf, IsSchedule};
 ghost use Rattle.plan_states.specs.Tallies.{builds_of_path, is_before, paths_of};
 ghost use Rattle.plan_states.specs.Whole.{IsWhole};
 ghost use Rattle.plan_states.specs.declared.edges.Label.{Label};
@@ -18,6 +18,13 @@ pub fn every_schedule_is_a_path()
         → (order : List ℕ) → IsSchedule left [] order → Contains (map builds_of_path (paths_of graph)) order }
     ensures no_others { (plan : Plan) (graph : Graph) (left : List ℕ → ℕ → Bool) → IsWhole plan graph → IsRuleOf plan graph left
         → All (IsSchedule left []) (map builds_of_path (paths_of graph)) }
+{}
+
+/// The schedules of the paths of a whole graph are the list of all schedules by such a rule. That list may have schedules
+/// of more turns than the graph has layers: there are none. So a sum over the paths is the sum over all schedules.
+pub fn paths_are_all_schedules()
+    ensures { (plan : Plan) (graph : Graph) (left : List ℕ → ℕ → Bool) → IsWhole plan graph → IsRuleOf plan graph left
+        → (most : ℕ) → length graph.layers.items ≤ most + 1 → map builds_of_path (paths_of graph) ≡ schedules_after left most [] }
 {}
 
 /// The schedules of the paths of a whole graph rise: a path that comes earlier has the lower build at the first turn at
