@@ -9,11 +9,11 @@ import tomllib
 
 import pytest
 
-from programs import PLANS, VIEW, needs, over, run
+from programs import HOST, PLANS, VIEW, needs, over, run
 from schedule_graph import Graph, machine_of
 from second_host import Blocks, Build, Turn, map_of
 
-pytestmark = needs(VIEW)
+pytestmark = needs(VIEW, HOST)
 # How many schedules of a plan are run one after the other at most.
 MOST = 500
 # How many there are at most where the shortest way to a thing is found by trying all.
@@ -160,12 +160,29 @@ def of_plan(name: str, text: str):
             yield f"{name}, {granules} granules", graph.leased(granules), shortest(text, leases(granules))
 
 
+def of_refusals(name: str, text: str):
+    """The plan with the shortest schedule to each refusal, and to one of a step that is never refused."""
+    graph = Graph(text)
+    refused = sorted({end[:2] for end in graph.ends() if end[2] != "ok"})
+    for build, step in refused:
+        status, out, err = run(VIEW, ["explore", "--refused", f"{build}:{step}"], text)
+        order = graph.refused(build, step)
+        yield f"{name}, to {build}:{step}", (status, err, tomllib.loads(out)), (0, "", tomllib.loads(text) | {"order": order})
+        last = run(HOST, ["replay"], out)[1].splitlines()[len(order) - 1]
+        yield f"{name}, {build}:{step} is refused", last.startswith(f"{build} {graph.steps[build][step]} = no "), True
+    others = ((build, step) for build, steps in enumerate(graph.steps) for step in range(len(steps) + 1))
+    build, step = next(it for it in others if it not in refused)
+    yield f"{name}, never", run(VIEW, ["explore", "--refused", f"{build}:{step}"], text), (0, f"step {build} {step} refused in 0\n", "")
+
+
 @over("path", *PLANS)
 def test_plan(check, path):
     check.all(of_plan(path.stem, path.read_text()))
+    check.all(of_refusals(path.stem, path.read_text()))
 
 
 @pytest.mark.parametrize("part", range(PARTS))
 def test_random_plans(check, part):
     for name, text in list(random_plans())[part::PARTS]:
         check.all(of_plan(name, text))
+        check.all(of_refusals(name, text))

@@ -49,6 +49,15 @@ pub enum Schedules {
     All(u32),
     /// That many schedules, drawn by the random numbers of the seed.
     Drawn(u32, u32),
+    /// The shortest schedule that ends with a refusal of a step, if the runs have at most that many states.
+    ToRefusal(u32, StepPlace),
+}
+
+/// A step of a plan: its build, and its place in the build's list.
+#[derive(Clone, Copy, Drop)]
+pub struct StepPlace {
+    pub build: u32,
+    pub step: u32,
 }
 
 /// The reason why options ask for nothing.
@@ -58,6 +67,8 @@ pub enum BadOption {
     SampleAboveMost { sample: u32 },
     /// The address is none, no multiple of 4,096, or too high.
     NoBase,
+    /// The text is no step of a build.
+    NoStep,
 }
 
 /// How the builds of a plan take turns.
@@ -154,14 +165,21 @@ const EXPLORE: &str = "Explore every order of a plan's turns, and print what dif
 
 const EXPLORE_EXAMPLES: &str = "Examples:
   realmview explore plans/some-orders.toml
-  realmview explore --sample 100 --seed 7 plans/failed-build.toml";
+  realmview explore --sample 100 --seed 7 plans/failed-build.toml
+  realmview explore --refused 1:4 plans/some-orders.toml | realmview why";
 
-const MOST_STATES_HELP: &str = "Explore all orders if they have at most N states [default: 1000000]";
+const MOST_STATES_HELP: &str =
+    "Explore all orders if they have at most N states [default: 1000000]";
 
 const SAMPLE_HELP: &str =
     "Draw K orders at random, K up to 1000000 [default: 1000, if a seed is given]";
 
 const SEED_HELP: &str = "Draw orders by the random numbers of the seed S [default: 0]";
+
+const REFUSED_HELP: &str =
+    "Print the plan with the shortest order that ends with a refusal of step S of build B";
+
+const NO_STEP: &str = "--refused is no step as 1:4: a build, and a place in its steps, both from 0";
 
 const ORDER: &str =
     "Print a plan with an order that gives each build all the turns that it needs, in rotation";
@@ -242,6 +260,7 @@ const REALMVIEW: Program = Program {
                 Opt::Number("most-states", "N", MOST_STATES_HELP),
                 Opt::Number("sample", "K", SAMPLE_HELP),
                 Opt::Number("seed", "S", SEED_HELP),
+                Opt::Text("refused", "B:S", REFUSED_HELP),
             ],
         },
         Subcommand {
@@ -273,10 +292,24 @@ fn erased(matches: &ArgMatches) -> Option<BuildId> {
     build_of(matches.get_one("erase"))
 }
 
+// The step of a text: its build, and its place, with a colon between them.
+fn step_of(text: &str) -> Option<StepPlace> {
+    let (build, step) = text.split_once(':')?;
+    let build = build.parse::<u32>().ok()?;
+    let step = step.parse::<u32>().ok()?;
+    Some(StepPlace { build, step })
+}
+
 // The schedules that are asked for by the words that were matched.
 fn schedules_by(explore: &ArgMatches) -> Result<Schedules, BadOption> {
+    let most_states: Option<u32> = explore.get_one("most-states");
+    if let Some(text) = explore.get_str("refused") {
+        let place = step_of(text).ok_or(BadOption::NoStep)?;
+        let most = most_states.unwrap_or(MOST_STATES);
+        return Ok(Schedules::ToRefusal(most, place));
+    }
     schedules_asked(
-        explore.get_one("most-states"),
+        most_states,
         explore.get_one("sample"),
         explore.get_one("seed"),
     )
@@ -332,6 +365,7 @@ fn bad_option(alloc: Global, reason: BadOption) -> Result<Error, AllocError> {
             format!(in alloc; "--sample {sample} is above {MOST_DRAWN}")?
         }
         BadOption::NoBase => String::from_str(alloc, NO_BASE)?,
+        BadOption::NoStep => String::from_str(alloc, NO_STEP)?,
     };
     REALMVIEW
         .command(alloc)?

@@ -3,3 +3,10 @@ pub mod Builds
 pub mod Tallies
 pub mod Reached
 pub mod Unseen
+pub mod Cuts
+pub mod Refused
+pub mod BuildsLeft
+pub mod Members
+pub mod Paths
+pub mod StepEnds
+pub mod Schedules

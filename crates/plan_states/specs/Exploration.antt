@@ -4,6 +4,7 @@ use Rattle.std.specs.declared.alloc.Global.{Global}
 use Rattle.std.specs.declared.string.String.{String}
 use Rattle.realm_plan.specs.Plan.{Plan}
 use Rattle.plan_states.specs.Reached.{IsEndOfRun, IsMapOfRun}
+use Rattle.plan_states.specs.Whole.{IsWhole}
 use Rattle.realm_program.specs.declared.fault.Fault.{Fault}
 use Rattle.realm_program.specs.declared.fault.Fault.TheVariants.{Memory, Mismatch}
 use Rattle.plan_states.specs.declared.graph.Exploration.{Exploration}
@@ -16,9 +17,14 @@ pub record AreOfRuns (plan : Plan) (the_ends : List EndOfStep) (the_maps : List 
   pub ends : All (IsEndOfRun plan) the_ends
   pub maps : All (λ map. IsMapOfRun plan (string_bytes map)) the_maps
 
-pub record IsGraphWithin (plan : Plan) (most : ℕ) (graph : Graph) : Type 0 where
+-- It has what runs show, and at most so many states.
+pub record IsFound (plan : Plan) (most : ℕ) (graph : Graph) : Type 0 where
   pub of_runs : AreOfRuns plan graph.ends.items graph.maps.items
   pub states : sum_by vec_len graph.layers.items ≤ most
+
+pub record IsGraphWithin (plan : Plan) (most : ℕ) (graph : Graph) : Type 0 where
+  pub found : IsFound plan most graph
+  pub whole : IsWhole plan graph
 
 abbrev pub IsExploration : Plan → ℕ → Exploration → Type 0
 IsExploration plan most (explored.All graph) = IsGraphWithin plan most graph

@@ -1,6 +1,7 @@
 pub mod States
 pub mod Turned
 pub mod Reached
+pub mod Whole
 pub mod TurnTaken
 pub mod Exploration
 pub mod Signs
@@ -8,3 +9,5 @@ pub mod OrderText
 pub mod Lines
 pub mod Tallies
 pub mod StatesText
+pub mod Shortest
+pub mod Schedules

@@ -1,7 +1,7 @@
 //! The graph of the states of a plan's runs.
 ghost use Rattle.std.specs.Prelude.{◌≡◌, ◌≤◌, ◌<◌, ◌++◌, ◌∷◌, [], Some, OnOk, IfOk, IfErr, IfSome, length, string_bytes, vec_len};
 ghost use Rattle.realm_plan.specs.PlanView.{plan_view};
-ghost use Rattle.plan_states.specs.Exploration.{AreOfRuns, IsExploration, HasNoGraph};
+ghost use Rattle.plan_states.specs.Exploration.{AreOfRuns, IsExploration, IsFound, HasNoGraph};
 ghost use Rattle.plan_states.specs.Reached.{IsMapOfRun};
 ghost use Rattle.plan_states.specs.Turned.{AreWith};
 
@@ -11,6 +11,7 @@ use crate::running::{Running, has_more, run_to};
 use crate::state::State;
 use crate::step_end::EndOfStep;
 use crate::turns::{After, Before, Turns, before_turn};
+use crate::whole::{Progress, is_whole};
 use plan_replay::map_text;
 use realm_plan::Plan;
 use realm_program::Fault;
@@ -25,6 +26,8 @@ pub type Layer = Vec<Vec<Edge<Label>>>;
 #[derive(Drop)]
 pub struct Graph {
     pub layers: Vec<Layer>,
+    /// Of each state of each layer, how many steps of each build are done.
+    pub progress: Vec<Vec<Progress>>,
     /// The ends of steps.
     pub ends: Vec<EndOfStep>,
     /// The maps in the end.
@@ -70,7 +73,7 @@ struct Explorer {
 }
 
 // Adds an item at the end.
-fn push<T: Drop>(items: &mut Vec<T>, item: T) -> Result<(), AllocError>
+pub(crate) fn push<T: Drop>(items: &mut Vec<T>, item: T) -> Result<(), AllocError>
     ensures { OnOk result (items.new.items ≡ items.old.items ++ item ∷ []) }
 {
     items.push(item)?;
@@ -99,6 +102,11 @@ impl Front {
         self.states.push(state)?;
         Ok(target)
     }
+}
+
+// The progress of each state of a layer.
+fn progress_of(alloc: Global, states: &[State]) -> Result<Vec<Progress>, AllocError> {
+    states.iter().map(|state| state.progress()).collect(alloc)
 }
 
 // The first schedule that leads to a state of the last layer. `Mismatch`: there is no such state.
@@ -261,12 +269,9 @@ impl Explorer {
     }
 }
 
-/// The graph of all schedules of a plan, if it has at most `most` states.
-///
-/// Errors. `Memory`: allocation failed. `Mismatch`: a run does not go on as another run said, which never happens on a
-/// host that gives the same answers to the same calls.
-pub fn explore(alloc: Global, plan: &Plan, most: usize) -> Result<Exploration, Fault>
-    ensures ok { IfOk result (IsExploration (plan_view plan.now) most) }
+// The graph of all schedules of a plan; None if it has more than `most` states.
+fn search(alloc: Global, plan: &Plan, most: usize) -> Result<Option<Graph>, Fault>
+    ensures ok { IfOk result (λ it. IfSome it (IsFound (plan_view plan.now) most)) }
     ensures err { IfErr result HasNoGraph }
 {
     let mut it = Explorer {
@@ -281,6 +286,7 @@ pub fn explore(alloc: Global, plan: &Plan, most: usize) -> Result<Exploration, F
     let mut front = Front::new(alloc);
     front.add(first, Came { from: 0, build: 0 }, None)?;
     let mut layers = Vec::new(alloc);
+    let mut progress = Vec::new(alloc);
     let mut room = most;
     'layers: while !front.states.is_empty() {
         let Front {
@@ -289,12 +295,13 @@ pub fn explore(alloc: Global, plan: &Plan, most: usize) -> Result<Exploration, F
             targets: _,
         } = front;
         if states.len() > room {
-            return Ok(Exploration::TooMany);
+            return Ok(None);
         }
         room -= states.len();
         push(&mut it.came, came)?;
+        push(&mut progress, progress_of(alloc, &states)?)?;
         let Some((layer, next)) = it.layer(alloc, plan, &states, room)? else {
-            return Ok(Exploration::TooMany);
+            return Ok(None);
         };
         push(&mut layers, layer)?;
         front = next;
@@ -305,5 +312,27 @@ pub fn explore(alloc: Global, plan: &Plan, most: usize) -> Result<Exploration, F
         maps,
     } = it;
     let ends = turns.into_ends();
-    Ok(Exploration::All(Graph { layers, ends, maps }))
+    Ok(Some(Graph {
+        layers,
+        progress,
+        ends,
+        maps,
+    }))
+}
+
+/// The graph of all schedules of a plan, if it has at most `most` states.
+///
+/// Errors. `Memory`: allocation failed. `Mismatch`: a run does not go on as another run said, which never happens on a
+/// host that gives the same answers to the same calls.
+pub fn explore(alloc: Global, plan: &Plan, most: usize) -> Result<Exploration, Fault>
+    ensures ok { IfOk result (IsExploration (plan_view plan.now) most) }
+    ensures err { IfErr result HasNoGraph }
+{
+    let Some(graph) = search(alloc, plan, most)? else {
+        return Ok(Exploration::TooMany);
+    };
+    if !is_whole(plan, &graph) {
+        return Err(Fault::Mismatch);
+    }
+    Ok(Exploration::All(graph))
 }

@@ -8,23 +8,28 @@
 
 mod edges;
 mod graph;
+pub mod law;
 mod leftovers;
 mod lines;
 mod outcomes;
 mod running;
 mod schedule_text;
+mod shortest;
 mod signs;
 mod state;
 mod step_end;
 mod tally;
 mod text;
 mod turns;
+mod whole;
 
 pub use edges::Label;
 pub use graph::{Exploration, Graph, explore};
 pub use leftovers::leave_nothing;
 pub use lines::push_map;
 pub use outcomes::outcomes_of;
+pub use shortest::{Witness, ends_refused, shortest_refusal};
 pub use step_end::EndOfStep;
 pub use tally::{Outcomes, PathTally, StepOutcomes};
-pub use text::{push_outcomes, push_step_outcomes, states_text};
+pub use text::{push_outcomes, push_step_outcomes, states_text, too_many_text};
+pub use whole::Progress;

@@ -43,7 +43,7 @@ fn builds_of_path(alloc: Global, path: &[Label]) -> Result<Vec<usize>, AllocErro
 }
 
 // The tally of those that show the sign, if any does.
-fn tally_with<K: Drop, S: Sign<Label>>(
+pub(crate) fn tally_with<K: Drop, S: Sign<Label>>(
     alloc: Global,
     layers: &[Layer],
     all: &[Vec<PathNumber>],

@@ -4,6 +4,7 @@ ghost use Rattle.std.specs.Bool.{OnFalse};
 ghost use Rattle.realm_plan.specs.PlanView.{plan_view};
 ghost use Rattle.plan_states.specs.States.{at_rest, first_state, AreAllDone};
 
+use crate::whole::Progress;
 use plan_replay::step_after;
 use realm_plan::Plan;
 
@@ -61,6 +62,27 @@ impl State {
         let mut builds = self.builds;
         builds[build] = after;
         State { builds, blocks }
+    }
+
+    // How many steps of a build are done; a plan has far fewer than 2^16.
+    fn done_by(&self, build: usize) -> u16
+        requires { build < 8 }
+    {
+        u16::try_from(self.builds[build].done).unwrap_or(u16::MAX)
+    }
+
+    /// How many steps of each build are done.
+    pub(crate) fn progress(&self) -> Progress {
+        [
+            self.done_by(0),
+            self.done_by(1),
+            self.done_by(2),
+            self.done_by(3),
+            self.done_by(4),
+            self.done_by(5),
+            self.done_by(6),
+            self.done_by(7),
+        ]
     }
 
     /// Whether any build has a step left.

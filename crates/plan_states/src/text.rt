@@ -145,8 +145,8 @@ fn graph_text(alloc: Global, plan: &Plan, graph: &Graph) -> Result<String, Alloc
     Ok(text)
 }
 
-// The line that says that there are more states.
-fn too_many_text(alloc: Global, most: usize) -> Result<String, AllocError>
+/// The line that says that there are more than `most` states. The one error is that allocation failed.
+pub fn too_many_text(alloc: Global, most: usize) -> Result<String, AllocError>
     ensures { IfOk result (λ text. string_bytes text ≡ too_many_line most) }
 {
     let mut text = String::new(alloc);

@@ -5,6 +5,7 @@ mod Tallies
 mod Runs
 mod Counted
 mod Smooth
+mod AllCounted
 mod Drawing
 mod Rotating
 mod SameEnd

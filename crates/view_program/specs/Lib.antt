@@ -4,6 +4,7 @@ pub mod Same
 pub mod Tally
 pub mod Totals
 pub mod Drawn
+pub mod ScheduleCount
 pub mod Reported
 pub mod Exploring
 pub mod Lines
@@ -18,6 +19,7 @@ pub mod Taking
 pub mod Calls
 pub mod Checked
 pub mod Why
+pub mod ToRefusal
 pub mod Orders
 pub mod Reordered
 pub mod Printed

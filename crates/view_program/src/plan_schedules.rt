@@ -4,6 +4,7 @@ ghost use Rattle.realm_plan.specs.PlanView.{plan_view};
 ghost use Rattle.view_program.specs.Lines.{drawn_text};
 ghost use Rattle.view_program.specs.Orders.{IsDrawnText, IsSchedulesText, IsWithoutSchedules};
 
+use crate::plan_refusal::refusal_text;
 use crate::plan_text::ViewText;
 use crate::schedules::{Progress, Totals, push_drawn, sample};
 use command_line::realmview::Schedules;
@@ -42,15 +43,19 @@ fn run_drawn_of<P: Progress>(
 fn orders_text_of<P: Progress>(
     alloc: Global,
     plan: &Plan,
+    source: &[u8],
     orders: Schedules,
     progress: &P,
-) -> Result<String, Fault>
-    ensures ok { IfOk result (λ text. IsSchedulesText orders (plan_view plan.now) (string_bytes text)) }
+) -> Result<Vec<u8>, Fault>
+    ensures ok { IfOk result (λ text. IsSchedulesText orders (plan_view plan.now) text.items) }
     ensures err { IfErr result (IsWithoutSchedules orders (plan_view plan.now)) }
 {
     match orders {
-        Schedules::All(most) => states_text(alloc, plan, most as usize),
-        Schedules::Drawn(count, seed) => Ok(run_drawn_of(alloc, plan, count, seed, progress)?),
+        Schedules::All(most) => Ok(states_text(alloc, plan, most as usize)?.into_bytes()),
+        Schedules::Drawn(count, seed) => {
+            Ok(run_drawn_of(alloc, plan, count, seed, progress)?.into_bytes())
+        }
+        Schedules::ToRefusal(most, place) => refusal_text(alloc, plan, source, most, place),
     }
 }
 
@@ -71,7 +76,7 @@ impl<P: Progress> ViewText for Exploring<'_, P> {
 
     ghost is_without = { λ asked. IsWithoutSchedules asked.orders };
 
-    fn text_of(&self, alloc: Global, plan: &Plan, _source: &[u8]) -> Result<Vec<u8>, Fault> {
-        Ok(orders_text_of(alloc, plan, self.orders, self.progress)?.into_bytes())
+    fn text_of(&self, alloc: Global, plan: &Plan, source: &[u8]) -> Result<Vec<u8>, Fault> {
+        orders_text_of(alloc, plan, source, self.orders, self.progress)
     }
 }

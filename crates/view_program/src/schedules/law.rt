@@ -1,15 +1,33 @@
 //! Theorems on schedules.
-ghost use Rattle.std.specs.Prelude.{◌≡◌, ◌↔◌, ℕ, true, List, []};
+ghost use Rattle.std.specs.Prelude.{◌≡◌, ◌↔◌, ℕ, Bool, true, List, [], length};
 ghost use Rattle.host_ledger.specs.View.{HostView};
 ghost use Rattle.realm_plan.specs.Plan.{Plan};
 ghost use Rattle.plan_replay.specs.Run.{IsReportedRun};
 ghost use Rattle.view_program.specs.Chosen.{IsChosenRun};
 ghost use Rattle.view_program.specs.Same.{same_end};
+ghost use Rattle.view_program.specs.ScheduleCount.{IsNumberOf};
 ghost use Rattle.view_program.specs.Reported.{AreTold};
 ghost use Rattle.view_program.specs.Leaving.{IsUnseen};
 ghost use Rattle.view_program.specs.Totals.{chosen_schedule};
 ghost use Rattle.view_program.specs.declared.schedules.choice.Choice.{Choice};
+ghost use Rattle.plan_states.specs.Schedules.{by_turns, HasSingleTurns, IsRuleOf, IsSchedule};
+ghost use Rattle.plan_states.specs.Tallies.{AreOutcomes};
+ghost use Rattle.plan_states.specs.Exploration.{IsGraphWithin};
+ghost use Rattle.plan_states.specs.declared.graph.Graph.{Graph};
+ghost use Rattle.plan_states.specs.declared.tally.Outcomes.{Outcomes};
 ghost use Rattle.plan_states.specs.declared.step_end.EndOfStep.{EndOfStep};
+
+/// The number of schedules that `explore` prints is that of all schedules, by any rule that agrees with the paths of the
+/// plan's graph. The rule says which of eight builds have a step left after which turns. Where a plan has no abort and no
+/// way back, a build has a step left if it had fewer turns than steps.
+pub fn all_schedules_are_counted()
+    ensures by_rule { (plan : Plan) (most : ℕ) (graph : Graph) (outcomes : Outcomes) (left : List ℕ → ℕ → Bool)
+        → IsGraphWithin plan most graph → AreOutcomes (length plan.builds) graph outcomes → IsRuleOf plan graph left
+        → IsNumberOf (IsSchedule left []) outcomes.steps.orders }
+    ensures single_turns { (plan : Plan) (most : ℕ) (graph : Graph) (outcomes : Outcomes)
+        → IsGraphWithin plan most graph → AreOutcomes (length plan.builds) graph outcomes → HasSingleTurns plan
+        → IsNumberOf (IsSchedule (by_turns plan) []) outcomes.steps.orders }
+{}
 
 /// A run of a schedule is a run of the plan that has this schedule.
 pub fn a_run_is_one_of_the_plan()

@@ -4,8 +4,8 @@ use Rattle.realm_plan.specs.PlanView.{plan_view}
 use Rattle.plan_states.specs.Exploration.{AreOfRuns}
 use Rattle.plan_states.specs.declared.graph.Explorer.{Explorer}
 use Rattle.plan_states.proofs.Reached.{of_runs-none}
-use Rattle.plan_states.proofs.graph.explore.Goals as goal
-use Rattle.plan_states.proofs.graph.explore.Goals.{then-not-has_more+in_ok-map_of, else-not-has_more}
+use Rattle.plan_states.proofs.graph.search.Goals as goal
+use Rattle.plan_states.proofs.graph.search.Goals.{then-not-has_more+in_ok-map_of, else-not-has_more}
 
 pub layers-init : goal.layers-init
 layers-init c = record {

@@ -2,7 +2,7 @@ use Rattle.std.proofs.Common.{◌≡◌, ◌+◌, vec_len}
 use Rattle.std.specs.Prelude.{sum_by}
 use Rattle.realm_plan.specs.PlanView.{plan_view}
 use Rattle.plan_states.specs.Exploration.{AreOfRuns}
-use Rattle.plan_states.proofs.graph.explore.Given as goal
+use Rattle.plan_states.proofs.graph.search.Given as goal
 
 abbrev pub invariant-layers : goal.invariant-layers
 invariant-layers l = record {
