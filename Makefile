@@ -93,3 +93,4 @@ bench: build ## CPU time and peak memory of the program over plans of several sh
 	@bench/run --series
 	@bench/plot
 	@bench/rmm
+	@bench/explore

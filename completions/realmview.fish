@@ -5,7 +5,7 @@ complete -c realmview -n __fish_use_subcommand -a apply -d 'Apply a history even
 complete -c realmview -n __fish_use_subcommand -a json -d 'Print a plan'\''s run as one JSON document'
 complete -c realmview -n __fish_use_subcommand -a page -d 'Print a web page that shows a plan'\''s run, turn by turn'
 complete -c realmview -n __fish_use_subcommand -a why -d 'Explain why steps of a plan are refused'
-complete -c realmview -n __fish_use_subcommand -a explore -d 'Run a plan in every order of its builds'\'' turns, and print what differs'
+complete -c realmview -n __fish_use_subcommand -a explore -d 'Explore every order of a plan'\''s turns, and print what differs'
 complete -c realmview -n __fish_use_subcommand -a order -d 'Print a plan with an order that gives each build all the turns that it needs, in rotation'
 complete -c realmview -n __fish_use_subcommand -a calls -d 'Print a plan'\''s run as calls on an RMM, a trace for rmitrace'
 complete -c realmview -n __fish_use_subcommand -a check -d 'Check a plan, and print each mistake with its line'
@@ -25,9 +25,10 @@ complete -c realmview -n '__fish_seen_subcommand_from page' -F
 complete -c realmview -n '__fish_seen_subcommand_from why' -l all -d 'List the checks that passed, too'
 complete -c realmview -n '__fish_seen_subcommand_from why' -s h -l help -d 'Print help'
 complete -c realmview -n '__fish_seen_subcommand_from why' -F
-complete -c realmview -n '__fish_seen_subcommand_from explore' -l most -x -d 'Run at most N orders, in lexicographic order [default: 1000000]'
-complete -c realmview -n '__fish_seen_subcommand_from explore' -l sample -x -d 'Draw K orders at random, K up to N [default: 1000, if a seed is given]'
+complete -c realmview -n '__fish_seen_subcommand_from explore' -l most-states -x -d 'Explore all orders if they have at most N states [default: 1000000]'
+complete -c realmview -n '__fish_seen_subcommand_from explore' -l sample -x -d 'Draw K orders at random, K up to 1000000 [default: 1000, if a seed is given]'
 complete -c realmview -n '__fish_seen_subcommand_from explore' -l seed -x -d 'Draw orders by the random numbers of the seed S [default: 0]'
+complete -c realmview -n '__fish_seen_subcommand_from explore' -l refused -x -d 'Print the plan with the shortest order that ends with a refusal of step S of build B'
 complete -c realmview -n '__fish_seen_subcommand_from explore' -s h -l help -d 'Print help'
 complete -c realmview -n '__fish_seen_subcommand_from explore' -F
 complete -c realmview -n '__fish_seen_subcommand_from order' -l one-by-one -d 'Give a build all its turns before the next build has one'

@@ -1,4 +1,4 @@
-"""Every schedule of a plan, by a graph of states: for `tests/schedules`.
+"""Every schedule of a plan, by a graph of states: for `tests/test_schedules.py`.
 
 Schedules that have led to the same state are one from there on. A layer has the states after as many turns, in the sequence of
 the first schedule that leads to each, so the state that is met first is the least. The counts are sums over paths.

@@ -1,4 +1,4 @@
-"""A second host, in Python, over tests/second_monitor.py: for `tests/schedules`.
+"""A second host, in Python, over tests/second_monitor.py: for `tests/test_schedules.py`.
 
 It was written from PLANS.md, and has no code in common with realmhost. A build is seen alone, as what it did so far: its pages,
 its open operations, its cursor in the plan, and a monitor that performed its commands. Builds meet in two places only, the

@@ -111,7 +111,7 @@ def of_views(path):
     last = builds_of(plan) - 1
     history = subprocess.run([VIEW, "history"], input=plan, stdout=subprocess.PIPE, check=True).stdout
     yield Case("history", VIEW, [b"history"], plan, printed(history))
-    for words in [b"json"], [b"page"], [b"why"], [b"explore", b"--most", b"2"], [b"explore", b"--sample", b"1"]:
+    for words in [b"json"], [b"page"], [b"why"], [b"explore"], [b"explore", b"--sample", b"1"]:
         whole = subprocess.run([VIEW, *words], input=plan, stdout=subprocess.PIPE, check=True).stdout
         yield Case(b" ".join(words).decode(), VIEW, words, plan, printed(whole))
     yield Case("apply", VIEW, [b"apply"], history, printed(b"".join(map_of(text))))

@@ -2,13 +2,15 @@
 
 The orders of a plan are found here by replays alone: a build has a step left where its next turn is not idle. Of each order the
 lines of the replay tell how each step ended, and what the map is. From these the whole text of `explore` is made, and it has to
-be the one that the program writes. How many orders there are is known besides, where each step has one turn: the multinomial
-of the builds' numbers of steps.
+be the one that the program writes. Of a plan of more orders the first order of each line is replayed: it has to show what the
+line says. How many orders there are is known besides, where each step has one turn: the multinomial of the builds' numbers of
+steps.
 Of orders that are drawn, the numbers of xoshiro256++ are made here too. What is told of the progress is read from a terminal.
 
 What `order` writes of a plan is replayed: no turn is idle, each build performs every step, and the builds take turns as they have
 to. The rest of the text is as it was. A few such texts are stored in tests/reordered.
 """
+import json
 import math
 import os
 import pty
@@ -25,7 +27,7 @@ import pytest
 from programs import HOST, PLANS, RUNS, SECONDS, TOP, VIEW, needs, over, run
 
 pytestmark = needs(HOST, VIEW)
-# How many orders of a plan are replayed here at most; `explore --most` is given the same.
+# How many orders of a plan are replayed here at most. Plans that have more are compared in tests/test_schedules.py.
 MOST = 40
 # How many plans of random steps.
 RANDOM_PLANS = 25
@@ -124,14 +126,13 @@ class Totals:
 
 
 def text_of(plan, builds, most):
-    """What `explore --most` has to write."""
-    totals, more = Totals(builds), ""
+    """What `explore` has to write; none if there are more orders."""
+    totals = Totals(builds)
     for order, replay in orders_of(plan, builds):
         if totals.orders == most:
-            more = "more than "
-            break
+            return None
         totals.add(order, replay)
-    return f"orders {more}{totals.orders}\n" + "".join(totals.lines())
+    return f"orders {totals.orders}\n" + "".join(totals.lines())
 
 
 def numbers_of(seed):
@@ -172,8 +173,34 @@ def plan_of(builds, **settings):
     return head + "order = [0]\n" + "".join(f"[[build]]\nsteps = {list(steps)}\n".replace("'", '"') for steps in builds)
 
 
+def shows(replay, words, rest):
+    """Whether a replay shows what a line says of its order. `rest` is the text below the line."""
+    ends = list(replay.ends())
+    refused = {build for build, _, _, answer in ends if answer != "ok"}
+    match words.split(" ", 2):
+        case ["map"]:
+            return rest.startswith(replay.map)
+        case ["no", *_]:
+            return not refused
+        case ["some", *_]:
+            return bool(refused)
+        case ["never", _, build]:
+            return int(build) not in refused
+    return words in ["step {} {} {} = {}".format(*end) for end in ends]
+
+
+def of_first_orders(name, plan):
+    """The first order of each line, replayed: it shows what the line says."""
+    status, out, err = run(VIEW, ["explore"], plan)
+    yield f"{name}, status", (status, err), (0, "")
+    for line in re.finditer(r"(?m)^(.*) in \d+, order = (\[.*\])\n", out):
+        yield f"{name}, {line[0]}", shows(Replay(plan, json.loads(line[2])), line[1], out[line.end() :]), True
+
+
 def of_plan(name, plan, builds, most=MOST):
-    yield name, run(VIEW, ["explore", "--most", str(most)], plan), (0, text_of(plan, builds, most), "")
+    yield from of_first_orders(name, plan)
+    if wanted := text_of(plan, builds, most):
+        yield name, run(VIEW, ["explore"], plan), (0, wanted, "")
 
 
 def of_sample(name, plan, builds, count, seed):
@@ -182,16 +209,19 @@ def of_sample(name, plan, builds, count, seed):
 
 
 def of_counts():
-    """The multinomials of numbers of steps, each of one turn."""
-    for lengths in ((1,), (3,), (1, 1), (2, 2), (3, 4), (1, 2, 3), (1, 1, 1, 1), (2, 2, 2, 2), (1,) * 6, (10, 10)):
-        plan = plan_of([["take 0"] * length for length in lengths], pages=64)
+    """The multinomials of numbers of steps, each of one turn; and the most states."""
+    for lengths in ((1,), (3,), (1, 1), (2, 2), (3, 4), (1, 2, 3), (1, 1, 1, 1), (2, 2, 2, 2), (1,) * 6, (10, 10), (40, 40), (20, 20, 20)):
+        plan = plan_of([["take 0"] + ["fill 0 7"] * (length - 1) for length in lengths], pages=64)
         count = math.factorial(sum(lengths)) // math.prod(map(math.factorial, lengths))
         status, out, err = run(VIEW, ["explore"], plan)
         yield f"steps {lengths}", (status, out.split("\n", 1)[0], err), (0, f"orders {count}", "")
-        status, out, err = run(VIEW, ["explore", "--most", str(count)], plan)
-        yield f"steps {lengths}, as many as there are", (status, out.split("\n", 1)[0], err), (0, f"orders {count}", "")
-        status, out, err = run(VIEW, ["explore", "--most", str(count - 1)], plan)
-        yield f"steps {lengths}, one less", (status, out.split("\n", 1)[0], err), (0, f"orders more than {count - 1}", "")
+    # (a build's take is the only step that what another did has to do with: which of two granules it gets)
+    plan = plan_of([["take 0", "fill 0 7"], ["take 0", "fill 0 7"]])
+    states = 1 + 2 + 4 + 4 + 2
+    for most, first in ((states, "orders 6"), (states - 1, f"states more than {states - 1}"), (0, "states more than 0")):
+        status, out, err = run(VIEW, ["explore", "--most-states", str(most)], plan)
+        yield f"{most} states", (status, out.split("\n", 1)[0], err), (0, first, "")
+        yield f"{most} states, lines", out.count("\n") > 1, first == "orders 6"
 
 
 def random_steps(source, length):
@@ -212,25 +242,19 @@ def of_random_plan(number):
 
 
 def of_options():
-    """Where one option is given alone, and where more are to be drawn than may be run."""
+    """Where one option is given alone, and where more are to be drawn than may be."""
     plan = plan_of([["take 0"], ["take 1"]])
     for words, first in (
         (["--seed", "4294967295"], "orders drawn 1000"),
         (["--sample", "7"], "orders drawn 7"),
-        (["--sample", "7", "--most", "7"], "orders drawn 7"),
-        (["--seed", "1", "--most", "3"], "orders drawn 3"),
-        (["--most", "1"], "orders more than 1"),
-        (["--most", "0"], "orders more than 0"),
+        (["--sample", "7", "--most-states", "1"], "orders drawn 7"),
+        (["--most-states", "1"], "states more than 1"),
     ):
         status, out, err = run(VIEW, ["explore", *words], plan)
         yield f"{words}", (status, out.split("\n", 1)[0], err), (0, first, "")
-    for words, said in (
-        (["--sample", "8", "--most", "7"], "--sample 8 is above --most 7"),
-        (["--sample", "2000", "--most", "1000", "--seed", "1"], "--sample 2000 is above --most 1000"),
-        (["--sample", "1000001"], "--sample 1000001 is above --most 1000000"),
-    ):
-        status, out, err = run(VIEW, ["explore", *words], plan)
-        yield f"{words}", (status, out, err.split("\n", 1)[0]), (2, "", f"error: {said}")
+    words = ["--sample", "1000001"]
+    status, out, err = run(VIEW, ["explore", *words], plan)
+    yield f"{words}", (status, out, err.split("\n", 1)[0]), (2, "", "error: --sample 1000001 is above 1000000")
     alike = [run(VIEW, ["explore", *words], plan) for words in (["--sample", "20"], ["--sample", "20", "--seed", "0"])]
     yield "the seed 0 where none is given", *alike
 
@@ -273,29 +297,18 @@ def on_a_terminal(words, given):
 def of_progress():
     """What is told while orders are run, where standard error is a terminal; where it is none, `run` sees that nothing is."""
     plan = (TOP / "plans/failed-build.toml").read_text()
-    turns = Counter(order_in(run(VIEW, ["order"], plan)[1])).values()
-    orders = math.factorial(sum(turns)) // math.prod(map(math.factorial, turns))
-    for words in (["--most", "60000"], ["--sample", "40000"]):
-        count = int(words[1])
-        status, out, told, took = on_a_terminal(["explore", *words], plan)
-        yield f"{words}, on a terminal", (status, out, ""), run(VIEW, ["explore", *words], plan)
-        first, *lines, last = told.split(CLEARED)
-        behind = f" of at most {count} orders run"
-        numbers = [int(line.removesuffix(behind)) for line in lines]
-        yield f"{words}, before", first, f"about {orders} orders, at most {count} are run\r\n"
-        yield f"{words}, lines", [f"{number}{behind}" for number in numbers], lines
-        yield f"{words}, the line is taken away", last, ""
-        yield f"{words}, numbers rise", [0, *numbers, count + 1], sorted({0, *numbers, count + 1})
-        yield f"{words}, how many lines", 2 <= len(lines) <= LINES_A_SECOND * took, True
-    for lengths, words, before in (
-        ((1, 1), [], ""),
-        ((8, 8), [], "12870 orders, all of them are run\r\n"),
-        ((8, 8), ["--most", "10000"], "12870 orders, at most 10000 are run\r\n"),
-        ((40, 40), ["--most", "10000"], "more than 2^64 orders, at most 10000 are run\r\n"),
-    ):
-        plan = plan_of([["take 0"] * length for length in lengths], pages=64)
-        told = on_a_terminal(["explore", *words], plan)[2]
-        yield f"steps {lengths}, {words}, before", told.split(CLEARED)[0], before
+    words, count = ["explore", "--sample", "40000"], 40000
+    status, out, told, took = on_a_terminal(words, plan)
+    yield f"{words}, on a terminal", (status, out, ""), run(VIEW, words, plan)
+    first, *lines, last = told.split(CLEARED)
+    behind = f" of {count} orders run"
+    numbers = [int(line.removesuffix(behind)) for line in lines]
+    yield f"{words}, before and after", (first, last), ("", "")
+    yield f"{words}, lines", [f"{number}{behind}" for number in numbers], lines
+    yield f"{words}, numbers rise", [*numbers, count], sorted({*numbers, count})
+    yield f"{words}, how many lines", 2 <= len(lines) <= LINES_A_SECOND * took, True
+    plan = plan_of([["take 0"]] * 2, pages=64)
+    yield "all orders, on a terminal", on_a_terminal(["explore"], plan)[2], ""
 
 
 # ---- order

@@ -119,7 +119,7 @@ def test_input(check):
     plan, trace = (TOP / PLAN).read_text(), "platform 0x80000000 64\nrmi_granule_delegate 0x80000000 = RMI_SUCCESS\n"
     history = run(["realmview", "history", PLAN])[1]
     asked = [(["realmview", it], "a plan", plan) for it in ("history", "json", "page", "why", "check")]
-    asked += [(["realmview", "apply"], "a history", history), (["realmview", "explore", "--most", "1"], "a plan", plan)]
+    asked += [(["realmview", "apply"], "a history", history), (["realmview", "explore", "--most-states", "1"], "a plan", plan)]
     asked += [(["rmitrace", it], "a trace", trace) for it in ("answer", "check", "names", "why")]
     for words, awaited, given in asked:
         status, out, err = run(words, given)
@@ -178,7 +178,7 @@ def test_closed_pipes(check):
     for command in "history", "json", "page", "why", "check":
         check(f"{command} that nobody reads", closed(["realmview", command, PLAN]), (141, ""))
     check("apply that nobody reads", closed(["realmview", "apply"], history), (141, ""))
-    check("explore that nobody reads", closed(["realmview", "explore", "--most", "1", PLAN]), (141, ""))
+    check("explore that nobody reads", closed(["realmview", "explore", "--most-states", "1", PLAN]), (141, ""))
     check("a mistake that nobody reads", closed(["realmview", "check"], BROKEN), (141, ""))
     for command in "answer", "check", "names", "why":
         check(f"{command} that nobody reads", closed(["rmitrace", command, TRACE]), (141, ""))

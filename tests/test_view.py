@@ -362,8 +362,8 @@ def test_surroundings(check):
 
 
 NO_WORDS = (
-    [], ["look"], ["apply", "--erase", "8"], ["history", "--erase"], ["check", "--erase", "0"], ["explore", "--most"],
-    ["explore", "--most", "4294967296"], ["explore", "--seed", "-1"], ["explore", "--erase", "0"], ["why", "one", "two"], ["help", "look"],
+    [], ["look"], ["apply", "--erase", "8"], ["history", "--erase"], ["check", "--erase", "0"], ["explore", "--most-states"],
+    ["explore", "--most-states", "4294967296"], ["explore", "--seed", "-1"], ["explore", "--erase", "0"], ["why", "one", "two"], ["help", "look"],
     ["json", "--erase", "0"], ["json", "plan", "more"],
 )
 

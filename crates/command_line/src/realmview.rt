@@ -42,22 +42,33 @@ pub enum CallsForm {
     Rows,
 }
 
-/// The schedules of a plan that are run.
+/// The schedules of a plan whose outcomes are asked for.
 #[derive(Clone, Copy, Drop)]
 pub enum Schedules {
-    /// That many schedules at most, from the lowest on.
-    First(u32),
+    /// All schedules, if their runs have at most that many states.
+    All(u32),
     /// That many schedules, drawn by the random numbers of the seed.
     Drawn(u32, u32),
+    /// The shortest schedule that ends with a refusal of a step, if the runs have at most that many states.
+    ToRefusal(u32, StepPlace),
+}
+
+/// A step of a plan: its build, and its place in the build's list.
+#[derive(Clone, Copy, Drop)]
+pub struct StepPlace {
+    pub build: u32,
+    pub step: u32,
 }
 
 /// The reason why options ask for nothing.
 #[derive(Clone, Copy, Drop)]
 pub enum BadOption {
-    /// More schedules are to be drawn than may be run.
-    SampleAboveMost { sample: u32, most: u32 },
+    /// More schedules are to be drawn than may be.
+    SampleAboveMost { sample: u32 },
     /// The address is none, no multiple of 4,096, or too high.
     NoBase,
+    /// The text is no step of a build.
+    NoStep,
 }
 
 /// How the builds of a plan take turns.
@@ -69,18 +80,21 @@ pub enum SchedulingPolicy {
     OneByOne,
 }
 
-// The most schedules that are run, if no option says so.
-const MOST: u32 = 1000000;
+// The most states, if no option says so.
+const MOST_STATES: u32 = 1000000;
+
+// The most schedules that are drawn.
+const MOST_DRAWN: u32 = 1000000;
 
 // The number of schedules that are drawn, if only a seed is given.
 const SAMPLE: u32 = 1000;
 
-// The `sample` schedules that are drawn by the seed, if they are not more than `most`.
-fn schedules_drawn(sample: u32, most: u32, seed: u32) -> Result<Schedules, BadOption>
-    ensures { result ≡ schedules_drawn sample most seed }
+// The `sample` schedules that are drawn by the seed, if they are not too many.
+fn schedules_drawn(sample: u32, seed: u32) -> Result<Schedules, BadOption>
+    ensures { result ≡ schedules_drawn sample seed }
 {
-    if sample > most {
-        Err(BadOption::SampleAboveMost { sample, most })
+    if sample > MOST_DRAWN {
+        Err(BadOption::SampleAboveMost { sample })
     } else {
         Ok(Schedules::Drawn(sample, seed))
     }
@@ -88,17 +102,16 @@ fn schedules_drawn(sample: u32, most: u32, seed: u32) -> Result<Schedules, BadOp
 
 // The schedules that options ask for. They are drawn if a sample or a seed is given.
 fn schedules_asked(
-    most: Option<u32>,
+    most_states: Option<u32>,
     sample: Option<u32>,
     seed: Option<u32>,
 ) -> Result<Schedules, BadOption>
-    ensures { result ≡ schedules_asked most sample seed }
+    ensures { result ≡ schedules_asked most_states sample seed }
 {
-    let most = most.unwrap_or(MOST);
     match (sample, seed) {
-        (None, None) => Ok(Schedules::First(most)),
-        (None, Some(seed)) => Ok(Schedules::Drawn(SAMPLE.min(most), seed)),
-        (Some(sample), seed) => schedules_drawn(sample, most, seed.unwrap_or(0)),
+        (None, None) => Ok(Schedules::All(most_states.unwrap_or(MOST_STATES))),
+        (None, Some(seed)) => Ok(Schedules::Drawn(SAMPLE, seed)),
+        (Some(sample), seed) => schedules_drawn(sample, seed.unwrap_or(0)),
     }
 }
 
@@ -148,17 +161,25 @@ const WHY_EXAMPLES: &str = "Examples:
 
 const ALL_HELP: &str = "List the checks that passed, too";
 
-const EXPLORE: &str = "Run a plan in every order of its builds' turns, and print what differs";
+const EXPLORE: &str = "Explore every order of a plan's turns, and print what differs";
 
 const EXPLORE_EXAMPLES: &str = "Examples:
   realmview explore plans/some-orders.toml
-  realmview explore --sample 100 --seed 7 plans/failed-build.toml";
+  realmview explore --sample 100 --seed 7 plans/failed-build.toml
+  realmview explore --refused 1:4 plans/some-orders.toml | realmview why";
 
-const MOST_HELP: &str = "Run at most N orders, in lexicographic order [default: 1000000]";
+const MOST_STATES_HELP: &str =
+    "Explore all orders if they have at most N states [default: 1000000]";
 
-const SAMPLE_HELP: &str = "Draw K orders at random, K up to N [default: 1000, if a seed is given]";
+const SAMPLE_HELP: &str =
+    "Draw K orders at random, K up to 1000000 [default: 1000, if a seed is given]";
 
 const SEED_HELP: &str = "Draw orders by the random numbers of the seed S [default: 0]";
+
+const REFUSED_HELP: &str =
+    "Print the plan with the shortest order that ends with a refusal of step S of build B";
+
+const NO_STEP: &str = "--refused is no step as 1:4: a build, and a place in its steps, both from 0";
 
 const ORDER: &str =
     "Print a plan with an order that gives each build all the turns that it needs, in rotation";
@@ -236,9 +257,10 @@ const REALMVIEW: Program = Program {
             examples: EXPLORE_EXAMPLES,
             file: PLAN,
             options: &[
-                Opt::Number("most", "N", MOST_HELP),
+                Opt::Number("most-states", "N", MOST_STATES_HELP),
                 Opt::Number("sample", "K", SAMPLE_HELP),
                 Opt::Number("seed", "S", SEED_HELP),
+                Opt::Text("refused", "B:S", REFUSED_HELP),
             ],
         },
         Subcommand {
@@ -270,10 +292,24 @@ fn erased(matches: &ArgMatches) -> Option<BuildId> {
     build_of(matches.get_one("erase"))
 }
 
+// The step of a text: its build, and its place, with a colon between them.
+fn step_of(text: &str) -> Option<StepPlace> {
+    let (build, step) = text.split_once(':')?;
+    let build = build.parse::<u32>().ok()?;
+    let step = step.parse::<u32>().ok()?;
+    Some(StepPlace { build, step })
+}
+
 // The schedules that are asked for by the words that were matched.
 fn schedules_by(explore: &ArgMatches) -> Result<Schedules, BadOption> {
+    let most_states: Option<u32> = explore.get_one("most-states");
+    if let Some(text) = explore.get_str("refused") {
+        let place = step_of(text).ok_or(BadOption::NoStep)?;
+        let most = most_states.unwrap_or(MOST_STATES);
+        return Ok(Schedules::ToRefusal(most, place));
+    }
     schedules_asked(
-        explore.get_one("most"),
+        most_states,
         explore.get_one("sample"),
         explore.get_one("seed"),
     )
@@ -325,10 +361,11 @@ fn asked_by(name: &str, matches: &ArgMatches) -> Result<ViewSubcommand, BadOptio
 // The error that says why options ask for nothing.
 fn bad_option(alloc: Global, reason: BadOption) -> Result<Error, AllocError> {
     let message = match reason {
-        BadOption::SampleAboveMost { sample, most } => {
-            format!(in alloc; "--sample {sample} is above --most {most}")?
+        BadOption::SampleAboveMost { sample } => {
+            format!(in alloc; "--sample {sample} is above {MOST_DRAWN}")?
         }
         BadOption::NoBase => String::from_str(alloc, NO_BASE)?,
+        BadOption::NoStep => String::from_str(alloc, NO_STEP)?,
     };
     REALMVIEW
         .command(alloc)?

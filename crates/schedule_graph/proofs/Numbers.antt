@@ -73,3 +73,17 @@ push_step digits carry =
     let long : length (digits ++ carry % 10 ∷ []) ≡ length digits + 1 = length-append digits (carry % 10 ∷ []) in
     let there : carry / 10 * 10 ^ length (digits ++ carry % 10 ∷ []) ≡ carry / 10 * 10 ^ (length digits + 1) = ap (λ n. carry / 10 * 10 ^ n) long in
     omega (arith, new, over, there)
+
+-- one power of two more
+pub doubled : (n k : ℕ) → n * 2 ^ (k + 1) ≡ n * 2 ^ k + n * 2 ^ k
+doubled n k =
+    let up : n * 2 ^ (k + 1) ≡ 2 * (n * 2 ^ k) = ap (λ m. n * 2 ^ m) (add-one k) ∙ ap (λ p. n * p) (pow-succ' 2 k) ∙ mul_left_comm n 2 (2 ^ k) in
+    omega (arith, up)
+
+alone : (n : ℕ) → number_of [] + n * 10 ^ 0 ≡ n
+unfolding number_of
+alone n = omega arith
+
+-- what is pushed where there is no digit
+pub from_none : (digits : List ℕ) (n : ℕ) → digits ≡ [] → number_of digits + n * 10 ^ length digits ≡ n
+from_none digits n none = ap (λ ds. number_of ds + n * 10 ^ length ds) none ∙ alone n

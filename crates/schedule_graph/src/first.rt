@@ -6,11 +6,11 @@ ghost use Rattle.schedule_graph.specs.First.{ArePathNumbers, goes_on};
 ghost use Rattle.schedule_graph.specs.Paths.{paths, shows, count_at};
 
 use crate::graph::{Edge, Sign};
-use crate::number::Count;
+use crate::path_number::PathNumber;
 use std::alloc::{AllocError, Global};
 
 /// The numbers of a layer; none if there is no such layer.
-pub(crate) fn numbers_at(counts: &[Vec<Count>], depth: usize) -> &[Count]
+pub(crate) fn numbers_at(counts: &[Vec<PathNumber>], depth: usize) -> &[PathNumber]
     ensures { result.now ≡ slice_index_or (path_numbers_in counts.now) depth [] }
 {
     match counts.get(depth) {
@@ -20,7 +20,7 @@ pub(crate) fn numbers_at(counts: &[Vec<Count>], depth: usize) -> &[Count]
 }
 
 // Whether a state has paths.
-fn has_paths(counts: &[Count], state: usize) -> bool
+fn has_paths(counts: &[PathNumber], state: usize) -> bool
     ensures { result ≡ nat_lt 0 (count_at counts.now state) }
 {
     match counts.get(state) {
@@ -34,8 +34,8 @@ fn goes_on<L, S: Sign<L>>(
     edge: &Edge<L>,
     sign: &S,
     shown: bool,
-    with_it: &[Count],
-    without_it: &[Count],
+    with_it: &[PathNumber],
+    without_it: &[PathNumber],
 ) -> bool
     ensures { result ≡ goes_on (S.is_on sign.now) shown with_it.now without_it.now edge.now }
 {
@@ -51,8 +51,8 @@ fn next_edge<'a, L, S: Sign<L>>(
     edges: &'a [Edge<L>],
     sign: &S,
     shown: bool,
-    with_it: &[Count],
-    without_it: &[Count],
+    with_it: &[PathNumber],
+    without_it: &[PathNumber],
 ) -> Option<&'a Edge<L>>
     ensures { option_map (λ edge. edge.now) result
         ≡ find (goes_on (S.is_on sign.now) shown with_it.now without_it.now) edges.now }
@@ -81,8 +81,8 @@ fn walk<L: Copy, S: Sign<L>>(
     alloc: Global,
     layers: &[Vec<Vec<Edge<L>>>],
     sign: &S,
-    with_it: &[Vec<Count>],
-    without_it: &[Vec<Count>],
+    with_it: &[Vec<PathNumber>],
+    without_it: &[Vec<PathNumber>],
 ) -> Result<Vec<L>, AllocError>
     ensures { IfOk result (λ labels. (accept : Bool → Bool)
         → ArePathNumbers (λ path. accept true) (layers_in layers.now) (path_numbers_in with_it.now)
@@ -115,8 +115,8 @@ pub fn first_with<L: Copy, S: Sign<L>>(
     alloc: Global,
     layers: &[Vec<Vec<Edge<L>>>],
     sign: &S,
-    all: &[Vec<Count>],
-    with_it: &[Vec<Count>],
+    all: &[Vec<PathNumber>],
+    with_it: &[Vec<PathNumber>],
 ) -> Result<Option<Vec<L>>, AllocError>
     ensures { IfOk result (λ first. ArePathNumbers any_path (layers_in layers.now) (path_numbers_in all.now)
         → ArePathNumbers (shows (S.is_on sign.now)) (layers_in layers.now) (path_numbers_in with_it.now)
@@ -134,7 +134,7 @@ pub fn first_without<L: Copy, S: Sign<L>>(
     alloc: Global,
     layers: &[Vec<Vec<Edge<L>>>],
     sign: &S,
-    without_it: &[Vec<Count>],
+    without_it: &[Vec<PathNumber>],
 ) -> Result<Option<Vec<L>>, AllocError>
     ensures { IfOk result (λ first.
         ArePathNumbers (shows_none (S.is_on sign.now)) (layers_in layers.now) (path_numbers_in without_it.now)

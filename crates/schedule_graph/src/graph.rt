@@ -2,7 +2,7 @@
 ghost use Rattle.std.specs.Prelude.{◌≡◌, ◌+◌, Bool, List, ◌∷◌, OnOk, IfOk, map, vec_items};
 ghost use Rattle.schedule_graph.specs.Paths.{Layer, AreCounts, AreCountsWith, AreCountsWithout, count_at, path_count, with_count, without_count};
 
-use crate::number::Count;
+use crate::path_number::PathNumber;
 use std::alloc::{AllocError, Global};
 
 /// A turn that leads from a state to one of the next layer, by its place there.
@@ -22,7 +22,7 @@ pub trait Sign<L> {
 }
 
 // Adds the count of a state, if there is one.
-fn add_at(sum: &mut Count, counts: &[Count], state: usize) -> Result<(), AllocError>
+fn add_at(sum: &mut PathNumber, counts: &[PathNumber], state: usize) -> Result<(), AllocError>
     ensures { OnOk result (sum.new ≡ sum.old + count_at counts.now state) }
 {
     match counts.get(state) {
@@ -32,13 +32,17 @@ fn add_at(sum: &mut Count, counts: &[Count], state: usize) -> Result<(), AllocEr
 }
 
 // The number of paths from a state with these edges.
-fn count_from<L>(alloc: Global, edges: &[Edge<L>], next: &[Count]) -> Result<Count, AllocError>
+fn count_from<L>(
+    alloc: Global,
+    edges: &[Edge<L>],
+    next: &[PathNumber],
+) -> Result<PathNumber, AllocError>
     ensures { IfOk result (λ count. count ≡ path_count next.now edges.now) }
 {
     if edges.is_empty() {
-        return Count::one(alloc);
+        return Ok(PathNumber::one(alloc));
     }
-    let mut sum = Count::zero(alloc);
+    let mut sum = PathNumber::zero(alloc);
     for edge in edges {
         add_at(&mut sum, next, edge.to)?;
     }
@@ -50,12 +54,12 @@ fn count_with<L, S: Sign<L>>(
     alloc: Global,
     edges: &[Edge<L>],
     sign: &S,
-    next: &[Count],
-    next_with: &[Count],
-) -> Result<Count, AllocError>
+    next: &[PathNumber],
+    next_with: &[PathNumber],
+) -> Result<PathNumber, AllocError>
     ensures { IfOk result (λ count. count ≡ with_count (S.is_on sign.now) next.now next_with.now edges.now) }
 {
-    let mut sum = Count::zero(alloc);
+    let mut sum = PathNumber::zero(alloc);
     for edge in edges {
         let counts = if sign.is_on(&edge.label) {
             next
@@ -72,14 +76,14 @@ fn count_without<L, S: Sign<L>>(
     alloc: Global,
     edges: &[Edge<L>],
     sign: &S,
-    next_without: &[Count],
-) -> Result<Count, AllocError>
+    next_without: &[PathNumber],
+) -> Result<PathNumber, AllocError>
     ensures { IfOk result (λ count. count ≡ without_count (S.is_on sign.now) next_without.now edges.now) }
 {
     if edges.is_empty() {
-        return Count::one(alloc);
+        return Ok(PathNumber::one(alloc));
     }
-    let mut sum = Count::zero(alloc);
+    let mut sum = PathNumber::zero(alloc);
     for edge in edges {
         if !sign.is_on(&edge.label) {
             add_at(&mut sum, next_without, edge.to)?;
@@ -93,8 +97,8 @@ fn count_without<L, S: Sign<L>>(
 pub fn count_paths<L>(
     alloc: Global,
     layer: &[Vec<Edge<L>>],
-    next: &[Count],
-) -> Result<Vec<Count>, AllocError>
+    next: &[PathNumber],
+) -> Result<Vec<PathNumber>, AllocError>
     ensures { IfOk result (λ counts. (layers : List (Layer L)) → AreCounts layers next.now
         → AreCounts (map vec_items layer.now ∷ layers) counts.items) }
 {
@@ -112,9 +116,9 @@ pub fn count_paths_with<L, S: Sign<L>>(
     alloc: Global,
     layer: &[Vec<Edge<L>>],
     sign: &S,
-    next: &[Count],
-    next_with: &[Count],
-) -> Result<Vec<Count>, AllocError>
+    next: &[PathNumber],
+    next_with: &[PathNumber],
+) -> Result<Vec<PathNumber>, AllocError>
     ensures { IfOk result (λ counts. (layers : List (Layer L)) → AreCounts layers next.now
         → AreCountsWith (S.is_on sign.now) layers next_with.now
         → AreCountsWith (S.is_on sign.now) (map vec_items layer.now ∷ layers) counts.items) }
@@ -133,8 +137,8 @@ pub fn count_paths_without<L, S: Sign<L>>(
     alloc: Global,
     layer: &[Vec<Edge<L>>],
     sign: &S,
-    next_without: &[Count],
-) -> Result<Vec<Count>, AllocError>
+    next_without: &[PathNumber],
+) -> Result<Vec<PathNumber>, AllocError>
     ensures { IfOk result (λ counts. (layers : List (Layer L))
         → AreCountsWithout (S.is_on sign.now) layers next_without.now
         → AreCountsWithout (S.is_on sign.now) (map vec_items layer.now ∷ layers) counts.items) }

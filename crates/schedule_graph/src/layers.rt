@@ -5,17 +5,17 @@ ghost use Rattle.schedule_graph.specs.Paths.{shows};
 
 use crate::first::numbers_at;
 use crate::graph::{Edge, Sign, count_paths, count_paths_with, count_paths_without};
-use crate::number::Count;
+use crate::path_number::PathNumber;
 use std::alloc::{AllocError, Global};
 
 /// The number of paths from each state of each layer. The one error is that allocation failed.
 pub fn count_all<L>(
     alloc: Global,
     layers: &[Vec<Vec<Edge<L>>>],
-) -> Result<Vec<Vec<Count>>, AllocError>
+) -> Result<Vec<Vec<PathNumber>>, AllocError>
     ensures { IfOk result (λ counts. ArePathNumbers any_path (layers_in layers.now) (path_numbers_in counts.items)) }
 {
-    let mut counts: Vec<Vec<Count>> = Vec::new(alloc);
+    let mut counts: Vec<Vec<PathNumber>> = Vec::new(alloc);
     for done in 0..layers.len() {
         let depth = layers.len() - 1 - done;
         let next = numbers_at(&counts, done.saturating_sub(1));
@@ -32,12 +32,12 @@ pub fn count_all_with<L, S: Sign<L>>(
     alloc: Global,
     layers: &[Vec<Vec<Edge<L>>>],
     sign: &S,
-    all: &[Vec<Count>],
-) -> Result<Vec<Vec<Count>>, AllocError>
+    all: &[Vec<PathNumber>],
+) -> Result<Vec<Vec<PathNumber>>, AllocError>
     ensures { IfOk result (λ counts. ArePathNumbers any_path (layers_in layers.now) (path_numbers_in all.now)
         → ArePathNumbers (shows (S.is_on sign.now)) (layers_in layers.now) (path_numbers_in counts.items)) }
 {
-    let mut counts: Vec<Vec<Count>> = Vec::new(alloc);
+    let mut counts: Vec<Vec<PathNumber>> = Vec::new(alloc);
     for done in 0..layers.len() {
         let depth = layers.len() - 1 - done;
         let all_next = numbers_at(all, depth + 1);
@@ -55,11 +55,11 @@ pub fn count_all_without<L, S: Sign<L>>(
     alloc: Global,
     layers: &[Vec<Vec<Edge<L>>>],
     sign: &S,
-) -> Result<Vec<Vec<Count>>, AllocError>
+) -> Result<Vec<Vec<PathNumber>>, AllocError>
     ensures { IfOk result (λ counts.
         ArePathNumbers (shows_none (S.is_on sign.now)) (layers_in layers.now) (path_numbers_in counts.items)) }
 {
-    let mut counts: Vec<Vec<Count>> = Vec::new(alloc);
+    let mut counts: Vec<Vec<PathNumber>> = Vec::new(alloc);
     for done in 0..layers.len() {
         let depth = layers.len() - 1 - done;
         let next = numbers_at(&counts, done.saturating_sub(1));

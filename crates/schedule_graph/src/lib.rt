@@ -2,8 +2,8 @@
 //!
 //! Positions of runs are one state if each build did the same and is as far in its plan. A state decides all further
 //! turns and their answers, whatever the schedule was (`law.rt`). So schedules are paths of a graph of states, which
-//! are counted layer by layer (`graph.rt`, `layers.rt`) in numbers of any size (`number.rt`). The numbers show
-//! the way to the first path that shows a label (`first.rt`).
+//! are counted layer by layer (`graph.rt`, `layers.rt`) in numbers of any size (`path_number.rt`). The numbers show the
+//! way to the first path that shows a label (`first.rt`), and are printed in decimal (`number.rt`).
 #![tactic(auto)]
 
 mod first;
@@ -11,8 +11,10 @@ mod graph;
 pub mod law;
 mod layers;
 mod number;
+mod path_number;
 
 pub use first::{first_with, first_without};
 pub use graph::{Edge, Sign, count_paths, count_paths_with, count_paths_without};
 pub use layers::{count_all, count_all_with, count_all_without};
 pub use number::Count;
+pub use path_number::PathNumber;

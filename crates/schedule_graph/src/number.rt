@@ -36,7 +36,7 @@ fn pad(digits: &mut Vec<u8>, places: usize) -> Result<(), AllocError>
 }
 
 // Appends the digits of what is carried.
-fn push_carry(digits: &mut Vec<u8>, carry: u8) -> Result<(), AllocError>
+fn push_carry(digits: &mut Vec<u8>, carry: u128) -> Result<(), AllocError>
     requires { All (λ digit. digit < 10) digits.old.items }
     ensures number { OnOk result (number_of digits.new.items
         ≡ number_of digits.old.items + carry * 10 ^ length digits.old.items) }
@@ -45,7 +45,7 @@ fn push_carry(digits: &mut Vec<u8>, carry: u8) -> Result<(), AllocError>
 {
     let mut carry = carry;
     while carry > 0 {
-        digits.push(carry % 10)?;
+        digits.push((carry % 10) as u8)?;
         carry /= 10;
     }
     Ok(())
@@ -83,7 +83,7 @@ fn add_at(digits: &mut Vec<u8>, place: usize, amount: u8) -> Result<(), AllocErr
     ensures longer { length digits.old.items ≤ length digits.new.items }
 {
     let carry = carry_from(digits, place, amount);
-    push_carry(digits, carry)
+    push_carry(digits, u128::from(carry))
 }
 
 // Adds the number of other digits.
@@ -143,6 +143,43 @@ impl Count {
         let mut digits = Vec::new(alloc);
         digits.push(1)?;
         Ok(Count { digits })
+    }
+
+    /// A number by its decimal digits. The one error is that allocation failed.
+    pub(crate) fn of(alloc: Global, number: u128) -> Result<Count, AllocError>
+        ensures { IfOk result (λ count. count ≡ number) }
+    {
+        let mut digits = Vec::new(alloc);
+        push_carry(&mut digits, number)?;
+        Ok(Count { digits })
+    }
+
+    /// The number once more. The one error is that allocation failed.
+    pub(crate) fn copy(&self, alloc: Global) -> Result<Count, AllocError>
+        ensures { IfOk result (λ copy. copy ≡ self.now) }
+    {
+        let mut copy = Count::zero(alloc);
+        copy.add(self)?;
+        Ok(copy)
+    }
+
+    /// The number times 2^128. The one error is that allocation failed.
+    pub(crate) fn shifted(&self, alloc: Global) -> Result<Count, AllocError>
+        ensures { IfOk result (λ shifted. shifted ≡ 2 ^ 128 * self.now) }
+    {
+        let mut shifted = self.copy(alloc)?;
+        for _double in 0u32..128 {
+            let copy = shifted.copy(alloc)?;
+            shifted.add(&copy)?;
+        }
+        Ok(shifted)
+    }
+
+    /// Adds 1. At an `Err` allocation failed, and the number may be any.
+    pub fn add_one(&mut self) -> Result<(), AllocError>
+        ensures { OnOk result (self.new ≡ self.old + 1) }
+    {
+        add_at(&mut self.digits, 0, 1)
     }
 
     /// Adds another number. At an `Err` allocation failed, and the number may be any.

@@ -1,12 +1,10 @@
 -- The possible choices, and one more choice.
-use Rattle.std.proofs.Common.{◌≡◌, ℕ, zero, suc, ◌<◌, Bool, true, false, List, [], ◌∷◌, ◌++◌, length, get_or, take, drop, drop-cons, ◌+◌, Some, refl, ap, sym, subst, ◌∙◌, cond, arith}
+use Rattle.std.proofs.Common.{◌≡◌, ℕ, zero, suc, ◌<◌, Bool, true, false, List, [], ◌∷◌, ◌++◌, length, ◌+◌, Some, refl, sym, subst, ◌∙◌, cond, arith}
 use Rattle.std.specs.List.{find, range_with_len}
-use Rattle.std.proofs.lemmas.List.{take-append-drop, take_more}
 use Rattle.std.proofs.lemmas.List.FromFn.{get_or-map-range_with_len}
 use Rattle.realm_plan.specs.Plan.{Plan}
 use Rattle.plan_replay.specs.declared.place.PlanCursor.{PlanCursor}
-use Rattle.view_program.specs.Next.{could}
-use Rattle.view_program.specs.Chosen.{has_left, builds_left, lowest_of, IsOpen, Stage, IsStageTurn, AreChosen, CannotBeKept}
+use Rattle.view_program.specs.Chosen.{could, has_left, builds_left, lowest_of, IsOpen, Stage, IsStageTurn, AreChosen}
 use Rattle.view_program.specs.declared.schedules.choice.Choice.{Choice}
 
 -- ---- what can be chosen
@@ -36,9 +34,6 @@ pub lowest_is : (left : List Bool) (build : ℕ) → lowest_of left ≡ Some bui
 unfolding lowest_of
 lowest_is left build is = found_is (could left) (range_with_len 0 8) build is
 
-pub open_inside : (plan : Plan) (places : List PlanCursor) (choice : Choice) → IsOpen plan places choice → choice.build < 8
-open_inside plan places choice is = (could_is plan places choice.left choice.build is.left is.could).0
-
 -- ---- one more choice
 
 pub AreChosen-more :
@@ -49,36 +44,3 @@ AreChosen-more plan from [] at choice to is can step =
     (subst (λ (s : Stage). IsOpen plan s.at.places choice) is can, to, subst (λ s. IsStageTurn plan s choice.build to) is step, refl)
 AreChosen-more plan from (first ∷ front) at choice to is can step =
     (is.0, is.1, is.2, AreChosen-more plan is.1 front at choice to is.3 can step)
-
-pub AreChosen-append :
-    (plan : Plan) (from : Stage) (front : List Choice) (at : Stage) (more : List Choice) (to : Stage)
-    → AreChosen plan from front at → AreChosen plan at more to
-    → AreChosen plan from (front ++ more) to
-AreChosen-append plan from [] at more to is rest = subst (λ s. AreChosen plan s more to) is rest
-AreChosen-append plan from (first ∷ front) at more to is rest = (is.0, is.1, is.2, AreChosen-append plan is.1 front at more to is.3 rest)
-
--- ---- by place
-
-pub AreChosen-next :
-    (plan : Plan) (from : Stage) (choices : List Choice) (i : ℕ) (at : Stage) (d : Choice) (to : Stage)
-    → i < length choices → AreChosen plan from (take i choices) at
-    → IsOpen plan at.at.places (get_or choices i d) → IsStageTurn plan at (get_or choices i d).build to
-    → AreChosen plan from (take (i + 1) choices) to
-AreChosen-next plan from choices i at d to inside is can step =
-    subst (λ cs. AreChosen plan from cs to) (sym (take_more choices i d inside)) (AreChosen-more plan from (take i choices) at (get_or choices i d) to is can step)
-
-pub CannotBeKept-at :
-    (plan : Plan) (from : Stage) (choices : List Choice) (i : ℕ) (at : Stage) (d : Choice) (test : Bool)
-    → i < length choices → AreChosen plan from (take i choices) at
-    → (IsOpen plan at.at.places (get_or choices i d) → test ≡ true) → test ≡ false
-    → CannotBeKept plan from choices
-CannotBeKept-at plan from choices i at d test inside is tells shut =
-    record {
-      front = take i choices;
-      choice = get_or choices i d;
-      more = drop (suc i) choices;
-      parts = sym (take-append-drop i choices) ∙ ap (λ cs. take i choices ++ cs) (drop-cons choices i d inside);
-      at = at;
-      chosen = is;
-      not_open = λ can. (let told = tells can in absurd cc);
-    }

@@ -1,5 +1,5 @@
 -- The tallies once one more outcome is counted.
-use Rattle.std.proofs.Common.{◌≡◌, ℕ, ◌+◌, ◌-◌, ◌^◌, min, Bool, true, false, ◌||◌, cond, if◌then◌else◌, List, [], ◌∷◌, ◌++◌, map, length, take, drop, refl, ap, sym, ◌∙◌}
+use Rattle.std.proofs.Common.{◌≡◌, ℕ, ◌+◌, Bool, true, false, ◌||◌, cond, if◌then◌else◌, List, [], ◌∷◌, ◌++◌, map, length, take, drop, refl, ap, sym, ◌∙◌}
 use Rattle.std.proofs.Common.{append_assoc, append-nil, arith}
 use Rattle.std.specs.Prelude.{count_by}
 use Rattle.std.specs.List.{list_any}
@@ -8,8 +8,9 @@ use Rattle.std.proofs.Math.Seq.{take-append_seam}
 use Rattle.std.proofs.lemmas.List.{map-append}
 use Rattle.std.proofs.lemmas.List.Folds.{list_any-append}
 use Rattle.std.proofs.lemmas.List.Sums.{sum_by-append}
-use Rattle.view_program.specs.Tally.{Sighting, Counted, is_shown, firsts, times, counted, counted_of, bump, is_known}
-use Rattle.view_program.specs.declared.schedules.tally.Tally.{Tally}
+use Rattle.view_program.specs.Tally.{Sighting, is_shown, firsts, times, counted, bump, is_known}
+use Rattle.plan_states.specs.Tallies.{PathCount, count_of_tally}
+use Rattle.plan_states.specs.declared.tally.PathTally.{PathTally}
 
 list_any_map : {X Y : Type 0} (p : Y → Bool) (f : X → Y) (xs : List X) → list_any p (map f xs) ≡ list_any (λ x. p (f x)) xs
 list_any_map p f [] = refl
@@ -87,17 +88,17 @@ module _ {K : Type 0} (same : K → K → Bool) where
         let rest = unseen_times seen thing parts.1 in
         sum_by-append (λ x. cond (same thing x.thing) 1 0) (s ∷ []) seen ∙ ap (λ b. 0 + cond b 1 0 + count_by (λ x. same thing x.thing) seen) none ∙ omega arith
 
-    times-push : (seen : List (Sighting K)) (s : Sighting K) (thing : K) → times same (seen ++ s ∷ []) thing
-        ≡ (if same thing s.thing then min (times same seen thing + 1) (2 ^ 64 - 1) else times same seen thing)
+    times-push : (seen : List (Sighting K)) (s : Sighting K) (thing : K)
+        → times same (seen ++ s ∷ []) thing ≡ (if same thing s.thing then times same seen thing + 1 else times same seen thing)
     times-push seen s thing =
-        ap (λ n. min n (2 ^ 64 - 1)) (sum_by-append (λ x. cond (same thing x.thing) 1 0) seen (s ∷ []))
-        ∙ elim (same thing s.thing) as (λ b. min (count_by (λ x. same thing x.thing) seen + (0 + cond b 1 0)) (2 ^ 64 - 1)
-        ≡ (if b then min (times same seen thing + 1) (2 ^ 64 - 1) else times same seen thing)) [
+        sum_by-append (λ x. cond (same thing x.thing) 1 0) seen (s ∷ [])
+        ∙ elim (same thing s.thing) as (λ b. count_by (λ x. same thing x.thing) seen + (0 + cond b 1 0)
+        ≡ (if b then times same seen thing + 1 else times same seen thing)) [
           | true ↦ omega arith
           | false ↦ omega arith
         ]
 
-    counted_at : List (Sighting K) → Sighting K → Counted K
+    counted_at : List (Sighting K) → Sighting K → PathCount K
     counted_at seen s = record { thing = s.thing; count = times same seen s.thing; first = s.order }
 
     one : (seen : List (Sighting K)) (s : Sighting K) (shown : Bool) → is_shown same seen s.thing ≡ shown
@@ -106,7 +107,7 @@ module _ {K : Type 0} (same : K → K → Bool) where
     one seen s true is = refl
     one seen s false is =
         let none = unseen_times seen s.thing is in
-        let more = times-push seen s s.thing ∙ ap (λ b. if b then min (times same seen s.thing + 1) (2 ^ 64 - 1) else times same seen s.thing) (equal.refl s.thing) in
+        let more = times-push seen s s.thing ∙ ap (λ b. if b then times same seen s.thing + 1 else times same seen s.thing) (equal.refl s.thing) in
         let once : times same (seen ++ s ∷ []) s.thing ≡ 1 = omega arith in
         λ i. record { thing = s.thing; count = once i; first = s.order } ∷ []
 
@@ -124,36 +125,36 @@ module _ {K : Type 0} (same : K → K → Bool) where
         ++ one seen s (is_shown same seen s.thing) refl i)
 
     pub known_is :
-        (tallies : List (Tally K)) (seen : List (Sighting K)) (thing : K) → map counted_of tallies ≡ counted same seen → is_known same thing tallies ≡ is_shown same seen thing
+        (tallies : List (PathTally K)) (seen : List (Sighting K)) (thing : K) → map count_of_tally tallies ≡ counted same seen → is_known same thing tallies ≡ is_shown same seen thing
     unfolding counted counted_at
     known_is tallies seen thing are =
-        sym (list_any_map (λ c. same c.thing thing) counted_of tallies) ∙ ap (list_any (λ c. same c.thing thing)) are
+        sym (list_any_map (λ c. same c.thing thing) count_of_tally tallies) ∙ ap (list_any (λ c. same c.thing thing)) are
         ∙ list_any_map (λ c. same c.thing thing) (counted_at seen) (firsts same [] seen) ∙ firsts_shown [] seen thing refl
 
     -- ---- the tallies
 
-    module _ (tallies bumped : List (Tally K)) (seen : List (Sighting K)) (s : Sighting K) (are : map counted_of tallies ≡ counted same seen)
-        (is_bumped : map counted_of bumped ≡ map (bump same s.thing) (map counted_of tallies)) where
-      after : map counted_of bumped ++ (if is_known same s.thing tallies then [] else record { thing = s.thing; count = 1; first = s.order } ∷ []) ≡ counted same (seen ++ s ∷ [])
+    module _ (tallies bumped : List (PathTally K)) (seen : List (Sighting K)) (s : Sighting K) (are : map count_of_tally tallies ≡ counted same seen)
+        (is_bumped : map count_of_tally bumped ≡ map (bump same s.thing) (map count_of_tally tallies)) where
+      after : map count_of_tally bumped ++ (if is_known same s.thing tallies then [] else record { thing = s.thing; count = 1; first = s.order } ∷ []) ≡ counted same (seen ++ s ∷ [])
       after =
           (λ i. (is_bumped ∙ ap (map (bump same s.thing)) are) i ++ (if known_is tallies seen s.thing are i then [] else record { thing = s.thing; count = 1; first = s.order } ∷ []))
           ∙ sym (counted-push seen s)
 
-      pub shown_again : is_known same s.thing tallies ≡ true → map counted_of bumped ≡ counted same (seen ++ s ∷ [])
+      pub shown_again : is_known same s.thing tallies ≡ true → map count_of_tally bumped ≡ counted same (seen ++ s ∷ [])
       shown_again known =
-          sym (append-nil (map counted_of bumped)) ∙ ap (λ b. map counted_of bumped ++ (if b then [] else record { thing = s.thing; count = 1; first = s.order } ∷ [])) (sym known) ∙ after
+          sym (append-nil (map count_of_tally bumped)) ∙ ap (λ b. map count_of_tally bumped ++ (if b then [] else record { thing = s.thing; count = 1; first = s.order } ∷ [])) (sym known) ∙ after
 
       pub shown_first :
-          (tally : Tally K) → is_known same s.thing tallies ≡ false → counted_of tally ≡ record { thing = s.thing; count = 1; first = s.order }
-          → map counted_of (bumped ++ tally ∷ []) ≡ counted same (seen ++ s ∷ [])
+          (tally : PathTally K) → is_known same s.thing tallies ≡ false → count_of_tally tally ≡ record { thing = s.thing; count = 1; first = s.order }
+          → map count_of_tally (bumped ++ tally ∷ []) ≡ counted same (seen ++ s ∷ [])
       shown_first tally new is =
-          map-append counted_of bumped (tally ∷ []) ∙ ap (λ c. map counted_of bumped ++ c ∷ []) is
-          ∙ ap (λ b. map counted_of bumped ++ (if b then [] else record { thing = s.thing; count = 1; first = s.order } ∷ [])) (sym new) ∙ after
+          map-append count_of_tally bumped (tally ∷ []) ∙ ap (λ c. map count_of_tally bumped ++ c ∷ []) is
+          ∙ ap (λ b. map count_of_tally bumped ++ (if b then [] else record { thing = s.thing; count = 1; first = s.order } ∷ [])) (sym new) ∙ after
 
 -- what was lent whole has come back
 pub written_back : {X : Type 0} (n : ℕ) (old new : List X) → n ≡ length old → length new ≡ length old → take n (new ++ drop (length new) old) ≡ new
 written_back n old new is all = ap (λ k. take k (new ++ drop (length new) old)) (is ∙ sym all) ∙ take-append_seam new (drop (length new) old)
 
-pub counted-none : {K : Type 0} (same : K → K → Bool) (tallies : List (Tally K)) → tallies ≡ [] → map counted_of tallies ≡ counted same []
+pub counted-none : {K : Type 0} (same : K → K → Bool) (tallies : List (PathTally K)) → tallies ≡ [] → map count_of_tally tallies ≡ counted same []
 unfolding counted
-counted-none {K} same tallies none = ap (map (counted_of {K = K})) none
+counted-none {K} same tallies none = ap (map (count_of_tally {K = K})) none

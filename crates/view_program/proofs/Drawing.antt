@@ -1,5 +1,5 @@
 -- A run that goes on with builds that are drawn.
-use Rattle.std.proofs.Common.{◌≡◌, ℕ, ◌+◌, ◌%◌, zero, suc, Bool, true, false, cond, if◌then◌else◌, replicate, List, [], ◌∷◌, ◌++◌, append-nil, length, Some, None, refl, ap, sym, subst, ◌∙◌, arith}
+use Rattle.std.proofs.Common.{◌≡◌, ℕ, ◌+◌, ◌%◌, zero, suc, Bool, true, false, cond, if◌then◌else◌, List, [], ◌∷◌, ◌++◌, append-nil, length, Some, None, refl, ap, sym, subst, ◌∙◌, arith}
 use Rattle.std.specs.Prelude.{filter, find, slice_get}
 use Rattle.std.specs.List.{range_with_len}
 use Rattle.std.proofs.lemmas.List.Elements.{filter-append}
@@ -7,15 +7,10 @@ use Rattle.std.proofs.lemmas.Option.{slice_get-get_or}
 use Rattle.std.proofs.lemmas.Nat.{mod_below}
 use Rattle.granule_addr.proofs.Runs.{range_with_len_more}
 use Rattle.rand_core.specs.Stream.{Stream, next_u32}
-use Rattle.host_ledger.specs.View.{HostView}
 use Rattle.realm_plan.specs.Plan.{Plan}
-use Rattle.plan_replay.specs.Place.{first_place}
-use Rattle.plan_replay.specs.declared.place.PlanCursor.{PlanCursor}
-use Rattle.view_program.specs.Next.{could}
-use Rattle.view_program.specs.Chosen.{builds_left, lowest_of, Stage, first_stage, IsStageTurn, AreChosen, IsChosenRun, stage_at}
+use Rattle.view_program.specs.Chosen.{could, builds_left, lowest_of, Stage, IsStageTurn, AreChosen}
 use Rattle.view_program.specs.Drawn.{builds_with_steps, drawn, AreDrawn, IsDrawnTo}
 use Rattle.view_program.specs.declared.schedules.choice.Choice.{Choice}
-use Rattle.view_program.specs.declared.schedules.step_end.StepEnd.{StepEnd}
 use Rattle.view_program.proofs.Chosen.{AreChosen-more}
 
 -- ---- what is drawn
@@ -93,18 +88,6 @@ IsDrawing-more plan stream from choices at choice to new now after is left draws
   are_drawn = AreDrawn-more stream choices now choice is.are_drawn draws;
   chosen = AreChosen-more plan from choices at choice to is.chosen (record { left = left; could = drawn_could now choice.left choice.build draws }) step;
 })
-
-pub IsChosenRun-drawn :
-    (plan : Plan) (host : HostView) (places : List PlanCursor) (noted : List StepEnd) (stream after : Stream) (choices : List Choice) (to : Stage)
-    → places ≡ replicate 8 first_place → noted ≡ []
-    → IsDrawnTo plan stream (stage_at host places noted) choices to after
-    → AreDrawn stream choices after × IsChosenRun plan host choices to.at.host to.ends
-IsChosenRun-drawn plan host places noted stream after choices to first none is =
-    let from = stage_at host places noted in
-    let begins : from ≡ first_stage host = λ i. record { at = record { host = host; places = first i }; ends = none i } in (
-      is.are_drawn,
-      record { last = to; chosen = subst (λ s. AreChosen plan s choices to) begins is.chosen; whole = is.whole; host = refl; ends = refl },
-    )
 
 pub IsDrawnTo-whole :
     (plan : Plan) (stream : Stream) (from : Stage) (choices : List Choice) (to : Stage) (now after : Stream) (left : List Bool)

@@ -1,12 +1,13 @@
 -- A run that goes on with the lowest build that has a step left.
-use Rattle.std.proofs.Common.{◌≡◌, true, MatchBool, replicate, Bool, None, sym, subst, append_assoc, append-nil, List, [], ◌∷◌, ◌++◌, Some, All, refl, ap, ◌∙◌}
+use Rattle.std.proofs.Common.{◌≡◌, replicate, Bool, None, sym, subst, append_assoc, append-nil, List, [], ◌∷◌, ◌++◌, Some, All, refl, ap, ◌∙◌}
 use Rattle.std.proofs.lemmas.List.Elements.{All-nil, All-push}
 use Rattle.host_ledger.specs.View.{HostView}
 use Rattle.realm_plan.specs.Plan.{Plan}
-use Rattle.view_program.specs.Chosen.{builds_left, lowest_of, Stage, first_stage, IsStageTurn, AreChosen, IsChosenRun, IsLowestAfter, GoesOnTo, stage_at}
-use Rattle.view_program.proofs.Chosen.{lowest_is, AreChosen-more, AreChosen-append}
+use Rattle.view_program.specs.Chosen.{builds_left, lowest_of, Stage, first_stage, IsStageTurn, AreChosen, IsChosenRun, GoesOnTo, stage_at}
+use Rattle.view_program.specs.Rotation.{AreOneByOne}
+use Rattle.view_program.proofs.Chosen.{lowest_is, AreChosen-more}
 use Rattle.view_program.specs.declared.schedules.choice.Choice.{Choice}
-use Rattle.view_program.specs.declared.schedules.step_end.StepEnd.{StepEnd}
+use Rattle.plan_states.specs.declared.step_end.EndOfStep.{EndOfStep}
 use Rattle.plan_replay.specs.Place.{first_place}
 use Rattle.plan_replay.specs.declared.place.PlanCursor.{PlanCursor}
 
@@ -40,31 +41,22 @@ pub GoesOnTo-whole :
 GoesOnTo-whole plan from front choices to left is same none =
     record { more = is.more; appended = is.appended; lowest = is.lowest; chosen = is.chosen; whole = subst (λ l. lowest_of l ≡ None) same none }
 
-pub IsChosenRun-whole :
-    (plan : Plan) (host : HostView) (front choices : List Choice) (at to : Stage)
-    → AreChosen plan (first_stage host) front at → GoesOnTo plan at front choices to
-    → IsLowestAfter front choices × IsChosenRun plan host choices to.at.host to.ends
-IsChosenRun-whole plan host front choices at to is on = (
-  record { more = on.more; appended = on.appended; lowest = on.lowest },
-  record {
-    last = to;
-    chosen = subst (λ cs. AreChosen plan (first_stage host) cs to) (sym on.appended) (AreChosen-append plan (first_stage host) front at on.more to is on.chosen);
-    whole = on.whole;
-    host = refl;
-    ends = refl;
-  },
-)
-
--- the run of choices that are kept to
-pub IsChosenRun-kept :
-    (plan : Plan) (host : HostView) (places : List PlanCursor) (noted : List StepEnd) (kept front choices : List Choice) (at to : Stage) (test : Bool) (Other : Type 0)
-    → places ≡ replicate 8 first_place → noted ≡ [] → kept ≡ front
-    → MatchBool test (AreChosen plan (stage_at host places noted) kept at) Other → test ≡ true
-    → GoesOnTo plan at front choices to
-    → IsLowestAfter front choices × IsChosenRun plan host choices to.at.host to.ends
-IsChosenRun-kept plan host places noted kept front choices at to test Other first none same match told on =
+-- the run from boot
+pub IsChosenRun-lowest :
+    (plan : Plan) (host : HostView) (places : List PlanCursor) (noted : List EndOfStep) (before choices : List Choice) (to : Stage)
+    → places ≡ replicate 8 first_place → noted ≡ [] → before ≡ []
+    → GoesOnTo plan (stage_at host places noted) before choices to
+    → AreOneByOne choices × IsChosenRun plan host choices to.at.host to.ends
+IsChosenRun-lowest plan host places noted before choices to first none empty on =
     let from = stage_at host places noted in
     let begins : from ≡ first_stage host = λ i. record { at = record { host = host; places = first i }; ends = none i } in
-    let is = subst (λ t. MatchBool t (AreChosen plan from kept at) Other) told match in
-    IsChosenRun-whole plan host front choices at to
-    (subst (λ cs. AreChosen plan (first_stage host) cs at) same (subst (λ s. AreChosen plan s kept at) begins is)) on
+    let all : choices ≡ on.more = on.appended ∙ ap (λ cs. cs ++ on.more) empty in (
+      subst AreOneByOne (sym all) on.lowest,
+      record {
+        last = to;
+        chosen = subst (λ cs. AreChosen plan (first_stage host) cs to) (sym all) (subst (λ s. AreChosen plan s on.more to) begins on.chosen);
+        whole = on.whole;
+        host = refl;
+        ends = refl;
+      },
+    )

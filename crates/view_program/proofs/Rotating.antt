@@ -1,17 +1,12 @@
 -- A run in which builds take turns in rotation.
-use Rattle.std.proofs.Common.{◌≡◌, ℕ, ◌+◌, Bool, true, false, replicate, List, [], ◌∷◌, ◌++◌, Some, None, refl, sym, subst}
+use Rattle.std.proofs.Common.{◌≡◌, ℕ, ◌+◌, Bool, true, false, List, [], ◌∷◌, ◌++◌, Some, None, refl, sym, subst}
 use Rattle.std.specs.Prelude.{◌&&◌, nat_le, Option}
 use Rattle.std.specs.List.{range_with_len}
 use Rattle.std.specs.Option.{option_or}
-use Rattle.host_ledger.specs.View.{HostView}
 use Rattle.realm_plan.specs.Plan.{Plan}
-use Rattle.plan_replay.specs.Place.{first_place}
-use Rattle.plan_replay.specs.declared.place.PlanCursor.{PlanCursor}
-use Rattle.view_program.specs.Next.{could}
-use Rattle.view_program.specs.Chosen.{builds_left, lowest_of, Stage, first_stage, IsStageTurn, AreChosen, IsChosenRun, IsLowestAfter, CannotBeKept, stage_at}
-use Rattle.view_program.specs.Rotation.{in_rotation, lowest_from, AreInRotation, AreOneByOne, IsRotatedTo}
+use Rattle.view_program.specs.Chosen.{could, builds_left, lowest_of, Stage, IsStageTurn, AreChosen}
+use Rattle.view_program.specs.Rotation.{in_rotation, lowest_from, AreInRotation, IsRotatedTo}
 use Rattle.view_program.specs.declared.schedules.choice.Choice.{Choice}
-use Rattle.view_program.specs.declared.schedules.step_end.StepEnd.{StepEnd}
 use Rattle.view_program.proofs.Chosen.{found_is, lowest_is, AreChosen-more}
 
 -- ---- whose turn it is
@@ -88,28 +83,3 @@ IsRotatedTo-whole plan from choices to now left is same none = record {
   chosen = is.chosen;
   whole = subst (λ l. lowest_of l ≡ None) same (none_lowest now left none);
 }
-
-pub IsChosenRun-rotated :
-    (plan : Plan) (host : HostView) (places : List PlanCursor) (noted : List StepEnd) (choices : List Choice) (to : Stage)
-    → places ≡ replicate 8 first_place → noted ≡ []
-    → IsRotatedTo plan (stage_at host places noted) choices to
-    → AreInRotation 0 choices × IsChosenRun plan host choices to.at.host to.ends
-IsChosenRun-rotated plan host places noted choices to first none is =
-    let from = stage_at host places noted in
-    let begins : from ≡ first_stage host = λ i. record { at = record { host = host; places = first i }; ends = none i } in (
-      is.are_in_rotation,
-      record { last = to; chosen = subst (λ s. AreChosen plan s choices to) begins is.chosen; whole = is.whole; host = refl; ends = refl },
-    )
-
--- ---- one by one
-
-nothing_behind : (front : List Choice) (choice : Choice) (more : List Choice) → [] ≡ front ++ choice ∷ more → ⊥
-nothing_behind [] choice more is = cc
-nothing_behind (c ∷ front) choice more is = cc
-
--- where nothing was chosen before, there is nothing that cannot be kept to
-pub nothing_to_keep : (plan : Plan) (from : Stage) → CannotBeKept plan from [] → ⊥
-nothing_to_keep plan from cannot = nothing_behind cannot.front cannot.choice cannot.more cannot.parts
-
-pub one_by_one : (choices : List Choice) → IsLowestAfter [] choices → AreOneByOne choices
-one_by_one choices is = subst AreOneByOne (sym is.appended) is.lowest

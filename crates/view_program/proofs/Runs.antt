@@ -12,7 +12,7 @@ use Rattle.view_program.specs.TurnsLeft.{AreSteady}
 use Rattle.view_program.proofs.Chosen.{could_is}
 use Rattle.view_program.proofs.TurnsLeft.{steady_after, accepted_where_it_stays, first_steady}
 use Rattle.view_program.specs.declared.schedules.choice.Choice.{Choice}
-use Rattle.view_program.specs.declared.schedules.step_end.StepEnd.{StepEnd}
+use Rattle.plan_states.specs.declared.step_end.EndOfStep.{EndOfStep}
 
 turns_of : (plan : Plan) (order : List ℕ) (from : Stage) (choices : List Choice) (to : Stage) → AreChosen plan from choices to → (turns : List Turn) × AreTurns
     (record plan { order = order }) (chosen_schedule choices) from.at turns to.at
@@ -22,7 +22,7 @@ turns_of plan order from (choice ∷ choices) to are =
     (are.2.turn ∷ later.0, (are.2.of_build, are.1.at, are.2.is_turn, later.1))
 
 pub run_of_plan :
-    (plan : Plan) (host : HostView) (choices : List Choice) (to : HostView) (ends : List StepEnd)
+    (plan : Plan) (host : HostView) (choices : List Choice) (to : HostView) (ends : List EndOfStep)
     → IsChosenRun plan host choices to ends
     → (text : List ℕ) × IsReportedRun (record plan { order = chosen_schedule choices }) host to [] text
 run_of_plan plan host choices to ends is =
@@ -31,7 +31,7 @@ run_of_plan plan host choices to ends is =
 
 -- ---- what is noted of turns
 
-abbrev end_of : Turn → ℕ → StepEnd
+abbrev end_of : Turn → ℕ → EndOfStep
 end_of turn step = record { build = turn.build; step = step; refusal = refusal_of_turn turn.told }
 
 noted_if : (turn : Turn) (before : ℕ) (stays : Bool)
@@ -68,7 +68,7 @@ noted plan order from (choice ∷ choices) to steady are =
       ends_are = later.ends_are ∙ ap (λ es. es ++ flat_map (λ (l : Line). l.noted) later.lines) step.noted ∙ append_assoc from.ends line.noted (flat_map (λ (l : Line). l.noted) later.lines);
     }
 
-pub ends_told : (plan : Plan) (host : HostView) (choices : List Choice) (to : HostView) (ends : List StepEnd)
+pub ends_told : (plan : Plan) (host : HostView) (choices : List Choice) (to : HostView) (ends : List EndOfStep)
     → IsChosenRun plan host choices to ends → AreTold (record plan { order = chosen_schedule choices }) host to ends
 ends_told plan host choices to ends is =
     let all = noted plan (chosen_schedule choices) (first_stage host) choices is.last (first_steady plan) is.chosen in record {

@@ -12,7 +12,7 @@ use Rattle.realm_model.specs.contracts.rmi.StatusPartialEq.TheImpl as of_status
 use Rattle.realm_model.specs.declared.rmi.Rmi.{Rmi}
 use Rattle.view_program.specs.Same.{same_end}
 use denote.Enum.Bare.{same_true, true_same}
-use Rattle.view_program.specs.declared.schedules.step_end.StepEnd.{StepEnd}
+use Rattle.plan_states.specs.declared.step_end.EndOfStep.{EndOfStep}
 
 same_status : DecidesEquality of_status.eq-value.it
 same_status = record { tells = λ x y. (λ is. same_true status.the_type tt x y is, λ equal. true_same status.the_type x y equal) }
@@ -37,8 +37,8 @@ module _ {A : Type 0} {test : A → A → Bool} (same : DecidesEquality test) wh
   if_there : DecidesEquality (option_eq test)
   if_there = record { tells = option_tells }
 
-pub ends_tell : (one other : StepEnd) → Decides (same_end one other) (one ≡ other)
+pub ends_tell : (one other : EndOfStep) → Decides (same_end one other) (one ≡ other)
 ends_tell one other =
-    let same = through (λ (x : StepEnd). (x.build, (x.step, x.refusal))) (λ x y equal i. record { build = (equal i).0; step = (equal i).1.0; refusal = (equal i).1.1 })
+    let same = through (λ (x : EndOfStep). (x.build, (x.step, x.refusal))) (λ x y equal i. record { build = (equal i).0; step = (equal i).1.0; refusal = (equal i).1.1 })
     (both number (both number (if_there same_refusal))) in
     same.tells one other

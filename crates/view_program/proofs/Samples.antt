@@ -5,10 +5,10 @@ use Rattle.host_ledger.specs.View.{HostView}
 use Rattle.realm_plan.specs.Plan.{Plan}
 use Rattle.realm_program.specs.Replay.{opening_host}
 use Rattle.view_program.specs.Chosen.{IsChosenRun}
-use Rattle.view_program.specs.Drawn.{AreDrawn, IsDrawn, AreSamples, IsSampled}
+use Rattle.view_program.specs.Drawn.{AreDrawn, IsDrawn, AreSamples}
 use Rattle.view_program.specs.Totals.{Visit, AreTotals}
 use Rattle.view_program.specs.declared.schedules.choice.Choice.{Choice}
-use Rattle.view_program.specs.declared.schedules.step_end.StepEnd.{StepEnd}
+use Rattle.plan_states.specs.declared.step_end.EndOfStep.{EndOfStep}
 use Rattle.view_program.specs.declared.schedules.totals.Totals.{Totals}
 use Rattle.view_program.specs.Exploring.{IsAdded, IsDrawnAndCounted}
 
@@ -38,14 +38,9 @@ IsSampling-more plan stream count now after old new so_far is = record {
   so_many = (let so_many = so_far.so_many in omega (arith, length-append so_far.visits (is.visit ∷ [])));
 }
 
-pub IsSampled-whole : (plan : Plan) (stream : Stream) (count : ℕ) (now : Stream) (totals : Totals) → IsSampling plan stream count now totals
-    → IsSampled plan (opening_host plan) stream count totals
-IsSampled-whole plan stream count now totals is =
-    record { visits = is.visits; after = now; are_samples = is.are_samples; are_totals = is.are_totals; so_many = is.so_many }
-
 -- The run of an order that is drawn, on a fresh host, counted.
 pub IsDrawnAndCounted-run :
-    (plan : Plan) (stream after : Stream) (fresh to : HostView) (choices cs : List Choice) (ends es : List StepEnd) (old new : Totals)
+    (plan : Plan) (stream after : Stream) (fresh to : HostView) (choices cs : List Choice) (ends es : List EndOfStep) (old new : Totals)
     → fresh ≡ opening_host plan → cs ≡ choices → es ≡ ends
     → AreDrawn stream choices after × IsChosenRun plan fresh choices to ends
     → IsAdded plan to cs es old new

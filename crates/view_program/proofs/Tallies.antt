@@ -1,60 +1,61 @@
 -- One more outcome that is counted.
-use Rattle.std.proofs.Common.{◌≡◌, ℕ, ◌+◌, ◌-◌, ◌^◌, ◌<◌, ◌≤◌, min, Bool, true, false, ◌||◌, if◌then◌else◌, List, [], ◌∷◌, length, map, get_or, set, take, refl, ap, sym, subst}
+use Rattle.std.proofs.Common.{◌≡◌, ℕ, ◌+◌, ◌<◌, ◌≤◌, Bool, true, false, ◌||◌, if◌then◌else◌, List, [], ◌∷◌, length, map, get_or, set, take, refl, ap, sym, subst}
 use Rattle.std.proofs.Common.{◌∙◌, inl, inr, arith}
 use Rattle.std.proofs.Math.ListN.{length-map}
 use Rattle.std.proofs.lemmas.Bool.Decides.{eqb_tells}
 use Rattle.std.proofs.lemmas.List.{ext_get_or, get_or-map, get_or-set_same, get_or-set_other, get_or_default, length-set, take_more}
 use Rattle.std.proofs.lemmas.List.Folds.{list_any-append}
-use Rattle.view_program.specs.Tally.{counted_of, bump, is_known}
-use Rattle.view_program.specs.declared.schedules.tally.Tally.{Tally}
+use Rattle.view_program.specs.Tally.{bump, is_known}
+use Rattle.plan_states.specs.Tallies.{count_of_tally}
+use Rattle.plan_states.specs.declared.tally.PathTally.{PathTally}
 
 -- ---- the loop over tallies
 
 -- the first `n` are bumped, and the others are as they were
-pub record AreBumped {K : Type 0} (same : K → K → Bool) (thing : K) (old : List (Tally K)) (n : ℕ) (new : List (Tally K)) : Type 0 where
+pub record AreBumped {K : Type 0} (same : K → K → Bool) (thing : K) (old : List (PathTally K)) (n : ℕ) (new : List (PathTally K)) : Type 0 where
   pub all : length new ≡ length old
-  pub done : (k : ℕ) (d : Tally K) → k < n → counted_of (get_or new k d) ≡ bump same thing (counted_of (get_or old k d))
-  pub left : (k : ℕ) (d : Tally K) → n ≤ k → get_or new k d ≡ get_or old k d
+  pub done : (k : ℕ) (d : PathTally K) → k < n → count_of_tally (get_or new k d) ≡ bump same thing (count_of_tally (get_or old k d))
+  pub left : (k : ℕ) (d : PathTally K) → n ≤ k → get_or new k d ≡ get_or old k d
 
 only : (b : Bool) → (b || false) ≡ b
 only true = refl
 only false = refl
 
-module _ {K : Type 0} (same : K → K → Bool) (thing : K) (old : List (Tally K)) (n : ℕ) (new : List (Tally K)) where
+module _ {K : Type 0} (same : K → K → Bool) (thing : K) (old : List (PathTally K)) (n : ℕ) (new : List (PathTally K)) where
   AreBumped-more :
-      (item after : Tally K) (newer : List (Tally K))
+      (item after : PathTally K) (newer : List (PathTally K))
       → AreBumped same thing old n new → n < length new → item ≡ get_or new n item
-      → newer ≡ set new n after → counted_of after ≡ bump same thing (counted_of item)
+      → newer ≡ set new n after → count_of_tally after ≡ bump same thing (count_of_tally item)
       → AreBumped same thing old (n + 1) newer
   AreBumped-more item after newer is inside is_item is_newer is_after =
       let all = is.all in
       record {
         all = ap length is_newer ∙ length-set new n after ∙ is.all;
-        done = λ k d below. elim (eqb_tells k n) as (λ _. counted_of (get_or newer k d) ≡ bump same thing (counted_of (get_or old k d))) [
-          | inl here ↦ subst (λ j. counted_of (get_or newer j d) ≡ bump same thing (counted_of (get_or old j d))) (sym here.1)
-              (ap counted_of (ap (λ l. get_or l n d) is_newer ∙ get_or-set_same new n after d inside) ∙ is_after
-              ∙ ap (λ t. bump same thing (counted_of t)) (is_item ∙ get_or_default new n item d inside ∙ is.left n d (omega arith)))
-          | inr other ↦ ap counted_of (ap (λ l. get_or l k d) is_newer ∙ get_or-set_other new n k after d other.1) ∙ is.done k d (let apart = other.1 in omega arith)
+        done = λ k d below. elim (eqb_tells k n) as (λ _. count_of_tally (get_or newer k d) ≡ bump same thing (count_of_tally (get_or old k d))) [
+          | inl here ↦ subst (λ j. count_of_tally (get_or newer j d) ≡ bump same thing (count_of_tally (get_or old j d))) (sym here.1)
+              (ap count_of_tally (ap (λ l. get_or l n d) is_newer ∙ get_or-set_same new n after d inside) ∙ is_after
+              ∙ ap (λ t. bump same thing (count_of_tally t)) (is_item ∙ get_or_default new n item d inside ∙ is.left n d (omega arith)))
+          | inr other ↦ ap count_of_tally (ap (λ l. get_or l k d) is_newer ∙ get_or-set_other new n k after d other.1) ∙ is.done k d (let apart = other.1 in omega arith)
         ];
         left = λ k d above. ap (λ l. get_or l k d) is_newer ∙ get_or-set_other new n k after d (λ e. absurd (omega arith)) ∙ is.left k d (omega arith);
       }
 
   pub AreBumped-once :
-      (d : Tally K) (count : ℕ) (newer : List (Tally K))
+      (d : PathTally K) (count : ℕ) (newer : List (PathTally K))
       → AreBumped same thing old n new → n < length new → same (get_or new n d).thing thing ≡ true
-      → newer ≡ set new n (record (get_or new n d) { count = count }) → count ≡ min ((get_or new n d).count + 1) (2 ^ 64 - 1)
+      → newer ≡ set new n (record (get_or new n d) { count = count }) → count ≡ (get_or new n d).count + 1
       → AreBumped same thing old (n + 1) newer
   AreBumped-once d count newer is inside is_same is_newer once =
       AreBumped-more (get_or new n d) (record (get_or new n d) { count = count }) newer is inside (get_or_default new n d (get_or new n d) inside) is_newer
       (λ i. record {
         thing = (get_or new n d).thing;
-        count = (once ∙ ap (λ t. if t then min ((get_or new n d).count + 1) (2 ^ 64 - 1) else (get_or new n d).count)
+        count = (once ∙ ap (λ t. if t then (get_or new n d).count + 1 else (get_or new n d).count)
             (sym is_same)) i;
         first = (get_or new n d).first.items;
       })
 
   pub AreBumped-same :
-      (d : Tally K) (newer : List (Tally K))
+      (d : PathTally K) (newer : List (PathTally K))
       → AreBumped same thing old n new → n < length new → same (get_or new n d).thing thing ≡ false
       → newer ≡ set new n (get_or new n d)
       → AreBumped same thing old (n + 1) newer
@@ -62,13 +63,13 @@ module _ {K : Type 0} (same : K → K → Bool) (thing : K) (old : List (Tally K
       AreBumped-more (get_or new n d) (get_or new n d) newer is inside (get_or_default new n d (get_or new n d) inside) is_newer
       (λ i. record {
         thing = (get_or new n d).thing;
-        count = ap (λ t. if t then min ((get_or new n d).count + 1) (2 ^ 64 - 1) else (get_or new n d).count)
+        count = ap (λ t. if t then (get_or new n d).count + 1 else (get_or new n d).count)
             (sym other) i;
         first = (get_or new n d).first.items;
       })
 
   pub is_known-more :
-      (d : Tally K) → AreBumped same thing old n new → n < length new
+      (d : PathTally K) → AreBumped same thing old n new → n < length new
       → is_known same thing (take (n + 1) old) ≡ (is_known same thing (take n old) || same (get_or new n d).thing thing)
   is_known-more d is inside =
       let all = is.all in
@@ -86,18 +87,18 @@ or_other true b is = refl
 or_other false b is = is
 
 pub all_bumped :
-    {K : Type 0} (same : K → K → Bool) (thing : K) (old : List (Tally K)) (n : ℕ) (new : List (Tally K))
+    {K : Type 0} (same : K → K → Bool) (thing : K) (old : List (PathTally K)) (n : ℕ) (new : List (PathTally K))
     → length old ≤ n → AreBumped same thing old n new
-    → map counted_of new ≡ map (bump same thing) (map counted_of old)
+    → map count_of_tally new ≡ map (bump same thing) (map count_of_tally old)
 all_bumped same thing [] n [] few is = refl
 all_bumped same thing [] n (t ∷ new) few is = absurd (let all = is.all in omega arith)
 all_bumped same thing (o ∷ old) n [] few is = absurd (let all = is.all in omega arith)
 all_bumped {K} same thing (o ∷ old) n (t ∷ new) few is =
     let all = is.all in
-    let new_length = length-map (t ∷ new) (counted_of {K = K}) in
-    let old_length = length-map (o ∷ old) (counted_of {K = K}) in
-    let bumped_length = length-map (map counted_of (o ∷ old)) (bump same thing) in
-    ext_get_or (counted_of t) (map counted_of (t ∷ new)) (map (bump same thing) (map counted_of (o ∷ old))) (omega arith) (λ i inside.
-    get_or-map counted_of (t ∷ new) i t (counted_of t) (omega arith) ∙ is.done i t (omega arith)
-    ∙ ap (bump same thing) (sym (get_or-map counted_of (o ∷ old) i t (counted_of t) (omega arith)))
-    ∙ sym (get_or-map (bump same thing) (map counted_of (o ∷ old)) i (counted_of t) (counted_of t) (omega arith)))
+    let new_length = length-map (t ∷ new) (count_of_tally {K = K}) in
+    let old_length = length-map (o ∷ old) (count_of_tally {K = K}) in
+    let bumped_length = length-map (map count_of_tally (o ∷ old)) (bump same thing) in
+    ext_get_or (count_of_tally t) (map count_of_tally (t ∷ new)) (map (bump same thing) (map count_of_tally (o ∷ old))) (omega arith) (λ i inside.
+    get_or-map count_of_tally (t ∷ new) i t (count_of_tally t) (omega arith) ∙ is.done i t (omega arith)
+    ∙ ap (bump same thing) (sym (get_or-map count_of_tally (o ∷ old) i t (count_of_tally t) (omega arith)))
+    ∙ sym (get_or-map (bump same thing) (map count_of_tally (o ∷ old)) i (count_of_tally t) (count_of_tally t) (omega arith)))

@@ -1,5 +1,5 @@
 -- The runs of a plan in schedules that are chosen turn by turn.
-use Rattle.std.specs.Prelude.{◌≡◌, ℕ, ◌==◌, if◌then◌else◌, Bool, true, List, [], ◌∷◌, ◌++◌, map, All, Option, Some, None, is_some}
+use Rattle.std.specs.Prelude.{◌≡◌, ℕ, ◌==◌, if◌then◌else◌, Bool, true, false, List, [], ◌∷◌, ◌++◌, map, All, Option, Some, None, is_some, slice_index_or}
 use Rattle.std.specs.List.{find, range_with_len}
 use Rattle.host_ledger.specs.View.{HostView}
 use Rattle.host_commands.specs.declared.refusal.Refusal.{Refusal}
@@ -9,11 +9,14 @@ use Rattle.plan_replay.specs.Run.{Position, Turn, start, place_of, step_after, I
 use Rattle.plan_replay.specs.declared.answer.TurnAnswer.{TurnAnswer}
 use Rattle.plan_replay.specs.declared.answer.TurnAnswer.TheVariants.{Refused}
 use Rattle.plan_replay.specs.declared.place.PlanCursor.{PlanCursor}
-use Rattle.view_program.specs.Next.{could}
 use Rattle.view_program.specs.declared.schedules.choice.Choice.{Choice}
-use Rattle.view_program.specs.declared.schedules.step_end.StepEnd.{StepEnd}
+use Rattle.plan_states.specs.declared.step_end.EndOfStep.{EndOfStep}
 
 -- ---- the possible choices
+
+-- the build could have the turn
+abbrev pub could : List Bool → ℕ → Bool
+could left build = slice_index_or left build false
 
 abbrev pub has_left : Plan → List PlanCursor → ℕ → Bool
 has_left plan places build = is_some (step_after plan build (place_of places build).done)
@@ -36,9 +39,9 @@ pub record IsOpen (plan : Plan) (places : List PlanCursor) (choice : Choice) : T
 -- The state of a run, and the ends of the steps that are used up.
 pub record Stage : Type 0 where
   pub at : Position
-  pub ends : List StepEnd
+  pub ends : List EndOfStep
 
-abbrev pub stage_at : HostView → List PlanCursor → List StepEnd → Stage
+abbrev pub stage_at : HostView → List PlanCursor → List EndOfStep → Stage
 stage_at host places ends = record { at = record { host = host; places = places }; ends = ends }
 
 abbrev pub refusal_in : TurnAnswer → Option Refusal
@@ -50,7 +53,7 @@ refusal_of_turn None = None
 refusal_of_turn (Some told) = refusal_in told.1
 
 -- the end of a turn's step, if the turn uses it up
-abbrev pub ended : Turn → ℕ → ℕ → List StepEnd
+abbrev pub ended : Turn → ℕ → ℕ → List EndOfStep
 ended turn before after =
     if before == after then [] else record { build = turn.build; step = before; refusal = refusal_of_turn turn.told } ∷ []
 
@@ -75,28 +78,12 @@ first_stage host = record { at = start host; ends = [] }
 
 -- A run of the plan in the schedule of these choices, until no build has a step left: it leads to `to`, and the steps
 -- ended as noted.
-pub record IsChosenRun (plan : Plan) (from : HostView) (choices : List Choice) (to : HostView) (noted : List StepEnd) : Type 0 where
+pub record IsChosenRun (plan : Plan) (from : HostView) (choices : List Choice) (to : HostView) (noted : List EndOfStep) : Type 0 where
   pub last : Stage
   pub chosen : AreChosen plan (first_stage from) choices last
   pub whole : lowest_of (builds_left plan last.at.places) ≡ None
   pub host : last.at.host ≡ to
   pub ends : last.ends ≡ noted
-
--- A schedule begins with these choices, and goes on with the lowest build that has a step left.
-pub record IsLowestAfter (front choices : List Choice) : Type 0 where
-  pub more : List Choice
-  pub appended : choices ≡ front ++ more
-  pub lowest : All (λ choice. lowest_of choice.left ≡ Some choice.build) more
-
--- The choices cannot be kept to: after the first of them, `front`, the next one is not open.
-pub record CannotBeKept (plan : Plan) (from : Stage) (choices : List Choice) : Type 0 where
-  pub front : List Choice
-  pub choice : Choice
-  pub more : List Choice
-  pub parts : choices ≡ front ++ choice ∷ more
-  pub at : Stage
-  pub chosen : AreChosen plan from front at
-  pub not_open : IsOpen plan at.at.places choice → ⊥
 
 -- From this stage on the lowest build with a step left goes on, until none has: `choices` then has all choices.
 pub record GoesOnTo (plan : Plan) (from : Stage) (front choices : List Choice) (to : Stage) : Type 0 where

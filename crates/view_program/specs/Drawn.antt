@@ -6,8 +6,7 @@ use Rattle.rand_core.specs.Stream.{Stream, next_u32}
 use Rattle.host_ledger.specs.View.{HostView}
 use Rattle.realm_plan.specs.Plan.{Plan}
 use Rattle.plan_replay.specs.Run.{map_text}
-use Rattle.view_program.specs.Next.{could}
-use Rattle.view_program.specs.Chosen.{builds_left, lowest_of, Stage, AreChosen, IsChosenRun}
+use Rattle.view_program.specs.Chosen.{could, builds_left, lowest_of, Stage, AreChosen, IsChosenRun}
 use Rattle.view_program.specs.Totals.{Visit, AreTotals}
 use Rattle.view_program.specs.declared.schedules.choice.Choice.{Choice}
 use Rattle.view_program.specs.declared.schedules.totals.Totals.{Totals}

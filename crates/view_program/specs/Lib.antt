@@ -1,14 +1,11 @@
-pub mod Next
 pub mod Chosen
 pub mod TurnsLeft
 pub mod Same
 pub mod Tally
 pub mod Totals
-pub mod Order
-pub mod Explored
 pub mod Drawn
+pub mod ScheduleCount
 pub mod Reported
-pub mod OrderText
 pub mod Exploring
 pub mod Lines
 pub mod Leaving
@@ -22,6 +19,7 @@ pub mod Taking
 pub mod Calls
 pub mod Checked
 pub mod Why
+pub mod ToRefusal
 pub mod Orders
 pub mod Reordered
 pub mod Printed

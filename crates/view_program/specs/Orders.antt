@@ -1,5 +1,5 @@
 -- The text of the outcomes of a plan's schedules.
-use Rattle.std.specs.Prelude.{◌≡◌, ℕ, Bool, List}
+use Rattle.std.specs.Prelude.{◌≡◌, ℕ, List}
 use Rattle.rand_core.specs.Steps.{stream_of, steps_u64_high}
 use Rattle.rand_core.specs.Stream.{Stream}
 use Rattle.rand_xoshiro.specs.SplitMix64.{splitmix_seed}
@@ -9,19 +9,13 @@ use Rattle.realm_program.specs.Replay.{opening_host}
 use Rattle.realm_program.specs.declared.fault.Fault.{Fault}
 use Rattle.realm_program.specs.declared.fault.Fault.TheVariants.{Memory}
 use Rattle.view_program.specs.Drawn.{IsSampled}
-use Rattle.view_program.specs.Explored.{IsExplored}
+use Rattle.plan_states.specs.Exploration.{HasNoGraph}
+use Rattle.plan_states.specs.StatesText.{IsStatesText}
 use Rattle.view_program.specs.declared.schedules.totals.Totals.{Totals}
-use Rattle.view_program.specs.Exploring.{IsNotExplored}
-use Rattle.view_program.specs.Lines.{schedules_text, drawn_text}
+use Rattle.view_program.specs.Lines.{drawn_text}
+use Rattle.view_program.specs.ToRefusal.{IsRefusalText}
 use Rattle.command_line.specs.declared.realmview.Schedules.{Schedules}
-use Rattle.command_line.specs.declared.realmview.Schedules.TheVariants.{First, Drawn}
-
--- the outcomes of the schedules of a plan, from the lowest on: of all that there are, or of the first `most`
-pub record IsFirstText (most : ℕ) (plan : Plan) (text : List ℕ) : Type 0 where
-  pub totals : Totals
-  pub is_whole : Bool
-  pub explored : IsExplored plan (opening_host plan) most totals is_whole
-  pub whole : text ≡ schedules_text plan totals is_whole
+use Rattle.command_line.specs.declared.realmview.Schedules.TheVariants.{All, Drawn, ToRefusal}
 
 -- the numbers of xoshiro256++ from this seed on
 abbrev pub random_numbers : ℕ → Stream
@@ -34,11 +28,13 @@ pub record IsDrawnText (count seed : ℕ) (plan : Plan) (text : List ℕ) : Type
   pub whole : text ≡ drawn_text plan totals
 
 abbrev pub IsSchedulesText : Schedules → Plan → List ℕ → Type 0
-IsSchedulesText (First most) plan text = IsFirstText most plan text
+IsSchedulesText (All most) plan text = IsStatesText most plan text
 IsSchedulesText (Drawn count seed) plan text = IsDrawnText count seed plan text
+IsSchedulesText (ToRefusal most place) plan text = IsRefusalText most place plan text
 
--- the reason why there is no such text: allocation failed, or a host did not give the same answers to the same calls
+-- the reason why there is no such text: allocation failed, or a run does not go on as another one said
 abbrev pub IsWithoutSchedules : Schedules → Plan → Fault → Type 0
-IsWithoutSchedules (First most) plan fault = IsNotExplored plan fault
+IsWithoutSchedules (All most) plan fault = HasNoGraph fault
+IsWithoutSchedules (ToRefusal most place) plan fault = HasNoGraph fault
 IsWithoutSchedules (Drawn count seed) plan Memory = Unit {0}
 IsWithoutSchedules (Drawn count seed) plan fault = ⊥

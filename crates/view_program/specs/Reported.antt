@@ -5,12 +5,12 @@ use Rattle.host_ledger.specs.View.{HostView}
 use Rattle.realm_plan.specs.Plan.{Plan}
 use Rattle.plan_replay.specs.Run.{Turn, Position, AreTurns, start}
 use Rattle.view_program.specs.Chosen.{refusal_of_turn}
-use Rattle.view_program.specs.declared.schedules.step_end.StepEnd.{StepEnd}
+use Rattle.plan_states.specs.declared.step_end.EndOfStep.{EndOfStep}
 
 -- a turn, and the end of its step, if it has one
 pub record Line : Type 0 where
   pub turn : Turn
-  pub noted : List StepEnd
+  pub noted : List EndOfStep
 
 -- Either no end is noted of the turn, which is not refused; or one of its build is, with the refusal in its answer.
 abbrev pub IsEndOfTurn : Line → Type 0
@@ -18,7 +18,7 @@ IsEndOfTurn line = ((line.noted ≡ []) × (refusal_of_turn line.turn.told ≡ N
     ⊎ ((step : ℕ) × (line.noted ≡ record { build = line.turn.build; step = step; refusal = refusal_of_turn line.turn.told } ∷ []))
 
 -- A run of the plan leads here, and these are the ends of its turns' steps.
-pub record AreTold (plan : Plan) (host to : HostView) (ends : List StepEnd) : Type 0 where
+pub record AreTold (plan : Plan) (host to : HostView) (ends : List EndOfStep) : Type 0 where
   pub lines : List Line
   pub last : Position
   pub are_turns : AreTurns plan plan.order (start host) (map (λ (line : Line). line.turn) lines) last

@@ -4,11 +4,10 @@ use Rattle.std.specs.List.{find, range_with_len}
 use Rattle.std.specs.Option.{option_or}
 use Rattle.host_ledger.specs.View.{HostView}
 use Rattle.realm_plan.specs.Plan.{Plan}
-use Rattle.view_program.specs.Next.{could}
-use Rattle.view_program.specs.Chosen.{builds_left, lowest_of, Stage, AreChosen, IsChosenRun}
+use Rattle.view_program.specs.Chosen.{could, builds_left, lowest_of, Stage, AreChosen, IsChosenRun}
 use Rattle.view_program.specs.Totals.{chosen_schedule}
 use Rattle.view_program.specs.declared.schedules.choice.Choice.{Choice}
-use Rattle.view_program.specs.declared.schedules.step_end.StepEnd.{StepEnd}
+use Rattle.plan_states.specs.declared.step_end.EndOfStep.{EndOfStep}
 
 -- the lowest build from `from` on that has a step left
 abbrev pub lowest_from : ℕ → List Bool → Option ℕ
@@ -34,7 +33,7 @@ AreOneByOne choices = All (λ choice. lowest_of choice.left ≡ Some choice.buil
 pub record IsWholeSchedule (rule : List Choice → Type 0) (plan : Plan) (host : HostView) (order : List ℕ) : Type 0 where
   pub choices : List Choice
   pub to : HostView
-  pub ends : List StepEnd
+  pub ends : List EndOfStep
   pub is_run : IsChosenRun plan host choices to ends
   pub by_rule : rule choices
   pub order_is : order ≡ chosen_schedule choices

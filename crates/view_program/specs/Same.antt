@@ -1,7 +1,7 @@
 -- Equality of ends of steps.
 use Rattle.std.specs.Prelude.{Bool}
-use Rattle.view_program.specs.declared.schedules.step_end.StepEnd.{StepEnd}
-use Rattle.view_program.specs.contracts.schedules.step_end.StepEndPartialEq.TheImpl.{ghosts}
+use Rattle.plan_states.specs.declared.step_end.EndOfStep.{EndOfStep}
+use Rattle.plan_states.specs.contracts.step_end.EndOfStepPartialEq.TheImpl.{ghosts}
 
-abbrev pub same_end : StepEnd → StepEnd → Bool
+abbrev pub same_end : EndOfStep → EndOfStep → Bool
 same_end = ghosts.eq

@@ -1,18 +1,13 @@
 -- Tallies of outcomes: the number of schedules that have each, and the first of them.
-use Rattle.std.specs.Prelude.{ℕ, ◌+◌, ◌-◌, ◌^◌, min, Bool, if◌then◌else◌, List, [], ◌∷◌, ◌++◌, map, count_by}
+use Rattle.std.specs.Prelude.{ℕ, ◌+◌, Bool, if◌then◌else◌, List, [], ◌∷◌, ◌++◌, map, count_by}
 use Rattle.std.specs.List.{list_any}
-use Rattle.view_program.specs.declared.schedules.tally.Tally.{Tally}
+use Rattle.plan_states.specs.Tallies.{PathCount}
+use Rattle.plan_states.specs.declared.tally.PathTally.{PathTally}
 
 -- An outcome, and the schedule that has it.
 pub record Sighting (K : Type 0) : Type 0 where
   pub thing : K
   pub order : List ℕ
-
--- The number of schedules that have an outcome, and the first of them.
-pub record Counted (K : Type 0) : Type 0 where
-  pub thing : K
-  pub count : ℕ
-  pub first : List ℕ
 
 abbrev pub is_shown : {K : Type 0} → (K → K → Bool) → List (Sighting K) → K → Bool
 is_shown same seen thing = list_any (λ s. same s.thing thing) seen
@@ -23,22 +18,18 @@ firsts same earlier [] = []
 firsts same earlier (s ∷ seen) =
     (if is_shown same earlier s.thing then [] else s ∷ []) ++ firsts same (earlier ++ s ∷ []) seen
 
--- the number of times that an outcome is counted, at most what a counter of 64 bits can hold
+-- the number of schedules that have an outcome
 abbrev pub times : {K : Type 0} → (K → K → Bool) → List (Sighting K) → K → ℕ
-times same seen thing = min (count_by (λ s. same thing s.thing) seen) (2 ^ 64 - 1)
+times same seen thing = count_by (λ s. same thing s.thing) seen
 
 -- Each outcome, in the order of their first times.
-unfoldable pub counted : {K : Type 0} → (K → K → Bool) → List (Sighting K) → List (Counted K)
+unfoldable pub counted : {K : Type 0} → (K → K → Bool) → List (Sighting K) → List (PathCount K)
 counted same seen = map (λ s. record { thing = s.thing; count = times same seen s.thing; first = s.order }) (firsts same [] seen)
 
 -- an outcome with its count, once `thing` is counted once more
-abbrev pub bump : {K : Type 0} → (K → K → Bool) → K → Counted K → Counted K
-bump same thing c = record c { count = if same c.thing thing then min (c.count + 1) (2 ^ 64 - 1) else c.count }
+abbrev pub bump : {K : Type 0} → (K → K → Bool) → K → PathCount K → PathCount K
+bump same thing c = record c { count = if same c.thing thing then c.count + 1 else c.count }
 
 -- the outcome has a tally
-abbrev pub is_known : {K : Type 0} → (K → K → Bool) → K → List (Tally K) → Bool
+abbrev pub is_known : {K : Type 0} → (K → K → Bool) → K → List (PathTally K) → Bool
 is_known same thing tallies = list_any (λ t. same t.thing thing) tallies
-
--- the view of the code's `Tally`
-abbrev pub counted_of : {K : Type 0} → Tally K → Counted K
-counted_of tally = record { thing = tally.thing; count = tally.count; first = tally.first.items }

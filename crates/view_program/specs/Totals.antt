@@ -6,15 +6,16 @@ use Rattle.std.specs.Str.{bytes_eq}
 use Rattle.std.specs.declared.alloc.Global.{Global}
 use Rattle.std.specs.declared.string.String.{String}
 use Rattle.view_program.specs.Same.{same_end}
-use Rattle.view_program.specs.Tally.{Sighting, counted, counted_of}
+use Rattle.view_program.specs.Tally.{Sighting, counted}
+use Rattle.plan_states.specs.Tallies.{count_of_tally}
 use Rattle.view_program.specs.declared.schedules.choice.Choice.{Choice}
-use Rattle.view_program.specs.declared.schedules.step_end.StepEnd.{StepEnd}
+use Rattle.plan_states.specs.declared.step_end.EndOfStep.{EndOfStep}
 use Rattle.view_program.specs.declared.schedules.totals.Totals.{Totals}
 
 -- The outcome of a run: its schedule, the ends of its steps, and the map in the end.
 pub record Visit : Type 0 where
   pub choices : List Choice
-  pub ends : List StepEnd
+  pub ends : List EndOfStep
   pub map : String Global
 
 abbrev pub chosen_schedule : List Choice → List ℕ
@@ -23,25 +24,25 @@ chosen_schedule choices = map (λ choice. choice.build) choices
 abbrev pub sighting_in : {K : Type 0} → List Choice → K → Sighting K
 sighting_in choices thing = record { thing = thing; order = chosen_schedule choices }
 
-abbrev pub ends_seen : Visit → List (Sighting StepEnd)
+abbrev pub ends_seen : Visit → List (Sighting EndOfStep)
 ends_seen visit = map (sighting_in visit.choices) visit.ends
 
 abbrev pub map_seen : Visit → Sighting (String Global)
 map_seen visit = sighting_in visit.choices visit.map
 
 -- a step of the build that was refused
-abbrev pub refuses : ℕ → StepEnd → Bool
+abbrev pub refuses : ℕ → EndOfStep → Bool
 refuses build end = end.build == build && is_some end.refusal
 
 -- whether any step was refused
-abbrev pub has_refusal : List StepEnd → Bool
+abbrev pub has_refusal : List EndOfStep → Bool
 has_refusal ends = list_any (λ end. is_some end.refusal) ends
 
 abbrev pub whole_seen : Visit → Sighting Bool
 whole_seen visit = sighting_in visit.choices (has_refusal visit.ends)
 
 -- no step of the build was refused
-abbrev pub is_smooth : List StepEnd → ℕ → Bool
+abbrev pub is_smooth : List EndOfStep → ℕ → Bool
 is_smooth ends build = not (list_any (refuses build) ends)
 
 -- those of the plan's `builds` builds that were never refused
@@ -53,8 +54,8 @@ same_text text other = bytes_eq (string_bytes text) (string_bytes other)
 
 -- The totals are those of these runs of a plan of `builds` builds.
 pub record AreTotals (builds : ℕ) (visits : List Visit) (totals : Totals) : Type 0 where
-  pub orders : totals.orders ≡ length visits
-  pub wholes : map counted_of totals.wholes.items ≡ counted beq (map whole_seen visits)
-  pub ends : map counted_of totals.ends.items ≡ counted same_end (flat_map ends_seen visits)
-  pub maps : map counted_of totals.maps.items ≡ counted same_text (map map_seen visits)
-  pub smooth : map counted_of totals.smooth.items ≡ counted nat_eq (flat_map (smooth_seen builds) visits)
+  pub orders : totals.steps.orders ≡ length visits
+  pub wholes : map count_of_tally totals.steps.wholes.items ≡ counted beq (map whole_seen visits)
+  pub ends : map count_of_tally totals.steps.ends.items ≡ counted same_end (flat_map ends_seen visits)
+  pub maps : map count_of_tally totals.maps.items ≡ counted same_text (map map_seen visits)
+  pub smooth : map count_of_tally totals.steps.smooth.items ≡ counted nat_eq (flat_map (smooth_seen builds) visits)

@@ -26,6 +26,7 @@ mod plan_json;
 mod plan_order;
 mod plan_page;
 mod plan_reasons;
+mod plan_refusal;
 mod plan_schedules;
 mod plan_text;
 mod plan_title;
@@ -36,7 +37,9 @@ pub mod schedules;
 
 pub use applying::apply;
 pub use checking::{ViewOutcome, check};
-pub use command_line::realmview::{CallsForm, Schedules, SchedulingPolicy, ViewSubcommand};
+pub use command_line::realmview::{
+    CallsForm, Schedules, SchedulingPolicy, StepPlace, ViewSubcommand,
+};
 pub use fault::ViewError;
 pub use law::{histories_do_not_stop, what_is_applied_is_legal};
 pub use plan_calls::Calls;

@@ -64,8 +64,12 @@ fn with_part(
     Ok(text)
 }
 
-// The text of a plan with this schedule in place of its own.
-fn with_order(alloc: Global, bytes: &[u8], order: &[usize]) -> Result<Vec<u8>, AllocError> {
+/// The text of a plan with this schedule in place of its own. The one error is that allocation failed.
+pub(crate) fn with_order(
+    alloc: Global,
+    bytes: &[u8],
+    order: &[usize],
+) -> Result<Vec<u8>, AllocError> {
     let place = order_place(alloc, from_utf8(bytes).unwrap_or(""))?;
     let part = part_for(alloc, bytes, place, order)?;
     with_part(alloc, bytes, place.from, place.to, &part)

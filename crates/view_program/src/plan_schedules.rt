@@ -1,30 +1,19 @@
 //! The outcomes of the schedules of plans.
 ghost use Rattle.std.specs.Prelude.{◌≡◌, IfOk, IfErr, string_bytes};
 ghost use Rattle.realm_plan.specs.PlanView.{plan_view};
-ghost use Rattle.view_program.specs.Exploring.{IsNotExplored};
-ghost use Rattle.view_program.specs.Lines.{schedules_text, drawn_text};
-ghost use Rattle.view_program.specs.Orders.{IsFirstText, IsDrawnText, IsSchedulesText, IsWithoutSchedules};
+ghost use Rattle.view_program.specs.Lines.{drawn_text};
+ghost use Rattle.view_program.specs.Orders.{IsDrawnText, IsSchedulesText, IsWithoutSchedules};
 
+use crate::plan_refusal::refusal_text;
 use crate::plan_text::ViewText;
-use crate::schedules::{
-    Expected, Explored, Progress, Totals, explore as run_first, push_drawn, push_schedules, sample,
-    schedule_in_rotation,
-};
+use crate::schedules::{Progress, Totals, push_drawn, sample};
 use command_line::realmview::Schedules;
+use plan_states::states_text;
 use rand_core::SeedableRng;
 use rand_xoshiro::Xoshiro256PlusPlus;
 use realm_plan::Plan;
 use realm_program::{Fault, PlanText};
 use std::alloc::{AllocError, Global};
-
-// The text of the outcomes of the first schedules.
-fn text_of_first(alloc: Global, plan: &Plan, explored: &Explored) -> Result<String, AllocError>
-    ensures { IfOk result (λ text. string_bytes text ≡ schedules_text (plan_view plan.now) explored.now.totals explored.now.is_whole) }
-{
-    let mut text = String::new(alloc);
-    push_schedules(&mut text, plan, explored)?;
-    Ok(text)
-}
 
 // The text of the outcomes of schedules that are drawn.
 fn text_of_drawn(alloc: Global, plan: &Plan, totals: &Totals) -> Result<String, AllocError>
@@ -33,46 +22,6 @@ fn text_of_drawn(alloc: Global, plan: &Plan, totals: &Totals) -> Result<String, 
     let mut text = String::new(alloc);
     push_drawn(&mut text, plan, totals)?;
     Ok(text)
-}
-
-// The most schedules that are run: those that are asked for, or all if these are known to be fewer.
-fn most_run(expected: Expected, orders: Schedules) -> u32 {
-    match orders {
-        Schedules::First(most) if expected.is_exact => match expected.orders {
-            Some(count) => u32::try_from(count).unwrap_or(most).min(most),
-            None => most,
-        },
-        Schedules::First(most) => most,
-        Schedules::Drawn(count, _) => count,
-    }
-}
-
-// Reports the number of schedules of a plan, and the most of them that are run.
-fn tell_begin<P: Progress>(
-    alloc: Global,
-    plan: &Plan,
-    orders: Schedules,
-    progress: &P,
-) -> Result<(), AllocError> {
-    let order = schedule_in_rotation(alloc, plan)?;
-    let expected = Expected::of(plan, &order);
-    progress.begins(expected, most_run(expected, orders));
-    Ok(())
-}
-
-// Runs the schedules of a plan, at most `most` of them, and returns the text of their outcomes.
-fn run_first_of<P: Progress>(
-    alloc: Global,
-    plan: &Plan,
-    most: u32,
-    progress: &P,
-) -> Result<String, Fault>
-    ensures ok { IfOk result (λ text. IsFirstText most (plan_view plan.now) (string_bytes text)) }
-    ensures err { IfErr result (IsNotExplored (plan_view plan.now)) }
-{
-    tell_begin(alloc, plan, Schedules::First(most), progress)?;
-    let explored = run_first(alloc, plan, most, progress)?;
-    Ok(text_of_first(alloc, plan, &explored)?)
 }
 
 // Runs `count` schedules that are drawn by the numbers of a seed, and returns the text of their outcomes.
@@ -85,7 +34,6 @@ fn run_drawn_of<P: Progress>(
 ) -> Result<String, AllocError>
     ensures { IfOk result (λ text. IsDrawnText count seed (plan_view plan.now) (string_bytes text)) }
 {
-    tell_begin(alloc, plan, Schedules::Drawn(count, seed), progress)?;
     let mut numbers = Xoshiro256PlusPlus::seed_from_u64(seed as u64);
     let totals = sample(alloc, plan, count, &mut numbers, progress)?;
     text_of_drawn(alloc, plan, &totals)
@@ -95,28 +43,31 @@ fn run_drawn_of<P: Progress>(
 fn orders_text_of<P: Progress>(
     alloc: Global,
     plan: &Plan,
+    source: &[u8],
     orders: Schedules,
     progress: &P,
-) -> Result<String, Fault>
-    ensures ok { IfOk result (λ text. IsSchedulesText orders (plan_view plan.now) (string_bytes text)) }
+) -> Result<Vec<u8>, Fault>
+    ensures ok { IfOk result (λ text. IsSchedulesText orders (plan_view plan.now) text.items) }
     ensures err { IfErr result (IsWithoutSchedules orders (plan_view plan.now)) }
 {
     match orders {
-        Schedules::First(most) => run_first_of(alloc, plan, most, progress),
-        Schedules::Drawn(count, seed) => Ok(run_drawn_of(alloc, plan, count, seed, progress)?),
+        Schedules::All(most) => Ok(states_text(alloc, plan, most as usize)?.into_bytes()),
+        Schedules::Drawn(count, seed) => {
+            Ok(run_drawn_of(alloc, plan, count, seed, progress)?.into_bytes())
+        }
+        Schedules::ToRefusal(most, place) => refusal_text(alloc, plan, source, most, place),
     }
 }
 
 /// The outcomes of other schedules of a plan's builds. They are their number, how each step of each build ended, how
 /// often each build was never refused, and the maps in the end. Each has the first schedule that shows it.
 ///
-/// A plan has no such text if a host did not give the same answers to the same calls (Mismatch), or if allocation
-/// failed.
+/// A plan has no such text if a run does not go on as another one said (Mismatch), or if allocation failed.
 #[derive(Drop)]
 pub struct Exploring<'a, P> {
-    /// The schedules that are run.
+    /// The schedules whose outcomes are asked for.
     pub orders: Schedules,
-    /// The receiver of the progress: each schedule that was run is reported to it.
+    /// The receiver of the progress: each schedule that is drawn and run is reported to it.
     pub progress: &'a P,
 }
 
@@ -125,7 +76,7 @@ impl<P: Progress> ViewText for Exploring<'_, P> {
 
     ghost is_without = { λ asked. IsWithoutSchedules asked.orders };
 
-    fn text_of(&self, alloc: Global, plan: &Plan, _source: &[u8]) -> Result<Vec<u8>, Fault> {
-        Ok(orders_text_of(alloc, plan, self.orders, self.progress)?.into_bytes())
+    fn text_of(&self, alloc: Global, plan: &Plan, source: &[u8]) -> Result<Vec<u8>, Fault> {
+        orders_text_of(alloc, plan, source, self.orders, self.progress)
     }
 }

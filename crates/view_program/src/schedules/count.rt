@@ -1,9 +1,11 @@
 //! The counting of an outcome of a schedule in its tally.
 ghost use Rattle.std.specs.Prelude.{◌≡◌, ◌++◌, [], ◌∷◌, List, map, OnOk, IfOk};
-ghost use Rattle.view_program.specs.Tally.{Sighting, counted, counted_of, bump, is_known};
+ghost use Rattle.view_program.specs.Tally.{Sighting, counted, bump, is_known};
+ghost use Rattle.plan_states.specs.Tallies.{count_of_tally};
 
 use crate::schedules::choice::Choice;
-use crate::schedules::tally::Tally;
+use plan_states::PathTally;
+use schedule_graph::Count;
 use std::alloc::{AllocError, Global};
 
 /// The builds of the turns, in sequence. At an `Err` allocation failed.
@@ -13,38 +15,40 @@ pub(crate) fn builds_of(alloc: Global, order: &[Choice]) -> Result<Vec<usize>, A
     order.iter().map(|choice| choice.build).collect(alloc)
 }
 
-// Adds one to the tally of an outcome, if it has one.
-fn bump<K: Eq>(tallies: &mut [Tally<K>], thing: &K) -> bool
-    ensures bumped { map counted_of tallies.new ≡ map (bump K.eq thing.now) (map counted_of tallies.old) }
-    ensures known { result ≡ is_known K.eq thing.now tallies.old }
+// Adds one to the tally of an outcome. Returns whether it has one.
+fn bump<K: Eq>(tallies: &mut [PathTally<K>], thing: &K) -> Result<bool, AllocError>
+    ensures bumped { OnOk result (map count_of_tally tallies.new ≡ map (bump K.eq thing.now) (map count_of_tally tallies.old)) }
+    ensures known { IfOk result (λ known. known ≡ is_known K.eq thing.now tallies.old) }
 {
     let mut is_known = false;
     for tally in tallies.iter_mut() {
         if tally.thing == *thing {
-            tally.count = tally.count.saturating_add(1);
+            tally.count.add_one()?;
             is_known = true;
         }
     }
-    is_known
+    Ok(is_known)
 }
 
 /// Counts an outcome of a schedule. At an `Err` allocation failed.
 pub(crate) fn count<K: Eq + Drop>(
     alloc: Global,
-    tallies: &mut Vec<Tally<K>>,
+    tallies: &mut Vec<PathTally<K>>,
     thing: K,
     order: &[Choice],
 ) -> Result<(), AllocError>
-    ensures { OnOk result ((seen : List (Sighting _)) → map counted_of tallies.old.items ≡ counted K.eq seen
-        → map counted_of tallies.new.items ≡ counted K.eq (seen ++ record { thing = thing; order = map (λ choice. choice.build) order.now } ∷ [])) }
+    ensures { OnOk result ((seen : List (Sighting _)) → map count_of_tally tallies.old.items ≡ counted K.eq seen
+        → map count_of_tally tallies.new.items ≡ counted K.eq (seen ++ record { thing = thing; order = map (λ choice. choice.build) order.now } ∷ [])) }
 {
-    if bump(tallies, &thing) {
+    let is_known = bump(tallies, &thing)?;
+    if is_known {
         return Ok(());
     }
     let first = builds_of(alloc, order)?;
-    tallies.push(Tally {
+    let count = Count::one(alloc)?;
+    tallies.push(PathTally {
         thing,
-        count: 1,
+        count,
         first,
     })?;
     Ok(())

@@ -8,10 +8,10 @@ ghost use Rattle.view_program.specs.TurnsLeft.{AreSteady};
 
 use crate::schedules::choice::Choice;
 use crate::schedules::run::{builds_left, take_step};
-use crate::schedules::step_end::StepEnd;
 use arrayvec::ArrayVec;
 use page_arena::PageStore;
 use plan_replay::PlanCursor;
+use plan_states::EndOfStep;
 use rand_core::Rng;
 use realm_host::Host;
 use realm_plan::Plan;
@@ -52,7 +52,7 @@ fn go_on_drawn<S: PageStore, R: Rng>(
     places: &mut [PlanCursor; 8],
     rng: &mut R,
     choices: &mut Vec<Choice>,
-    ends: &mut Vec<StepEnd>,
+    ends: &mut Vec<EndOfStep>,
 ) -> Result<(), AllocError>
     requires steady { AreSteady (plan_view plan.now) places.old }
     requires none { choices.old.items ≡ [] }
@@ -75,7 +75,7 @@ pub fn run_drawn<S: PageStore, R: Rng>(
     plan: &Plan,
     rng: &mut R,
     choices: &mut Vec<Choice>,
-    ends: &mut Vec<StepEnd>,
+    ends: &mut Vec<EndOfStep>,
 ) -> Result<(), AllocError>
     ensures { OnOk result (AreDrawn (R.stream rng.old) choices.new.items (R.stream rng.new)
         × IsChosenRun (plan_view plan.now) host.old choices.new.items host.new ends.new.items) }

@@ -7,9 +7,9 @@ ghost use Rattle.view_program.specs.TurnsLeft.{AreSteady};
 
 use crate::schedules::choice::Choice;
 use crate::schedules::run::{builds_left, lowest_of, take_step};
-use crate::schedules::step_end::StepEnd;
 use page_arena::PageStore;
 use plan_replay::PlanCursor;
+use plan_states::EndOfStep;
 use realm_host::Host;
 use realm_plan::Plan;
 use std::alloc::AllocError;
@@ -37,7 +37,7 @@ fn go_on_in_rotation<S: PageStore>(
     plan: &Plan,
     places: &mut [PlanCursor; 8],
     choices: &mut Vec<Choice>,
-    ends: &mut Vec<StepEnd>,
+    ends: &mut Vec<EndOfStep>,
 ) -> Result<(), AllocError>
     requires steady { AreSteady (plan_view plan.now) places.old }
     requires none { choices.old.items ≡ [] }
@@ -61,7 +61,7 @@ pub(crate) fn run_in_rotation<S: PageStore>(
     host: &mut Host<S>,
     plan: &Plan,
     choices: &mut Vec<Choice>,
-    ends: &mut Vec<StepEnd>,
+    ends: &mut Vec<EndOfStep>,
 ) -> Result<(), AllocError>
     ensures { OnOk result (AreInRotation 0 choices.new.items
         × IsChosenRun (plan_view plan.now) host.old choices.new.items host.new ends.new.items) }

@@ -1,17 +1,17 @@
-//! The run of a plan in a schedule that is chosen turn by turn.
-ghost use Rattle.std.specs.Prelude.{◌≡◌, ◌^◌, ◌<◌, ◌↔◌, IsTrue, true, OnOk, IfOk, vec_len};
-ghost use Rattle.std.specs.Bool.{OnTrue, OnFalse, MatchBool};
+//! The run of a plan in which one build after the other has its turns.
+ghost use Rattle.std.specs.Prelude.{◌≡◌, ◌^◌, ◌<◌, true, OnOk, vec_len};
 ghost use Rattle.realm_plan.specs.PlanView.{plan_view};
 ghost use Rattle.plan_replay.specs.Run.{place_of};
-ghost use Rattle.view_program.specs.Chosen.{has_left, builds_left, lowest_of, refusal_in, IsOpen, Stage, IsStageTurn, AreChosen};
-ghost use Rattle.view_program.specs.Chosen.{first_stage, IsChosenRun, IsLowestAfter, GoesOnTo, CannotBeKept, stage_at};
+ghost use Rattle.view_program.specs.Chosen.{has_left, builds_left, lowest_of, refusal_in, IsStageTurn};
+ghost use Rattle.view_program.specs.Chosen.{IsChosenRun, GoesOnTo, stage_at};
+ghost use Rattle.view_program.specs.Rotation.{AreOneByOne};
 ghost use Rattle.view_program.specs.TurnsLeft.{AreSteady, turns_left};
 
 use crate::schedules::choice::Choice;
-use crate::schedules::step_end::StepEnd;
 use host_commands::Refusal;
 use page_arena::PageStore;
 use plan_replay::{PlanCursor, TurnAnswer, step_after, take_turn};
+use plan_states::EndOfStep;
 use realm_host::Host;
 use realm_plan::Plan;
 use std::alloc::AllocError;
@@ -60,7 +60,7 @@ pub(crate) fn take_step<S: PageStore>(
     host: &mut Host<S>,
     plan: &Plan,
     places: &mut [PlanCursor; 8],
-    ends: &mut Vec<StepEnd>,
+    ends: &mut Vec<EndOfStep>,
     build: usize,
 ) -> Result<(), AllocError>
     requires left { (build < 8) × (has_left (plan_view plan.now) places.old build ≡ true) }
@@ -76,7 +76,7 @@ pub(crate) fn take_step<S: PageStore>(
     };
     let after = place_at(places, build);
     if after.done != before {
-        ends.push(StepEnd {
+        ends.push(EndOfStep {
             build,
             step: before,
             refusal: refusal_in(answer),
@@ -85,46 +85,12 @@ pub(crate) fn take_step<S: PageStore>(
     Ok(())
 }
 
-// Whether a choice can be made here: it has the builds with a step left, and is one of them.
-fn is_open(plan: &Plan, places: &[PlanCursor; 8], choice: &Choice) -> bool
-    ensures { IsTrue result ↔ IsOpen (plan_view plan.now) places.now choice.now }
-{
-    if choice.build >= 8 {
-        return false;
-    }
-    choice.left == builds_left(plan, places) && choice.left[choice.build]
-}
-
-// Takes the turns that are chosen, as long as each can be taken.
-fn keep_to<S: PageStore>(
-    host: &mut Host<S>,
-    plan: &Plan,
-    places: &mut [PlanCursor; 8],
-    ends: &mut Vec<StepEnd>,
-    choices: &[Choice],
-) -> Result<bool, AllocError>
-    requires steady { AreSteady (plan_view plan.now) places.old }
-    ensures kept { IfOk result (λ kept. MatchBool kept
-        (AreChosen (plan_view plan.now) (stage_at host.old places.old ends.old.items)
-        choices.now (stage_at host.new places.new ends.new.items))
-        (CannotBeKept (plan_view plan.now) (stage_at host.old places.old ends.old.items) choices.now)) }
-    ensures steady { AreSteady (plan_view plan.now) places.new }
-{
-    for choice in choices {
-        if !is_open(plan, places, choice) {
-            return Ok(false);
-        }
-        take_step(host, plan, places, ends, choice.build)?;
-    }
-    Ok(true)
-}
-
 // Goes on with the lowest build that has a step left, until none has.
 fn go_on<S: PageStore>(
     host: &mut Host<S>,
     plan: &Plan,
     places: &mut [PlanCursor; 8],
-    ends: &mut Vec<StepEnd>,
+    ends: &mut Vec<EndOfStep>,
     choices: &mut Vec<Choice>,
 ) -> Result<(), AllocError>
     requires steady { AreSteady (plan_view plan.now) places.old }
@@ -140,26 +106,19 @@ fn go_on<S: PageStore>(
     Ok(())
 }
 
-/// Runs a plan on a host, in the schedule that begins with the choices and goes on with the lowest build that has a
-/// step left, until none has. The choices are then those of the whole schedule, and each end of a step is noted.
-///
-/// `false` comes exactly when the choices cannot be kept to, since they are not those of a run like this. At an `Err`
-/// allocation failed, and the host is that of a part of the run: some of the turns, with their choices and ends.
-pub fn run_schedule<S: PageStore>(
+/// Runs a plan on a host: at each turn the lowest build that has a step left has it, until none has. The choices are
+/// then those of the whole schedule, and each end of a step is noted. At an `Err` allocation failed.
+pub(crate) fn run_one_by_one<S: PageStore>(
     host: &mut Host<S>,
     plan: &Plan,
     choices: &mut Vec<Choice>,
-    ends: &mut Vec<StepEnd>,
-) -> Result<bool, AllocError>
-    ensures { IfOk result (λ kept. MatchBool kept
-        (IsLowestAfter choices.old.items choices.new.items × IsChosenRun (plan_view plan.now) host.old choices.new.items host.new ends.new.items)
-        (CannotBeKept (plan_view plan.now) (first_stage host.old) choices.old.items)) }
+    ends: &mut Vec<EndOfStep>,
+) -> Result<(), AllocError>
+    ensures { OnOk result (AreOneByOne choices.new.items
+        × IsChosenRun (plan_view plan.now) host.old choices.new.items host.new ends.new.items) }
 {
+    choices.clear();
     ends.clear();
     let mut places = [PlanCursor::first(); 8];
-    if !keep_to(host, plan, &mut places, ends, choices)? {
-        return Ok(false);
-    }
-    go_on(host, plan, &mut places, ends, choices)?;
-    Ok(true)
+    go_on(host, plan, &mut places, ends, choices)
 }

@@ -1,18 +1,10 @@
 //! The totals of runs.
-use crate::schedules::step_end::StepEnd;
-use crate::schedules::tally::Tally;
+use plan_states::{PathTally, StepOutcomes};
 
-/// The totals of the runs of schedules.
+/// The totals of the runs of schedules. Outcomes are in the sequence in which they came.
 #[derive(Drop)]
 pub struct Totals {
-    /// The number of schedules that were run.
-    pub orders: u64,
-    /// Whether any step of a schedule was refused.
-    pub wholes: Vec<Tally<bool>>,
-    /// The ends of steps, each with the number of schedules and the first of them.
-    pub ends: Vec<Tally<StepEnd>>,
+    pub steps: StepOutcomes,
     /// The maps in the end.
-    pub maps: Vec<Tally<String>>,
-    /// The builds that were never refused.
-    pub smooth: Vec<Tally<usize>>,
+    pub maps: Vec<PathTally<String>>,
 }

@@ -6,7 +6,7 @@ ghost use Rattle.view_program.specs.Rotation.{AreInRotation, AreOneByOne, IsWhol
 
 use crate::schedules::count::builds_of;
 use crate::schedules::rotation::run_in_rotation;
-use crate::schedules::run::run_schedule;
+use crate::schedules::run::run_one_by_one;
 use buddy::BuddyArena;
 use realm_plan::Plan;
 use realm_program::boot;
@@ -34,8 +34,6 @@ pub fn schedule_one_by_one(alloc: Global, plan: &Plan) -> Result<Vec<usize>, All
     let mut host = boot::<BuddyArena>(alloc, plan)?;
     let mut choices = Vec::new(alloc);
     let mut ends = Vec::new(alloc);
-    if !run_schedule(&mut host, plan, &mut choices, &mut ends)? {
-        unreachable!()
-    }
+    run_one_by_one(&mut host, plan, &mut choices, &mut ends)?;
     builds_of(alloc, &choices)
 }

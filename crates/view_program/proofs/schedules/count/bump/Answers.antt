@@ -2,12 +2,11 @@ use Rattle.std.proofs.Common.{◌≡◌, ◌+◌, ◌<◌, ◌||◌, length, get
 use Rattle.view_program.specs.Tally.{is_known}
 use Rattle.view_program.proofs.Tallies.{AreBumped-once, AreBumped-same, is_known-more, or_same, or_other, all_bumped}
 use Rattle.view_program.proofs.schedules.count.bump.Goals as goal
-use Rattle.view_program.proofs.schedules.count.bump.Goals.{then-eq, else-eq, After-eq}
+use Rattle.view_program.proofs.schedules.count.bump.Goals.{then-eq+in_ok-add_one, else-eq, After-eq}
 use Rattle.view_program.proofs.schedules.count.bump.Given.{Over}
 
 pub returns-clause-bumped : goal.returns-clause-bumped
 returns-clause-bumped g c =
-    let all = c.loop-tally.invariant.0.all in
     all_bumped g.K.PartialEq.eq c.args.thing.now c.args.tallies.now c.loop-tally.tally-index c.loop-tally.tallies (omega (arith, c.loop-tally-test.false)) c.loop-tally.invariant.0
 
 module _ (g : Over) (c : After-eq g) where
@@ -25,9 +24,9 @@ loop-tally-preserved g c =
     let at = (goal.at.loop-tally-preserved g c).After-eq in
     let before = is_known g.K.PartialEq.eq c.args.thing.now (take c.loop-tally.tally-index c.args.tallies.now) in
     elim c.if-eq.branch [
-      | then-eq w ↦ (let same = sym c.eq.ensures ∙ w.if-eq.true in (
+      | then-eq+in_ok-add_one w ↦ (let same = sym c.eq.ensures ∙ w.if-eq.true in (
         AreBumped-once g.K.PartialEq.eq c.args.thing.now c.args.tallies.now c.loop-tally.tally-index c.loop-tally.tallies c.tally-item.result
-            w.saturating_add-tally.result c.if-eq.tallies c.loop-tally.invariant.0 (inside g at) same w.tallies-is w.saturating_add-tally.ensures,
+            w.add_one.new.self c.if-eq.tallies c.loop-tally.invariant.0 (inside g at) same w.tallies-is w.in_ok-add_one.ensures,
         w.is_known-is ∙ sym (known g at ∙ or_same before _ same),
       ))
       | else-eq w ↦ (let other = sym c.eq.ensures ∙ w.if-eq.false in (

@@ -1,11 +1,11 @@
 use Rattle.std.proofs.Common.{◌≡◌, ◌∙◌, ◌++◌, ◌∷◌, [], ap, arith}
 use Rattle.std.specs.Prelude.{filter}
 use Rattle.std.specs.List.{range_with_len}
-use Rattle.view_program.specs.Next.{could}
 use Rattle.view_program.specs.Drawn.{builds_with_steps}
 use Rattle.view_program.proofs.Drawing.{kept_with, kept_without}
 use Rattle.view_program.proofs.schedules.drawn_schedule.builds_with_steps.Goals as goal
 use Rattle.view_program.proofs.schedules.drawn_schedule.builds_with_steps.Goals.{then-left-build, else-left-build}
+use Rattle.view_program.specs.Chosen.{could}
 
 pub loop-build-preserved : goal.loop-build-preserved
 loop-build-preserved c =

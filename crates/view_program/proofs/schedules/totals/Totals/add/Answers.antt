@@ -12,7 +12,7 @@ pub returns : goal.returns
 returns c = λ visits are.
     let visit : Visit = record { choices = c.args.choices.now; ends = c.args.ends.now; map = c.args.map } in
     record {
-      orders = (let so_far = are.orders in omega (arith, length-append visits (visit ∷ [])));
+      orders = (let so_far = are.orders in let more = c.in_ok-add_one.ensures in omega (arith, length-append visits (visit ∷ [])));
       wholes = c.in_ok-count.ensures (map whole_seen visits) are.wholes
           ∙ ap (counted beq) (ap (λ b. map whole_seen visits ++ sighting_in c.args.choices.now b ∷ []) c.has_refusal.ensures ∙ sym (map-append whole_seen visits (visit ∷ [])));
       ends = c.in_ok-count_ends.ensures (flat_map ends_seen visits) are.ends ∙ ap (counted same_end) (flat_map_more ends_seen [] visits visit);

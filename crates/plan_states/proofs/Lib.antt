@@ -1,0 +1,12 @@
+pub mod Joined
+pub mod Builds
+pub mod Tallies
+pub mod Reached
+pub mod Unseen
+pub mod Cuts
+pub mod Refused
+pub mod BuildsLeft
+pub mod Members
+pub mod Paths
+pub mod StepEnds
+pub mod Schedules

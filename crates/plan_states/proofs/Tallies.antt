@@ -1,0 +1,86 @@
+-- Tallies: of the paths like that, and their order.
+use Rattle.std.proofs.Common.{◌≡◌, ℕ, zero, suc, ◌≤◌, Bool, true, false, cond, List, [], ◌∷◌, ◌++◌, map, length, min, take, drop, Vec, Global, Option, Some, None, refl, sym, subst, ap, ◌∙◌, arith}
+use Rattle.std.specs.Prelude.{filter, option_map, slice_index_or}
+use Rattle.std.specs.List.{find, insert}
+use Rattle.std.proofs.lemmas.List.{map-append, take-map, drop-map}
+use Rattle.std.proofs.lemmas.Option.{none-some, same_Some}
+use Rattle.std.proofs.lemmas.Simd.{map-map}
+use Rattle.schedule_graph.specs.First.{first_like, any_path, layers_in, path_numbers_in, ArePathNumbers}
+use Rattle.schedule_graph.specs.Paths.{Layer, Path, paths, count_at}
+use Rattle.schedule_graph.specs.declared.graph.Edge.{Edge}
+use Rattle.plan_states.specs.Tallies.{PathCount, builds_of_path, tally_of, is_before, place_for}
+use Rattle.plan_states.specs.declared.edges.Label.{Label}
+
+-- ---- the tally of the paths like that
+
+module _ {K : Type 0} (like : Path Label → Bool) (thing : K) (ps : List (Path Label)) where
+  abbrev counted_as : ℕ → List ℕ → PathCount K
+  counted_as count first = record { thing = thing; count = count; first = first }
+
+  pub tally_of-none : first_like like ps ≡ None → None ≡ tally_of like thing ps
+  tally_of-none none = at (find like ps) none
+    where
+      at : (o : Option (Path Label)) → option_map (λ path. map (λ edge. edge.label) path) o ≡ None → None ≡ option_map (λ path. counted_as (length (filter like ps)) (builds_of_path path)) o
+      at None same = refl
+      at (Some path) same = absurd (none-some _ (sym same))
+
+  pub tally_of-some : (labels : List Label) (count : ℕ) (first : List ℕ)
+      → first_like like ps ≡ Some labels → count ≡ length (filter like ps) → first ≡ map (λ label. label.build) labels
+      → Some (counted_as count first) ≡ tally_of like thing ps
+  tally_of-some labels count first some number schedule = at (find like ps) some
+    where
+      at : (o : Option (Path Label)) → option_map (λ path. map (λ edge. edge.label) path) o ≡ Some labels → Some (counted_as count first) ≡ option_map (λ path. counted_as (length (filter like ps)) (builds_of_path path)) o
+      at None same = absurd (none-some labels same)
+      at (Some path) same =
+          let are : first ≡ builds_of_path path =
+          schedule ∙ ap (λ (ls : List Label). map (λ label. label.build) ls) (sym (same_Some (map (λ edge. edge.label) path) labels same)) ∙ map-map (λ label. label.build) (λ edge. edge.label) path in
+          (λ i. Some (counted_as (number i) (are i)))
+
+-- the same by the numbers of the paths from each state
+pub tally-first : {K : Type 0} (like : Path Label → Bool) (thing : K) (layers : List (Layer Label)) (numbers : List (List ℕ)) (labels : List Label) (count : ℕ) (first : List ℕ)
+    → ArePathNumbers like layers numbers → first_like like (paths layers 0) ≡ Some labels
+    → count ≡ count_at (slice_index_or numbers 0 []) 0 → first ≡ map (λ label. label.build) labels
+    → Some (record { thing = thing; count = count; first = first }) ≡ tally_of like thing (paths layers 0)
+tally-first like thing layers numbers labels count first are some number schedule =
+    tally_of-some like thing (paths layers 0) labels count first some (number ∙ are 0 0) schedule
+
+-- ---- the order of schedules
+
+before-over : (one : List ℕ) → false ≡ is_before one []
+before-over [] = refl
+before-over (x ∷ xs) = refl
+
+pub before-end : (one other : List ℕ) (turn : ℕ) → min (length one) (length other) ≤ turn → false ≡ is_before (drop turn one) (drop turn other)
+before-end [] other zero over = refl
+before-end [] other (suc turn) over = refl
+before-end (x ∷ xs) [] zero over = refl
+before-end (x ∷ xs) [] (suc turn) over = before-over (drop turn xs)
+before-end (x ∷ xs) (y ∷ ys) zero over = absurd (omega (arith, over))
+before-end (x ∷ xs) (y ∷ ys) (suc turn) over = before-end xs ys turn (omega (arith, over))
+
+-- ---- the places of tallies
+
+pub place_for-inside : {K : Type 0} (first : List ℕ) (tallies : List (PathCount K)) → place_for first tallies ≤ length tallies
+place_for-inside first [] = omega arith
+place_for-inside first (t ∷ tallies) = elim (is_before first t.first) as (λ b. cond b 0 (suc (place_for first tallies)) ≤ suc (length tallies)) [
+  | true ↦ omega arith
+  | false ↦ (let below = place_for-inside first tallies in omega (arith, below))
+]
+
+-- ---- one tally more
+
+pub map-insert : {X Y : Type 0} (f : X → Y) (xs : List X) (i : ℕ) (x : X) → map f (insert xs i x) ≡ insert (map f xs) i (f x)
+map-insert f xs i x = map-append f (take i xs) (x ∷ drop i xs) ∙ (λ j. sym (take-map f i xs) j ++ f x ∷ sym (drop-map f i xs) j)
+
+-- ---- all paths
+
+pub filter-any : (ps : List (Path Label)) → filter any_path ps ≡ ps
+filter-any [] = refl
+filter-any (path ∷ ps) = ap (λ qs. path ∷ qs) (filter-any ps)
+
+-- the numbers of the same layers
+pub numbers-same : (layers others : List (Vec (Vec (Edge Label) Global) Global)) (numbers those : List (Vec ℕ Global)) → layers ≡ others → those ≡ numbers
+    → ArePathNumbers any_path (layers_in layers) (path_numbers_in numbers) → ArePathNumbers any_path (layers_in others) (path_numbers_in those)
+numbers-same layers others numbers those same same_numbers are =
+    subst (λ (ls : List (Vec (Vec (Edge Label) Global) Global)). ArePathNumbers any_path (layers_in ls) (path_numbers_in those)) same
+    (subst (λ (ns : List (Vec ℕ Global)). ArePathNumbers any_path (layers_in layers) (path_numbers_in ns)) (sym same_numbers) are)

@@ -1,0 +1,9 @@
+use Rattle.std.proofs.Common.{◌≡◌, ◌++◌, string_bytes}
+use Rattle.std.specs.List.{flat_map, range_with_len}
+use Rattle.realm_plan.specs.PlanView.{plan_view}
+use Rattle.plan_states.specs.Lines.{ends_of_step}
+use Rattle.plan_states.proofs.text.push_build.Given as goal
+
+abbrev pub invariant-loop-place : goal.invariant-loop-place
+invariant-loop-place l =
+    string_bytes l.text ≡ string_bytes l.fn.text ++ flat_map (ends_of_step (plan_view l.plan) l.outcomes l.build) (range_with_len 0 l.place)

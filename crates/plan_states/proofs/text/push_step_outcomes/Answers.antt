@@ -1,0 +1,21 @@
+use Rattle.std.proofs.Common.{◌++◌, length, string_bytes}
+use Rattle.std.specs.List.{flat_map, range_with_len}
+use Rattle.realm_plan.specs.PlanView.{plan_view}
+use Rattle.plan_states.specs.Lines.{refusals_line, ends_of_build, never_refused_lines}
+use Rattle.plan_states.proofs.Joined.{joined}
+use Rattle.plan_states.proofs.Builds.{builds_are}
+use Rattle.plan_states.proofs.text.push_step_outcomes.Goals as goal
+
+pub returns : goal.returns
+returns c =
+    let plan = plan_view c.args.plan.now in
+    let outcomes = c.args.outcomes.now in
+    let are = builds_are c.args.plan.now c.len-builds.result c.len-builds.ensures in
+    let wholes = flat_map (refusals_line outcomes.orders) outcomes.wholes.items in
+    let builds = flat_map (ends_of_build plan outcomes) (range_with_len 0 (length plan.builds)) in
+    let smooth = flat_map (never_refused_lines outcomes.orders outcomes.smooth.items) (range_with_len 0 (length plan.builds)) in
+    let one = string_bytes c.push_wholes.new.text in
+    let two = string_bytes c.push_builds.new.text in
+    let three = string_bytes c.push_smooths.new.text in
+    joined (string_bytes c.args.text.now) wholes (builds ++ smooth) one three (rw c.deref.ensures.value at c.in_ok-push_wholes.ensures)
+    (joined one builds smooth two three (rw are at c.in_ok-push_builds.ensures) (rw (are, c.deref-2.ensures.value) at c.in_ok-push_smooths.ensures))

@@ -1,0 +1,37 @@
+-- The result of an exploration of a plan's schedules.
+use Rattle.std.specs.Prelude.{ℕ, ◌≤◌, List, All, sum_by, vec_len, string_bytes}
+use Rattle.std.specs.declared.alloc.Global.{Global}
+use Rattle.std.specs.declared.string.String.{String}
+use Rattle.realm_plan.specs.Plan.{Plan}
+use Rattle.plan_states.specs.Reached.{IsEndOfRun, IsMapOfRun}
+use Rattle.plan_states.specs.Whole.{IsWhole}
+use Rattle.realm_program.specs.declared.fault.Fault.{Fault}
+use Rattle.realm_program.specs.declared.fault.Fault.TheVariants.{Memory, Mismatch}
+use Rattle.plan_states.specs.declared.graph.Exploration.{Exploration}
+use Rattle.plan_states.specs.declared.graph.Exploration.TheVariants as explored
+use Rattle.plan_states.specs.declared.graph.Graph.{Graph}
+use Rattle.plan_states.specs.declared.step_end.EndOfStep.{EndOfStep}
+
+-- Each end is that of a step in a run of the plan, and each map is that of a whole run.
+pub record AreOfRuns (plan : Plan) (the_ends : List EndOfStep) (the_maps : List (String Global)) : Type 0 where
+  pub ends : All (IsEndOfRun plan) the_ends
+  pub maps : All (λ map. IsMapOfRun plan (string_bytes map)) the_maps
+
+-- It has what runs show, and at most so many states.
+pub record IsFound (plan : Plan) (most : ℕ) (graph : Graph) : Type 0 where
+  pub of_runs : AreOfRuns plan graph.ends.items graph.maps.items
+  pub states : sum_by vec_len graph.layers.items ≤ most
+
+pub record IsGraphWithin (plan : Plan) (most : ℕ) (graph : Graph) : Type 0 where
+  pub found : IsFound plan most graph
+  pub whole : IsWhole plan graph
+
+abbrev pub IsExploration : Plan → ℕ → Exploration → Type 0
+IsExploration plan most (explored.All graph) = IsGraphWithin plan most graph
+IsExploration plan most explored.TooMany = Unit {0}
+
+-- the reason why there is no graph: allocation failed, or a run does not go on as another one said
+abbrev pub HasNoGraph : Fault → Type 0
+HasNoGraph Memory = Unit {0}
+HasNoGraph Mismatch = Unit {0}
+HasNoGraph fault = ⊥

@@ -1,0 +1,13 @@
+pub mod States
+pub mod Turned
+pub mod Reached
+pub mod Whole
+pub mod TurnTaken
+pub mod Exploration
+pub mod Signs
+pub mod OrderText
+pub mod Lines
+pub mod Tallies
+pub mod StatesText
+pub mod Shortest
+pub mod Schedules

@@ -1,0 +1,98 @@
+-- The text of the outcomes of all schedules.
+use Rattle.std.specs.Prelude.{ℕ, ◌==◌, Bool, true, false, ◌&&◌, List, [], ◌∷◌, ◌++◌, codes, filter, length, if◌then◌else◌, Option, Some, None, option_map, unwrap_or, slice_get, string_bytes}
+use Rattle.std.specs.List.{flat_map, range_with_len}
+use Rattle.std.specs.Fmt.{decimal}
+use Rattle.std.specs.declared.alloc.Global.{Global}
+use Rattle.std.specs.declared.string.String.{String}
+use Rattle.host_commands.specs.declared.refusal.Refusal.{Refusal}
+use Rattle.realm_plan.specs.Answers.{refusal_text}
+use Rattle.realm_plan.specs.StepsWritten.{spelling}
+use Rattle.realm_plan.specs.declared.step.PlanStep.{PlanStep}
+use Rattle.realm_plan.specs.Plan.{Plan}
+use Rattle.plan_replay.specs.Run.{step_after}
+use Rattle.schedule_graph.specs.Number.{numeral}
+use Rattle.plan_states.specs.declared.tally.PathTally.{PathTally}
+use Rattle.plan_states.specs.declared.tally.Outcomes.{Outcomes}
+use Rattle.plan_states.specs.declared.tally.StepOutcomes.{StepOutcomes}
+use Rattle.plan_states.specs.declared.step_end.EndOfStep.{EndOfStep}
+use Rattle.plan_states.specs.OrderText.{schedule_text}
+
+-- ---- lines
+
+abbrev pub words_of_end : Option Refusal → List ℕ
+words_of_end None = codes "ok"
+words_of_end (Some refusal) = codes "no " ++ refusal_text refusal
+
+-- the number of schedules
+abbrev pub orders_line : ℕ → List ℕ
+orders_line orders = codes "orders " ++ (numeral orders ++ 10 ∷ [])
+
+-- the number of schedules with an outcome, and the first of them, if not all `orders` have it
+abbrev pub share_text : ℕ → ℕ → List ℕ → List ℕ
+share_text orders count first = if count == orders then codes " in all\n" else codes " in " ++ (numeral count ++ (codes ", " ++ (schedule_text first ++ 10 ∷ [])))
+
+-- the words on whole schedules, by whether any step was refused
+abbrev pub refusal_words : Bool → List ℕ
+refusal_words true = codes "some step refused"
+refusal_words false = codes "no step refused"
+
+abbrev pub refusals_line : ℕ → PathTally Bool → List ℕ
+refusals_line orders tally = refusal_words tally.thing ++ share_text orders tally.count tally.first.items
+
+-- the build, the index of the step in it, the step as it is in the plan, and its end
+abbrev pub end_shown : ℕ → PlanStep → PathTally EndOfStep → List ℕ
+end_shown orders step tally =
+    codes "step "
+    ++ (decimal tally.thing.build
+    ++ (32 ∷ decimal tally.thing.step
+    ++ (32 ∷ spelling step ++ (codes " = " ++ (words_of_end tally.thing.refusal ++ share_text orders tally.count tally.first.items)))))
+
+-- the number of schedules in which a build was never refused
+abbrev pub never_refused_line : ℕ → PathTally ℕ → List ℕ
+never_refused_line orders tally = codes "never refused " ++ (decimal tally.thing ++ share_text orders tally.count tally.first.items)
+
+-- the lines of a map in the end, by its number
+abbrev pub map_shown : ℕ → List ℕ → List ℕ → ℕ → List ℕ
+map_shown orders map first count = codes "map" ++ (share_text orders count first ++ map)
+
+abbrev pub map_shown_by : ℕ → List (String Global) → PathTally ℕ → List ℕ
+map_shown_by orders maps tally =
+    elim (slice_get maps tally.thing) [ Some map ↦ map_shown orders (string_bytes map) tally.first.items tally.count | None ↦ [] ]
+
+-- ---- the whole
+
+abbrev pub is_of_step : ℕ → ℕ → PathTally EndOfStep → Bool
+is_of_step build place tally = tally.thing.build == build && tally.thing.step == place
+
+-- the ends of the step, if the plan has it
+abbrev pub step_ends : StepOutcomes → ℕ → ℕ → Option PlanStep → List ℕ
+step_ends outcomes build place None = []
+step_ends outcomes build place (Some step) = flat_map (end_shown outcomes.orders step) (filter (is_of_step build place) outcomes.ends.items)
+
+abbrev pub step_number : Plan → ℕ → ℕ
+step_number plan build = unwrap_or (option_map length (slice_get plan.builds build)) 0
+
+abbrev pub ends_of_step : Plan → StepOutcomes → ℕ → ℕ → List ℕ
+ends_of_step plan outcomes build place = step_ends outcomes build place (step_after plan build place)
+
+abbrev pub ends_of_build : Plan → StepOutcomes → ℕ → List ℕ
+ends_of_build plan outcomes build = flat_map (ends_of_step plan outcomes build) (range_with_len 0 (step_number plan build))
+
+-- the number of schedules in which the build was never refused, even if 0
+abbrev pub never_refused_lines : ℕ → List (PathTally ℕ) → ℕ → List ℕ
+never_refused_lines orders [] build = codes "never refused " ++ (decimal build ++ codes " in 0\n")
+never_refused_lines orders (tally ∷ smooth) build = if tally.thing == build then never_refused_line orders tally else never_refused_lines orders smooth build
+
+-- The number of schedules in which nothing was refused. The number of those in which each step of each build ended in
+-- each way, and in which each build was never refused.
+abbrev pub step_outcomes_text : Plan → StepOutcomes → List ℕ
+step_outcomes_text plan outcomes =
+    flat_map (refusals_line outcomes.orders) outcomes.wholes.items
+    ++ (flat_map (ends_of_build plan outcomes) (range_with_len 0 (length plan.builds))
+    ++ flat_map (never_refused_lines outcomes.orders outcomes.smooth.items) (range_with_len 0 (length plan.builds)))
+
+-- the outcomes of all schedules
+abbrev pub outcomes_text : Plan → List (String Global) → Outcomes → List ℕ
+outcomes_text plan maps outcomes =
+    orders_line outcomes.steps.orders
+    ++ (step_outcomes_text plan outcomes.steps ++ flat_map (map_shown_by outcomes.steps.orders maps) outcomes.maps.items)

@@ -1,0 +1,13 @@
+-- The spelling of schedules in plans.
+use Rattle.std.specs.Prelude.{ℕ, List, [], ◌∷◌, ◌++◌, codes}
+use Rattle.std.specs.List.{flat_map}
+use Rattle.std.specs.Fmt.{decimal}
+
+-- each build after a comma and a space
+abbrev pub turns_after : List ℕ → List ℕ
+turns_after order = flat_map (λ build. codes ", " ++ decimal build) order
+
+-- the line of a plan that gives it this schedule
+abbrev pub schedule_text : List ℕ → List ℕ
+schedule_text [] = codes "order = []"
+schedule_text (build ∷ order) = codes "order = [" ++ (decimal build ++ (turns_after order ++ codes "]"))

@@ -1,0 +1,64 @@
+-- The schedules of a plan, against the paths of its graph.
+use Rattle.std.specs.Prelude.{◌≡◌, ◌<◌, ◌==◌, ◌&&◌, ℕ, zero, suc, Bool, true, false, List, [], ◌∷◌, ◌++◌, map, filter, Contains, count_by, Option, Some, None, is_some, option_to_list, slice_get}
+use Rattle.std.specs.List.{flat_map, range_with_len}
+use Rattle.realm_plan.specs.Plan.{Plan}
+use Rattle.plan_replay.specs.Run.{step_after}
+use Rattle.schedule_graph.specs.Paths.{Path}
+use Rattle.plan_states.specs.Tallies.{builds_of_path, paths_of}
+use Rattle.plan_states.specs.Whole.{takes_many}
+use Rattle.plan_states.specs.declared.edges.Label.{Label}
+use Rattle.plan_states.specs.declared.graph.Graph.{Graph}
+use Rattle.plan_states.specs.declared.step_end.EndOfStep.{EndOfStep}
+
+-- A schedule, by a rule `left` for the builds that have a step left after given turns. Each build that has a turn has a
+-- step left, and no build has one in the end.
+abbrev pub IsSchedule : (List ℕ → ℕ → Bool) → List ℕ → List ℕ → Type 0
+IsSchedule left before [] = (build : ℕ) → build < 8 → left before build ≡ false
+IsSchedule left before (build ∷ order) = (build < 8) × (left before build ≡ true) × IsSchedule left (before ++ build ∷ []) order
+
+-- Each of these builds may have the turn, and the schedule goes on after it. It ends where there is none.
+abbrev pub by_builds : (ℕ → List (List ℕ)) → List ℕ → List (List ℕ)
+by_builds next [] = [] ∷ []
+by_builds next (build ∷ builds) = flat_map (λ b. map (λ order. b ∷ order) (next b)) (build ∷ builds)
+
+-- all schedules by a rule after given turns, of at most so many turns more; the lowest comes first
+abbrev pub schedules_after : (List ℕ → ℕ → Bool) → ℕ → List ℕ → List (List ℕ)
+schedules_after left zero before = by_builds (λ build. []) (filter (left before) (range_with_len 0 8))
+schedules_after left (suc most) before =
+    by_builds (λ build. schedules_after left most (before ++ build ∷ [])) (filter (left before) (range_with_len 0 8))
+
+-- ---- rules of a graph
+
+-- the number of a build's steps that turns use up
+abbrev pub used_by : Path Label → ℕ → ℕ
+used_by path build = count_by (λ edge. build == edge.label.build && is_some edge.label.end) path
+
+-- After the turns with which a path of the graph begins, the rule has the builds that have a step left then.
+abbrev pub IsRuleOf : Plan → Graph → (List ℕ → ℕ → Bool) → Type 0
+IsRuleOf plan graph left =
+    (front rest : Path Label) → Contains (paths_of graph) (front ++ rest)
+    → (build : ℕ) → build < 8 → left (builds_of_path front) build ≡ is_some (step_after plan build (used_by front build))
+
+-- ---- plans in which each step takes one turn
+
+-- no step is an abort or a way back
+abbrev pub HasSingleTurns : Plan → Type 0
+HasSingleTurns plan = (build done : ℕ) → takes_many (step_after plan build done) ≡ false
+
+-- the rule of such a plan: a build has used up one step in each of its turns
+abbrev pub by_turns : Plan → List ℕ → ℕ → Bool
+by_turns plan before build = is_some (step_after plan build (count_by (λ turn. build == turn) before))
+
+-- ---- the ends of a path
+
+abbrev pub end_at : List EndOfStep → Option ℕ → List EndOfStep
+end_at ends None = []
+end_at ends (Some number) = option_to_list (slice_get ends number)
+
+-- the ends of the steps that turns use up
+abbrev pub ends_of_path : List EndOfStep → Path Label → List EndOfStep
+ends_of_path ends path = flat_map (λ edge. end_at ends edge.label.end) path
+
+-- the steps of a build among them
+abbrev pub steps_ended : List EndOfStep → ℕ → Path Label → List ℕ
+steps_ended ends build path = map (λ end. end.step) (filter (λ end. end.build == build) (ends_of_path ends path))

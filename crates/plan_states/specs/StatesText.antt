@@ -1,0 +1,23 @@
+-- The text of the outcomes of all schedules of a plan, by the graph of its states.
+use Rattle.std.specs.Prelude.{◌≡◌, ◌⊎◌, ℕ, List, [], ◌∷◌, ◌++◌, codes, length}
+use Rattle.std.specs.Fmt.{decimal}
+use Rattle.realm_plan.specs.Plan.{Plan}
+use Rattle.plan_states.specs.Exploration.{IsGraphWithin}
+use Rattle.plan_states.specs.Lines.{outcomes_text}
+use Rattle.plan_states.specs.Tallies.{AreOutcomes}
+use Rattle.plan_states.specs.declared.graph.Graph.{Graph}
+use Rattle.plan_states.specs.declared.tally.Outcomes.{Outcomes}
+
+-- the outcomes of a plan's graph
+pub record IsGraphText (plan : Plan) (graph : Graph) (text : List ℕ) : Type 0 where
+  pub outcomes : Outcomes
+  pub are_outcomes : AreOutcomes (length plan.builds) graph outcomes
+  pub whole : text ≡ outcomes_text plan graph.maps.items outcomes
+
+-- the line that says that there are more states
+abbrev pub too_many_line : ℕ → List ℕ
+too_many_line most = codes "states more than " ++ (decimal most ++ 10 ∷ [])
+
+-- the text of a graph of at most `most` states, or that line
+abbrev pub IsStatesText : ℕ → Plan → List ℕ → Type 0
+IsStatesText most plan text = ((graph : Graph) × IsGraphWithin plan most graph × IsGraphText plan graph text) ⊎ (text ≡ too_many_line most)

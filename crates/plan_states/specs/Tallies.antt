@@ -1,0 +1,96 @@
+-- The tallies of a graph's outcomes: how many of its paths show each, and which one first.
+use Rattle.std.specs.Prelude.{◌≡◌, ℕ, zero, suc, nat_lt, ◌==◌, if◌then◌else◌, Bool, true, false, List, [], ◌∷◌, map, filter, length, Option, Some, None, option_map, slice_get}
+use Rattle.std.specs.List.{find, insert}
+use Rattle.schedule_graph.specs.First.{layers_in, shows_none}
+use Rattle.schedule_graph.specs.Paths.{Layer, Path, paths, shows}
+use Rattle.plan_states.specs.Signs.{has_number, is_refusal_of}
+use Rattle.plan_states.specs.declared.edges.Label.{Label}
+use Rattle.plan_states.specs.declared.graph.Graph.{Graph}
+use Rattle.plan_states.specs.declared.step_end.EndOfStep.{EndOfStep}
+use Rattle.plan_states.specs.declared.tally.Outcomes.{Outcomes}
+use Rattle.plan_states.specs.declared.tally.PathTally.{PathTally}
+
+-- The number of paths that show a thing, and the schedule of the first of them.
+pub record PathCount (K : Type 0) : Type 0 where
+  pub thing : K
+  pub count : ℕ
+  pub first : List ℕ
+
+abbrev pub layers_of : Graph → List (Layer Label)
+layers_of graph = layers_in graph.layers.items
+
+-- the builds of the turns
+abbrev pub builds_of_path : Path Label → List ℕ
+builds_of_path path = map (λ edge. edge.label.build) path
+
+abbrev pub count_of_tally : {K : Type 0} → PathTally K → PathCount K
+count_of_tally tally = record { thing = tally.thing; count = tally.count; first = tally.first.items }
+
+-- the number of the paths like that, and the schedule of the first of them, if there is one
+abbrev pub tally_of : {K : Type 0} → (Path Label → Bool) → K → List (Path Label) → Option (PathCount K)
+tally_of like thing ps =
+    option_map (λ path. record { thing = thing; count = length (filter like ps); first = builds_of_path path }) (find like ps)
+
+-- ---- the order of tallies
+
+-- a schedule comes before another: it has the lower build at the first turn at which they differ
+abbrev pub is_before : List ℕ → List ℕ → Bool
+is_before [] others = false
+is_before (one ∷ ones) [] = false
+is_before (one ∷ ones) (other ∷ others) = if one == other then is_before ones others else nat_lt one other
+
+-- the place after those that do not come after it
+abbrev pub place_for : {K : Type 0} → List ℕ → List (PathCount K) → ℕ
+place_for first [] = 0
+place_for first (t ∷ tallies) = if is_before first t.first then 0 else suc (place_for first tallies)
+
+-- a tally more, if there is one, at its place
+abbrev pub with_tally : {K : Type 0} → Option (PathCount K) → List (PathCount K) → List (PathCount K)
+with_tally None tallies = tallies
+with_tally (Some tally) tallies = insert tallies (place_for tally.first tallies) tally
+
+-- those of the numbers below another
+abbrev pub all_added : {K : Type 0} → (ℕ → Option (PathCount K)) → ℕ → List (PathCount K)
+all_added tally_at zero = []
+all_added tally_at (suc n) = with_tally (tally_at n) (all_added tally_at n)
+
+-- ---- the tallies of a graph
+
+abbrev pub paths_of : Graph → List (Path Label)
+paths_of graph = paths (layers_of graph) 0
+
+-- with a step that was refused, and with none
+abbrev pub whole_tallies : Graph → List (PathCount Bool)
+whole_tallies graph =
+    with_tally (tally_of (shows (is_refusal_of graph.ends.items None)) true (paths_of graph))
+    (with_tally (tally_of (shows_none (is_refusal_of graph.ends.items None)) false (paths_of graph)) [])
+
+-- of an end of a step, if there is one of that number
+abbrev pub tally_of_end : Graph → ℕ → Option EndOfStep → Option (PathCount EndOfStep)
+tally_of_end graph number None = None
+tally_of_end graph number (Some end) = tally_of (shows (λ label. has_number number label.end)) end (paths_of graph)
+
+abbrev pub end_tally : Graph → ℕ → Option (PathCount EndOfStep)
+end_tally graph number = tally_of_end graph number (slice_get graph.ends.items number)
+
+-- the builds that were never refused
+abbrev pub smooth_tally : Graph → ℕ → Option (PathCount ℕ)
+smooth_tally graph build = tally_of (shows_none (is_refusal_of graph.ends.items (Some build))) build (paths_of graph)
+
+abbrev pub map_tally : Graph → ℕ → Option (PathCount ℕ)
+map_tally graph map = tally_of (shows (λ label. has_number map label.map)) map (paths_of graph)
+
+-- the maps in the end; a plan without a step has one schedule, of no turn, and one map
+abbrev pub map_tallies : Graph → List (PathCount ℕ)
+map_tallies graph =
+    if length graph.layers.items == 1
+    then record { thing = 0; count = 1; first = [] } ∷ []
+    else all_added (map_tally graph) (length graph.maps.items)
+
+-- The outcomes are those of the graph's paths.
+pub record AreOutcomes (builds : ℕ) (graph : Graph) (outcomes : Outcomes) : Type 0 where
+  pub orders : outcomes.steps.orders ≡ length (paths_of graph)
+  pub wholes : map count_of_tally outcomes.steps.wholes.items ≡ whole_tallies graph
+  pub ends : map count_of_tally outcomes.steps.ends.items ≡ all_added (end_tally graph) (length graph.ends.items)
+  pub smooth : map count_of_tally outcomes.steps.smooth.items ≡ all_added (smooth_tally graph) builds
+  pub maps : map count_of_tally outcomes.maps.items ≡ map_tallies graph

@@ -1,0 +1,106 @@
+-- Whole graphs: each state has a turn of each build that has a step left, and each turn leads on.
+use Rattle.std.specs.Prelude.{◌≡◌, ℕ, ◌+◌, ◌<◌, ◌==◌, ◌&&◌, nat_lt, Bool, true, false, not, List, [], map, filter, length, Option, Some, None, is_some, Vec, vec_items, slice_get, slice_index_or, if◌then◌else◌}
+use Rattle.std.specs.List.{list_all, range_with_len}
+use Rattle.std.specs.declared.alloc.Global.{Global}
+use Rattle.realm_plan.specs.Plan.{Plan}
+use Rattle.realm_plan.specs.declared.step.PlanStep.{PlanStep}
+use Rattle.plan_replay.specs.Run.{step_after}
+use Rattle.plan_replay.specs.Turn.{undoes_many}
+use Rattle.schedule_graph.specs.declared.graph.Edge.{Edge}
+use Rattle.plan_states.specs.declared.edges.Label.{Label}
+use Rattle.plan_states.specs.declared.graph.Graph.{Graph}
+use Rattle.plan_states.specs.declared.step_end.EndOfStep.{EndOfStep}
+
+-- ---- how far builds are
+
+-- the number of a build's steps that are done, by those of all builds
+abbrev pub done_of : List ℕ → ℕ → ℕ
+done_of done build = slice_index_or done build 0
+
+abbrev pub has_left : Plan → List ℕ → ℕ → Bool
+has_left plan done build = is_some (step_after plan build (done_of done build))
+
+abbrev pub is_over : Plan → List ℕ → Bool
+is_over plan done = list_all (λ build. not (has_left plan done build)) (range_with_len 0 8)
+
+abbrev pub is_fresh : List ℕ → Bool
+is_fresh done = list_all (λ build. done_of done build == 0) (range_with_len 0 8)
+
+-- one state, in which no step is done
+abbrev pub is_at_start : List (List ℕ) → Bool
+is_at_start states = length states == 1 && is_fresh (slice_index_or states 0 [])
+
+-- ---- turns
+
+-- the end is that of this step
+abbrev pub is_end_of : ℕ → ℕ → Option EndOfStep → Bool
+is_end_of build step None = false
+is_end_of build step (Some end) = end.build == build && end.step == step
+
+-- the step may take more turns than one
+abbrev pub takes_many : Option PlanStep → Bool
+takes_many None = false
+takes_many (Some step) = undoes_many step
+
+-- a turn of a build that has done so many steps uses up the next one, or none if that may take more turns
+abbrev pub uses_next : Plan → List EndOfStep → ℕ → ℕ → Option ℕ → Bool
+uses_next plan ends build done None = takes_many (step_after plan build done)
+uses_next plan ends build done (Some number) = is_end_of build done (slice_get ends number)
+
+-- the number of a build's steps that are done after a turn
+abbrev pub done_after : List ℕ → Label → ℕ → ℕ
+done_after done label build = if build == label.build && is_some label.end then done_of done build + 1 else done_of done build
+
+abbrev pub are_done_after : List ℕ → Label → List ℕ → Bool
+are_done_after done label after = list_all (λ build. done_of after build == done_after done label build) (range_with_len 0 8)
+
+-- a turn has a map, one of so many, exactly where no build has a step left
+abbrev pub has_map : ℕ → Bool → Option ℕ → Bool
+has_map maps over None = not over
+has_map maps over (Some number) = over && nat_lt number maps
+
+-- a turn from one state leads to the other, by their progress
+abbrev pub leads_to : Plan → List EndOfStep → ℕ → List ℕ → Label → List ℕ → Bool
+leads_to plan ends maps done label after =
+    uses_next plan ends label.build (done_of done label.build) label.end
+    && (are_done_after done label after && has_map maps (is_over plan after) label.map)
+
+abbrev pub leads_if_there : Plan → List EndOfStep → ℕ → List ℕ → Label → Option (List ℕ) → Bool
+leads_if_there plan ends maps done label None = false
+leads_if_there plan ends maps done label (Some after) = leads_to plan ends maps done label after
+
+-- an edge leads to a state of the next layer
+abbrev pub leads_on : Plan → List EndOfStep → ℕ → List ℕ → List (List ℕ) → Edge Label → Bool
+leads_on plan ends maps done next edge = leads_if_there plan ends maps done edge.label (slice_get next edge.to)
+
+-- ---- states
+
+-- the edge is a turn of the build
+abbrev pub is_of_build : ℕ → Option (Edge Label) → Bool
+is_of_build build None = false
+is_of_build build (Some edge) = edge.label.build == build
+
+-- The state has one turn of each build that has a step left, from the lowest build on, and each leads on.
+pub record IsStateWhole (plan : Plan) (ends : List EndOfStep) (maps : ℕ) (done : List ℕ) (next : List (List ℕ)) (edges : List (Edge Label)) : Type 0 where
+  pub builds : map (λ edge. edge.label.build) edges ≡ filter (has_left plan done) (range_with_len 0 8)
+  pub lead_on : list_all (leads_on plan ends maps done next) edges ≡ true
+
+pub record IsLayerWhole (plan : Plan) (ends : List EndOfStep) (maps : ℕ) (states next : List (List ℕ)) (layer : List (Vec (Edge Label) Global)) : Type 0 where
+  pub as_many : length states ≡ length layer
+  pub each : (place : ℕ) → place < length states
+      → IsStateWhole plan ends maps (slice_index_or states place []) next (slice_index_or (map vec_items layer) place [])
+
+-- the states of a layer, by their progress
+abbrev pub states_at : Graph → ℕ → List (List ℕ)
+states_at graph depth = slice_index_or (map vec_items graph.progress.items) depth []
+
+abbrev pub layer_at : Graph → ℕ → List (Vec (Edge Label) Global)
+layer_at graph depth = slice_index_or (map vec_items graph.layers.items) depth []
+
+-- The first layer has the one state in which no step is done, and the states of each layer are whole. There is a map.
+pub record IsWhole (plan : Plan) (graph : Graph) : Type 0 where
+  pub as_many : length graph.progress.items ≡ length graph.layers.items
+  pub start : is_at_start (states_at graph 0) ≡ true
+  pub maps : 0 < length graph.maps.items
+  pub layers : (depth : ℕ) → depth < length graph.layers.items
+      → IsLayerWhole plan graph.ends.items (length graph.maps.items) (states_at graph depth) (states_at graph (depth + 1)) (layer_at graph depth)

@@ -1,0 +1,338 @@
+//! The graph of the states of a plan's runs.
+ghost use Rattle.std.specs.Prelude.{◌≡◌, ◌≤◌, ◌<◌, ◌++◌, ◌∷◌, [], Some, OnOk, IfOk, IfErr, IfSome, length, string_bytes, vec_len};
+ghost use Rattle.realm_plan.specs.PlanView.{plan_view};
+ghost use Rattle.plan_states.specs.Exploration.{AreOfRuns, IsExploration, IsFound, HasNoGraph};
+ghost use Rattle.plan_states.specs.Reached.{IsMapOfRun};
+ghost use Rattle.plan_states.specs.Turned.{AreWith};
+
+use crate::edges::Label;
+use crate::leftovers::leave_nothing;
+use crate::running::{Running, has_more, run_to};
+use crate::state::State;
+use crate::step_end::EndOfStep;
+use crate::turns::{After, Before, Turns, before_turn};
+use crate::whole::{Progress, is_whole};
+use plan_replay::map_text;
+use realm_plan::Plan;
+use realm_program::Fault;
+use schedule_graph::Edge;
+use std::alloc::{AllocError, Global};
+use std::collections::HashMap;
+
+/// The states after as many turns, each as the edges that lead from it.
+pub type Layer = Vec<Vec<Edge<Label>>>;
+
+/// The graph of all schedules of a plan, layer by layer. Its first layer has one state.
+#[derive(Drop)]
+pub struct Graph {
+    pub layers: Vec<Layer>,
+    /// Of each state of each layer, how many steps of each build are done.
+    pub progress: Vec<Vec<Progress>>,
+    /// The ends of steps.
+    pub ends: Vec<EndOfStep>,
+    /// The maps in the end.
+    pub maps: Vec<String>,
+}
+
+/// The result of an exploration.
+#[derive(Drop)]
+pub enum Exploration {
+    All(Graph),
+    /// There are more states than were allowed.
+    TooMany,
+}
+
+// The first way to a state: the place of the state before, and the build of the turn.
+#[derive(Clone, Copy)]
+struct Came {
+    from: usize,
+    build: usize,
+}
+
+// The place of a state in its layer, and the number of its map, if schedules end in it.
+#[derive(Clone, Copy)]
+struct Target {
+    to: usize,
+    map: Option<usize>,
+}
+
+// The states of a layer, and the first way to each.
+#[derive(Drop)]
+struct Front {
+    states: Vec<State>,
+    came: Vec<Came>,
+    targets: HashMap<State, Target>,
+}
+
+// The graph as far as it is known. `came` has, of each layer, the first way to each state.
+#[derive(Drop)]
+struct Explorer {
+    turns: Turns,
+    came: Vec<Vec<Came>>,
+    maps: Vec<String>,
+}
+
+// Adds an item at the end.
+pub(crate) fn push<T: Drop>(items: &mut Vec<T>, item: T) -> Result<(), AllocError>
+    ensures { OnOk result (items.new.items ≡ items.old.items ++ item ∷ []) }
+{
+    items.push(item)?;
+    Ok(())
+}
+
+impl Front {
+    fn new(alloc: Global) -> Front
+        ensures { result.states.items ≡ [] }
+    {
+        Front {
+            states: Vec::new(alloc),
+            came: Vec::new(alloc),
+            targets: HashMap::new(alloc),
+        }
+    }
+
+    // Adds a state, and returns its place.
+    fn add(&mut self, state: State, came: Came, map: Option<usize>) -> Result<Target, AllocError>
+        ensures { OnOk result (self.new.states.items ≡ self.old.states.items ++ state ∷ []) }
+    {
+        let to = self.states.len();
+        let target = Target { to, map };
+        self.targets.insert(state, target)?;
+        self.came.push(came)?;
+        self.states.push(state)?;
+        Ok(target)
+    }
+}
+
+// The progress of each state of a layer.
+fn progress_of(alloc: Global, states: &[State]) -> Result<Vec<Progress>, AllocError> {
+    states.iter().map(|state| state.progress()).collect(alloc)
+}
+
+// The first schedule that leads to a state of the last layer. `Mismatch`: there is no such state.
+fn order_to(alloc: Global, came: &[Vec<Came>], place: usize) -> Result<Vec<usize>, Fault>
+    ensures { IfErr result HasNoGraph }
+{
+    let mut order = Vec::new(alloc);
+    let mut at = place;
+    for done in 1..came.len() {
+        let Some(way) = came[came.len() - done].get(at) else {
+            return Err(Fault::Mismatch);
+        };
+        push(&mut order, way.build)?;
+        at = way.from;
+    }
+    order.reverse();
+    Ok(order)
+}
+
+// The map after a schedule that ends. `Mismatch`: some turn has no step left, or a build has one in the end.
+fn map_after(alloc: Global, plan: &Plan, order: &[usize]) -> Result<String, Fault>
+    ensures ok { IfOk result (λ map. IsMapOfRun (plan_view plan.now) (string_bytes map)) }
+    ensures err { IfErr result HasNoGraph }
+{
+    let running = run_to(alloc, plan, order)?;
+    let Running { host, places } = running;
+    if has_more(plan, &places) {
+        return Err(Fault::Mismatch);
+    }
+    let map = map_text(alloc, &host)?;
+    let ledger = host.into_ledger();
+    if !leave_nothing(alloc, plan, &ledger, &map)? {
+        unreachable!()
+    }
+    Ok(map)
+}
+
+// The number of a map among those that are known; it is added if it is new.
+fn number_of_map(maps: &mut Vec<String>, map: String) -> Result<usize, AllocError>
+    ensures { OnOk result (AreWith maps.old.items (Some map) maps.new.items) }
+{
+    for number in 0..maps.len() {
+        if maps[number].as_str() == map.as_str() {
+            return Ok(number);
+        }
+    }
+    let number = maps.len();
+    maps.push(map)?;
+    Ok(number)
+}
+
+impl Explorer {
+    // The number of the map after a schedule that ends.
+    fn map_of(&mut self, alloc: Global, plan: &Plan, order: &[usize]) -> Result<usize, Fault>
+        requires { AreOfRuns (plan_view plan.now) self.old.turns.ends.items self.old.maps.items }
+        ensures ok { OnOk result (AreOfRuns (plan_view plan.now) self.new.turns.ends.items self.new.maps.items) }
+        ensures err { IfErr result HasNoGraph }
+    {
+        let map = map_after(alloc, plan, order)?;
+        Ok(number_of_map(&mut self.maps, map)?)
+    }
+
+    // The turn of a build in the state at a place of the last layer.
+    fn turn(
+        &mut self,
+        alloc: Global,
+        plan: &Plan,
+        place: usize,
+        build: usize,
+        before: Before,
+    ) -> Result<After, Fault>
+        requires { AreOfRuns (plan_view plan.now) self.old.turns.ends.items self.old.maps.items }
+        ensures ok { OnOk result (AreOfRuns (plan_view plan.now) self.new.turns.ends.items self.new.maps.items) }
+        ensures err { IfErr result HasNoGraph }
+    {
+        if let Some(after) = self.turns.known(&before) {
+            return Ok(after);
+        }
+        let order = order_to(alloc, &self.came, place)?;
+        self.turns.run(alloc, plan, before, &order, build)
+    }
+
+    // The place of a state in the next layer. It is added if it is new.
+    fn target(
+        &mut self,
+        alloc: Global,
+        plan: &Plan,
+        next: &mut Front,
+        state: State,
+        came: Came,
+    ) -> Result<Target, Fault>
+        requires { AreOfRuns (plan_view plan.now) self.old.turns.ends.items self.old.maps.items }
+        ensures ok { OnOk result (AreOfRuns (plan_view plan.now) self.new.turns.ends.items self.new.maps.items) }
+        ensures err { IfErr result HasNoGraph }
+    {
+        if let Some(target) = next.targets.get(&state).copied() {
+            return Ok(target);
+        }
+        if state.has_more(plan) {
+            return Ok(next.add(state, came, None)?);
+        }
+        let mut order = order_to(alloc, &self.came, came.from)?;
+        push(&mut order, came.build)?;
+        let map = self.map_of(alloc, plan, &order)?;
+        Ok(next.add(state, came, Some(map))?)
+    }
+
+    // The edges of the state at a place of the last layer.
+    fn edges_of(
+        &mut self,
+        alloc: Global,
+        plan: &Plan,
+        state: &State,
+        place: usize,
+        next: &mut Front,
+    ) -> Result<Vec<Edge<Label>>, Fault>
+        requires { AreOfRuns (plan_view plan.now) self.old.turns.ends.items self.old.maps.items }
+        ensures ok { OnOk result (AreOfRuns (plan_view plan.now) self.new.turns.ends.items self.new.maps.items) }
+        ensures err { IfErr result HasNoGraph }
+    {
+        let mut edges = Vec::new(alloc);
+        for build in 0..8 {
+            let Some(before) = before_turn(plan, state, build) else {
+                continue;
+            };
+            let after = self.turn(alloc, plan, place, build, before)?;
+            let then = self.turns.state_after(state, build, after)?;
+            let came = Came { from: place, build };
+            let Target { to, map } = self.target(alloc, plan, next, then, came)?;
+            let end = after.end;
+            let label = Label { build, end, map };
+            push(&mut edges, Edge { label, to })?;
+        }
+        Ok(edges)
+    }
+
+    // The edges of the states of the last layer, and the states of the next; None if there are more than `room`.
+    fn layer(
+        &mut self,
+        alloc: Global,
+        plan: &Plan,
+        states: &[State],
+        room: usize,
+    ) -> Result<Option<(Layer, Front)>, Fault>
+        requires { AreOfRuns (plan_view plan.now) self.old.turns.ends.items self.old.maps.items }
+        ensures ok { OnOk result (AreOfRuns (plan_view plan.now) self.new.turns.ends.items self.new.maps.items) }
+        ensures err { IfErr result HasNoGraph }
+        ensures layer { IfOk result (λ it. IfSome it (λ both. (vec_len both.0 ≡ length states.now) × (vec_len both.1.states ≤ room))) }
+    {
+        let mut next = Front::new(alloc);
+        let mut layer = Vec::new(alloc);
+        for place in 0..states.len() {
+            let edges = self.edges_of(alloc, plan, &states[place], place, &mut next)?;
+            push(&mut layer, edges)?;
+            if next.states.len() > room {
+                return Ok(None);
+            }
+        }
+        Ok(Some((layer, next)))
+    }
+}
+
+// The graph of all schedules of a plan; None if it has more than `most` states.
+fn search(alloc: Global, plan: &Plan, most: usize) -> Result<Option<Graph>, Fault>
+    ensures ok { IfOk result (λ it. IfSome it (IsFound (plan_view plan.now) most)) }
+    ensures err { IfErr result HasNoGraph }
+{
+    let mut it = Explorer {
+        turns: Turns::new(alloc),
+        came: Vec::new(alloc),
+        maps: Vec::new(alloc),
+    };
+    let first = State::first();
+    if !first.has_more(plan) {
+        it.map_of(alloc, plan, &[])?;
+    }
+    let mut front = Front::new(alloc);
+    front.add(first, Came { from: 0, build: 0 }, None)?;
+    let mut layers = Vec::new(alloc);
+    let mut progress = Vec::new(alloc);
+    let mut room = most;
+    'layers: while !front.states.is_empty() {
+        let Front {
+            states,
+            came,
+            targets: _,
+        } = front;
+        if states.len() > room {
+            return Ok(None);
+        }
+        room -= states.len();
+        push(&mut it.came, came)?;
+        push(&mut progress, progress_of(alloc, &states)?)?;
+        let Some((layer, next)) = it.layer(alloc, plan, &states, room)? else {
+            return Ok(None);
+        };
+        push(&mut layers, layer)?;
+        front = next;
+    }
+    let Explorer {
+        turns,
+        came: _,
+        maps,
+    } = it;
+    let ends = turns.into_ends();
+    Ok(Some(Graph {
+        layers,
+        progress,
+        ends,
+        maps,
+    }))
+}
+
+/// The graph of all schedules of a plan, if it has at most `most` states.
+///
+/// Errors. `Memory`: allocation failed. `Mismatch`: a run does not go on as another run said, which never happens on a
+/// host that gives the same answers to the same calls.
+pub fn explore(alloc: Global, plan: &Plan, most: usize) -> Result<Exploration, Fault>
+    ensures ok { IfOk result (IsExploration (plan_view plan.now) most) }
+    ensures err { IfErr result HasNoGraph }
+{
+    let Some(graph) = search(alloc, plan, most)? else {
+        return Ok(Exploration::TooMany);
+    };
+    if !is_whole(plan, &graph) {
+        return Err(Fault::Mismatch);
+    }
+    Ok(Exploration::All(graph))
+}

@@ -1,0 +1,35 @@
+//! The outcomes of all schedules of a plan, by the graph of its states.
+//!
+//! Schedules that have led to the same state are one from there on. A state is what each build did, and which blocks
+//! were leased and given back (`state.rt`). The states after as many turns are a layer (`graph.rt`). A turn of a build
+//! is run once for all states in which it depends on the same things (`turns.rt`). Outcomes are counted as paths
+//! (`outcomes.rt`), and the first schedule of each is its first path.
+#![tactic(auto)]
+
+mod edges;
+mod graph;
+pub mod law;
+mod leftovers;
+mod lines;
+mod outcomes;
+mod running;
+mod schedule_text;
+mod shortest;
+mod signs;
+mod state;
+mod step_end;
+mod tally;
+mod text;
+mod turns;
+mod whole;
+
+pub use edges::Label;
+pub use graph::{Exploration, Graph, explore};
+pub use leftovers::leave_nothing;
+pub use lines::push_map;
+pub use outcomes::outcomes_of;
+pub use shortest::{Witness, ends_refused, shortest_refusal};
+pub use step_end::EndOfStep;
+pub use tally::{Outcomes, PathTally, StepOutcomes};
+pub use text::{push_outcomes, push_step_outcomes, states_text, too_many_text};
+pub use whole::Progress;

@@ -1,0 +1,172 @@
+//! The lines of the outcomes of schedules.
+ghost use Rattle.std.specs.Prelude.{◌≡◌, ◌++◌, OnOk, string_bytes};
+ghost use Rattle.std.specs.List.{flat_map};
+ghost use Rattle.realm_plan.specs.PlanView.{plan_view};
+ghost use Rattle.plan_states.specs.Lines.{share_text, orders_line, refusal_words, refusals_line, end_shown, ends_of_step, never_refused_line, never_refused_lines, map_shown};
+
+use crate::schedule_text::ScheduleText;
+use crate::step_end::EndOfStep;
+use crate::tally::{PathTally, StepOutcomes};
+use host_commands::Refusal;
+use plan_replay::step_after;
+use realm_plan::{Plan, PlanStep, RefusalText, StepText};
+use schedule_graph::Count;
+use std::alloc::AllocError;
+use std::fmt;
+
+/// The end of a step: accepted, or refused.
+#[derive(Clone, Copy)]
+struct EndWords(Option<Refusal>);
+
+impl fmt::Display for EndWords {
+    ghost use Rattle.std.specs.Prelude.{Some};
+    ghost use Rattle.plan_states.specs.Lines.{words_of_end};
+
+    ghost output = { λ end. Some (words_of_end end.0) };
+
+    fn fmt<W: fmt::Write>(&self, f: &mut fmt::Formatter<W>) -> fmt::Result {
+        match self.0 {
+            Some(refusal) => write!(f, "no {}", RefusalText(refusal)),
+            None => f.write_str("ok"),
+        }
+    }
+}
+
+/// Appends the line of the number of schedules.
+pub(crate) fn push_count(text: &mut String, orders: &Count) -> Result<(), AllocError>
+    ensures { OnOk result (string_bytes text.new ≡ string_bytes text.old ++ orders_line orders.now) }
+{
+    text.push_str("orders ")?;
+    orders.push_to(text)?;
+    text.push_str("\n")
+}
+
+// Appends how many of `orders` schedules have an outcome, and the first of them if not all do.
+fn push_shown(
+    text: &mut String,
+    orders: &Count,
+    count: &Count,
+    first: &[usize],
+) -> Result<(), AllocError>
+    ensures { OnOk result (string_bytes text.new ≡ string_bytes text.old ++ share_text orders.now count.now first.now) }
+{
+    if count.is_same(orders) {
+        return text.push_str(" in all\n");
+    }
+    text.push_str(" in ")?;
+    count.push_to(text)?;
+    writeln!(text, ", {}", ScheduleText(first))
+}
+
+// The words for the outcome of whole schedules.
+fn refusal_words(is_refused: bool) -> &'static str
+    ensures { result.now ≡ refusal_words is_refused }
+{
+    if is_refused {
+        "some step refused"
+    } else {
+        "no step refused"
+    }
+}
+
+/// Appends the lines of the number of schedules with a step that was refused, and with none.
+pub(crate) fn push_wholes(
+    text: &mut String,
+    orders: &Count,
+    wholes: &[PathTally<bool>],
+) -> Result<(), AllocError>
+    ensures { OnOk result (string_bytes text.new ≡ string_bytes text.old ++ flat_map (refusals_line orders.now) wholes.now) }
+{
+    for tally in wholes {
+        text.push_str(refusal_words(tally.thing))?;
+        push_shown(text, orders, &tally.count, &tally.first)?;
+    }
+    Ok(())
+}
+
+// Appends the line of an end of a build's step.
+fn push_end(
+    text: &mut String,
+    orders: &Count,
+    step: &PlanStep,
+    tally: &PathTally<EndOfStep>,
+) -> Result<(), AllocError>
+    ensures { OnOk result (string_bytes text.new ≡ string_bytes text.old ++ end_shown orders.now step.now tally.now) }
+{
+    let end = tally.thing;
+    let words = EndWords(end.refusal);
+    write!(
+        text,
+        "step {} {} {} = {words}",
+        end.build,
+        end.step,
+        StepText(step)
+    )?;
+    push_shown(text, orders, &tally.count, &tally.first)
+}
+
+/// Appends the lines of the ends of a build's step, if the plan has it.
+pub(crate) fn push_step(
+    text: &mut String,
+    plan: &Plan,
+    outcomes: &StepOutcomes,
+    build: usize,
+    place: usize,
+) -> Result<(), AllocError>
+    ensures { OnOk result (string_bytes text.new ≡ string_bytes text.old ++ ends_of_step (plan_view plan.now) outcomes.now build place) }
+{
+    let Some(step) = step_after(plan, build, place) else {
+        return Ok(());
+    };
+    for tally in &outcomes.ends {
+        if tally.thing.build == build && tally.thing.step == place {
+            push_end(text, &outcomes.orders, step, tally)?;
+        }
+    }
+    Ok(())
+}
+
+// Appends the line of a build that was never refused in some schedules.
+fn push_never_refused(
+    text: &mut String,
+    orders: &Count,
+    tally: &PathTally<usize>,
+) -> Result<(), AllocError>
+    ensures { OnOk result (string_bytes text.new ≡ string_bytes text.old ++ never_refused_line orders.now tally.now) }
+{
+    write!(text, "never refused {}", tally.thing)?;
+    push_shown(text, orders, &tally.count, &tally.first)?;
+    Ok(())
+}
+
+/// Appends the line of the number of schedules in which a build was never refused.
+pub(crate) fn push_smooth(
+    text: &mut String,
+    orders: &Count,
+    smooth: &[PathTally<usize>],
+    build: usize,
+) -> Result<(), AllocError>
+    ensures { OnOk result (string_bytes text.new ≡ string_bytes text.old ++ never_refused_lines orders.now smooth.now build) }
+{
+    for tally in smooth {
+        if tally.thing == build {
+            return push_never_refused(text, orders, tally);
+        }
+    }
+    writeln!(text, "never refused {build} in 0")?;
+    Ok(())
+}
+
+/// Appends the line of how many of `orders` schedules have a map in the end, and the map.
+pub fn push_map<K>(
+    text: &mut String,
+    orders: &Count,
+    map: &str,
+    tally: &PathTally<K>,
+) -> Result<(), AllocError>
+    ensures { OnOk result (string_bytes text.new ≡ string_bytes text.old ++ map_shown orders.now map.now tally.now.first.items tally.now.count) }
+{
+    text.push_str("map")?;
+    push_shown(text, orders, &tally.count, &tally.first)?;
+    text.push_str(map)
+}

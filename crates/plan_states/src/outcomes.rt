@@ -1,0 +1,278 @@
+//! The counting of outcomes, as paths of the graph.
+ghost use Rattle.std.specs.Prelude.{◌≡◌, ◌≤◌, Bool, List, [], length, map, option_map, slice_index_or, OnOk, IfOk};
+ghost use Rattle.schedule_graph.specs.First.{any_path, layers_in, path_numbers_in, shows_none, ArePathNumbers};
+ghost use Rattle.schedule_graph.specs.Paths.{paths, shows, count_at};
+ghost use Rattle.plan_states.specs.Tallies.{with_tally, all_added, count_of_tally, end_tally, is_before, layers_of, map_tallies, map_tally, place_for, smooth_tally, tally_of, whole_tallies, AreOutcomes};
+
+use crate::edges::Label;
+use crate::graph::{Graph, Layer};
+use crate::signs::{EndSign, MapSign, RefusalSign};
+use crate::step_end::EndOfStep;
+use crate::tally::{Outcomes, PathTally, StepOutcomes};
+use schedule_graph::{
+    Count, PathNumber, Sign, count_all, count_all_with, count_all_without, first_with,
+    first_without,
+};
+use std::alloc::{AllocError, Global};
+
+// The numbers of the first layer; none if there is no layer.
+fn first_numbers(counts: &[Vec<PathNumber>]) -> &[PathNumber]
+    ensures { result.now ≡ slice_index_or (path_numbers_in counts.now) 0 [] }
+{
+    match counts.get(0) {
+        Some(layer) => layer,
+        None => &[],
+    }
+}
+
+// The number of the first state.
+fn root_of(alloc: Global, counts: &[Vec<PathNumber>]) -> Result<Count, AllocError>
+    ensures { IfOk result (λ count. count ≡ count_at (slice_index_or (path_numbers_in counts.now) 0 []) 0) }
+{
+    match first_numbers(counts).get(0) {
+        Some(count) => count.count(alloc),
+        None => Ok(Count::zero(alloc)),
+    }
+}
+
+// The builds of a path's turns.
+fn builds_of_path(alloc: Global, path: &[Label]) -> Result<Vec<usize>, AllocError>
+    ensures { IfOk result (λ builds. builds.items ≡ map (λ label. label.build) path.now) }
+{
+    path.iter().map(|label| label.build).collect(alloc)
+}
+
+// The tally of those that show the sign, if any does.
+pub(crate) fn tally_with<K: Drop, S: Sign<Label>>(
+    alloc: Global,
+    layers: &[Layer],
+    all: &[Vec<PathNumber>],
+    sign: &S,
+    thing: K,
+) -> Result<Option<PathTally<K>>, AllocError>
+    ensures { IfOk result (λ tally. ArePathNumbers any_path (layers_in layers.now) (path_numbers_in all.now)
+        → option_map count_of_tally tally ≡ tally_of (shows (S.is_on sign.now)) thing (paths (layers_in layers.now) 0)) }
+{
+    let with = count_all_with(alloc, layers, sign, all)?;
+    let Some(path) = first_with(alloc, layers, sign, all, &with)? else {
+        return Ok(None);
+    };
+    let count = root_of(alloc, &with)?;
+    let first = builds_of_path(alloc, &path)?;
+    Ok(Some(PathTally {
+        thing,
+        count,
+        first,
+    }))
+}
+
+// The tally of those that do not, if any does not.
+fn tally_without<K: Drop, S: Sign<Label>>(
+    alloc: Global,
+    layers: &[Layer],
+    sign: &S,
+    thing: K,
+) -> Result<Option<PathTally<K>>, AllocError>
+    ensures { IfOk result (λ tally. option_map count_of_tally tally ≡ tally_of (shows_none (S.is_on sign.now)) thing (paths (layers_in layers.now) 0)) }
+{
+    let without = count_all_without(alloc, layers, sign)?;
+    let Some(path) = first_without(alloc, layers, sign, &without)? else {
+        return Ok(None);
+    };
+    let count = root_of(alloc, &without)?;
+    let first = builds_of_path(alloc, &path)?;
+    Ok(Some(PathTally {
+        thing,
+        count,
+        first,
+    }))
+}
+
+// Whether a schedule comes before another: it has the lower build at the first turn at which they differ.
+fn is_before(one: &[usize], other: &[usize]) -> bool
+    ensures { result ≡ is_before one.now other.now }
+{
+    for turn in 0..one.len().min(other.len()) {
+        if one[turn] != other[turn] {
+            return one[turn] < other[turn];
+        }
+    }
+    false
+}
+
+// The place after the tallies whose first schedules do not come after this one.
+fn place_for<K>(tallies: &[PathTally<K>], first: &[usize]) -> usize
+    ensures { result ≡ place_for first.now (map count_of_tally tallies.now) }
+{
+    for place in 0..tallies.len() {
+        if is_before(first, &tallies[place].first) {
+            return place;
+        }
+    }
+    tallies.len()
+}
+
+// Adds a tally, if there is one, in the order of first schedules.
+fn add<K: Drop>(
+    tallies: &mut Vec<PathTally<K>>,
+    tally: Option<PathTally<K>>,
+) -> Result<(), AllocError>
+    ensures { OnOk result (map count_of_tally tallies.new.items ≡ with_tally (option_map count_of_tally tally) (map count_of_tally tallies.old.items)) }
+{
+    let Some(tally) = tally else {
+        return Ok(());
+    };
+    let place = place_for(tallies, &tally.first);
+    tallies.insert(place, tally)?;
+    Ok(())
+}
+
+// The tallies of whole schedules: with a refused step, and with none.
+fn wholes_of(
+    alloc: Global,
+    graph: &Graph,
+    all: &[Vec<PathNumber>],
+) -> Result<Vec<PathTally<bool>>, AllocError>
+    ensures { IfOk result (λ wholes. ArePathNumbers any_path (layers_of graph.now) (path_numbers_in all.now)
+        → map count_of_tally wholes.items ≡ whole_tallies graph.now) }
+{
+    let sign = RefusalSign {
+        ends: &graph.ends,
+        build: None,
+    };
+    let mut wholes = Vec::new(alloc);
+    let smooth = tally_without(alloc, &graph.layers, &sign, false)?;
+    add(&mut wholes, smooth)?;
+    let refused = tally_with(alloc, &graph.layers, all, &sign, true)?;
+    add(&mut wholes, refused)?;
+    Ok(wholes)
+}
+
+// The tally of an end of a step.
+fn end_tally(
+    alloc: Global,
+    graph: &Graph,
+    all: &[Vec<PathNumber>],
+    number: usize,
+) -> Result<Option<PathTally<EndOfStep>>, AllocError>
+    ensures { IfOk result (λ tally. ArePathNumbers any_path (layers_of graph.now) (path_numbers_in all.now)
+        → option_map count_of_tally tally ≡ end_tally graph.now number) }
+{
+    match graph.ends.get(number) {
+        Some(end) => tally_with(alloc, &graph.layers, all, &EndSign(number), *end),
+        None => Ok(None),
+    }
+}
+
+// The tallies of the ends of steps.
+fn step_ends(
+    alloc: Global,
+    graph: &Graph,
+    all: &[Vec<PathNumber>],
+) -> Result<Vec<PathTally<EndOfStep>>, AllocError>
+    ensures { IfOk result (λ ends. ArePathNumbers any_path (layers_of graph.now) (path_numbers_in all.now)
+        → map count_of_tally ends.items ≡ all_added (end_tally graph.now) (length graph.now.ends.items)) }
+{
+    let mut ends = Vec::new(alloc);
+    for number in 0..graph.ends.len() {
+        let tally = end_tally(alloc, graph, all, number)?;
+        add(&mut ends, tally)?;
+    }
+    Ok(ends)
+}
+
+// The tally of the schedules in which a build is never refused.
+fn smooth_tally(
+    alloc: Global,
+    graph: &Graph,
+    build: usize,
+) -> Result<Option<PathTally<usize>>, AllocError>
+    ensures { IfOk result (λ tally. option_map count_of_tally tally ≡ smooth_tally graph.now build) }
+{
+    let sign = RefusalSign {
+        ends: &graph.ends,
+        build: Some(build),
+    };
+    tally_without(alloc, &graph.layers, &sign, build)
+}
+
+// The tallies of the builds that are never refused.
+fn smooth_of(
+    alloc: Global,
+    graph: &Graph,
+    builds: usize,
+) -> Result<Vec<PathTally<usize>>, AllocError>
+    ensures { IfOk result (λ smooth. map count_of_tally smooth.items ≡ all_added (smooth_tally graph.now) builds) }
+{
+    let mut smooth = Vec::new(alloc);
+    for build in 0..builds {
+        let tally = smooth_tally(alloc, graph, build)?;
+        add(&mut smooth, tally)?;
+    }
+    Ok(smooth)
+}
+
+// The tally of a map in the end.
+fn map_tally(
+    alloc: Global,
+    graph: &Graph,
+    all: &[Vec<PathNumber>],
+    map: usize,
+) -> Result<Option<PathTally<usize>>, AllocError>
+    ensures { IfOk result (λ tally. ArePathNumbers any_path (layers_of graph.now) (path_numbers_in all.now)
+        → option_map count_of_tally tally ≡ map_tally graph.now map) }
+{
+    tally_with(alloc, &graph.layers, all, &MapSign(map), map)
+}
+
+// The one tally of a plan without a step: one schedule, and the map after no turn.
+fn only_map(alloc: Global) -> Result<PathTally<usize>, AllocError>
+    ensures { IfOk result (λ tally. count_of_tally tally ≡ record { thing = 0; count = 1; first = [] }) }
+{
+    Ok(PathTally {
+        thing: 0,
+        count: Count::one(alloc)?,
+        first: Vec::new(alloc),
+    })
+}
+
+// The tallies of the maps in the end.
+fn maps_of(
+    alloc: Global,
+    graph: &Graph,
+    all: &[Vec<PathNumber>],
+) -> Result<Vec<PathTally<usize>>, AllocError>
+    ensures { IfOk result (λ maps. ArePathNumbers any_path (layers_of graph.now) (path_numbers_in all.now)
+        → map count_of_tally maps.items ≡ map_tallies graph.now) }
+{
+    let mut maps = Vec::new(alloc);
+    if graph.layers.len() == 1 {
+        let tally = only_map(alloc)?;
+        maps.push(tally)?;
+        return Ok(maps);
+    }
+    for map in 0..graph.maps.len() {
+        let tally = map_tally(alloc, graph, all, map)?;
+        add(&mut maps, tally)?;
+    }
+    Ok(maps)
+}
+
+/// The outcomes of all schedules of a plan of `builds` builds, by its graph. The one error is that allocation failed.
+pub fn outcomes_of(alloc: Global, builds: usize, graph: &Graph) -> Result<Outcomes, AllocError>
+    ensures { IfOk result (AreOutcomes builds graph.now) }
+{
+    let all = count_all(alloc, &graph.layers)?;
+    let wholes = wholes_of(alloc, graph, &all)?;
+    let ends = step_ends(alloc, graph, &all)?;
+    let smooth = smooth_of(alloc, graph, builds)?;
+    let maps = maps_of(alloc, graph, &all)?;
+    let orders = root_of(alloc, &all)?;
+    let steps = StepOutcomes {
+        orders,
+        wholes,
+        ends,
+        smooth,
+    };
+    Ok(Outcomes { steps, maps })
+}

@@ -1,0 +1,152 @@
+//! The run of a plan in a schedule from boot, and one turn more.
+ghost use Rattle.std.specs.Prelude.{◌≡◌, ◌<◌, IfOk, IfErr, IfSome, option_map};
+ghost use Rattle.std.specs.Bool.{OnFalse};
+ghost use Rattle.host_ledger.specs.View.{world_of};
+ghost use Rattle.realm_host.specs.Readings.{realm_at};
+ghost use Rattle.realm_plan.specs.PlanView.{plan_view};
+ghost use Rattle.plan_states.specs.Exploration.{HasNoGraph};
+ghost use Rattle.plan_states.specs.Reached.{AreOver, IsReached};
+ghost use Rattle.plan_states.specs.Turned.{moved_after, moved_by, told_refusal};
+ghost use Rattle.plan_states.specs.TurnTaken.{IsTurnTaken};
+
+use crate::turns::Moved;
+use buddy::BuddyArena;
+use granule_addr::BuildId;
+use host_commands::Refusal;
+use page_arena::PageStore;
+use plan_replay::{PlanCursor, TurnAnswer, step_after, take_turn};
+use realm_host::{Act, Host};
+use realm_plan::Plan;
+use realm_program::{Fault, boot};
+use std::alloc::Global;
+
+/// A host, and the cursors of the builds.
+#[derive(Drop)]
+pub(crate) struct Running {
+    pub(crate) host: Host<BuddyArena>,
+    pub(crate) places: [PlanCursor; 8],
+}
+
+/// One turn: how many steps its build had done before and after it, its refusal, the block that it moved, and the VMID
+/// of the build's realm after it.
+#[derive(Clone, Copy)]
+pub(crate) struct TurnTaken {
+    pub(crate) before: usize,
+    pub(crate) after: usize,
+    pub(crate) refusal: Option<Refusal>,
+    pub(crate) moved: Option<Moved>,
+    pub(crate) vmid: Option<u8>,
+}
+
+// The block that an operation leases or gives back.
+fn moved_by(act: &Act) -> Option<Moved>
+    ensures { result ≡ moved_by act.now }
+{
+    match act {
+        Act::Take { order, first } => Some(Moved {
+            is_back: false,
+            order: order.number(),
+            first: first.number(),
+        }),
+        Act::UnTake { order, first } => Some(Moved {
+            is_back: true,
+            order: order.number(),
+            first: first.number(),
+        }),
+        _ => None,
+    }
+}
+
+// The block that was moved by the event after `before` others, if there is one.
+fn moved_after<S: PageStore>(host: &Host<S>, before: usize) -> Option<Moved>
+    ensures { result ≡ moved_after before host.now.history }
+{
+    match host.history().get(before) {
+        Some(event) => moved_by(&event.act),
+        None => None,
+    }
+}
+
+// The reason of a refusal.
+fn told_refusal(answer: TurnAnswer) -> Option<Refusal>
+    ensures { result ≡ told_refusal answer }
+{
+    match answer {
+        TurnAnswer::Refused(refusal) => Some(refusal),
+        _ => None,
+    }
+}
+
+// The VMID of a build's realm, if it has one.
+fn vmid_of<S: PageStore>(host: &Host<S>, build: usize) -> Option<u8>
+    requires { build < 8 }
+    ensures { result ≡ option_map (λ realm. realm.1) (realm_at (world_of host.now) build) }
+{
+    match host.realm_view(BuildId::new(build as u8).unwrap()) {
+        Some((_state, vmid)) => Some(vmid.number()),
+        None => None,
+    }
+}
+
+/// Runs a plan on a fresh host, in the schedule of these builds.
+///
+/// Errors. `Memory`: allocation failed. `Mismatch`: some turn is of a build that has no step left then.
+pub(crate) fn run_to(alloc: Global, plan: &Plan, order: &[usize]) -> Result<Running, Fault>
+    ensures ok { IfOk result (λ run. IsReached (plan_view plan.now) order.now (record { host = run.host; places = run.places })) }
+    ensures err { IfErr result HasNoGraph }
+{
+    let mut host = boot::<BuddyArena>(alloc, plan)?;
+    let mut places = [PlanCursor::first(); 8];
+    for build in order {
+        if *build >= plan.builds.len() {
+            return Err(Fault::Mismatch);
+        }
+        if take_turn(&mut host, plan, &mut places, *build).is_none() {
+            return Err(Fault::Mismatch);
+        }
+    }
+    Ok(Running { host, places })
+}
+
+/// Whether any build has a step left.
+pub(crate) fn has_more(plan: &Plan, places: &[PlanCursor; 8]) -> bool
+    ensures { OnFalse result (AreOver (plan_view plan.now) places.now) }
+{
+    for build in 0..8 {
+        if step_after(plan, build, places[build].done).is_some() {
+            return true;
+        }
+    }
+    false
+}
+
+/// Takes one more turn of a build; None if it has no step left.
+pub(crate) fn take<S: PageStore>(
+    host: &mut Host<S>,
+    plan: &Plan,
+    places: &mut [PlanCursor; 8],
+    build: usize,
+) -> Option<TurnTaken>
+    ensures { IfSome result (λ it. IsTurnTaken (plan_view plan.now) (record { host = host.old; places = places.old }) build it
+        (record { host = host.new; places = places.new })) }
+{
+    if build >= plan.builds.len() {
+        return None;
+    }
+    let events = host.history().len();
+    let before = places[build].done;
+    let Some((_step, answer)) = take_turn(host, plan, places, build) else {
+        return None;
+    };
+    let after = places[build].done;
+    let refusal = told_refusal(answer);
+    let moved = moved_after(host, events);
+    let vmid = vmid_of(host, build);
+    Some(TurnTaken {
+        before,
+        after,
+        refusal,
+        moved,
+        vmid,
+    })
+}

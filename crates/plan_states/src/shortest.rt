@@ -1,0 +1,175 @@
+//! The shortest schedules in which a step is refused.
+ghost use Rattle.std.specs.Prelude.{◌≡◌, ◌<◌, true, [], map, length, option_map, slice_index_or, vec_items, IfOk, IfErr};
+ghost use Rattle.realm_plan.specs.PlanView.{plan_view};
+ghost use Rattle.schedule_graph.specs.First.{layers_in};
+ghost use Rattle.plan_states.specs.Exploration.{HasNoGraph};
+ghost use Rattle.schedule_graph.specs.Paths.{shows};
+ghost use Rattle.plan_states.specs.Shortest.{cut_after, first_layer, layer_shows, shortest_tally, EndsRefused, IsWitness};
+ghost use Rattle.plan_states.specs.Signs.{is_refusal_of_step, refuses_step};
+ghost use Rattle.plan_states.specs.Tallies.{count_of_tally};
+ghost use Rattle.plan_states.specs.Turned.{end_taken};
+
+use crate::edges::Label;
+use crate::graph::{Exploration, Graph, Layer, explore, push};
+use crate::outcomes::tally_with;
+use crate::running::{TurnTaken, run_to, take};
+use crate::signs::StepRefusedSign;
+use crate::tally::PathTally;
+use realm_plan::Plan;
+use realm_program::Fault;
+use schedule_graph::{Edge, Sign, count_all};
+use std::alloc::{AllocError, Global};
+
+/// The result of a search for a schedule in which a step is refused.
+#[derive(Drop)]
+pub enum Witness {
+    /// The builds of the turns up to the refusal.
+    Found(Vec<usize>),
+    /// The step is refused in no schedule.
+    Never,
+    /// There are more states than were allowed.
+    TooMany,
+}
+
+// Whether an edge shows the sign.
+fn edges_show(edges: &[Edge<Label>], sign: &StepRefusedSign) -> bool
+    ensures { result ≡ shows (is_refusal_of_step sign.now.ends.now sign.now.build sign.now.step) edges.now }
+{
+    edges.iter().any(|edge| sign.is_on(&edge.label))
+}
+
+// Whether an edge of a layer shows the sign.
+fn layer_shows(layer: &[Vec<Edge<Label>>], sign: &StepRefusedSign) -> bool
+    ensures { result ≡ layer_shows (is_refusal_of_step sign.now.ends.now sign.now.build sign.now.step) layer.now }
+{
+    layer.iter().any(|edges| edges_show(edges, sign))
+}
+
+// The first layer with an edge that shows the sign.
+fn first_layer(layers: &[Layer], sign: &StepRefusedSign) -> Option<usize>
+    ensures { result ≡ first_layer (is_refusal_of_step sign.now.ends.now sign.now.build sign.now.step) layers.now }
+{
+    layers.iter().position(|layer| layer_shows(layer, sign))
+}
+
+// The states of a layer; none if there is no such layer.
+fn layer_at(layers: &[Layer], depth: usize) -> &[Vec<Edge<Label>>]
+    ensures { result.now ≡ slice_index_or (map vec_items layers.now) depth [] }
+{
+    match layers.get(depth) {
+        Some(layer) => layer,
+        None => &[],
+    }
+}
+
+// The states of a layer, without edges.
+fn without_edges(alloc: Global, layer: &[Vec<Edge<Label>>]) -> Result<Layer, AllocError>
+    ensures { IfOk result (λ bare. map vec_items bare.items ≡ map (λ edges. []) layer.now) }
+{
+    let mut bare = Vec::new(alloc);
+    for _edges in layer {
+        push(&mut bare, Vec::new(alloc))?;
+    }
+    Ok(bare)
+}
+
+// The layers up to one, and the states of the next, without edges.
+fn cut_after(alloc: Global, layers: Vec<Layer>, depth: usize) -> Result<Vec<Layer>, AllocError>
+    requires { depth < length layers.items }
+    ensures { IfOk result (λ cut. layers_in cut.items ≡ cut_after depth (layers_in layers.items)) }
+{
+    let states = without_edges(alloc, layer_at(&layers, depth + 1))?;
+    let mut layers = layers;
+    layers.truncate(depth + 1);
+    push(&mut layers, states)?;
+    Ok(layers)
+}
+
+// The tally of the shortest paths that refuse a step, if any does.
+fn shortest_tally(
+    alloc: Global,
+    graph: Graph,
+    build: usize,
+    step: usize,
+) -> Result<Option<PathTally<usize>>, AllocError>
+    ensures { IfOk result (λ tally. option_map count_of_tally tally ≡ shortest_tally graph build step) }
+{
+    let Graph {
+        layers,
+        progress: _,
+        ends,
+        maps: _,
+    } = graph;
+    let sign = StepRefusedSign {
+        ends: &ends,
+        build,
+        step,
+    };
+    let Some(depth) = first_layer(&layers, &sign) else {
+        return Ok(None);
+    };
+    let layers = cut_after(alloc, layers, depth)?;
+    let all = count_all(alloc, &layers)?;
+    tally_with(alloc, &layers, &all, &sign, step)
+}
+
+// Whether a turn of `last` uses up this step of this build, and is refused.
+fn refuses(taken: &TurnTaken, last: usize, build: usize, step: usize) -> bool
+    ensures { result ≡ refuses_step build step (end_taken last taken.now) }
+{
+    if taken.before == taken.after {
+        return false;
+    }
+    taken.refusal.is_some() && last == build && taken.before == step
+}
+
+/// Whether the last turn of a schedule is of this build, uses up this step of it, and is refused.
+///
+/// Errors. `Memory`: allocation failed. `Mismatch`: a turn before the last has no step left.
+pub fn ends_refused(
+    alloc: Global,
+    plan: &Plan,
+    order: &[usize],
+    build: usize,
+    step: usize,
+) -> Result<bool, Fault>
+    ensures ok { IfOk result (λ ends. ends ≡ true → EndsRefused (plan_view plan.now) build step order.now) }
+    ensures err { IfErr result HasNoGraph }
+{
+    let Some((last, before)) = order.split_last() else {
+        return Ok(false);
+    };
+    let mut running = run_to(alloc, plan, before)?;
+    let Some(taken) = take(&mut running.host, plan, &mut running.places, *last) else {
+        return Ok(false);
+    };
+    Ok(refuses(&taken, *last, build, step))
+}
+
+/// The shortest schedule that ends with a refusal of a step, and of these the first, if the plan's graph has at most
+/// `most` states.
+///
+/// Errors. `Memory`: allocation failed. `Mismatch`: a run does not go on as another run said, which never happens on a
+/// host that gives the same answers to the same calls.
+pub fn shortest_refusal(
+    alloc: Global,
+    plan: &Plan,
+    most: usize,
+    build: usize,
+    step: usize,
+) -> Result<Witness, Fault>
+    ensures ok { IfOk result (IsWitness (plan_view plan.now) most build step) }
+    ensures err { IfErr result HasNoGraph }
+{
+    let Exploration::All(graph) = explore(alloc, plan, most)? else {
+        return Ok(Witness::TooMany);
+    };
+    let Some(tally) = shortest_tally(alloc, graph, build, step)? else {
+        return Ok(Witness::Never);
+    };
+    let PathTally { first, .. } = tally;
+    if !ends_refused(alloc, plan, &first, build, step)? {
+        return Err(Fault::Mismatch);
+    }
+    Ok(Witness::Found(first))
+}

@@ -1,0 +1,104 @@
+//! The outcomes that a turn shows.
+ghost use Rattle.std.specs.Prelude.{◌≡◌, option_map};
+ghost use Rattle.plan_states.specs.Signs.{has_number, is_asked, refuses_asked};
+
+use crate::edges::Label;
+use crate::step_end::EndOfStep;
+use schedule_graph::Sign;
+
+// Whether there is a number, and it is this one.
+fn has_number(number: usize, other: Option<usize>) -> bool
+    ensures { result ≡ has_number number other }
+{
+    match other {
+        Some(other) => other == number,
+        None => false,
+    }
+}
+
+/// An end of a step, by its number.
+#[derive(Clone, Copy)]
+pub(crate) struct EndSign(pub(crate) usize);
+
+impl Sign<Label> for EndSign {
+    ghost use Rattle.plan_states.specs.Signs.{has_number};
+
+    ghost is_on = { λ sign label. has_number sign.0 label.end };
+
+    fn is_on(&self, label: &Label) -> bool {
+        has_number(self.0, label.end)
+    }
+}
+
+/// A map in the end, by its number.
+#[derive(Clone, Copy)]
+pub(crate) struct MapSign(pub(crate) usize);
+
+impl Sign<Label> for MapSign {
+    ghost use Rattle.plan_states.specs.Signs.{has_number};
+
+    ghost is_on = { λ sign label. has_number sign.0 label.map };
+
+    fn is_on(&self, label: &Label) -> bool {
+        has_number(self.0, label.map)
+    }
+}
+
+/// A refused step of a build, or of any.
+#[derive(Clone, Copy)]
+pub(crate) struct RefusalSign<'a> {
+    pub(crate) ends: &'a [EndOfStep],
+    pub(crate) build: Option<usize>,
+}
+
+// Whether a build is the one that is asked for, if one is.
+fn is_asked(asked: Option<usize>, build: usize) -> bool
+    ensures { result ≡ is_asked asked build }
+{
+    match asked {
+        Some(one) => one == build,
+        None => true,
+    }
+}
+
+impl Sign<Label> for RefusalSign<'_> {
+    ghost use Rattle.plan_states.specs.Signs.{is_refusal_of};
+
+    ghost is_on = { λ sign label. is_refusal_of sign.ends.now sign.build label };
+
+    fn is_on(&self, label: &Label) -> bool {
+        let Some(number) = label.end else {
+            return false;
+        };
+        match self.ends.get(number) {
+            Some(end) => end.refusal.is_some() && is_asked(self.build, end.build),
+            None => false,
+        }
+    }
+}
+
+/// A refusal of one step of a build.
+#[derive(Clone, Copy)]
+pub(crate) struct StepRefusedSign<'a> {
+    pub(crate) ends: &'a [EndOfStep],
+    pub(crate) build: usize,
+    pub(crate) step: usize,
+}
+
+impl Sign<Label> for StepRefusedSign<'_> {
+    ghost use Rattle.plan_states.specs.Signs.{is_refusal_of_step};
+
+    ghost is_on = { λ sign label. is_refusal_of_step sign.ends.now sign.build sign.step label };
+
+    fn is_on(&self, label: &Label) -> bool {
+        let Some(number) = label.end else {
+            return false;
+        };
+        match self.ends.get(number) {
+            Some(end) => {
+                end.refusal.is_some() && end.build == self.build && end.step == self.step
+            }
+            None => false,
+        }
+    }
+}

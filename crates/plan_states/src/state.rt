@@ -1,0 +1,99 @@
+//! The states of runs.
+ghost use Rattle.std.specs.Prelude.{◌≡◌, ◌<◌, slice_set};
+ghost use Rattle.std.specs.Bool.{OnFalse};
+ghost use Rattle.realm_plan.specs.PlanView.{plan_view};
+ghost use Rattle.plan_states.specs.States.{at_rest, first_state, AreAllDone};
+
+use crate::whole::Progress;
+use plan_replay::step_after;
+use realm_plan::Plan;
+
+/// The state of a build: what it did, as a number; the number of its steps done; and the VMID of its realm.
+#[derive(Clone, Copy, PartialEq, Eq, Hash)]
+pub(crate) struct BuildState {
+    pub(crate) did: usize,
+    pub(crate) done: usize,
+    pub(crate) vmid: Option<u8>,
+}
+
+/// The state of a run: that of each build, and the blocks that were leased and given back, as a number.
+#[derive(Clone, Copy, PartialEq, Eq, Hash)]
+pub(crate) struct State {
+    pub(crate) builds: [BuildState; 8],
+    pub(crate) blocks: usize,
+}
+
+impl BuildState {
+    // The state of a build that did nothing. The number of that is the build's own.
+    fn at_rest(build: usize) -> BuildState
+        ensures { result ≡ at_rest build }
+    {
+        BuildState {
+            did: build,
+            done: 0,
+            vmid: None,
+        }
+    }
+}
+
+impl State {
+    /// The state before the first turn: no build did anything, and no block has moved.
+    pub(crate) fn first() -> State
+        ensures { result ≡ first_state }
+    {
+        let builds = [
+            BuildState::at_rest(0),
+            BuildState::at_rest(1),
+            BuildState::at_rest(2),
+            BuildState::at_rest(3),
+            BuildState::at_rest(4),
+            BuildState::at_rest(5),
+            BuildState::at_rest(6),
+            BuildState::at_rest(7),
+        ];
+        State { builds, blocks: 0 }
+    }
+
+    /// The state after a turn of a build.
+    pub(crate) fn with(self, build: usize, after: BuildState, blocks: usize) -> State
+        requires { build < 8 }
+        ensures { result ≡ record { builds = slice_set self.builds build after; blocks = blocks } }
+    {
+        let mut builds = self.builds;
+        builds[build] = after;
+        State { builds, blocks }
+    }
+
+    // How many steps of a build are done; a plan has far fewer than 2^16.
+    fn done_by(&self, build: usize) -> u16
+        requires { build < 8 }
+    {
+        u16::try_from(self.builds[build].done).unwrap_or(u16::MAX)
+    }
+
+    /// How many steps of each build are done.
+    pub(crate) fn progress(&self) -> Progress {
+        [
+            self.done_by(0),
+            self.done_by(1),
+            self.done_by(2),
+            self.done_by(3),
+            self.done_by(4),
+            self.done_by(5),
+            self.done_by(6),
+            self.done_by(7),
+        ]
+    }
+
+    /// Whether any build has a step left.
+    pub(crate) fn has_more(&self, plan: &Plan) -> bool
+        ensures { OnFalse result (AreAllDone (plan_view plan.now) self.now) }
+    {
+        for build in 0..8 {
+            if step_after(plan, build, self.builds[build].done).is_some() {
+                return true;
+            }
+        }
+        false
+    }
+}

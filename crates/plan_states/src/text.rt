@@ -1,0 +1,169 @@
+//! The text of the outcomes of all schedules of a plan.
+ghost use Rattle.std.specs.Prelude.{◌≡◌, ◌++◌, OnOk, IfOk, IfErr, string_bytes};
+ghost use Rattle.std.specs.List.{flat_map, range_with_len};
+ghost use Rattle.realm_plan.specs.PlanView.{plan_view};
+ghost use Rattle.plan_states.specs.Exploration.{HasNoGraph};
+ghost use Rattle.plan_states.specs.StatesText.{too_many_line, IsGraphText, IsStatesText};
+ghost use Rattle.plan_states.specs.Lines.{step_number, ends_of_build, never_refused_lines, map_shown_by, step_outcomes_text, outcomes_text};
+
+use crate::graph::{Exploration, Graph, explore};
+use crate::lines::{push_count, push_map, push_smooth, push_step, push_wholes};
+use crate::outcomes::outcomes_of;
+use crate::tally::{Outcomes, PathTally, StepOutcomes};
+use realm_plan::Plan;
+use realm_program::Fault;
+use schedule_graph::Count;
+use std::alloc::{AllocError, Global};
+
+// The number of steps of a build.
+fn step_number(plan: &Plan, build: usize) -> usize
+    ensures { result ≡ step_number (plan_view plan.now) build }
+{
+    match plan.builds.get(build) {
+        Some(steps) => steps.len(),
+        None => 0,
+    }
+}
+
+// Appends the lines of the ends of a build's steps.
+fn push_build(
+    text: &mut String,
+    plan: &Plan,
+    outcomes: &StepOutcomes,
+    build: usize,
+) -> Result<(), AllocError>
+    ensures { OnOk result (string_bytes text.new ≡ string_bytes text.old ++ ends_of_build (plan_view plan.now) outcomes.now build) }
+{
+    for place in 0..step_number(plan, build) {
+        push_step(text, plan, outcomes, build, place)?;
+    }
+    Ok(())
+}
+
+// Appends the lines of the ends of the steps of the first `builds` builds.
+fn push_builds(
+    text: &mut String,
+    plan: &Plan,
+    outcomes: &StepOutcomes,
+    builds: usize,
+) -> Result<(), AllocError>
+    ensures { OnOk result (string_bytes text.new ≡ string_bytes text.old ++ flat_map (ends_of_build (plan_view plan.now) outcomes.now) (range_with_len 0 builds)) }
+{
+    for build in 0..builds {
+        push_build(text, plan, outcomes, build)?;
+    }
+    Ok(())
+}
+
+// Appends the lines that say how often each of the first `builds` builds was never refused.
+fn push_smooths(
+    text: &mut String,
+    orders: &Count,
+    smooth: &[PathTally<usize>],
+    builds: usize,
+) -> Result<(), AllocError>
+    ensures { OnOk result (string_bytes text.new ≡ string_bytes text.old ++ flat_map (never_refused_lines orders.now smooth.now) (range_with_len 0 builds)) }
+{
+    for build in 0..builds {
+        push_smooth(text, orders, smooth, build)?;
+    }
+    Ok(())
+}
+
+// Appends the lines of a map in the end, if there is a map of that number.
+fn push_map_of(
+    text: &mut String,
+    orders: &Count,
+    maps: &[String],
+    tally: &PathTally<usize>,
+) -> Result<(), AllocError>
+    ensures { OnOk result (string_bytes text.new ≡ string_bytes text.old ++ map_shown_by orders.now maps.now tally.now) }
+{
+    match maps.get(tally.thing) {
+        Some(map) => push_map(text, orders, map, tally),
+        None => Ok(()),
+    }
+}
+
+// Appends the maps.
+fn push_maps(
+    text: &mut String,
+    orders: &Count,
+    maps: &[String],
+    tallies: &[PathTally<usize>],
+) -> Result<(), AllocError>
+    ensures { OnOk result (string_bytes text.new ≡ string_bytes text.old ++ flat_map (map_shown_by orders.now maps.now) tallies.now) }
+{
+    for map in tallies {
+        push_map_of(text, orders, maps, map)?;
+    }
+    Ok(())
+}
+
+/// Appends the outcomes of the steps of schedules. These are the number of schedules in which nothing was refused. For
+/// each step of each build, how it ended, in how many schedules and in which one first. For each build, the number of
+/// schedules in which it was never refused. At an `Err` allocation failed, and the text may have a part of it.
+pub fn push_step_outcomes(
+    text: &mut String,
+    plan: &Plan,
+    outcomes: &StepOutcomes,
+) -> Result<(), AllocError>
+    ensures { OnOk result (string_bytes text.new ≡ string_bytes text.old ++ step_outcomes_text (plan_view plan.now) outcomes.now) }
+{
+    let builds = plan.builds.len();
+    let orders = &outcomes.orders;
+    push_wholes(text, orders, &outcomes.wholes)?;
+    push_builds(text, plan, outcomes, builds)?;
+    push_smooths(text, orders, &outcomes.smooth, builds)?;
+    Ok(())
+}
+
+/// Appends the outcomes of all schedules of a plan: how many there are, the outcomes of their steps, and the maps in
+/// the end. At an `Err` allocation failed, and the text may have a part of it.
+pub fn push_outcomes(
+    text: &mut String,
+    plan: &Plan,
+    maps: &[String],
+    outcomes: &Outcomes,
+) -> Result<(), AllocError>
+    ensures { OnOk result (string_bytes text.new ≡ string_bytes text.old ++ outcomes_text (plan_view plan.now) maps.now outcomes.now) }
+{
+    let orders = &outcomes.steps.orders;
+    push_count(text, orders)?;
+    push_step_outcomes(text, plan, &outcomes.steps)?;
+    push_maps(text, orders, maps, &outcomes.maps)?;
+    Ok(())
+}
+
+// The text of the outcomes of a plan's graph.
+fn graph_text(alloc: Global, plan: &Plan, graph: &Graph) -> Result<String, AllocError>
+    ensures { IfOk result (λ text. IsGraphText (plan_view plan.now) graph.now (string_bytes text)) }
+{
+    let mut text = String::new(alloc);
+    let outcomes = outcomes_of(alloc, plan.builds.len(), graph)?;
+    push_outcomes(&mut text, plan, &graph.maps, &outcomes)?;
+    Ok(text)
+}
+
+/// The line that says that there are more than `most` states. The one error is that allocation failed.
+pub fn too_many_text(alloc: Global, most: usize) -> Result<String, AllocError>
+    ensures { IfOk result (λ text. string_bytes text ≡ too_many_line most) }
+{
+    let mut text = String::new(alloc);
+    writeln!(text, "states more than {most}")?;
+    Ok(text)
+}
+
+/// The text of the outcomes of all schedules of a plan, if it has at most `most` states; else a line that says so.
+///
+/// Errors. `Memory`: allocation failed. `Mismatch`: a run does not go on as another one said, which never happens on a
+/// host that gives the same answers to the same calls.
+pub fn states_text(alloc: Global, plan: &Plan, most: usize) -> Result<String, Fault>
+    ensures ok { IfOk result (λ text. IsStatesText most (plan_view plan.now) (string_bytes text)) }
+    ensures err { IfErr result HasNoGraph }
+{
+    match explore(alloc, plan, most)? {
+        Exploration::All(graph) => Ok(graph_text(alloc, plan, &graph)?),
+        Exploration::TooMany => Ok(too_many_text(alloc, most)?),
+    }
+}

@@ -1,0 +1,278 @@
+//! The turns of builds, each run once.
+ghost use Rattle.std.specs.Prelude.{◌≡◌, ◌++◌, ◌<◌, [], All, OnOk, IfErr, Some};
+ghost use Rattle.realm_plan.specs.PlanView.{plan_view};
+ghost use Rattle.plan_states.specs.Exploration.{HasNoGraph};
+ghost use Rattle.plan_states.specs.Reached.{IsEndOfRun};
+ghost use Rattle.plan_states.specs.Turned.{AreWith, end_taken};
+
+use crate::running::{TurnTaken, run_to, take};
+use crate::state::{BuildState, State};
+use crate::step_end::EndOfStep;
+use host_commands::{Cmd, Step};
+use plan_replay::step_after;
+use realm_plan::{Plan, PlanStep};
+use realm_program::Fault;
+use std::alloc::{AllocError, Global};
+use std::collections::HashMap;
+
+/// A block that was leased, or given back.
+#[derive(Clone, Copy, PartialEq, Eq, Hash)]
+pub(crate) struct Moved {
+    pub(crate) is_back: bool,
+    pub(crate) order: u8,
+    pub(crate) first: u16,
+}
+
+/// The things of all builds that a step needs.
+#[derive(Clone, Copy, PartialEq, Eq)]
+enum Shared {
+    Nothing,
+    Blocks,
+    Vmids,
+}
+
+/// What a build did, with one turn more: what it did before, and what the turn gave it beside what follows from that.
+#[derive(Clone, Copy, PartialEq, Eq, Hash)]
+struct Did {
+    before: usize,
+    end: Option<usize>,
+    first: Option<u16>,
+    vmid: Option<u8>,
+}
+
+/// The blocks that were leased and given back, with one more.
+#[derive(Clone, Copy, PartialEq, Eq, Hash)]
+struct Moves {
+    before: usize,
+    moved: Moved,
+}
+
+/// What a turn depends on: what its build did, and of what all builds share what it needs.
+#[derive(Clone, Copy, PartialEq, Eq, Hash)]
+pub(crate) struct Before {
+    build: usize,
+    shared: usize,
+}
+
+/// The outcome of a turn: the state of its build after it, the block that it moved, and the end of its step.
+#[derive(Clone, Copy)]
+pub(crate) struct After {
+    build: BuildState,
+    moved: Option<Moved>,
+    pub(crate) end: Option<usize>,
+}
+
+/// What builds did in any schedule, and the turns that they had.
+#[derive(Drop)]
+pub(crate) struct Turns {
+    builds: HashMap<Did, usize>,
+    blocks: HashMap<Moves, usize>,
+    known: HashMap<Before, After>,
+    pub(crate) ends: Vec<EndOfStep>,
+}
+
+// The things of all builds that a step needs.
+fn shared_by(step: &PlanStep) -> Shared {
+    match step {
+        PlanStep::Whole(Step::Ask(Cmd::Take { .. })) => Shared::Blocks,
+        PlanStep::Whole(Step::Ask(Cmd::Realm { .. })) => Shared::Vmids,
+        PlanStep::WidthLeftOut { .. } => Shared::Vmids,
+        _ => Shared::Nothing,
+    }
+}
+
+// Whether a build has a realm with this VMID.
+fn is_used(state: &State, vmid: u8) -> bool {
+    state.builds.iter().any(|build| build.vmid == Some(vmid))
+}
+
+// The lowest VMID that no realm has; 0 if there is none.
+fn lowest_vmid(plan: &Plan, state: &State) -> usize {
+    for vmid in 1..=plan.vmids {
+        if !is_used(state, vmid) {
+            return usize::from(vmid);
+        }
+    }
+    0
+}
+
+/// What the next turn of a build depends on; None if it has no step left.
+pub(crate) fn before_turn(plan: &Plan, state: &State, build: usize) -> Option<Before>
+    requires { build < 8 }
+{
+    let it = state.builds[build];
+    let shared = match shared_by(step_after(plan, build, it.done)?) {
+        Shared::Nothing => 0,
+        Shared::Blocks => state.blocks,
+        Shared::Vmids => lowest_vmid(plan, state),
+    };
+    Some(Before {
+        build: it.did,
+        shared,
+    })
+}
+
+// The first granule of a block that was leased or given back.
+fn first_of(moved: Option<Moved>) -> Option<u16> {
+    match moved {
+        Some(block) => Some(block.first),
+        None => None,
+    }
+}
+
+// The place of an end among those that are known.
+fn known_end(ends: &[EndOfStep], end: &EndOfStep) -> Option<usize> {
+    ends.iter().position(|known| *known == *end)
+}
+
+// The place of an end among those that are known; it is added if it is new.
+fn place_of_end(ends: &mut Vec<EndOfStep>, end: EndOfStep) -> Result<usize, AllocError>
+    ensures { OnOk result (AreWith ends.old.items (Some end) ends.new.items) }
+{
+    if let Some(place) = known_end(ends, &end) {
+        return Ok(place);
+    }
+    let place = ends.len();
+    ends.push(end)?;
+    Ok(place)
+}
+
+impl Turns {
+    /// No turn.
+    pub(crate) fn new(alloc: Global) -> Turns
+        ensures { result.ends.items ≡ [] }
+    {
+        Turns {
+            builds: HashMap::new(alloc),
+            blocks: HashMap::new(alloc),
+            known: HashMap::new(alloc),
+            ends: Vec::new(alloc),
+        }
+    }
+
+    // The number of what a build did. Numbers below 8 are those of builds that did nothing.
+    fn number_of(&mut self, did: Did) -> Result<usize, AllocError>
+        ensures { self.new.ends ≡ self.old.ends }
+    {
+        if let Some(number) = self.builds.get(&did).copied() {
+            return Ok(number);
+        }
+        let number = self.builds.len().saturating_add(8);
+        self.builds.insert(did, number)?;
+        Ok(number)
+    }
+
+    // The number of the blocks that were leased and given back. If none was, it is 0.
+    fn number_of_moves(&mut self, moves: Moves) -> Result<usize, AllocError>
+        ensures { self.new.ends ≡ self.old.ends }
+    {
+        if let Some(number) = self.blocks.get(&moves).copied() {
+            return Ok(number);
+        }
+        let number = self.blocks.len().saturating_add(1);
+        self.blocks.insert(moves, number)?;
+        Ok(number)
+    }
+
+    // Notes a turn.
+    fn note(&mut self, before: Before, after: After) -> Result<(), AllocError>
+        ensures { self.new.ends ≡ self.old.ends }
+    {
+        self.known.insert(before, after)?;
+        Ok(())
+    }
+
+    // The place of the end of the step that a turn used up, if it did.
+    fn place_for(&mut self, build: usize, taken: &TurnTaken) -> Result<Option<usize>, AllocError>
+        ensures { OnOk result (AreWith self.old.ends.items (end_taken build taken.now) self.new.ends.items) }
+    {
+        if taken.before == taken.after {
+            return Ok(None);
+        }
+        let end = EndOfStep {
+            build,
+            step: taken.before,
+            refusal: taken.refusal,
+        };
+        Ok(Some(place_of_end(&mut self.ends, end)?))
+    }
+
+    /// The turn that is known of this.
+    pub(crate) fn known(&self, before: &Before) -> Option<After> {
+        self.known.get(before).copied()
+    }
+
+    /// Runs a turn of a build after a schedule, on a fresh host, and notes it.
+    ///
+    /// Errors. `Memory`: allocation failed. `Mismatch`: the build has no step left then.
+    pub(crate) fn run(
+        &mut self,
+        alloc: Global,
+        plan: &Plan,
+        before: Before,
+        order: &[usize],
+        build: usize,
+    ) -> Result<After, Fault>
+        requires { All (IsEndOfRun (plan_view plan.now)) self.old.ends.items }
+        ensures ok { OnOk result (All (IsEndOfRun (plan_view plan.now)) self.new.ends.items) }
+        ensures err { IfErr result HasNoGraph }
+    {
+        let mut running = run_to(alloc, plan, order)?;
+        let Some(taken) = take(&mut running.host, plan, &mut running.places, build) else {
+            return Err(Fault::Mismatch);
+        };
+        let end = self.place_for(build, &taken)?;
+        let first = first_of(taken.moved);
+        let vmid = taken.vmid;
+        let did = self.number_of(Did {
+            before: before.build,
+            end,
+            first,
+            vmid,
+        })?;
+        let after = After {
+            build: BuildState {
+                did,
+                done: taken.after,
+                vmid,
+            },
+            moved: taken.moved,
+            end,
+        };
+        self.note(before, after)?;
+        Ok(after)
+    }
+
+    /// The state after a turn of a build.
+    pub(crate) fn state_after(
+        &mut self,
+        state: &State,
+        build: usize,
+        after: After,
+    ) -> Result<State, AllocError>
+        requires { build < 8 }
+        ensures { self.new.ends ≡ self.old.ends }
+    {
+        let blocks = match after.moved {
+            Some(moved) => self.number_of_moves(Moves {
+                before: state.blocks,
+                moved,
+            })?,
+            None => state.blocks,
+        };
+        Ok(state.with(build, after.build, blocks))
+    }
+
+    /// The ends of the steps.
+    pub(crate) fn into_ends(self) -> Vec<EndOfStep>
+        ensures { result ≡ self.ends }
+    {
+        let Turns {
+            builds: _,
+            blocks: _,
+            known: _,
+            ends,
+        } = self;
+        ends
+    }
+}

@@ -1,0 +1,304 @@
+//! The test that a graph is whole: each state has a turn of each build that has a step left, and each turn leads on.
+ghost use Rattle.std.specs.Prelude.{◌≡◌, ◌<◌, ◌^◌, [], map, filter, vec_items, slice_get, slice_index_or};
+ghost use Rattle.std.specs.Bool.{OnTrue};
+ghost use Rattle.std.specs.List.{list_all, range_with_len};
+ghost use Rattle.realm_plan.specs.PlanView.{plan_view};
+ghost use Rattle.plan_replay.specs.Run.{step_after};
+ghost use Rattle.plan_replay.specs.Turn.{undoes_many};
+ghost use Rattle.plan_states.specs.Whole.{done_of, has_left, is_of_build, takes_many, uses_next, done_after, are_done_after, is_over, is_fresh, is_at_start, has_map, leads_to, leads_on, states_at, layer_at, IsStateWhole, IsLayerWhole, IsWhole};
+
+use crate::edges::Label;
+use crate::graph::Graph;
+use crate::step_end::EndOfStep;
+use host_commands::Step;
+use plan_replay::step_after;
+use realm_plan::{Plan, PlanStep};
+use schedule_graph::Edge;
+
+/// How many steps of each build are done.
+pub type Progress = [u16; 8];
+
+// The eight builds.
+fn all_builds() -> [usize; 8]
+    ensures { result ≡ range_with_len 0 8 }
+{
+    [0, 1, 2, 3, 4, 5, 6, 7]
+}
+
+// How many steps of a build are done.
+fn done_of(done: &Progress, build: usize) -> usize
+    ensures value { result ≡ done_of done.now build }
+    ensures fits { result < 2 ^ 16 }
+{
+    match done.get(build) {
+        Some(steps) => usize::from(*steps),
+        None => 0,
+    }
+}
+
+// Whether a build has a step left.
+fn has_left(plan: &Plan, done: &Progress, build: usize) -> bool
+    ensures { result ≡ has_left (plan_view plan.now) done.now build }
+{
+    step_after(plan, build, done_of(done, build)).is_some()
+}
+
+// Whether there is an edge at a place, and it is a turn of this build.
+fn is_of_build(edges: &[Edge<Label>], at: usize, build: usize) -> bool
+    ensures { result ≡ is_of_build build (slice_get edges.now at) }
+{
+    match edges.get(at) {
+        Some(edge) => edge.label.build == build,
+        None => false,
+    }
+}
+
+// Whether the edges are those of the builds with a step left, one each.
+fn are_of_left(plan: &Plan, done: &Progress, builds: &[usize], edges: &[Edge<Label>]) -> bool
+    ensures { OnTrue result (map (λ edge. edge.label.build) edges.now ≡ filter (has_left (plan_view plan.now) done.now) builds.now) }
+{
+    let mut at = 0;
+    for build in builds {
+        if has_left(plan, done, *build) {
+            if !is_of_build(edges, at, *build) {
+                return false;
+            }
+            at += 1;
+        }
+    }
+    at == edges.len()
+}
+
+// Whether a step undoes any number of operations, one a turn.
+fn undoes_many(step: &PlanStep) -> bool
+    ensures { result ≡ undoes_many step.now }
+{
+    matches!(step, PlanStep::Whole(Step::Abort | Step::Back))
+}
+
+// Whether a build's step after `done` others may take more turns than one.
+fn takes_many(plan: &Plan, build: usize, done: usize) -> bool
+    ensures { result ≡ takes_many (step_after (plan_view plan.now) build done) }
+{
+    match step_after(plan, build, done) {
+        Some(step) => undoes_many(step),
+        None => false,
+    }
+}
+
+// Whether a turn of a build that has done so many steps uses up the next one, or none if that may take more turns.
+fn uses_next(plan: &Plan, ends: &[EndOfStep], done: usize, label: &Label) -> bool
+    ensures { result ≡ uses_next (plan_view plan.now) ends.now label.now.build done label.now.end }
+{
+    let Some(number) = label.end else {
+        return takes_many(plan, label.build, done);
+    };
+    match ends.get(number) {
+        Some(end) => end.build == label.build && end.step == done,
+        None => false,
+    }
+}
+
+// How many steps of a build are done after a turn.
+fn done_after(done: &Progress, label: &Label, build: usize) -> usize
+    ensures { result ≡ done_after done.now label.now build }
+{
+    let before = done_of(done, build);
+    if build == label.build && label.end.is_some() {
+        before + 1
+    } else {
+        before
+    }
+}
+
+// Whether so many steps of each build are done after a turn.
+fn are_done_after(done: &Progress, label: &Label, then: &Progress) -> bool
+    ensures { result ≡ are_done_after done.now label.now then.now }
+{
+    let builds = all_builds();
+    builds.iter().all(|build| done_of(then, *build) == done_after(done, label, *build))
+}
+
+// Whether no build has a step left.
+fn is_over(plan: &Plan, done: &Progress) -> bool
+    ensures { result ≡ is_over (plan_view plan.now) done.now }
+{
+    let builds = all_builds();
+    builds.iter().all(|build| !has_left(plan, done, *build))
+}
+
+// Whether a turn has a map, one of so many, exactly where schedules end.
+fn has_map(maps: usize, over: bool, map: Option<usize>) -> bool
+    ensures { result ≡ has_map maps over map }
+{
+    match map {
+        Some(number) => over && number < maps,
+        None => !over,
+    }
+}
+
+// Whether a turn leads to a state with this progress.
+fn leads_to(
+    plan: &Plan,
+    ends: &[EndOfStep],
+    maps: usize,
+    done: &Progress,
+    label: &Label,
+    then: &Progress,
+) -> bool
+    ensures { result ≡ leads_to (plan_view plan.now) ends.now maps done.now label.now then.now }
+{
+    uses_next(plan, ends, done_of(done, label.build), label)
+        && are_done_after(done, label, then)
+        && has_map(maps, is_over(plan, then), label.map)
+}
+
+// Whether an edge leads to a state of the next layer that fits its turn.
+fn leads_on(
+    plan: &Plan,
+    ends: &[EndOfStep],
+    maps: usize,
+    done: &Progress,
+    next: &[Progress],
+    edge: &Edge<Label>,
+) -> bool
+    ensures { result ≡ leads_on (plan_view plan.now) ends.now maps done.now next.now edge.now }
+{
+    match next.get(edge.to) {
+        Some(then) => leads_to(plan, ends, maps, done, &edge.label, then),
+        None => false,
+    }
+}
+
+// Whether each edge leads to a state of the next layer that fits its turn.
+fn all_lead_on(
+    plan: &Plan,
+    ends: &[EndOfStep],
+    maps: usize,
+    done: &Progress,
+    next: &[Progress],
+    edges: &[Edge<Label>],
+) -> bool
+    ensures { result ≡ list_all (leads_on (plan_view plan.now) ends.now maps done.now next.now) edges.now }
+{
+    edges
+        .iter()
+        .all(|edge| leads_on(plan, ends, maps, done, next, edge))
+}
+
+// Whether a state has a turn of each build that has a step left, and each leads on.
+fn is_state_whole(
+    plan: &Plan,
+    ends: &[EndOfStep],
+    maps: usize,
+    done: &Progress,
+    next: &[Progress],
+    edges: &[Edge<Label>],
+) -> bool
+    ensures { OnTrue result (IsStateWhole (plan_view plan.now) ends.now maps done.now next.now edges.now) }
+{
+    let builds = all_builds();
+    if !are_of_left(plan, done, &builds, edges) {
+        return false;
+    }
+    all_lead_on(plan, ends, maps, done, next, edges)
+}
+
+// The edges of a state; none if there is no such state.
+fn edges_at(layer: &[Vec<Edge<Label>>], state: usize) -> &[Edge<Label>]
+    ensures { result.now ≡ slice_index_or (map vec_items layer.now) state [] }
+{
+    match layer.get(state) {
+        Some(edges) => edges,
+        None => &[],
+    }
+}
+
+// Whether each state of a layer is whole.
+fn is_layer_whole(
+    plan: &Plan,
+    ends: &[EndOfStep],
+    maps: usize,
+    states: &[Progress],
+    next: &[Progress],
+    layer: &[Vec<Edge<Label>>],
+) -> bool
+    ensures { OnTrue result (IsLayerWhole (plan_view plan.now) ends.now maps states.now next.now layer.now) }
+{
+    if states.len() != layer.len() {
+        return false;
+    }
+    for place in 0..states.len() {
+        let edges = edges_at(layer, place);
+        if !is_state_whole(plan, ends, maps, &states[place], next, edges) {
+            return false;
+        }
+    }
+    true
+}
+
+// The states of a layer, by their progress; none if there is no such layer.
+fn states_at(graph: &Graph, depth: usize) -> &[Progress]
+    ensures { result.now ≡ states_at graph.now depth }
+{
+    match graph.progress.get(depth) {
+        Some(states) => states,
+        None => &[],
+    }
+}
+
+// A layer; none if there is no such layer.
+fn layer_at(graph: &Graph, depth: usize) -> &[Vec<Edge<Label>>]
+    ensures { result.now ≡ layer_at graph.now depth }
+{
+    match graph.layers.get(depth) {
+        Some(layer) => layer,
+        None => &[],
+    }
+}
+
+// The ends of steps.
+fn ends_of(graph: &Graph) -> &[EndOfStep]
+    ensures { result.now ≡ graph.now.ends.items }
+{
+    &graph.ends
+}
+
+// Whether no step is done.
+fn is_fresh(done: &Progress) -> bool
+    ensures { result ≡ is_fresh done.now }
+{
+    let builds = all_builds();
+    builds.iter().all(|build| done_of(done, *build) == 0)
+}
+
+// Whether this is the one state in which no step is done.
+fn is_at_start(states: &[Progress]) -> bool
+    ensures { result ≡ is_at_start states.now }
+{
+    match states.get(0) {
+        Some(done) => states.len() == 1 && is_fresh(done),
+        None => false,
+    }
+}
+
+/// Whether a graph is whole.
+pub(crate) fn is_whole(plan: &Plan, graph: &Graph) -> bool
+    ensures { OnTrue result (IsWhole (plan_view plan.now) graph.now) }
+{
+    if graph.progress.len() != graph.layers.len() || graph.maps.is_empty() {
+        return false;
+    }
+    if !is_at_start(states_at(graph, 0)) {
+        return false;
+    }
+    for depth in 0..graph.layers.len() {
+        let states = states_at(graph, depth);
+        let next = states_at(graph, depth + 1);
+        let layer = layer_at(graph, depth);
+        if !is_layer_whole(plan, ends_of(graph), graph.maps.len(), states, next, layer) {
+            return false;
+        }
+    }
+    true
+}

@@ -1,0 +1,72 @@
+//! Numbers of paths, added in two words as long as they are below 2^128.
+ghost use Rattle.std.specs.Prelude.{◌≡◌, ◌+◌, ◌==◌, OnOk, IfOk};
+
+use crate::number::Count;
+use std::alloc::{AllocError, Global};
+use std::marker::Model;
+
+/// A number of any size: what is below 2^128, and how many times 2^128 there is beside it. Seen as the number.
+#[derive(Drop)]
+pub struct PathNumber {
+    low: u128,
+    high: Count,
+}
+
+impl Model for PathNumber {
+    ghost use Rattle.std.specs.Prelude.{ℕ, ◌+◌, ◌*◌, ◌^◌};
+
+    ghost Value = { ℕ };
+
+    ghost view = { λ n. n.low + 2 ^ 128 * n.high };
+}
+
+impl PathNumber {
+    /// The number 0.
+    pub fn zero(alloc: Global) -> PathNumber
+        ensures { result ≡ 0 }
+    {
+        PathNumber {
+            low: 0,
+            high: Count::zero(alloc),
+        }
+    }
+
+    /// The number 1.
+    pub fn one(alloc: Global) -> PathNumber
+        ensures { result ≡ 1 }
+    {
+        PathNumber {
+            low: 1,
+            high: Count::zero(alloc),
+        }
+    }
+
+    /// Adds another number. At an `Err` allocation failed, and the number may be any.
+    pub fn add(&mut self, other: &PathNumber) -> Result<(), AllocError>
+        ensures { OnOk result (self.new ≡ self.old + other.now) }
+    {
+        let (low, is_over) = self.low.overflowing_add(other.low);
+        self.low = low;
+        if is_over {
+            self.high.add_one()?;
+        }
+        self.high.add(&other.high)
+    }
+
+    /// Whether it is 0.
+    pub fn is_zero(&self) -> bool
+        ensures { result ≡ (self.now == 0) }
+    {
+        self.low == 0 && self.high.is_zero()
+    }
+
+    /// The number in decimal digits. The one error is that allocation failed.
+    pub fn count(&self, alloc: Global) -> Result<Count, AllocError>
+        ensures { IfOk result (λ count. count ≡ self.now) }
+    {
+        let mut count = self.high.shifted(alloc)?;
+        let low = Count::of(alloc, self.low)?;
+        count.add(&low)?;
+        Ok(count)
+    }
+}

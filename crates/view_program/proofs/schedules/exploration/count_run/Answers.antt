@@ -1,8 +1,0 @@
-use Rattle.realm_plan.specs.PlanView.{plan_view}
-use Rattle.view_program.proofs.Visits.{builds_are, IsAdded-run}
-use Rattle.view_program.proofs.schedules.exploration.count_run.Goals as goal
-
-pub returns : goal.returns
-returns c =
-    IsAdded-run (plan_view c.args.plan.now) c.args.host c.args.choices.now c.args.ends.now c.in_ok-map.map c.args.totals.now c.add.new.self c.len.result
-    (builds_are c.args.plan.now c.len.result c.len.ensures) c.in_ok-map.ensures c.in_ok-add.ensures

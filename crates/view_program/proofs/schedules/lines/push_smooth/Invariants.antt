@@ -1,6 +1,0 @@
-use Rattle.std.proofs.Common.{◌≡◌, ◌++◌, drop, string_bytes}
-use Rattle.view_program.specs.Lines.{smooth_lines}
-use Rattle.view_program.proofs.schedules.lines.push_smooth.Given as goal
-
-abbrev pub invariant-loop-tally : goal.invariant-loop-tally
-invariant-loop-tally l = string_bytes l.text ++ smooth_lines l.orders (drop l.tally-index l.smooth) l.build ≡ string_bytes l.fn.text ++ smooth_lines l.orders l.smooth l.build

@@ -1,7 +1,0 @@
-use Rattle.std.proofs.Common.{◌≡◌, ◌++◌, take, string_bytes}
-use Rattle.std.specs.List.{flat_map}
-use Rattle.view_program.specs.Lines.{whole_line}
-use Rattle.view_program.proofs.schedules.lines.push_wholes.Given as goal
-
-abbrev pub invariant-loop-tally : goal.invariant-loop-tally
-invariant-loop-tally l = string_bytes l.text ≡ string_bytes l.fn.text ++ flat_map (whole_line l.orders) (take l.tally-index l.wholes)

@@ -1,9 +1,0 @@
-use Rattle.std.proofs.Common.{sym, ap}
-use Rattle.view_program.specs.Lines.{whole_words}
-use Rattle.view_program.proofs.schedules.lines.whole_words.Goals as goal
-
-pub returns-then-is_refused : goal.returns-then-is_refused
-returns-then-is_refused c = ap whole_words (sym c.if-is_refused.true)
-
-pub returns-else-is_refused : goal.returns-else-is_refused
-returns-else-is_refused c = ap whole_words (sym c.if-is_refused.false)

@@ -1,8 +1,0 @@
-use Rattle.std.proofs.Common.{take}
-use Rattle.std.specs.Fmt.{HasWritten, IsPlainFormatter}
-use Rattle.view_program.specs.OrderText.{more_turns}
-use Rattle.view_program.proofs.schedules.schedule_text.MoreTurnsDisplay.fmt.Given as goal
-
-abbrev pub invariant-loop-build : goal.invariant-loop-build
-invariant-loop-build g l =
-    IsPlainFormatter l.initial.f → HasWritten g.W.Write.write_str_gives l.initial.f (more_turns (take l.build-index l.build-items)) l.f

@@ -1,9 +1,0 @@
-use Rattle.std.proofs.Common.{◌≡◌, ◌++◌, string_bytes}
-use Rattle.std.specs.List.{flat_map, range_with_len}
-use Rattle.realm_plan.specs.PlanView.{plan_view}
-use Rattle.view_program.specs.Lines.{step_lines}
-use Rattle.view_program.proofs.schedules.text.push_build.Given as goal
-
-abbrev pub invariant-loop-place : goal.invariant-loop-place
-invariant-loop-place l =
-    string_bytes l.text ≡ string_bytes l.fn.text ++ flat_map (step_lines (plan_view l.plan) l.totals l.build) (range_with_len 0 l.place)

@@ -1,8 +1,0 @@
-use Rattle.std.proofs.Common.{◌≡◌, ◌++◌, string_bytes}
-use Rattle.std.specs.List.{flat_map, range_with_len}
-use Rattle.realm_plan.specs.PlanView.{plan_view}
-use Rattle.view_program.specs.Lines.{build_lines}
-use Rattle.view_program.proofs.schedules.text.push_builds.Given as goal
-
-abbrev pub invariant-loop-build : goal.invariant-loop-build
-invariant-loop-build l = string_bytes l.text ≡ string_bytes l.fn.text ++ flat_map (build_lines (plan_view l.plan) l.totals) (range_with_len 0 l.build)

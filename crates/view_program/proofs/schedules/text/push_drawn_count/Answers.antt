@@ -1,0 +1,13 @@
+use Rattle.std.proofs.Common.{[], ◌∷◌, ◌++◌, codes, string_bytes}
+use Rattle.schedule_graph.specs.Number.{numeral}
+use Rattle.plan_states.proofs.Joined.{joined}
+use Rattle.view_program.proofs.schedules.text.push_drawn_count.Goals as goal
+
+pub returns : goal.returns
+returns c =
+    let number = numeral c.args.orders.now in
+    let one = string_bytes c.push_str.new.self in
+    let two = string_bytes c.push_to.new.text in
+    let three = string_bytes c.push_str-2.new.self in
+    joined (string_bytes c.args.text.now) (codes "orders drawn ") (number ++ 10 ∷ []) one three c.in_ok-push_str.ensures.bytes
+    (joined one number (10 ∷ []) two three c.in_ok-push_to.ensures c.in_ok-push_str-2.ensures.bytes)

@@ -1,7 +1,0 @@
-use Rattle.std.proofs.Common.{◌≡◌, ◌++◌, string_bytes}
-use Rattle.std.specs.List.{flat_map, range_with_len}
-use Rattle.view_program.specs.Lines.{smooth_lines}
-use Rattle.view_program.proofs.schedules.text.push_smooths.Given as goal
-
-abbrev pub invariant-loop-build : goal.invariant-loop-build
-invariant-loop-build l = string_bytes l.text ≡ string_bytes l.fn.text ++ flat_map (smooth_lines l.orders l.smooth) (range_with_len 0 l.build)

@@ -1,0 +1,11 @@
+-- The number of a plan's schedules.
+use Rattle.std.specs.Prelude.{◌≡◌, ℕ, true, List, All, AllPairs, Contains, length}
+use Rattle.plan_states.specs.Tallies.{is_before}
+
+-- So many schedules are like that: they are listed in lexicographic order, and none is missing.
+pub record IsNumberOf (like : List ℕ → Type 0) (count : ℕ) : Type 0 where
+  pub schedules : List (List ℕ)
+  pub each : All like schedules
+  pub rise : AllPairs (λ (one other : List ℕ). is_before one other ≡ true) schedules
+  pub none_missing : (order : List ℕ) → like order → Contains schedules order
+  pub so_many : length schedules ≡ count

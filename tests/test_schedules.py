@@ -1,0 +1,188 @@
+"""The subcommand `explore` of realmview, against a graph of states in Python, and against runs of each schedule.
+
+The graph is that of tests/schedule_graph.py, over the second host. What it says of a plan has to be what the program says. For
+a plan of few schedules it is what runs of each schedule say, from boot, with the text of each first schedule.
+"""
+import copy
+import random
+import tomllib
+
+import pytest
+
+from programs import HOST, PLANS, VIEW, needs, over, run
+from schedule_graph import Graph, machine_of
+from second_host import Blocks, Build, Turn, map_of
+
+pytestmark = needs(VIEW, HOST)
+# How many schedules of a plan are run one after the other at most.
+MOST = 500
+# How many there are at most where the shortest way to a thing is found by trying all.
+FEW = 100
+RANDOM_PLANS, MOST_TURNS, PARTS = 300, 12, 10
+
+
+class Run:
+    """A run of a plan from boot."""
+
+    def __init__(self, text: str, turns: list[int]) -> None:
+        plan = tomllib.loads(text)
+        self.machine, self.steps = machine_of(plan), [build["steps"] for build in plan["build"]]
+        self.builds, self.blocks, self.ends = [Build() for _ in self.steps], Blocks.of(self.machine.pages), []
+        for build in turns:
+            self.turn(build)
+
+    def left(self) -> list[int]:
+        return [it for it, build in enumerate(self.builds) if build.done < len(self.steps[it])]
+
+    def turn(self, number: int) -> None:
+        before = self.builds[number]
+        turn = Turn(self.machine, before, self.blocks, frozenset(it.vmid for it in self.builds) - {None})
+        turn.step(self.steps[number][before.done])
+        self.builds[number], self.blocks = turn.build, turn.blocks
+        if turn.build.done != before.done:
+            self.ends.append((number, before.done, turn.answer))
+
+    def then(self, number: int) -> "Run":
+        """The run with one turn more. What a turn changes is made anew."""
+        more = copy.copy(self)
+        more.builds, more.ends = self.builds.copy(), self.ends.copy()
+        more.turn(number)
+        return more
+
+    def map(self) -> str:
+        rows = [map_of(self.machine, number, build) for number, build in enumerate(self.builds)]
+        return "".join(rows) + f"free {self.blocks.free()}\n"
+
+
+def each_schedule(run: Run, turns: tuple[int, ...] = ()):
+    """Each schedule that begins with these turns, the lowest first, with its run."""
+    left = run.left()
+    if not left:
+        yield list(turns), run
+    for build in left:
+        yield from each_schedule(run.then(build), (*turns, build))
+
+
+class Shown(dict):
+    """In how many schedules a thing is, and the first of them."""
+
+    def add(self, thing, order: list[int]) -> None:
+        count, first = self.get(thing, (0, order))
+        self[thing] = (count + 1, first)
+
+
+def one_by_one(text: str) -> str | None:
+    """What is to be told of a plan, by a run of each schedule; none if there are too many."""
+    steps = [build["steps"] for build in tomllib.loads(text)["build"]]
+    orders, wholes, ends, smooth, maps = 0, Shown(), Shown(), Shown(), Shown()
+    for order, ended in each_schedule(Run(text, [])):
+        orders += 1
+        if orders > MOST:
+            return None
+        refused = {end[0] for end in ended.ends if end[2] != "ok"}
+        wholes.add("some step refused" if refused else "no step refused", order)
+        for end in ended.ends:
+            ends.add(end, order)
+        for build in set(range(len(steps))) - refused:
+            smooth.add(build, order)
+        maps.add(ended.map(), order)
+
+    def shown(thing) -> str:
+        count, first = thing
+        return " in all\n" if count == orders else f" in {count}, order = {first}\n"
+
+    rows = [f"orders {orders}\n"]
+    rows += [words + shown(wholes[words]) for words in wholes]
+    # (a stable sort: of one step the ends stay in the sequence in which schedules first show them)
+    rows += [f"step {it[0]} {it[1]} {steps[it[0]][it[1]]} = {it[2]}" + shown(ends[it]) for it in sorted(ends, key=lambda it: it[:2])]
+    rows += [f"never refused {it}" + (shown(smooth[it]) if it in smooth else " in 0\n") for it in range(len(steps))]
+    return "".join(rows + ["map" + shown(maps[it]) + it for it in maps])
+
+
+# ---- plans
+
+
+def plan_of(builds, **settings) -> str:
+    head = "".join(f"{name} = {value}\n" for name, value in {"pages": 16, "vmids": 2, **settings}.items())
+    return head + "".join(f"[[build]]\nsteps = {list(steps)}\n".replace("'", '"') for steps in builds)
+
+
+def random_steps(source: random.Random, length: int) -> list[str]:
+    """Steps that are mostly accepted, some that compete, and some that give back."""
+    steps = ["take 2", "delegate 0", "delegate 1", "realm 0 1"][: source.randrange(5)]
+    pool = [
+        "take 0", "take 1", "take 2", "take 3", "mark", "back", "undo", "undo", "abort", "fill 2 7", "peek 2 0", "delegate 2",
+        "delegate 3", "activate", "rtt 3 0 1", "rtt 2 0 2", "realm 0 1", "realm 0 2 40", "rec 2", "enter 0", "exit 0", "ripas 0 1",
+    ]
+    return (steps + [source.choice(pool) for _ in range(length)])[:length]
+
+
+def random_plans():
+    source = random.Random(63)
+    for number in range(RANDOM_PLANS):
+        count = source.randrange(1, 5)
+        lengths = [source.randrange(1, MOST_TURNS // count + 1) for _ in range(count)]
+        builds = [random_steps(source, length) for length in lengths]
+        yield f"random plan {number}", plan_of(builds, pages=source.choice([4, 5, 8, 16]), vmids=source.choice([1, 2]))
+
+
+def shortest(text: str, shows) -> list[int] | None:
+    """The fewest turns after which a run shows a thing, and of these the least, by trying all."""
+    front = [[]]
+    while front:
+        runs = [Run(text, turns) for turns in front]
+        for turns, ended in zip(front, runs):
+            if shows(ended):
+                return turns
+        front = [[*turns, build] for turns, ended in zip(front, runs) for build in ended.left()]
+    return None
+
+
+def refuses(build: int, step: int):
+    return lambda run: any(end[:2] == (build, step) and end[2] != "ok" for end in run.ends)
+
+
+def leases(granules: int):
+    return lambda run: run.machine.pages - run.blocks.free() >= granules
+
+
+def of_plan(name: str, text: str):
+    graph = Graph(text)
+    yield name, run(VIEW, ["explore"], text), (0, graph.text(), "")
+    wanted = one_by_one(text)
+    if wanted is not None:
+        yield f"{name}, each schedule", graph.text(), wanted
+        yield f"{name}, exactly", Graph(text, exact=True).text(), wanted
+    if graph.orders <= FEW:
+        build, last = 0, len(graph.steps[0]) - 1
+        yield f"{name}, a witness", graph.refused(build, last), shortest(text, refuses(build, last))
+        for granules in (5, 8):
+            yield f"{name}, {granules} granules", graph.leased(granules), shortest(text, leases(granules))
+
+
+def of_refusals(name: str, text: str):
+    """The plan with the shortest schedule to each refusal, and to one of a step that is never refused."""
+    graph = Graph(text)
+    refused = sorted({end[:2] for end in graph.ends() if end[2] != "ok"})
+    for build, step in refused:
+        status, out, err = run(VIEW, ["explore", "--refused", f"{build}:{step}"], text)
+        order = graph.refused(build, step)
+        yield f"{name}, to {build}:{step}", (status, err, tomllib.loads(out)), (0, "", tomllib.loads(text) | {"order": order})
+        last = run(HOST, ["replay"], out)[1].splitlines()[len(order) - 1]
+        yield f"{name}, {build}:{step} is refused", last.startswith(f"{build} {graph.steps[build][step]} = no "), True
+    others = ((build, step) for build, steps in enumerate(graph.steps) for step in range(len(steps) + 1))
+    build, step = next(it for it in others if it not in refused)
+    yield f"{name}, never", run(VIEW, ["explore", "--refused", f"{build}:{step}"], text), (0, f"step {build} {step} refused in 0\n", "")
+
+
+@over("path", *PLANS)
+def test_plan(check, path):
+    check.all(of_plan(path.stem, path.read_text()))
+    check.all(of_refusals(path.stem, path.read_text()))
+
+
+@pytest.mark.parametrize("part", range(PARTS))
+def test_random_plans(check, part):
+    for name, text in list(random_plans())[part::PARTS]:
+        check.all(of_plan(name, text))
+        check.all(of_refusals(name, text))
