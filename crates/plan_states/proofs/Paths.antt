@@ -1,7 +1,7 @@
 -- The paths from a state, by those of the states that its edges lead to.
-use Rattle.std.proofs.Common.{◌≡◌, ℕ, ◌<◌, ◌==◌, ◌⊎◌, inl, inr, true, false, List, [], ◌∷◌, ◌++◌, map, refl, sym, ap, subst, ◌∙◌, arith, ne_eqb, eq-eqb, lt-ltb}
+use Rattle.std.proofs.Common.{◌≡◌, ℕ, ◌<◌, ◌==◌, ◌⊎◌, inl, inr, true, false, List, [], ◌∷◌, ◌++◌, map, Some, refl, sym, ap, subst, ◌∙◌, arith, ne_eqb, eq-eqb, lt-ltb}
 use Rattle.std.specs.Prelude.{nat_lt}
-use Rattle.std.specs.List.{flat_map}
+use Rattle.std.specs.List.{find, flat_map}
 use Rattle.std.proofs.lemmas.Bool.{cond-true, cond-false}
 use Rattle.std.proofs.lemmas.List.{map-append}
 use Rattle.schedule_graph.specs.Paths.{Path, paths_by_edges}
@@ -37,6 +37,18 @@ builds_on : (edge : Edge Label) (ps : List (Path Label))
     → map builds_of_path (map (λ (path : Path Label). edge ∷ path) ps) ≡ map (λ (order : List ℕ). edge.label.build ∷ order) (map builds_of_path ps)
 builds_on edge [] = refl
 builds_on edge (path ∷ ps) = λ i. (edge.label.build ∷ builds_of_path path) ∷ builds_on edge ps i
+
+-- of edges of rising builds, one is found by its build
+pub edge_found : (edges : List (Edge Label)) (edge : Edge Label) → Pairs (λ (one other : Edge Label). one.label.build < other.label.build) edges
+    → IsIn edge edges → find (λ (e : Edge Label). e.label.build == edge.label.build) edges ≡ Some edge
+edge_found [] edge low is = absurd is
+edge_found (first ∷ edges) edge low (inl same) =
+    cond-true (first.label.build == edge.label.build) (Some first) (find (λ (e : Edge Label). e.label.build == edge.label.build) edges)
+    (eq-eqb first.label.build edge.label.build (ap (λ (e : Edge Label). e.label.build) same)) ∙ ap (λ (e : Edge Label). Some e) same
+edge_found (first ∷ edges) edge low (inr later) =
+    let less = low.0 edge later in
+    cond-false (first.label.build == edge.label.build) (Some first) (find (λ (e : Edge Label). e.label.build == edge.label.build) edges)
+    (ne_eqb first.label.build edge.label.build (λ same. omega arith)) ∙ edge_found edges edge low.1 later
 
 -- ---- paths by edges
 

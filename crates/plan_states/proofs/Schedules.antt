@@ -1,7 +1,7 @@
 -- The schedules of a whole graph's paths: none is missing, none is another one's, and they rise.
 use Rattle.std.proofs.Common.{◌≡◌, ℕ, zero, suc, ◌+◌, ◌-◌, ◌<◌, ◌≤◌, ◌==◌, ◌&&◌, inl, inr, Bool, true, false, cond, List, [], ◌∷◌, ◌++◌, map, length, get_or, drop, All, Option, Some, None, Vec, Global, vec_items, is_some, refl, sym, ap, subst, ◌∙◌, arith, append_assoc, add-one, drop-cons, eqb-true}
 use Rattle.std.specs.Prelude.{AllPairs, Contains, count_by, filter, slice_get}
-use Rattle.std.specs.List.{list_all, range_with_len}
+use Rattle.std.specs.List.{find, list_all, range_with_len}
 use Rattle.std.proofs.Math.Nat.{sub-zero}
 use Rattle.std.proofs.lemmas.Bool.{and_parts, both_ways, false_from_ne_true}
 use Rattle.std.proofs.lemmas.List.{get_or_past, length-map, map-append}
@@ -14,14 +14,14 @@ use Rattle.schedule_graph.specs.First.{layers_in}
 use Rattle.schedule_graph.specs.Paths.{Layer, Path, paths_by_edges, paths}
 use Rattle.schedule_graph.specs.declared.graph.Edge.{Edge}
 use Rattle.plan_states.specs.Lines.{step_number}
-use Rattle.plan_states.specs.Schedules.{by_builds, by_turns, end_at, ends_of_path, schedules_after, steps_ended, used_by, HasSingleTurns, IsRuleOf, IsSchedule}
+use Rattle.plan_states.specs.Schedules.{by_builds, by_turns, end_at, ends_of_path, own_rule, schedules_after, steps_ended, turns_from, used_by, HasSingleTurns, IsRuleOf, IsSchedule}
 use Rattle.plan_states.specs.Tallies.{builds_of_path, is_before, layers_of, paths_of}
 use Rattle.plan_states.specs.Whole.{are_done_after, done_after, done_of, has_left, has_map, is_over, layer_at, leads_if_there, leads_on, states_at, takes_many, uses_next, IsStateWhole, IsWhole}
 use Rattle.plan_states.specs.declared.edges.Label.{Label}
 use Rattle.plan_states.specs.declared.graph.Graph.{Graph}
 use Rattle.plan_states.specs.declared.step_end.EndOfStep.{EndOfStep}
 use Rattle.plan_states.proofs.Members.{IsIn, IsMadeOf, in_left, in_map, of_map, in_filter, of_filter, filter_alike, at_list_all, in_range, of_range, in_contains, contains_in, all_in, Pairs, all_pairs, pairs_map, pairs_of_map, pairs_filter, pairs_range}
-use Rattle.plan_states.proofs.Paths.{Rises, in_by_edges, of_by_edges, some_by_edges, rising_by_edges, schedules_by_edges}
+use Rattle.plan_states.proofs.Paths.{Rises, edge_found, in_by_edges, of_by_edges, some_by_edges, rising_by_edges, schedules_by_edges}
 use Rattle.plan_states.proofs.StepEnds.{none_left, more_left, steps_of, turn_ends, steps_join}
 
 -- ---- steps that are used up
@@ -316,6 +316,42 @@ module _ (plan : Plan) (graph : Graph) (whole : IsWhole plan graph) where
     paths_are_schedules = all_in (IsSchedule left []) (map builds_of_path (paths_of graph)) (λ order is.
         let it = of_map builds_of_path order (paths_of graph) is in
         subst (IsSchedule left []) it.made (schedule_from (length graph.layers.items) [] 0 0 it.one (omega arith) reached_first it.is_in))
+
+  -- ---- the graph's own rule
+
+  abbrev goes_on_from : ℕ → List ℕ → Option (Edge Label) → Path Label
+  goes_on_from depth order None = []
+  goes_on_from depth order (Some edge) = edge ∷ turns_from (layers_of graph) (depth + 1) edge.to order
+
+  turns_are : (n depth state : ℕ) (front rest : Path Label) → depth + n ≡ length graph.layers.items → state < length (states_at graph depth)
+      → IsIn (front ++ rest) (paths_at depth state) → turns_from (layers_of graph) depth state (builds_of_path front) ≡ front
+  turns_are n depth state [] rest sum inside is = refl
+  turns_are zero depth state (edge ∷ front) rest sum inside is = absurd (none_past depth state (omega arith) inside)
+  turns_are (suc n) depth state (edge ∷ front) rest sum inside is =
+      let early : depth < length graph.layers.items = omega arith in
+      elim (of_by_edges (paths_at (depth + 1)) (edges_at depth state) (edge ∷ (front ++ rest))
+      (subst (λ (ps : List (Path Label)). IsIn (edge ∷ (front ++ rest)) ps) (paths_are depth state early inside) is))
+      as (λ _. turns_from (layers_of graph) depth state (builds_of_path (edge ∷ front)) ≡ edge ∷ front) [
+        | inl end ↦ (let none = end.1 in absurd cc)
+        | inr on ↦
+            let whole_path = on.is_path in
+            let first : on.edge ≡ edge = cc in
+            let others : on.rest ≡ front ++ rest = cc in
+            let there = subst (λ (e : Edge Label). IsIn e (edges_at depth state)) first on.is_in in
+            let goes_on = subst (λ (e : Edge Label). IsIn (front ++ rest) (paths_at (depth + 1) e.to)) first
+            (subst (λ (path : Path Label). IsIn path (paths_at (depth + 1) on.edge.to)) others on.goes_on) in
+            let to = leads depth state early inside edge there in
+            ap (λ (layer : Layer Label). goes_on_from depth (builds_of_path front) (find (λ (e : Edge Label). e.label.build == edge.label.build) (get_or layer state [])))
+            (layer_is graph.layers.items depth)
+            ∙ ap (goes_on_from depth (builds_of_path front)) (edge_found (edges_at depth state) edge (low depth state early inside) there)
+            ∙ ap (λ (path : Path Label). edge ∷ path) (turns_are n (depth + 1) edge.to front rest (omega arith) to.inside goes_on)
+      ]
+
+  pub own_is_rule : IsRuleOf plan graph (own_rule plan graph)
+  own_is_rule = λ front rest is build few.
+      let first = one_first in
+      ap (λ (path : Path Label). is_some (step_after plan build (used_by path build)))
+      (turns_are (length graph.layers.items) 0 0 front rest (omega arith) (omega arith) (in_contains (front ++ rest) (paths_of graph) is))
 
   -- ---- plans in which each step takes one turn
 

@@ -1,10 +1,10 @@
 -- The schedules of a plan, against the paths of its graph.
-use Rattle.std.specs.Prelude.{◌≡◌, ◌<◌, ◌==◌, ◌&&◌, ℕ, zero, suc, Bool, true, false, List, [], ◌∷◌, ◌++◌, map, filter, Contains, count_by, Option, Some, None, is_some, option_to_list, slice_get}
-use Rattle.std.specs.List.{flat_map, range_with_len}
+use Rattle.std.specs.Prelude.{◌≡◌, ◌<◌, ◌==◌, ◌&&◌, ◌+◌, ℕ, zero, suc, Bool, true, false, List, [], ◌∷◌, ◌++◌, map, filter, Contains, count_by, Option, Some, None, is_some, option_to_list, slice_get, slice_index_or}
+use Rattle.std.specs.List.{find, flat_map, range_with_len}
 use Rattle.realm_plan.specs.Plan.{Plan}
 use Rattle.plan_replay.specs.Run.{step_after}
-use Rattle.schedule_graph.specs.Paths.{Path}
-use Rattle.plan_states.specs.Tallies.{builds_of_path, paths_of}
+use Rattle.schedule_graph.specs.Paths.{Layer, Path}
+use Rattle.plan_states.specs.Tallies.{builds_of_path, layers_of, paths_of}
 use Rattle.plan_states.specs.Whole.{takes_many}
 use Rattle.plan_states.specs.declared.edges.Label.{Label}
 use Rattle.plan_states.specs.declared.graph.Graph.{Graph}
@@ -38,6 +38,19 @@ abbrev pub IsRuleOf : Plan → Graph → (List ℕ → ℕ → Bool) → Type 0
 IsRuleOf plan graph left =
     (front rest : Path Label) → Contains (paths_of graph) (front ++ rest)
     → (build : ℕ) → build < 8 → left (builds_of_path front) build ≡ is_some (step_after plan build (used_by front build))
+
+-- from a state, the edges by which these builds have their turns
+abbrev pub turns_from : List (Layer Label) → ℕ → ℕ → List ℕ → Path Label
+turns_from layers depth state [] = []
+turns_from layers depth state (build ∷ order) =
+    elim (find (λ edge. edge.label.build == build) (slice_index_or (slice_index_or layers depth []) state [])) [
+      | Some edge ↦ edge ∷ turns_from layers (depth + 1) edge.to order
+      | None ↦ []
+    ]
+
+-- the graph's own rule: after given turns, a build has a step left by the steps that they use up
+abbrev pub own_rule : Plan → Graph → List ℕ → ℕ → Bool
+own_rule plan graph before build = is_some (step_after plan build (used_by (turns_from (layers_of graph) 0 0 before) build))
 
 -- ---- plans in which each step takes one turn
 

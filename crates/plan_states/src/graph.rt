@@ -11,7 +11,7 @@ use crate::running::{Running, has_more, run_to};
 use crate::state::State;
 use crate::step_end::EndOfStep;
 use crate::turns::{After, Before, Turns, before_turn};
-use crate::whole::{Progress, is_whole};
+use crate::whole::{StepsDone, is_whole};
 use plan_replay::map_text;
 use realm_plan::Plan;
 use realm_program::Fault;
@@ -27,7 +27,7 @@ pub type Layer = Vec<Vec<Edge<Label>>>;
 pub struct Graph {
     pub layers: Vec<Layer>,
     /// Of each state of each layer, how many steps of each build are done.
-    pub progress: Vec<Vec<Progress>>,
+    pub progress: Vec<Vec<StepsDone>>,
     /// The ends of steps.
     pub ends: Vec<EndOfStep>,
     /// The maps in the end.
@@ -105,7 +105,7 @@ impl Front {
 }
 
 // The progress of each state of a layer.
-fn progress_of(alloc: Global, states: &[State]) -> Result<Vec<Progress>, AllocError> {
+fn progress_of(alloc: Global, states: &[State]) -> Result<Vec<StepsDone>, AllocError> {
     states.iter().map(|state| state.progress()).collect(alloc)
 }
 
@@ -322,8 +322,8 @@ fn search(alloc: Global, plan: &Plan, most: usize) -> Result<Option<Graph>, Faul
 
 /// The graph of all schedules of a plan, if it has at most `most` states.
 ///
-/// Errors. `Memory`: allocation failed. `Mismatch`: a run does not go on as another run said, which never happens on a
-/// host that gives the same answers to the same calls.
+/// Errors. `Memory`: allocation failed. `Mismatch`: a run does not go on as another run said, or a turn is missing in the
+/// graph. Neither happens on a host that gives the same answers to the same calls.
 pub fn explore(alloc: Global, plan: &Plan, most: usize) -> Result<Exploration, Fault>
     ensures ok { IfOk result (IsExploration (plan_view plan.now) most) }
     ensures err { IfErr result HasNoGraph }

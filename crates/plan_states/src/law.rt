@@ -4,7 +4,7 @@ ghost use Rattle.std.specs.List.{range_with_len};
 ghost use Rattle.realm_plan.specs.Plan.{Plan};
 ghost use Rattle.schedule_graph.specs.Paths.{Path};
 ghost use Rattle.plan_states.specs.Lines.{step_number};
-ghost use Rattle.plan_states.specs.Schedules.{by_turns, schedules_after, steps_ended, HasSingleTurns, IsRuleOf, IsSchedule};
+ghost use Rattle.plan_states.specs.Schedules.{by_turns, own_rule, schedules_after, steps_ended, HasSingleTurns, IsRuleOf, IsSchedule};
 ghost use Rattle.plan_states.specs.Tallies.{builds_of_path, is_before, paths_of};
 ghost use Rattle.plan_states.specs.Whole.{IsWhole};
 ghost use Rattle.plan_states.specs.declared.edges.Label.{Label};
@@ -33,6 +33,12 @@ pub fn path_schedules_rise()
     ensures rise { (plan : Plan) (graph : Graph) → IsWhole plan graph
         → AllPairs (λ (one other : List ℕ). is_before one other ≡ true) (map builds_of_path (paths_of graph)) }
     ensures never_twice { (order : List ℕ) → is_before order order ≡ false }
+{}
+
+/// A whole graph has such a rule. After given turns, a build has a step left by the steps that these turns use up in the
+/// graph. So of any plan the paths are all schedules by this rule.
+pub fn a_whole_graph_has_a_rule()
+    ensures { (plan : Plan) (graph : Graph) → IsWhole plan graph → IsRuleOf plan graph (own_rule plan graph) }
 {}
 
 /// Where a plan has no abort and no way back, each step takes one turn. Then the rule needs no graph: a build has a step

@@ -2,7 +2,8 @@
 //!
 //! Schedules that have led to the same state are one from there on. A state is what each build did, and which blocks
 //! were leased and given back (`state.rt`). The states after as many turns are a layer (`graph.rt`). A turn of a build
-//! is run once for all states in which it depends on the same things (`turns.rt`). Outcomes are counted as paths
+//! is run once for all states in which it depends on the same things (`turns.rt`). That no turn is missing is checked in
+//! the end (`whole.rt`). So the paths are all schedules, each once (`law.rt`). Outcomes are counted as paths
 //! (`outcomes.rt`), and the first schedule of each is its first path.
 #![tactic(auto)]
 
@@ -32,4 +33,4 @@ pub use shortest::{Witness, ends_refused, shortest_refusal};
 pub use step_end::EndOfStep;
 pub use tally::{Outcomes, PathTally, StepOutcomes};
 pub use text::{push_outcomes, push_step_outcomes, states_text, too_many_text};
-pub use whole::Progress;
+pub use whole::StepsDone;

@@ -4,7 +4,7 @@ ghost use Rattle.std.specs.Bool.{OnFalse};
 ghost use Rattle.realm_plan.specs.PlanView.{plan_view};
 ghost use Rattle.plan_states.specs.States.{at_rest, first_state, AreAllDone};
 
-use crate::whole::Progress;
+use crate::whole::StepsDone;
 use plan_replay::step_after;
 use realm_plan::Plan;
 
@@ -72,7 +72,7 @@ impl State {
     }
 
     /// How many steps of each build are done.
-    pub(crate) fn progress(&self) -> Progress {
+    pub(crate) fn progress(&self) -> StepsDone {
         [
             self.done_by(0),
             self.done_by(1),

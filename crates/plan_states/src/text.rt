@@ -156,8 +156,8 @@ pub fn too_many_text(alloc: Global, most: usize) -> Result<String, AllocError>
 
 /// The text of the outcomes of all schedules of a plan, if it has at most `most` states; else a line that says so.
 ///
-/// Errors. `Memory`: allocation failed. `Mismatch`: a run does not go on as another one said, which never happens on a
-/// host that gives the same answers to the same calls.
+/// Errors. `Memory`: allocation failed. `Mismatch`: a run does not go on as another one said, or a turn is missing in the
+/// graph. Neither happens on a host that gives the same answers to the same calls.
 pub fn states_text(alloc: Global, plan: &Plan, most: usize) -> Result<String, Fault>
     ensures ok { IfOk result (λ text. IsStatesText most (plan_view plan.now) (string_bytes text)) }
     ensures err { IfErr result HasNoGraph }

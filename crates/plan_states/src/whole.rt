@@ -16,7 +16,7 @@ use realm_plan::{Plan, PlanStep};
 use schedule_graph::Edge;
 
 /// How many steps of each build are done.
-pub type Progress = [u16; 8];
+pub type StepsDone = [u16; 8];
 
 // The eight builds.
 fn all_builds() -> [usize; 8]
@@ -26,7 +26,7 @@ fn all_builds() -> [usize; 8]
 }
 
 // How many steps of a build are done.
-fn done_of(done: &Progress, build: usize) -> usize
+fn done_of(done: &StepsDone, build: usize) -> usize
     ensures value { result ≡ done_of done.now build }
     ensures fits { result < 2 ^ 16 }
 {
@@ -37,7 +37,7 @@ fn done_of(done: &Progress, build: usize) -> usize
 }
 
 // Whether a build has a step left.
-fn has_left(plan: &Plan, done: &Progress, build: usize) -> bool
+fn has_left(plan: &Plan, done: &StepsDone, build: usize) -> bool
     ensures { result ≡ has_left (plan_view plan.now) done.now build }
 {
     step_after(plan, build, done_of(done, build)).is_some()
@@ -54,7 +54,7 @@ fn is_of_build(edges: &[Edge<Label>], at: usize, build: usize) -> bool
 }
 
 // Whether the edges are those of the builds with a step left, one each.
-fn are_of_left(plan: &Plan, done: &Progress, builds: &[usize], edges: &[Edge<Label>]) -> bool
+fn are_of_left(plan: &Plan, done: &StepsDone, builds: &[usize], edges: &[Edge<Label>]) -> bool
     ensures { OnTrue result (map (λ edge. edge.label.build) edges.now ≡ filter (has_left (plan_view plan.now) done.now) builds.now) }
 {
     let mut at = 0;
@@ -100,7 +100,7 @@ fn uses_next(plan: &Plan, ends: &[EndOfStep], done: usize, label: &Label) -> boo
 }
 
 // How many steps of a build are done after a turn.
-fn done_after(done: &Progress, label: &Label, build: usize) -> usize
+fn done_after(done: &StepsDone, label: &Label, build: usize) -> usize
     ensures { result ≡ done_after done.now label.now build }
 {
     let before = done_of(done, build);
@@ -112,7 +112,7 @@ fn done_after(done: &Progress, label: &Label, build: usize) -> usize
 }
 
 // Whether so many steps of each build are done after a turn.
-fn are_done_after(done: &Progress, label: &Label, then: &Progress) -> bool
+fn are_done_after(done: &StepsDone, label: &Label, then: &StepsDone) -> bool
     ensures { result ≡ are_done_after done.now label.now then.now }
 {
     let builds = all_builds();
@@ -120,7 +120,7 @@ fn are_done_after(done: &Progress, label: &Label, then: &Progress) -> bool
 }
 
 // Whether no build has a step left.
-fn is_over(plan: &Plan, done: &Progress) -> bool
+fn is_over(plan: &Plan, done: &StepsDone) -> bool
     ensures { result ≡ is_over (plan_view plan.now) done.now }
 {
     let builds = all_builds();
@@ -142,9 +142,9 @@ fn leads_to(
     plan: &Plan,
     ends: &[EndOfStep],
     maps: usize,
-    done: &Progress,
+    done: &StepsDone,
     label: &Label,
-    then: &Progress,
+    then: &StepsDone,
 ) -> bool
     ensures { result ≡ leads_to (plan_view plan.now) ends.now maps done.now label.now then.now }
 {
@@ -158,8 +158,8 @@ fn leads_on(
     plan: &Plan,
     ends: &[EndOfStep],
     maps: usize,
-    done: &Progress,
-    next: &[Progress],
+    done: &StepsDone,
+    next: &[StepsDone],
     edge: &Edge<Label>,
 ) -> bool
     ensures { result ≡ leads_on (plan_view plan.now) ends.now maps done.now next.now edge.now }
@@ -175,8 +175,8 @@ fn all_lead_on(
     plan: &Plan,
     ends: &[EndOfStep],
     maps: usize,
-    done: &Progress,
-    next: &[Progress],
+    done: &StepsDone,
+    next: &[StepsDone],
     edges: &[Edge<Label>],
 ) -> bool
     ensures { result ≡ list_all (leads_on (plan_view plan.now) ends.now maps done.now next.now) edges.now }
@@ -191,8 +191,8 @@ fn is_state_whole(
     plan: &Plan,
     ends: &[EndOfStep],
     maps: usize,
-    done: &Progress,
-    next: &[Progress],
+    done: &StepsDone,
+    next: &[StepsDone],
     edges: &[Edge<Label>],
 ) -> bool
     ensures { OnTrue result (IsStateWhole (plan_view plan.now) ends.now maps done.now next.now edges.now) }
@@ -219,8 +219,8 @@ fn is_layer_whole(
     plan: &Plan,
     ends: &[EndOfStep],
     maps: usize,
-    states: &[Progress],
-    next: &[Progress],
+    states: &[StepsDone],
+    next: &[StepsDone],
     layer: &[Vec<Edge<Label>>],
 ) -> bool
     ensures { OnTrue result (IsLayerWhole (plan_view plan.now) ends.now maps states.now next.now layer.now) }
@@ -238,7 +238,7 @@ fn is_layer_whole(
 }
 
 // The states of a layer, by their progress; none if there is no such layer.
-fn states_at(graph: &Graph, depth: usize) -> &[Progress]
+fn states_at(graph: &Graph, depth: usize) -> &[StepsDone]
     ensures { result.now ≡ states_at graph.now depth }
 {
     match graph.progress.get(depth) {
@@ -265,7 +265,7 @@ fn ends_of(graph: &Graph) -> &[EndOfStep]
 }
 
 // Whether no step is done.
-fn is_fresh(done: &Progress) -> bool
+fn is_fresh(done: &StepsDone) -> bool
     ensures { result ≡ is_fresh done.now }
 {
     let builds = all_builds();
@@ -273,7 +273,7 @@ fn is_fresh(done: &Progress) -> bool
 }
 
 // Whether this is the one state in which no step is done.
-fn is_at_start(states: &[Progress]) -> bool
+fn is_at_start(states: &[StepsDone]) -> bool
     ensures { result ≡ is_at_start states.now }
 {
     match states.get(0) {
