@@ -8,8 +8,12 @@ ghost use Rattle.rmm_model.specs.Granule.{of_no_realm, realm_of, rec_of, is_unde
 ghost use Rattle.rmm_model.specs.Machine as machine;
 ghost use Rattle.rmm_model.specs.Machine.{granule_count, granule_at, page_in};
 ghost use Rattle.rmm_model.specs.Realm.{IsServed};
+ghost use Rattle.rmm_model.specs.Guest.{rec_in};
+ghost use Rattle.rmm_model.specs.Command.PsciComplete.{with_rec};
 ghost use Rattle.rmm_granules.specs.Inside.{platform_machine};
+ghost use Rattle.rmm_granules.specs.RecEdits.{edited};
 
+use crate::rec_edit::{RecEdit, edit_granule};
 use crate::taking::take_all;
 use granule_addr::{Gran, MOST_PAGES, PageOff};
 use page_arena::PageStore;
@@ -208,6 +212,17 @@ impl<S: PageStore> Granules<S> {
         ensures { self.new ≡ machine.with_granule self.old granule kept }
     {
         self.granules[granule.number() as usize] = kept;
+    }
+
+    /// Edits the attributes of a REC in place. A granule that is none becomes one, with the attributes of a new REC.
+    #[inline(always)]
+    pub fn edit_rec(&mut self, granule: Gran, edit: RecEdit)
+        requires { granule < granule_count self.old }
+        ensures machine { self.new ≡ with_rec self.old granule (edited edit (rec_in self.old granule)) }
+        ensures count { granule_count self.new ≡ granule_count self.old }
+    {
+        let kept = &mut self.granules[granule.number() as usize];
+        edit_granule(kept, edit);
     }
 
     // ---- pages
