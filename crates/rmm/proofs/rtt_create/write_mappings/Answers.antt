@@ -19,9 +19,9 @@ returns g c =
     let words : ℕ → ℕ = rising_word (kind_word parent) (descriptor_of parent) (child_step parent level) in
     let on : List ℕ → Machine = with_page c.args.granules.now c.args.table in
     c.write_rising.ensures
-    ∙ ap (λ (n : ℕ). on (bytes_of_words 512 (rising_word n c.descriptor.result c.child_step.result))) c.kind_word.ensures.value
-    ∙ ap (λ (n : ℕ). on (bytes_of_words 512 (rising_word (kind_word parent) n c.child_step.result))) c.descriptor.ensures
-    ∙ ap (λ (n : ℕ). on (bytes_of_words 512 (rising_word (kind_word parent) (descriptor_of parent) n))) c.child_step.ensures.value
+    ∙ ap (λ (n : ℕ). on (bytes_of_words 512 (rising_word n c.descriptor.result c.child_step-step.result))) c.kind_word-kind.ensures.value
+    ∙ ap (λ (n : ℕ). on (bytes_of_words 512 (rising_word (kind_word parent) n c.child_step-step.result))) c.descriptor.ensures
+    ∙ ap (λ (n : ℕ). on (bytes_of_words 512 (rising_word (kind_word parent) (descriptor_of parent) n))) c.child_step-step.ensures.value
     ∙ ap on (sym (all_words zero_page words (length-page_of 0)))
     ∙ ap on (with_words-same 512 words f zero_page (child_word_of parent level))
     ∙ ap (λ (o : Option ℕ). on (children_page_at o parent level)) (sym c.requires.mapping)
