@@ -1,7 +1,7 @@
 //! Granules, their pages and their attributes.
-ghost use Rattle.std.specs.Prelude.{◌≡◌, ◌≢◌, ◌+◌, ◌<◌, ◌≤◌, false, length, replicate, slice_set, IfErr, IfOk, IfSome, IsTrue};
+ghost use Rattle.std.specs.Prelude.{◌≡◌, ◌≢◌, ◌+◌, ◌^◌, ◌<◌, ◌≤◌, false, length, replicate, slice_set, IfErr, IfOk, IfSome, IsTrue};
 ghost use Rattle.granule_addr.specs.Page.{page_of};
-ghost use Rattle.page_arena.specs.Word.{with_bytes};
+ghost use Rattle.page_arena.specs.Word.{with_bytes, bytes_of_words, rising_word};
 ghost use Rattle.rmi_abi.specs.Settings.{IsPlatform};
 ghost use Rattle.rmm_model.specs.declared.granule.RmmGranuleState.TheVariants.{Undelegated};
 ghost use Rattle.rmm_model.specs.Granule.{of_no_realm, realm_of, rec_of, is_undelegated, is_delegated};
@@ -257,6 +257,19 @@ impl<S: PageStore> Granules<S> {
         ensures whole { length (page_in self.old granule) ≡ 4096 }
     {
         self.store.write(granule, offset, bytes);
+    }
+
+    /// Writes 512 words of one kind to a granule's page. Bits 47:0 of the first are `first`, and those of the others
+    /// rise by `step`.
+    pub fn write_rising(&mut self, granule: Gran, kind: u64, first: u64, step: u64)
+        requires inside { granule < granule_count self.old }
+        requires kind { kind ≤ 2 ^ 60 }
+        requires first { first < 2 ^ 48 }
+        requires step { step ≤ 2 ^ 39 }
+        ensures { self.new
+            ≡ machine.with_page self.old granule (bytes_of_words 512 (rising_word kind first step)) }
+    {
+        self.store.write_rising(granule, kind, first, step);
     }
 
     /// Writes one byte of a granule's page.
