@@ -1,4 +1,4 @@
-use Rattle.std.proofs.Common.{◌≡◌, ◌+◌, ◌*◌, ◌%◌, ◌^◌, ℕ, List, sym, ap, ◌∙◌, arith}
+use Rattle.std.proofs.Common.{◌≡◌, ◌+◌, ◌%◌, ◌^◌, ℕ, List, sym, ap, ◌∙◌, arith}
 use Rattle.page_arena.specs.SideBySide.{with_bytes-none, bytes_of_words-more, bytes_of_words-all}
 use Rattle.page_arena.specs.Word.{with_bytes, page_with_word, bytes_of_words, rising_word}
 use Rattle.page_arena.proofs.words.write_rising_in.Goals as goal
