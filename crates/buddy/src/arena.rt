@@ -4,13 +4,15 @@ ghost use Rattle.std.specs.Bool.{OnTrue, OnFalse};
 ghost use Rattle.granule_addr.specs.Page.{page_of, zero_page};
 ghost use Rattle.page_arena.specs.Page.{page_at, is_free, with_byte, IsSized};
 ghost use Rattle.page_arena.specs.Block.{IsFreeBlock, IsTakenBlock, with_run, with_taken, with_given};
-ghost use Rattle.page_arena.specs.Word.{with_bytes, with_word};
+ghost use Rattle.page_arena.specs.Word.{with_bytes, with_word, bytes_of_words, rising_word};
 ghost use Rattle.buddy.specs.FirstBlock.{first_block};
 ghost use Rattle.buddy.specs.MaximalBlock.{IsMaximalBlock, TurnsUp};
 
 use crate::index::FreeIndex;
 use granule_addr::{Gran, MOST_PAGES, Order, PageOff};
-use page_arena::{BuildError, PageStore, RawPages, set_word_in, word_in, write_in};
+use page_arena::{
+    BuildError, PageStore, RawPages, set_word_in, word_in, write_in, write_rising_in,
+};
 use std::alloc::Global;
 
 /// A store of pages in one allocation, with a list of free blocks for each order. The lists have the maximal free
@@ -187,6 +189,21 @@ impl PageStore for BuddyArena {
     {
         let page = self.pages.page_mut(granule.number() as usize);
         write_in(page, offset as usize, bytes);
+    }
+
+    fn write_rising(&mut self, granule: Gran, kind: u64, first: u64, step: u64)
+        requires inside { granule < length self.old.pages }
+        requires taken { is_free self.old.index.flags granule ≡ false }
+        requires kind { kind ≤ 2 ^ 60 }
+        requires first { first < 2 ^ 48 }
+        requires step { step ≤ 2 ^ 39 }
+        ensures written { self.new.pages
+            ≡ slice_set self.old.pages granule (bytes_of_words 512 (rising_word kind first step)) }
+        ensures flags { self.new.index ≡ self.old.index }
+        ensures visits { self.new.visits ≡ self.old.visits }
+    {
+        let page = self.pages.page_mut(granule.number() as usize);
+        write_rising_in(page, kind, first, step);
     }
 
     ghost sized = { λ arena. arena.sized };

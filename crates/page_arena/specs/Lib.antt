@@ -5,6 +5,7 @@ pub mod Pages
 pub mod Runs
 pub mod Blocks
 pub mod Words
+pub mod SideBySide
 pub mod LowestBlock
 pub mod Owned
 pub mod Lends

@@ -1,5 +1,5 @@
 -- The 512 words of a page, of 8 bytes each, little endian.
-use Rattle.std.specs.Prelude.{ℕ, ◌+◌, ◌*◌, List, ◌++◌, length, take, drop, slice_range, slice_set}
+use Rattle.std.specs.Prelude.{ℕ, zero, suc, ◌+◌, ◌*◌, ◌%◌, ◌^◌, List, [], ◌++◌, length, take, drop, slice_range, slice_set}
 use Rattle.std.specs.Int.{from_le_bytes, to_le_bytes, w64}
 use Rattle.page_arena.specs.Page.{page_at}
 
@@ -22,3 +22,12 @@ word_at pages granule i = word_of_page (page_at pages granule) i
 -- the pages with a word in place of word i of a granule's page
 abbrev pub with_word : List (List ℕ) → ℕ → ℕ → ℕ → List (List ℕ)
 with_word pages granule i word = slice_set pages granule (page_with_word (page_at pages granule) i word)
+
+-- the bytes of that many words, which a function gives for their index
+unfoldable pub bytes_of_words : ℕ → (ℕ → ℕ) → List ℕ
+bytes_of_words zero f = []
+bytes_of_words (suc count) f = bytes_of_words count f ++ to_le_bytes w64 (f count)
+
+-- word k of words of one kind, of which the first has that number in its bits 47:0, and the others rise by a step
+abbrev pub rising_word : ℕ → ℕ → ℕ → ℕ → ℕ
+rising_word kind first step k = kind + (first + k * step) % 2 ^ 48

@@ -19,4 +19,4 @@ mod words;
 pub use pages::RawPages;
 pub use plain::PlainStore;
 pub use store::{BuildError, PageStore};
-pub use words::{set_word_in, word_in, write_in};
+pub use words::{set_word_in, word_in, write_in, write_rising_in};

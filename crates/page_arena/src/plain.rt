@@ -7,7 +7,7 @@ ghost use Rattle.page_arena.specs.LowestBlock.{lowest_block};
 mod flags;
 mod pages;
 
-use crate::words::{set_word_in, word_in, write_in};
+use crate::words::{set_word_in, word_in, write_in, write_rising_in};
 use crate::{BuildError, PageStore};
 use flags::{find_block, is_run_free, set_run};
 use granule_addr::{Gran, MOST_PAGES, Order, PageOff};
@@ -115,6 +115,11 @@ impl PageStore for PlainStore {
     fn write(&mut self, granule: Gran, offset: u16, bytes: &[u8]) {
         let page = &mut self.pages[granule.number() as usize];
         write_in(page, offset as usize, bytes);
+    }
+
+    fn write_rising(&mut self, granule: Gran, kind: u64, first: u64, step: u64) {
+        let page = &mut self.pages[granule.number() as usize];
+        write_rising_in(page, kind, first, step);
     }
 
     ghost sized = { λ store. store.sized };

@@ -4,7 +4,7 @@ ghost use Rattle.std.specs.Bool.{OnTrue, OnFalse};
 ghost use Rattle.granule_addr.specs.Page.{page_of, zero_page};
 ghost use Rattle.page_arena.specs.Page.{page_at, is_free, with_byte, IsSized};
 ghost use Rattle.page_arena.specs.Block.{IsFreeBlock, IsTakenBlock, with_run, with_taken, with_given};
-ghost use Rattle.page_arena.specs.Word.{word_at, with_bytes, with_word};
+ghost use Rattle.page_arena.specs.Word.{word_at, with_bytes, with_word, bytes_of_words, rising_word};
 
 use granule_addr::{Gran, Order, PageOff};
 use std::alloc::AllocError;
@@ -110,6 +110,17 @@ pub trait PageStore {
         requires fits { offset + length bytes.now ≤ 4096 }
         ensures written { page_bytes self.new
             ≡ slice_set (page_bytes self.old) granule (with_bytes (page_at (page_bytes self.old) granule) offset bytes.now) }
+        ensures flags { free_flags self.new ≡ free_flags self.old };
+
+    /// Writes 512 words of one kind to a page. Bits 47:0 of the first are `first`, and those of the others rise by `step`.
+    fn write_rising(&mut self, granule: Gran, kind: u64, first: u64, step: u64)
+        requires inside { granule < length (page_bytes self.old) }
+        requires taken { is_free (free_flags self.old) granule ≡ false }
+        requires kind { kind ≤ 2 ^ 60 }
+        requires first { first < 2 ^ 48 }
+        requires step { step ≤ 2 ^ 39 }
+        ensures written { page_bytes self.new
+            ≡ slice_set (page_bytes self.old) granule (bytes_of_words 512 (rising_word kind first step)) }
         ensures flags { free_flags self.new ≡ free_flags self.old };
 
     /// There are 1 to 4,096 pages, each has 4,096 bytes, and there is a flag for each.

@@ -1,6 +1,6 @@
 //! Words of a page's bytes.
-ghost use Rattle.std.specs.Prelude.{◌≡◌, ◌+◌, ◌<◌, ◌≤◌, length};
-ghost use Rattle.page_arena.specs.Word.{with_bytes, word_of_page, page_with_word};
+ghost use Rattle.std.specs.Prelude.{◌≡◌, ◌+◌, ◌^◌, ◌<◌, ◌≤◌, length};
+ghost use Rattle.page_arena.specs.Word.{with_bytes, word_of_page, page_with_word, bytes_of_words, rising_word};
 
 /// Word `index` of a page's bytes.
 #[tactic(auto, unfolding(crate::specs::Word::word_of_page))]
@@ -32,4 +32,18 @@ pub fn write_in(page: &mut [u8], offset: usize, bytes: &[u8])
     ensures { page.new ≡ with_bytes page.old offset bytes.now }
 {
     page[offset..offset + bytes.len()].copy_from_slice(bytes);
+}
+
+/// Writes 512 words of one kind to a page. Bits 47:0 of the first are `first`, and those of the others rise by `step`.
+pub fn write_rising_in(page: &mut [u8; 4096], kind: u64, first: u64, step: u64)
+    requires kind { kind ≤ 2 ^ 60 }
+    requires first { first < 2 ^ 48 }
+    requires step { step ≤ 2 ^ 39 }
+    ensures { page.new ≡ bytes_of_words 512 (rising_word kind first step) }
+{
+    let mut low = first;
+    for index in 0..512usize {
+        set_word_in(page, index, kind + low % 0x1_0000_0000_0000);
+        low += step;
+    }
 }

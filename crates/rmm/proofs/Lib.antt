@@ -1,10 +1,10 @@
 pub mod Checks
+pub mod ExitEdits
 pub mod NewRealms
 pub mod NewRecs
 pub mod Pages
 pub mod Ranges
 pub mod RequestedRanges
-pub mod Results
 pub mod Runs
 pub mod SideBySide
 pub mod StatesDiffer

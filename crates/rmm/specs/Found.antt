@@ -106,7 +106,7 @@ pub record IsRipasRange (m : Machine) (rd base : ℕ) (range : RipasRange) : Typ
 pub record IsRequestedRange (m : Machine) (rd rec base : ℕ) (range : RequestedRange) : Type 0 where
   pub named : range.granule ≡ number_of m rec
   pub inside : range.granule < granule_count m
-  pub attributes : range.rec ≡ rec_at m rec
+  pub request : range.request ≡ (rec_at m rec).ripas
   pub place : range.found ≡ walk m (realm_at m rd) base 3
   pub above : range.found.table < granule_count m
   pub low : base < 2 ^ 48
@@ -151,7 +151,7 @@ pub record IsNewRec (m : Machine) (rd rec params : ℕ) (found : NewRec) : Type 
 pub record IsCompletion (m : Machine) (calling target : ℕ) (found : Completion) : Type 0 where
   pub place : found.calling ≡ number_of m calling
   pub inside : found.calling < granule_count m
-  pub caller : found.caller ≡ rec_at m calling
+  pub request : found.request ≡ (rec_at m calling).psci
   pub target_place : found.target ≡ number_of m target
   pub target_inside : found.target < granule_count m
   pub named : found.named ≡ rec_at m target

@@ -1,15 +1,13 @@
 //! Guests of RECs: their steps and results.
-ghost use Rattle.std.specs.Prelude.{◌≡◌, ◌+◌, ◌-◌, ◌%◌, ◌<◌, is_some, IfSome};
+ghost use Rattle.std.specs.Prelude.{◌≡◌, ◌<◌, is_some, IfSome};
 ghost use Rattle.rmm_model.specs.Guest as guests;
 ghost use Rattle.rmm_model.specs.Machine.{granule_count, number_of};
 ghost use Rattle.rmm_model.specs.Realm.{IsServed};
 ghost use Rattle.rmm_model.specs.Command.RecEnter as entering;
-ghost use Rattle.rmm.specs.Results.{with_result_of};
 
-use crate::rec::set_rec;
 use granule_addr::Gran;
 use page_arena::PageStore;
-use rmm_granules::{Granules, realm_in};
+use rmm_granules::{Granules, RecEdit, realm_in};
 use rmm_model::{GuestStep, Queued, RmmRealm, RmmRec, StepResult, StepWords};
 
 // The attributes of a REC; a granule that is none has those of a new one.
@@ -45,18 +43,6 @@ pub fn first_step<S: PageStore>(granules: &Granules<S>, g: Gran) -> GuestStep
     StepWords::read(granules.page(g), rec.first_step % 16).step()
 }
 
-// The attributes of a REC whose guest is past its first step.
-pub fn past(rec: &RmmRec) -> RmmRec
-    ensures { result
-        ≡ record rec.now { first_step = (rec.now.first_step % 16 + 1) % 16; step_count = rec.now.step_count - 1 } }
-{
-    RmmRec {
-        first_step: (rec.first_step % 16 + 1) % 16,
-        step_count: rec.step_count.saturating_sub(1),
-        ..*rec
-    }
-}
-
 // The guest of a REC is past its first step.
 #[tactic(auto, unfolding(rmm_model::specs::Guest::past_step))]
 pub fn past_step<S: PageStore>(granules: &mut Granules<S>, g: Gran)
@@ -64,43 +50,21 @@ pub fn past_step<S: PageStore>(granules: &mut Granules<S>, g: Gran)
     ensures machine { granules.new ≡ guests.past_step granules.old g }
     ensures count { granule_count granules.new ≡ granule_count granules.old }
 {
-    match granules.rec(g) {
-        Some(rec) => set_rec(granules, g, past(&rec)),
-        None => set_rec(granules, g, past(&RmmRec::new(false, 0))),
-    }
-}
-
-// A REC gets attributes, and its guest one result more.
-#[inline(always)]
-#[tactic(auto, unfolding(crate::specs::Results::with_result_of))]
-pub fn add_result<S: PageStore>(granules: &mut Granules<S>, g: Gran, rec: &RmmRec, r: &StepResult)
-    requires { g < granule_count granules.old }
-    ensures machine { granules.new ≡ with_result_of granules.old g rec.now r.now }
-    ensures count { granule_count granules.new ≡ granule_count granules.old }
-{
-    let place = rec.result_count % 32;
-    let first = 128 + 2 * place as u16;
-    granules.set_word(g, first, r.code());
-    granules.set_word(g, first + 1, r.value());
-    let more = RmmRec {
-        result_count: (place + 1) % 32,
-        ..*rec
-    };
-    set_rec(granules, g, more);
+    granules.edit_rec(g, RecEdit::PassStep);
 }
 
 // The guest of a REC has one result more.
 #[inline(always)]
-#[tactic(auto, unfolding(rmm_model::specs::Guest::with_result, crate::specs::Results::with_result_of))]
+#[tactic(auto, unfolding(rmm_model::specs::Guest::with_result))]
 pub fn push_result<S: PageStore>(granules: &mut Granules<S>, g: Gran, r: &StepResult)
     requires { g < granule_count granules.old }
     ensures machine { granules.new ≡ guests.with_result granules.old g r.now }
     ensures count { granule_count granules.new ≡ granule_count granules.old }
 {
-    match granules.rec(g) {
-        Some(rec) => add_result(granules, g, &rec, r),
-        None => add_result(granules, g, &RmmRec::new(false, 0), r),
-    }
+    let first = 128 + 2 * (rec_in(granules, g).result_count % 32) as u16;
+    granules.set_word(g, first, r.code());
+    granules.set_word(g, first + 1, r.value());
+    granules.edit_rec(g, RecEdit::AddResult);
 }
 
 // ---- the host's hand
@@ -153,11 +117,7 @@ pub fn queue<S: PageStore>(granules: &mut Granules<S>, address: u64, words: &Ste
                 (rec.first_step % 16 + rec.step_count % 16) % 16,
                 words,
             );
-            let more = RmmRec {
-                step_count: rec.step_count + 1,
-                ..rec
-            };
-            set_rec(granules, g, more);
+            granules.edit_rec(g, RecEdit::Steps(rec.step_count + 1));
             Queued::Queued
         }
         None => Queued::NoRec,

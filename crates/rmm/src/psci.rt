@@ -12,7 +12,8 @@ use granule_addr::Gran;
 use page_arena::PageStore;
 use rmi_abi::{SmcResult, Word};
 use rmm_granules::{
-    Granules, OperandConditions, PSCI_SUCCESS, is_pending, is_same_owner, is_status, target_of,
+    Granules, OperandConditions, PSCI_SUCCESS, RecEdit, is_pending, is_same_owner, is_status,
+    target_of,
 };
 use rmm_model::{Condition, FailedCondition, PsciRequest, RmmRec, error_input};
 
@@ -21,11 +22,11 @@ const PSCI_ALREADY_ON: u64 = 0xFFFF_FFFF_FFFF_FFFC;
 // The state of a processor that AFFINITY_INFO gives.
 const PSCI_OFF: u64 = 1;
 
-// A request that can be complete: the REC that made it, and the one that it names.
+// A request that can be complete: the REC that made it, the request, and the REC that it names.
 #[derive(Clone, Copy)]
 pub struct Completion {
     pub calling: Gran,
-    pub caller: RmmRec,
+    pub request: PsciRequest,
     pub target: Gran,
     pub named: RmmRec,
 }
@@ -138,7 +139,7 @@ fn find_request<S: PageStore>(
     check_request(granules, &caller, &named, status)?;
     Ok(Completion {
         calling: caller.granule,
-        caller: caller.rec,
+        request: caller.rec.psci,
         target: named.granule,
         named: named.rec,
     })
@@ -160,12 +161,9 @@ pub fn psci_complete<S: PageStore>(
     match find_request(granules, calling, target, status) {
         Ok(found) => {
             let on = found.named.is_on();
-            let request = found.caller.psci;
-            let answered = RmmRec {
-                psci: PsciRequest::Complete(psci_result(request, on, status)),
-                ..found.caller
-            };
-            set_rec(granules, found.calling, answered);
+            let request = found.request;
+            let answered = PsciRequest::Complete(psci_result(request, on, status));
+            granules.edit_rec(found.calling, RecEdit::Psci(answered));
             if !on && status == PSCI_SUCCESS {
                 begin_target(granules, found.target, &found.named, request);
             }

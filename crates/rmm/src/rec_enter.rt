@@ -11,22 +11,22 @@ ghost use Rattle.rmm_model.specs.Command.RecEnter as command;
 ghost use Rattle.rmm.specs.Found.{IsEntry};
 
 use crate::access::{read, write};
-use crate::guest::{
-    add_result, first_step, owner_realm, past, past_step, push_result, rec_in, rec_named,
-};
+use crate::guest::{first_step, owner_realm, past_step, push_result, rec_in, rec_named};
 use crate::host::host_granule;
 use crate::operand::host_page;
 use crate::realm::error_realm;
-use crate::rec::{error_rec, rec_of, set_rec};
+use crate::rec::{error_rec, rec_of};
 use crate::run_page::{copy_gic, copy_gprs, is_gic_wrong, write_run};
-use crate::step::{call_outcome, fetched, rec_after_exit, tried};
+use crate::step::{call_outcome, exit_edit, fetched, tried};
 use granule_addr::Gran;
 use page_arena::PageStore;
 use rmi_abi::{EnterFlags, ExitReason, RecExit, SmcResult, Word, entry_gpr};
-use rmm_granules::{Granules, OperandConditions, is_no_mmio, is_pending, realm_in, state_of};
+use rmm_granules::{
+    Granules, OperandConditions, RecEdit, is_no_mmio, is_pending, realm_in, state_of,
+};
 use rmm_model::{
     Condition, FailedCondition, GuestStep, LastExit, PsciRequest, RipasRequest, RmmGranule,
-    RmmGranuleState, RmmRealm, RmmRealmState, RmmRec, RmmRecState, StepOutcome, StepResult,
+    RmmGranuleState, RmmRealm, RmmRealmState, RmmRec, StepOutcome, StepResult,
 };
 
 // A REC that can be entered, and its run page.
@@ -45,14 +45,9 @@ pub fn leave<S: PageStore>(granules: &mut Granules<S>, g: Gran, exit: &RecExit, 
     ensures machine { granules.new ≡ command.after_exit granules.old g exit.now last }
     ensures count { granule_count granules.new ≡ granule_count granules.old }
 {
-    let rec = rec_in(granules, g);
-    let ready = RmmRec {
-        state: RmmRecState::Ready,
-        exit: last,
-        ..rec
-    };
-    set_rec(granules, g, ready);
-    write_run(granules, g, rec.run, exit);
+    let run = rec_in(granules, g).run;
+    granules.edit_rec(g, RecEdit::Leave(last));
+    write_run(granules, g, run, exit);
 }
 
 // ---- entries
@@ -85,10 +80,8 @@ fn end_step<S: PageStore>(granules: &mut Granules<S>, g: Gran, r: &StepResult)
     ensures machine { granules.new ≡ command.with_step_ended granules.old g r.now }
     ensures count { granule_count granules.new ≡ granule_count granules.old }
 {
-    match granules.rec(g) {
-        Some(rec) => add_result(granules, g, &past(&rec), r),
-        None => add_result(granules, g, &past(&RmmRec::new(false, 0)), r),
-    }
+    past_step(granules, g);
+    push_result(granules, g, r);
 }
 
 // The guest gets the result of its PSCI request, if that is complete.
@@ -98,12 +91,8 @@ fn push_psci<S: PageStore>(granules: &mut Granules<S>, g: Gran, request: PsciReq
     ensures count { granule_count granules.new ≡ granule_count granules.old }
 {
     if let PsciRequest::Complete(value) = request {
-        let rec = rec_in(granules, g);
-        let idle = RmmRec {
-            psci: PsciRequest::None,
-            ..rec
-        };
-        add_result(granules, g, &idle, &StepResult::Psci(value));
+        granules.edit_rec(g, RecEdit::Psci(PsciRequest::None));
+        push_result(granules, g, &StepResult::Psci(value));
     }
 }
 
@@ -113,13 +102,9 @@ fn push_ripas<S: PageStore>(granules: &mut Granules<S>, g: Gran, flags: u64)
     ensures machine { granules.new ≡ command.with_host_answer granules.old g RipasChange 0 flags }
     ensures count { granule_count granules.new ≡ granule_count granules.old }
 {
-    let rec = rec_in(granules, g);
-    let result = ripas_result(&rec.ripas, flags);
-    let idle = RmmRec {
-        ripas: RipasRequest::NONE,
-        ..rec
-    };
-    add_result(granules, g, &idle, &result);
+    let result = ripas_result(&rec_in(granules, g).ripas, flags);
+    granules.edit_rec(g, RecEdit::Ripas(RipasRequest::NONE));
+    push_result(granules, g, &result);
 }
 
 // The guest gets the host's answer of a host call.
@@ -189,17 +174,10 @@ fn enter<S: PageStore>(granules: &mut Granules<S>, g: Gran, address: u64, run: G
     ensures machine { granules.new ≡ command.after_entry granules.old g address flags }
     ensures count { granule_count granules.new ≡ granule_count granules.old }
 {
-    let rec = rec_in(granules, g);
-    let running = RmmRec {
-        state: RmmRecState::Running,
-        run: address,
-        exit: LastExit::Other,
-        result_count: 0,
-        ..rec
-    };
-    set_rec(granules, g, running);
+    let last = rec_in(granules, g).exit;
+    granules.edit_rec(g, RecEdit::Enter(address));
     copy_gic(granules, g, run);
-    answer_exit(granules, g, rec.exit, run, flags);
+    answer_exit(granules, g, last, run, flags);
 }
 
 // ---- steps
@@ -252,7 +230,7 @@ fn call<S: PageStore>(
     let rec = rec_in(granules, g);
     let outcome = call_outcome(granules.settings(), realm, &rec, flags, step);
     if let StepOutcome::Exit(_, _) = outcome {
-        set_rec(granules, g, rec_after_exit(&rec, step));
+        granules.edit_rec(g, exit_edit(step));
     }
     outcome
 }

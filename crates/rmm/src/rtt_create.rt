@@ -13,7 +13,7 @@ use granule_addr::Gran;
 use page_arena::PageStore;
 use rmi_abi::{SmcResult, Word};
 use rmm_granules::{Granules, OperandConditions, entry_at, walk};
-use rmm_model::{ChildWords, FailedCondition, RmmGranule, RmmGranuleState, RmmRttEntry, RttWalk};
+use rmm_model::{FailedCondition, RmmGranule, RmmGranuleState, RmmRttEntry, RttWalk};
 
 // A place for a new table: the RD, the table, and the entry whose place it takes.
 #[derive(Clone, Copy)]
@@ -38,9 +38,8 @@ fn write_mappings<S: PageStore>(
     requires mapping { repeated_byte parent ≡ None }
     ensures { granules.new ≡ with_page granules.old table (children_page parent level) }
 {
-    let mut page = [0; 4096];
-    ChildWords::new(parent, level).write(&mut page);
-    granules.write(table, 0, &page);
+    let (kind, step) = (parent.kind_word(), parent.child_step(level));
+    granules.write_rising(table, kind, parent.descriptor(), step);
 }
 
 // Writes the children of an entry to a table. Those of one that is not mapped are one byte throughout.

@@ -6,12 +6,12 @@ ghost use Rattle.rmm_model.specs.Command.RttSetRipas as command;
 ghost use Rattle.rmm.specs.Found.{IsRequestedRange};
 
 use crate::operand::{Rd, is_protected, realm_of};
-use crate::rec::{NamedRec, error_rec, rec_of, set_rec};
+use crate::rec::{NamedRec, error_rec, rec_of};
 use crate::ripas_range::{change_count, check_progress, check_size, write_ripas};
 use granule_addr::Gran;
 use page_arena::PageStore;
 use rmi_abi::{SmcResult, Word};
-use rmm_granules::{Granules, OperandConditions, is_same_owner, set_changeable, walk};
+use rmm_granules::{Granules, OperandConditions, RecEdit, is_same_owner, set_changeable, walk};
 use rmm_model::{
     Condition, FailedCondition, RipasRequest, RmmRealm, RmmRec, RttWalk, entry_index, entry_size,
     error_input,
@@ -21,7 +21,7 @@ use rmm_model::{
 #[derive(Clone, Copy)]
 pub struct RequestedRange {
     pub granule: Gran,
-    pub rec: RmmRec,
+    pub request: RipasRequest,
     pub found: RttWalk,
 }
 
@@ -111,7 +111,7 @@ fn find_range<S: PageStore>(
     )?;
     Ok(RequestedRange {
         granule: asking.granule,
-        rec: asking.rec,
+        request: asking.rec.ripas,
         found,
     })
 }
@@ -133,19 +133,16 @@ pub fn rtt_set_ripas<S: PageStore>(
 {
     match find_range(granules, rd, rec, base, top) {
         Ok(range) => {
-            let request = range.rec.ripas;
+            let request = range.request;
             let count = change_count(granules, set_changeable(&request), &range.found, base, top);
             let stop = base + count as u64 * entry_size(range.found.level);
             let first = entry_index(range.found.level, base);
             write_ripas(granules, &range.found, first, request.ripas, count);
-            let rest = RmmRec {
-                ripas: RipasRequest {
-                    base: stop,
-                    ..request
-                },
-                ..range.rec
+            let rest = RipasRequest {
+                base: stop,
+                ..request
             };
-            set_rec(granules, range.granule, rest);
+            granules.edit_rec(range.granule, RecEdit::Ripas(rest));
             SmcResult {
                 x1: stop,
                 ..SmcResult::only(Word::Success)

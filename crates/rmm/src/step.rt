@@ -4,13 +4,14 @@ ghost use Rattle.rmm_model.specs.Entry.{descriptor_of};
 ghost use Rattle.rmm_model.specs.Machine.{granule_count};
 ghost use Rattle.rmm_model.specs.Realm.{IsServed};
 ghost use Rattle.rmm_model.specs.Step as steps;
+ghost use Rattle.rmm.specs.ExitEdits as edits;
 
 use crate::host::host_granule;
 use crate::operand::{is_in_space, is_protected};
 use granule_addr::Gran;
 use page_arena::PageStore;
 use rmi_abi::{EnterFlags, ExitReason, RecExit, RmmSettings, is_mpidr, rec_number};
-use rmm_granules::{Granules, entry_at, granule_named, walk};
+use rmm_granules::{Granules, RecEdit, entry_at, granule_named, walk};
 use rmm_model::{
     AccessSize, GuestStep, LastExit, PsciRequest, RipasRequest, RmmRealm, RmmRec, RmmRipas,
     RmmRttEntry, StepOutcome, StepResult, entry_offset,
@@ -421,9 +422,10 @@ pub fn call_outcome(
     }
 }
 
-// The attributes of a REC after a step of its guest that makes an exit.
-pub fn rec_after_exit(rec: &RmmRec, step: GuestStep) -> RmmRec
-    ensures { result ≡ steps.rec_after_exit rec.now step }
+// What changes of a REC at a step of its guest that makes an exit.
+#[inline(always)]
+pub fn exit_edit(step: GuestStep) -> RecEdit
+    ensures { result ≡ edits.exit_edit step }
 {
     match step {
         GuestStep::SetRipas {
@@ -431,39 +433,26 @@ pub fn rec_after_exit(rec: &RmmRec, step: GuestStep) -> RmmRec
             top,
             ripas,
             flags,
-        } => RmmRec {
-            ripas: RipasRequest {
-                base,
-                top,
-                ripas: ripas_of(ripas),
-                changes_destroyed: flags % 2 == 1,
-            },
-            ..*rec
-        },
+        } => RecEdit::Ripas(RipasRequest {
+            base,
+            top,
+            ripas: ripas_of(ripas),
+            changes_destroyed: flags % 2 == 1,
+        }),
         GuestStep::CpuOn {
             target,
             entry_point,
             context,
-        } => RmmRec {
-            psci: PsciRequest::CpuOn {
-                target,
-                entry_point,
-                context,
-            },
-            ..*rec
-        },
-        GuestStep::AffinityInfo { target, .. } => RmmRec {
-            psci: PsciRequest::AffinityInfo { target },
-            ..*rec
-        },
-        GuestStep::CpuOff => RmmRec {
-            is_runnable: false,
-            ..*rec
-        },
-        GuestStep::CpuSuspend => RmmRec {
-            psci: PsciRequest::Complete(0),
-            ..*rec
-        },
-        _ => *rec,
+        } => RecEdit::Psci(PsciRequest::CpuOn {
+            target,
+            entry_point,
+            context,
+        }),
+        GuestStep::AffinityInfo { target, .. } => {
+            RecEdit::Psci(PsciRequest::AffinityInfo { target })
+        }
+        GuestStep::CpuOff => RecEdit::Runnable(false),
+        GuestStep::CpuSuspend => RecEdit::Psci(PsciRequest::Complete(0)),
+        _ => RecEdit::Nothing,
     }
 }

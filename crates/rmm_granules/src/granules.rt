@@ -1,15 +1,19 @@
 //! Granules, their pages and their attributes.
-ghost use Rattle.std.specs.Prelude.{◌≡◌, ◌≢◌, ◌+◌, ◌<◌, ◌≤◌, false, length, replicate, slice_set, IfErr, IfOk, IfSome, IsTrue};
+ghost use Rattle.std.specs.Prelude.{◌≡◌, ◌≢◌, ◌+◌, ◌^◌, ◌<◌, ◌≤◌, false, length, replicate, slice_set, IfErr, IfOk, IfSome, IsTrue};
 ghost use Rattle.granule_addr.specs.Page.{page_of};
-ghost use Rattle.page_arena.specs.Word.{with_bytes};
+ghost use Rattle.page_arena.specs.Word.{with_bytes, bytes_of_words, rising_word};
 ghost use Rattle.rmi_abi.specs.Settings.{IsPlatform};
 ghost use Rattle.rmm_model.specs.declared.granule.RmmGranuleState.TheVariants.{Undelegated};
 ghost use Rattle.rmm_model.specs.Granule.{of_no_realm, realm_of, rec_of, is_undelegated, is_delegated};
 ghost use Rattle.rmm_model.specs.Machine as machine;
 ghost use Rattle.rmm_model.specs.Machine.{granule_count, granule_at, page_in};
 ghost use Rattle.rmm_model.specs.Realm.{IsServed};
+ghost use Rattle.rmm_model.specs.Guest.{rec_in};
+ghost use Rattle.rmm_model.specs.Command.PsciComplete.{with_rec};
 ghost use Rattle.rmm_granules.specs.Inside.{platform_machine};
+ghost use Rattle.rmm_granules.specs.RecEdits.{edited};
 
+use crate::rec_edit::{RecEdit, edit_granule};
 use crate::taking::take_all;
 use granule_addr::{Gran, MOST_PAGES, PageOff};
 use page_arena::PageStore;
@@ -210,6 +214,17 @@ impl<S: PageStore> Granules<S> {
         self.granules[granule.number() as usize] = kept;
     }
 
+    /// Edits the attributes of a REC in place. A granule that is none becomes one, with the attributes of a new REC.
+    #[inline(always)]
+    pub fn edit_rec(&mut self, granule: Gran, edit: RecEdit)
+        requires { granule < granule_count self.old }
+        ensures machine { self.new ≡ with_rec self.old granule (edited edit (rec_in self.old granule)) }
+        ensures count { granule_count self.new ≡ granule_count self.old }
+    {
+        let kept = &mut self.granules[granule.number() as usize];
+        edit_granule(kept, edit);
+    }
+
     // ---- pages
 
     /// The 4,096 bytes of a granule.
@@ -242,6 +257,19 @@ impl<S: PageStore> Granules<S> {
         ensures whole { length (page_in self.old granule) ≡ 4096 }
     {
         self.store.write(granule, offset, bytes);
+    }
+
+    /// Writes 512 words of one kind to a granule's page. Bits 47:0 of the first are `first`, and those of the others
+    /// rise by `step`.
+    pub fn write_rising(&mut self, granule: Gran, kind: u64, first: u64, step: u64)
+        requires inside { granule < granule_count self.old }
+        requires kind { kind ≤ 2 ^ 60 }
+        requires first { first < 2 ^ 48 }
+        requires step { step ≤ 2 ^ 39 }
+        ensures { self.new
+            ≡ machine.with_page self.old granule (bytes_of_words 512 (rising_word kind first step)) }
+    {
+        self.store.write_rising(granule, kind, first, step);
     }
 
     /// Writes one byte of a granule's page.

@@ -1,9 +1,8 @@
 //! The words of a table whose entries are the children of an entry above it.
-ghost use Rattle.std.specs.Prelude.{◌≡◌, ℕ, ◌+◌, ◌%◌, ◌^◌, ◌<◌, ◌≤◌};
+ghost use Rattle.std.specs.Prelude.{◌≡◌, ℕ, ◌^◌, ◌<◌, ◌≤◌};
 
 use crate::RmmRttEntry;
 use crate::entry::ADDRESSES;
-use page_arena::set_word_in;
 
 /// The words of an entry's children: one kind, and descriptors that rise by a step.
 #[derive(Clone, Copy)]
@@ -18,7 +17,6 @@ pub struct ChildWords {
 
 impl ChildWords {
     ghost use Rattle.rmm_model.specs.Children.{child_word};
-    ghost use Rattle.rmm_model.specs.Table.{with_words};
     ghost use Rattle.rmm_model.specs.Entry as entries;
 
     /// The words of the children of an entry, in a table of a level.
@@ -33,29 +31,11 @@ impl ChildWords {
         }
     }
 
-    // The word of a child with a descriptor, of which 48 bits count.
-    fn word_of(&self, descriptor: u64) -> u64
-        ensures { result ≡ self.now.kind + descriptor % 2 ^ 48 }
-    {
-        self.kind + descriptor % ADDRESSES
-    }
-
     /// Word `index` of them.
     pub fn word(&self, index: u16) -> u64
         requires { index < 512 }
         ensures { result ≡ child_word self.now index }
     {
-        self.word_of(self.first + index as u64 * self.step)
-    }
-
-    /// Writes them to a page.
-    pub fn write(&self, page: &mut [u8; 4096])
-        ensures { page.new ≡ with_words 512 (child_word self.now) page.old }
-    {
-        let mut descriptor = self.first;
-        for index in 0..512usize {
-            set_word_in(page, index, self.word_of(descriptor));
-            descriptor += self.step;
-        }
+        self.kind + (self.first + index as u64 * self.step) % ADDRESSES
     }
 }

@@ -1,6 +1,7 @@
 //! Levels of translation tables, and the entry of a level that covers an address.
 //!
-//! The size of an entry is a power of two, and a division by a known one is a shift. So each size has an arm of its own.
+//! The size of an entry is a power of two, and a remainder by a known one needs no division. So each size has an arm of
+//! its own.
 ghost use Rattle.std.specs.Prelude.{◌≡◌, ◌<◌, ◌≤◌, ◌/◌, ◌%◌, ◌^◌};
 ghost use Rattle.rmm_model.specs.Level as levels;
 
@@ -19,17 +20,25 @@ pub fn entry_size(level: u8) -> u64
     }
 }
 
-/// The number of the entry of a level that covers an address. The entry of address 0 has number 0.
+// The logarithm of the bytes that an entry of a level covers.
 #[tactic(auto, unfolding(crate::specs::Level::entry_size))]
+fn entry_shift(level: u8) -> u8
+    ensures value { 2 ^ result ≡ levels.entry_size level }
+    ensures most { result ≤ 39 }
+{
+    match level {
+        3 => 12,
+        2 => 21,
+        1 => 30,
+        _ => 39,
+    }
+}
+
+/// The number of the entry of a level that covers an address. The entry of address 0 has number 0.
 pub fn entry_number(level: u8, address: u64) -> u64
     ensures { result ≡ address / levels.entry_size level }
 {
-    match level {
-        3 => address / 4096,
-        2 => address / 0x20_0000,
-        1 => address / 0x4000_0000,
-        _ => address / 0x80_0000_0000,
-    }
+    address >> entry_shift(level)
 }
 
 /// The offset of an address in the entry of a level that covers it.

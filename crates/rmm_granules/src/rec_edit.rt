@@ -1,0 +1,76 @@
+//! Edits of RECs: the attributes that a command or a guest's step changes, written in place.
+ghost use Rattle.std.specs.Prelude.{◌≡◌, unwrap_or};
+ghost use Rattle.rmm_model.specs.declared.granule.RmmGranuleState.TheVariants.{Rec as IsRec};
+ghost use Rattle.rmm_model.specs.Granule.{rec_of};
+ghost use Rattle.rmm_model.specs.Rec.{no_rec};
+ghost use Rattle.rmm_granules.specs.RecEdits.{edited};
+
+use rmm_model::{
+    LastExit, PsciRequest, RipasRequest, RmmGranule, RmmGranuleState, RmmRec, RmmRecState,
+};
+
+/// What changes of the attributes of a REC.
+#[derive(Clone, Copy)]
+pub enum RecEdit {
+    /// It is RUNNING with the run page at an address. It has no exit to answer, and no results.
+    Enter(u64),
+    /// It is READY after an exit.
+    Leave(LastExit),
+    /// Its guest is past its first step.
+    PassStep,
+    /// Its guest has that many steps.
+    Steps(u8),
+    /// Its guest has one result more.
+    AddResult,
+    Ripas(RipasRequest),
+    Psci(PsciRequest),
+    Runnable(bool),
+    Nothing,
+}
+
+impl RecEdit {
+    // Makes the edit.
+    #[inline(always)]
+    fn make(self, rec: &mut RmmRec)
+        ensures { rec.new ≡ edited self rec.old }
+    {
+        match self {
+            RecEdit::Enter(run) => {
+                rec.state = RmmRecState::Running;
+                rec.run = run;
+                rec.exit = LastExit::Other;
+                rec.result_count = 0;
+            }
+            RecEdit::Leave(last) => {
+                rec.state = RmmRecState::Ready;
+                rec.exit = last;
+            }
+            RecEdit::PassStep => {
+                rec.first_step = (rec.first_step % 16 + 1) % 16;
+                rec.step_count = rec.step_count.saturating_sub(1);
+            }
+            RecEdit::Steps(count) => rec.step_count = count,
+            RecEdit::AddResult => rec.result_count = (rec.result_count % 32 + 1) % 32,
+            RecEdit::Ripas(request) => rec.ripas = request,
+            RecEdit::Psci(request) => rec.psci = request,
+            RecEdit::Runnable(is_runnable) => rec.is_runnable = is_runnable,
+            RecEdit::Nothing => {}
+        }
+    }
+}
+
+// Edits the attributes of a REC. A granule that is none becomes one, with the attributes of a new REC.
+#[inline(always)]
+pub(crate) fn edit_granule(kept: &mut RmmGranule, edit: RecEdit)
+    ensures { kept.new
+        ≡ record kept.old { state = IsRec (edited edit (unwrap_or (rec_of kept.old.state) no_rec)) } }
+{
+    match &mut kept.state {
+        RmmGranuleState::Rec(rec) => edit.make(rec),
+        _ => {
+            let mut rec = RmmRec::new(false, 0);
+            edit.make(&mut rec);
+            kept.state = RmmGranuleState::Rec(rec);
+        }
+    }
+}
