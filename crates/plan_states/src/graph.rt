@@ -38,7 +38,7 @@ pub struct Graph {
 #[derive(Drop)]
 pub enum Exploration {
     All(Graph),
-    /// There are more states than were allowed.
+    /// The search found more states than were allowed.
     TooMany,
 }
 
@@ -320,7 +320,7 @@ fn search(alloc: Global, plan: &Plan, most: usize) -> Result<Option<Graph>, Faul
     }))
 }
 
-/// The graph of all schedules of a plan, if it has at most `most` states.
+/// A whole graph of a plan with at most `most` states, or `TooMany`.
 ///
 /// Errors. `Memory`: allocation failed. `Mismatch`: a run does not go on as another run said, or a turn is missing in the
 /// graph. Neither happens on a host that gives the same answers to the same calls.

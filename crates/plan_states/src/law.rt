@@ -10,9 +10,9 @@ ghost use Rattle.plan_states.specs.Whole.{IsWhole};
 ghost use Rattle.plan_states.specs.declared.edges.Label.{Label};
 ghost use Rattle.plan_states.specs.declared.graph.Graph.{Graph};
 
-/// The paths of a whole graph have all schedules, and no other sequence of builds. This holds for any rule that says
-/// which of eight builds have a step left after which turns. If the rule agrees with the graph's paths, each schedule by
-/// it is that of a path, and each path has one.
+/// By a rule that agrees with the paths of a whole graph, these have all schedules, and no other sequence of builds. A
+/// rule says which of eight builds have a step left after which turns. Each schedule by it is that of a path, and each
+/// path has one.
 pub fn every_schedule_is_a_path()
     ensures found { (plan : Plan) (graph : Graph) (left : List ℕ → ℕ → Bool) → IsWhole plan graph → IsRuleOf plan graph left
         → (order : List ℕ) → IsSchedule left [] order → Contains (map builds_of_path (paths_of graph)) order }

@@ -258,7 +258,7 @@ fn maps_of(
     Ok(maps)
 }
 
-/// The outcomes of all schedules of a plan of `builds` builds, by its graph. The one error is that allocation failed.
+/// The outcomes of the paths of a graph, of a plan of `builds` builds. The one error is that allocation failed.
 pub fn outcomes_of(alloc: Global, builds: usize, graph: &Graph) -> Result<Outcomes, AllocError>
     ensures { IfOk result (AreOutcomes builds graph.now) }
 {

@@ -154,7 +154,7 @@ pub fn too_many_text(alloc: Global, most: usize) -> Result<String, AllocError>
     Ok(text)
 }
 
-/// The text of the outcomes of all schedules of a plan, if it has at most `most` states; else a line that says so.
+/// The text of the outcomes of a whole graph of a plan with at most `most` states, or a line that there are more.
 ///
 /// Errors. `Memory`: allocation failed. `Mismatch`: a run does not go on as another one said, or a turn is missing in the
 /// graph. Neither happens on a host that gives the same answers to the same calls.

@@ -25,8 +25,9 @@ pub fn a_state_decides_its_turns()
     ensures map { (one other : Position) → AreOneState one other → map_text other.host ≡ map_text one.host }
 {}
 
-/// What other builds did decides nothing of a call that needs no block and no VMID. On all hosts of the same machine on
-/// which the build did the same, it has the same refusal, or the same operation.
+/// What other builds did decides nothing of a call that needs no block and no VMID. Take hosts of the same machine on
+/// which the build did the same, and is in abort on both or neither. There a call has the same refusal, and a command
+/// the same operation.
 pub fn a_build_decides_its_own_calls()
     ensures refusal { (build : ℕ) (host twin : HostView) (call : Call) → DidTheSameAlone build host twin → NeedsNothingShared call
         → refusal_of twin build call ≡ refusal_of host build call }
@@ -35,8 +36,8 @@ pub fn a_build_decides_its_own_calls()
 {}
 
 /// Each path of a graph of states is a run of the plan in the schedule of the path, with the answers of the path. It
-/// goes from a state of the first layer, and from any position that is the same state. So the number of paths is that
-/// of schedules, whichever of them led to the states that the graph has.
+/// goes from a state of the first layer, and from any position that is the same state. It does
+/// not matter which schedule led to the states that the graph has.
 pub fn a_path_is_a_run()
     ensures { (plan : Plan) (states : List (List Position)) (layers : List (Layer Turn)) (number : ℕ) (at from : Position)
         → IsGraph plan states layers → slice_get (first_of states) number ≡ Some at → AreOneState at from
