@@ -41,7 +41,7 @@ pub fn a_whole_graph_has_a_rule()
     ensures { (plan : Plan) (graph : Graph) → IsWhole plan graph → IsRuleOf plan graph (own_rule plan graph) }
 {}
 
-/// Where a plan has no abort and no way back, each step takes one turn. Then the rule needs no graph: a build has a step
+/// If a plan has no abort and no way back, each step takes one turn. Then the rule needs no graph: a build has a step
 /// left if it had fewer turns than steps. So the paths of a whole graph are all interleavings of the builds' steps.
 pub fn single_turns_make_a_rule()
     ensures { (plan : Plan) (graph : Graph) → IsWhole plan graph → HasSingleTurns plan → IsRuleOf plan graph (by_turns plan) }

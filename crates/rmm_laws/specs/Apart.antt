@@ -75,8 +75,8 @@ IsNormal m g = is_secure m (m.settings.base + g * 4096) ≡ false
 abbrev pub IsHostPage : Machine → ℕ → Type 0
 IsHostPage m address = IsBegin m address × (state_at m address ≡ Undelegated) × IsNormal m (number_of m address)
 
--- The page that a call reads is one of the host outside the secure world: the source of DATA_CREATE, and the parameters of
--- a realm or a REC that is created.
+-- The page that a call reads is one of the host, outside the secure world. It is the source of DATA_CREATE, or it has the
+-- parameters of a realm or a REC that is created.
 abbrev pub IsFromHost : Machine → Call → Type 0
 IsFromHost m (DataCreate rd page ipa source flags) = IsHostPage m source
 IsFromHost m (RealmCreate rd params) = IsHostPage m params
