@@ -85,7 +85,9 @@ pub record IsStateWhole (plan : Plan) (ends : List EndOfStep) (maps : ℕ) (done
   pub builds : map (λ edge. edge.label.build) edges ≡ filter (has_left plan done) (range_with_len 0 8)
   pub lead_on : list_all (leads_on plan ends maps done next) edges ≡ true
 
+-- There are states, and each is whole.
 pub record IsLayerWhole (plan : Plan) (ends : List EndOfStep) (maps : ℕ) (states next : List (List ℕ)) (layer : List (Vec (Edge Label) Global)) : Type 0 where
+  pub some : 0 < length states
   pub as_many : length states ≡ length layer
   pub each : (place : ℕ) → place < length states
       → IsStateWhole plan ends maps (slice_index_or states place []) next (slice_index_or (map vec_items layer) place [])

@@ -214,7 +214,7 @@ fn edges_at(layer: &[Vec<Edge<Label>>], state: usize) -> &[Edge<Label>]
     }
 }
 
-// Whether each state of a layer is whole.
+// Whether a layer has states, and each is whole.
 fn is_layer_whole(
     plan: &Plan,
     ends: &[EndOfStep],
@@ -225,7 +225,7 @@ fn is_layer_whole(
 ) -> bool
     ensures { OnTrue result (IsLayerWhole (plan_view plan.now) ends.now maps states.now next.now layer.now) }
 {
-    if states.len() != layer.len() {
+    if states.is_empty() || states.len() != layer.len() {
         return false;
     }
     for place in 0..states.len() {
