@@ -16,7 +16,7 @@ use Rattle.schedule_graph.specs.declared.graph.Edge.{Edge}
 use Rattle.plan_states.specs.Lines.{step_number}
 use Rattle.plan_states.specs.Schedules.{by_builds, by_turns, end_at, ends_of_path, own_rule, schedules_after, steps_ended, turns_from, used_by, HasSingleTurns, IsRuleOf, IsSchedule}
 use Rattle.plan_states.specs.Tallies.{builds_of_path, is_before, layers_of, paths_of}
-use Rattle.plan_states.specs.Whole.{are_done_after, done_after, done_of, has_left, has_map, is_over, layer_at, leads_if_there, leads_on, states_at, takes_many, uses_next, IsStateWhole, IsWhole}
+use Rattle.plan_states.specs.Whole.{are_done_after, done_after, done_of, has_step_left, has_map, are_over, layer_at, leads_if_there, leads_on, states_at, takes_many, uses_next, IsStateWhole, IsWholeGraph}
 use Rattle.plan_states.specs.declared.edges.Label.{Label}
 use Rattle.plan_states.specs.declared.graph.Graph.{Graph}
 use Rattle.plan_states.specs.declared.step_end.EndOfStep.{EndOfStep}
@@ -44,7 +44,7 @@ layer_is [] depth = refl
 layer_is (layer ∷ layers) zero = refl
 layer_is (layer ∷ layers) (suc depth) = layer_is layers depth
 
-module _ (plan : Plan) (graph : Graph) (whole : IsWhole plan graph) where
+module _ (plan : Plan) (graph : Graph) (whole : IsWholeGraph plan graph) where
   abbrev done_at : ℕ → ℕ → List ℕ
   done_at depth state = get_or (states_at graph depth) state []
 
@@ -94,24 +94,24 @@ module _ (plan : Plan) (graph : Graph) (whole : IsWhole plan graph) where
 
     -- the builds of the edges are those that have a step left
     build_left : (edge : Edge Label) → IsIn edge (edges_at depth state)
-        → (edge.label.build < 8) × (has_left plan (done_at depth state) edge.label.build ≡ true)
+        → (edge.label.build < 8) × (has_step_left plan (done_at depth state) edge.label.build ≡ true)
     build_left edge is =
-        let it = of_filter (has_left plan (done_at depth state)) edge.label.build (range_with_len 0 8)
+        let it = of_filter (has_step_left plan (done_at depth state)) edge.label.build (range_with_len 0 8)
         (subst (λ (builds : List ℕ). IsIn edge.label.build builds) is_state.builds (in_map (λ (e : Edge Label). e.label.build) edge (edges_at depth state) is)) in
         ((of_range 0 8 edge.label.build it.0).1, it.1)
 
-    edge_of : (build : ℕ) → build < 8 → has_left plan (done_at depth state) build ≡ true
+    edge_of : (build : ℕ) → build < 8 → has_step_left plan (done_at depth state) build ≡ true
         → IsMadeOf (λ (e : Edge Label). e.label.build) build (edges_at depth state)
     edge_of build few left =
         of_map (λ (e : Edge Label). e.label.build) build (edges_at depth state)
         (subst (λ (builds : List ℕ). IsIn build builds) (sym is_state.builds)
-        (in_filter (has_left plan (done_at depth state)) build (range_with_len 0 8) (in_range 0 8 build (omega arith) few) left))
+        (in_filter (has_step_left plan (done_at depth state)) build (range_with_len 0 8) (in_range 0 8 build (omega arith) few) left))
 
     low : Pairs (λ (one other : Edge Label). one.label.build < other.label.build) (edges_at depth state)
     low =
         pairs_of_map (λ (a b : ℕ). a < b) (λ (e : Edge Label). e.label.build) (edges_at depth state)
         (subst (Pairs (λ (a b : ℕ). a < b)) (sym is_state.builds)
-        (pairs_filter (λ (a b : ℕ). a < b) (has_left plan (done_at depth state)) (range_with_len 0 8) (pairs_range 0 8)))
+        (pairs_filter (λ (a b : ℕ). a < b) (has_step_left plan (done_at depth state)) (range_with_len 0 8) (pairs_range 0 8)))
 
     leads : (edge : Edge Label) → IsIn edge (edges_at depth state) → Leads depth state edge
     leads edge is =
@@ -124,8 +124,8 @@ module _ (plan : Plan) (graph : Graph) (whole : IsWhole plan graph) where
         at (Some then) there goes =
             let done = done_at depth state in
             let first = and_parts (uses_next plan graph.ends.items edge.label.build (done_of done edge.label.build) edge.label.end)
-            (are_done_after done edge.label then && has_map (length graph.maps.items) (is_over plan then) edge.label.map) goes in
-            let second = and_parts (are_done_after done edge.label then) (has_map (length graph.maps.items) (is_over plan then) edge.label.map) first.1 in
+            (are_done_after done edge.label then && has_map (length graph.maps.items) (are_over plan then) edge.label.map) goes in
+            let second = and_parts (are_done_after done edge.label then) (has_map (length graph.maps.items) (are_over plan then) edge.label.map) first.1 in
             record {
               inside = slice_get_within (states_at graph (depth + 1)) edge.to then there;
               done = λ build few.
@@ -222,7 +222,7 @@ module _ (plan : Plan) (graph : Graph) (whole : IsWhole plan graph) where
 
   module _ (left : List ℕ → ℕ → Bool) (rule : IsRuleOf plan graph left) where
     rule_here : (n : ℕ) (before : Path Label) (depth state : ℕ) → depth + n ≡ length graph.layers.items → IsReachedBy before depth state
-        → (build : ℕ) → build < 8 → left (builds_of_path before) build ≡ has_left plan (done_at depth state) build
+        → (build : ℕ) → build < 8 → left (builds_of_path before) build ≡ has_step_left plan (done_at depth state) build
     rule_here n before depth state sum reached build few =
         let some = some_path n depth state sum reached.inside in
         rule before some.0 (reached.goes_on some.0 some.1) build few
@@ -233,7 +233,7 @@ module _ (plan : Plan) (graph : Graph) (whole : IsWhole plan graph) where
         → map (λ (e : Edge Label). e.label.build) (edges_at depth state) ≡ filter (left (builds_of_path before)) (range_with_len 0 8)
     builds_by_rule n before depth state sum early reached =
         (is_state depth state early reached.inside).builds
-        ∙ filter_alike (has_left plan (done_at depth state)) (left (builds_of_path before)) (range_with_len 0 8) (λ build is.
+        ∙ filter_alike (has_step_left plan (done_at depth state)) (left (builds_of_path before)) (range_with_len 0 8) (λ build is.
         sym (rule_here n before depth state sum reached build (of_range 0 8 build is).1))
 
     found_from : (n : ℕ) (before : Path Label) (depth state : ℕ) (order : List ℕ) → depth + n ≡ length graph.layers.items
@@ -244,7 +244,7 @@ module _ (plan : Plan) (graph : Graph) (whole : IsWhole plan graph) where
         subst (λ (ps : List (Path Label)). IsFoundIn ps []) (sym (paths_are depth state early reached.inside))
         (found_end (paths_at (depth + 1)) (edges_at depth state) (λ edge there.
         let it = build_left depth state early reached.inside edge there in
-        both_ways (has_left plan (done_at depth state) edge.label.build)
+        both_ways (has_step_left plan (done_at depth state) edge.label.build)
         (sym (rule_here (suc n) before depth state sum reached edge.label.build it.0) ∙ is edge.label.build it.0) it.1))
     found_from (suc n) before depth state (build ∷ order) sum reached is =
         let early : depth < length graph.layers.items = omega arith in
@@ -269,7 +269,7 @@ module _ (plan : Plan) (graph : Graph) (whole : IsWhole plan graph) where
         (subst (λ (ps : List (Path Label)). IsIn path ps) (paths_are depth state early reached.inside) is))
         as (λ _. IsSchedule left (builds_of_path before) (builds_of_path path)) [
           | inl end ↦ subst (λ (p : Path Label). IsSchedule left (builds_of_path before) (builds_of_path p)) (sym end.1)
-              (λ build few. here build few ∙ false_from_ne_true (has_left plan (done_at depth state) build) (λ holds.
+              (λ build few. here build few ∙ false_from_ne_true (has_step_left plan (done_at depth state) build) (λ holds.
               let way = edge_of depth state early reached.inside build few holds in
               subst (λ (edges : List (Edge Label)). IsIn way.one edges) end.0 way.is_in))
           | inr on ↦
@@ -423,7 +423,7 @@ module _ (plan : Plan) (graph : Graph) (whole : IsWhole plan graph) where
       (subst (λ (ps : List (Path Label)). IsIn path ps) (paths_are depth state early inside) is))
       as (λ _. steps_ended graph.ends.items build path ≡ range_with_len done (step_number plan build - done)) [
         | inl end ↦
-            let fails = false_from_ne_true (has_left plan (done_at depth state) build) (λ holds.
+            let fails = false_from_ne_true (has_step_left plan (done_at depth state) build) (λ holds.
             let way = edge_of depth state early inside build few holds in
             subst (λ (edges : List (Edge Label)). IsIn way.one edges) end.0 way.is_in) in
             let below = none_left plan build done fails in
@@ -442,7 +442,7 @@ module _ (plan : Plan) (graph : Graph) (whole : IsWhole plan graph) where
             ∙ steps_join (build == own && is_some on.edge.label.end) done (done_of (done_at depth state) own) (done_of (done_at (depth + 1) on.edge.to) build) (step_number plan build)
             (to.done build few)
             (λ t. ap (λ (b : ℕ). done_of (done_at depth state) b) (sym (one t)))
-            (λ t. more_left plan build done (subst (λ (b : ℕ). has_left plan (done_at depth state) b ≡ true) (sym (one t)) it.1))
+            (λ t. more_left plan build done (subst (λ (b : ℕ). has_step_left plan (done_at depth state) b ≡ true) (sym (one t)) it.1))
       ]
 
   pub each_step_ends : All (λ (path : Path Label). (build : ℕ) → build < 8 → steps_ended graph.ends.items build path ≡ range_with_len 0 (step_number plan build)) (paths_of graph)

@@ -17,11 +17,11 @@ use Rattle.plan_states.specs.declared.step_end.EndOfStep.{EndOfStep}
 abbrev pub done_of : List ℕ → ℕ → ℕ
 done_of done build = slice_index_or done build 0
 
-abbrev pub has_left : Plan → List ℕ → ℕ → Bool
-has_left plan done build = is_some (step_after plan build (done_of done build))
+abbrev pub has_step_left : Plan → List ℕ → ℕ → Bool
+has_step_left plan done build = is_some (step_after plan build (done_of done build))
 
-abbrev pub is_over : Plan → List ℕ → Bool
-is_over plan done = list_all (λ build. not (has_left plan done build)) (range_with_len 0 8)
+abbrev pub are_over : Plan → List ℕ → Bool
+are_over plan done = list_all (λ build. not (has_step_left plan done build)) (range_with_len 0 8)
 
 abbrev pub is_fresh : List ℕ → Bool
 is_fresh done = list_all (λ build. done_of done build == 0) (range_with_len 0 8)
@@ -60,14 +60,14 @@ has_map maps over None = not over
 has_map maps over (Some number) = over && nat_lt number maps
 
 -- a turn from one state leads to the other, by their progress
-abbrev pub leads_to : Plan → List EndOfStep → ℕ → List ℕ → Label → List ℕ → Bool
-leads_to plan ends maps done label after =
+abbrev pub leads_to_state : Plan → List EndOfStep → ℕ → List ℕ → Label → List ℕ → Bool
+leads_to_state plan ends maps done label after =
     uses_next plan ends label.build (done_of done label.build) label.end
-    && (are_done_after done label after && has_map maps (is_over plan after) label.map)
+    && (are_done_after done label after && has_map maps (are_over plan after) label.map)
 
 abbrev pub leads_if_there : Plan → List EndOfStep → ℕ → List ℕ → Label → Option (List ℕ) → Bool
 leads_if_there plan ends maps done label None = false
-leads_if_there plan ends maps done label (Some after) = leads_to plan ends maps done label after
+leads_if_there plan ends maps done label (Some after) = leads_to_state plan ends maps done label after
 
 -- an edge leads to a state of the next layer
 abbrev pub leads_on : Plan → List EndOfStep → ℕ → List ℕ → List (List ℕ) → Edge Label → Bool
@@ -82,7 +82,7 @@ is_of_build build (Some edge) = edge.label.build == build
 
 -- The state has one turn of each build that has a step left, from the lowest build on, and each leads on.
 pub record IsStateWhole (plan : Plan) (ends : List EndOfStep) (maps : ℕ) (done : List ℕ) (next : List (List ℕ)) (edges : List (Edge Label)) : Type 0 where
-  pub builds : map (λ edge. edge.label.build) edges ≡ filter (has_left plan done) (range_with_len 0 8)
+  pub builds : map (λ edge. edge.label.build) edges ≡ filter (has_step_left plan done) (range_with_len 0 8)
   pub lead_on : list_all (leads_on plan ends maps done next) edges ≡ true
 
 -- There are states, and each is whole.
@@ -100,7 +100,7 @@ abbrev pub layer_at : Graph → ℕ → List (Vec (Edge Label) Global)
 layer_at graph depth = slice_index_or (map vec_items graph.layers.items) depth []
 
 -- The first layer has the one state in which no step is done, and the states of each layer are whole. There is a map.
-pub record IsWhole (plan : Plan) (graph : Graph) : Type 0 where
+pub record IsWholeGraph (plan : Plan) (graph : Graph) : Type 0 where
   pub as_many : length graph.progress.items ≡ length graph.layers.items
   pub start : is_at_start (states_at graph 0) ≡ true
   pub maps : 0 < length graph.maps.items

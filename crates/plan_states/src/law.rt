@@ -6,7 +6,7 @@ ghost use Rattle.schedule_graph.specs.Paths.{Path};
 ghost use Rattle.plan_states.specs.Lines.{step_number};
 ghost use Rattle.plan_states.specs.Schedules.{by_turns, own_rule, schedules_after, steps_ended, HasSingleTurns, IsRuleOf, IsSchedule};
 ghost use Rattle.plan_states.specs.Tallies.{builds_of_path, is_before, paths_of};
-ghost use Rattle.plan_states.specs.Whole.{IsWhole};
+ghost use Rattle.plan_states.specs.Whole.{IsWholeGraph};
 ghost use Rattle.plan_states.specs.declared.edges.Label.{Label};
 ghost use Rattle.plan_states.specs.declared.graph.Graph.{Graph};
 
@@ -14,23 +14,23 @@ ghost use Rattle.plan_states.specs.declared.graph.Graph.{Graph};
 /// rule says which of eight builds have a step left after which turns. Each schedule by it is that of a path, and each
 /// path has one.
 pub fn every_schedule_is_a_path()
-    ensures found { (plan : Plan) (graph : Graph) (left : List ℕ → ℕ → Bool) → IsWhole plan graph → IsRuleOf plan graph left
+    ensures found { (plan : Plan) (graph : Graph) (left : List ℕ → ℕ → Bool) → IsWholeGraph plan graph → IsRuleOf plan graph left
         → (order : List ℕ) → IsSchedule left [] order → Contains (map builds_of_path (paths_of graph)) order }
-    ensures no_others { (plan : Plan) (graph : Graph) (left : List ℕ → ℕ → Bool) → IsWhole plan graph → IsRuleOf plan graph left
+    ensures no_others { (plan : Plan) (graph : Graph) (left : List ℕ → ℕ → Bool) → IsWholeGraph plan graph → IsRuleOf plan graph left
         → All (IsSchedule left []) (map builds_of_path (paths_of graph)) }
 {}
 
 /// The schedules of the paths of a whole graph are the list of all schedules by such a rule. That list may have schedules
 /// of more turns than the graph has layers: there are none. So a sum over the paths is the sum over all schedules.
 pub fn paths_are_all_schedules()
-    ensures { (plan : Plan) (graph : Graph) (left : List ℕ → ℕ → Bool) → IsWhole plan graph → IsRuleOf plan graph left
+    ensures { (plan : Plan) (graph : Graph) (left : List ℕ → ℕ → Bool) → IsWholeGraph plan graph → IsRuleOf plan graph left
         → (most : ℕ) → length graph.layers.items ≤ most + 1 → map builds_of_path (paths_of graph) ≡ schedules_after left most [] }
 {}
 
 /// The schedules of the paths of a whole graph rise: a path that comes earlier has the lower build at the first turn at
 /// which they differ. So no two paths have the same schedule, and a count of paths is one of schedules.
 pub fn path_schedules_rise()
-    ensures rise { (plan : Plan) (graph : Graph) → IsWhole plan graph
+    ensures rise { (plan : Plan) (graph : Graph) → IsWholeGraph plan graph
         → AllPairs (λ (one other : List ℕ). is_before one other ≡ true) (map builds_of_path (paths_of graph)) }
     ensures never_twice { (order : List ℕ) → is_before order order ≡ false }
 {}
@@ -38,18 +38,18 @@ pub fn path_schedules_rise()
 /// A whole graph has such a rule. After given turns, a build has a step left by the steps that these turns use up in the
 /// graph. So of any plan the paths are all schedules by this rule.
 pub fn a_whole_graph_has_a_rule()
-    ensures { (plan : Plan) (graph : Graph) → IsWhole plan graph → IsRuleOf plan graph (own_rule plan graph) }
+    ensures { (plan : Plan) (graph : Graph) → IsWholeGraph plan graph → IsRuleOf plan graph (own_rule plan graph) }
 {}
 
 /// If a plan has no abort and no way back, each step takes one turn. Then the rule needs no graph: a build has a step
 /// left if it had fewer turns than steps. So the paths of a whole graph are all interleavings of the builds' steps.
 pub fn single_turns_make_a_rule()
-    ensures { (plan : Plan) (graph : Graph) → IsWhole plan graph → HasSingleTurns plan → IsRuleOf plan graph (by_turns plan) }
+    ensures { (plan : Plan) (graph : Graph) → IsWholeGraph plan graph → HasSingleTurns plan → IsRuleOf plan graph (by_turns plan) }
 {}
 
 /// Each path of a whole graph ends each step of each build once, in the sequence of the plan.
 pub fn paths_end_each_step()
-    ensures { (plan : Plan) (graph : Graph) → IsWhole plan graph
+    ensures { (plan : Plan) (graph : Graph) → IsWholeGraph plan graph
         → All (λ (path : Path Label). (build : ℕ) → build < 8 → steps_ended graph.ends.items build path ≡ range_with_len 0 (step_number plan build))
         (paths_of graph) }
 {}

@@ -5,7 +5,7 @@ ghost use Rattle.std.specs.List.{list_all, range_with_len};
 ghost use Rattle.realm_plan.specs.PlanView.{plan_view};
 ghost use Rattle.plan_replay.specs.Run.{step_after};
 ghost use Rattle.plan_replay.specs.Turn.{undoes_many};
-ghost use Rattle.plan_states.specs.Whole.{done_of, has_left, is_of_build, takes_many, uses_next, done_after, are_done_after, is_over, is_fresh, is_at_start, has_map, leads_to, leads_on, states_at, layer_at, IsStateWhole, IsLayerWhole, IsWhole};
+ghost use Rattle.plan_states.specs.Whole.{done_of, has_step_left, is_of_build, takes_many, uses_next, done_after, are_done_after, are_over, is_fresh, is_at_start, has_map, leads_to_state, leads_on, states_at, layer_at, IsStateWhole, IsLayerWhole, IsWholeGraph};
 
 use crate::edges::Label;
 use crate::graph::Graph;
@@ -37,8 +37,8 @@ fn done_of(done: &StepsDone, build: usize) -> usize
 }
 
 // Whether a build has a step left.
-fn has_left(plan: &Plan, done: &StepsDone, build: usize) -> bool
-    ensures { result ≡ has_left (plan_view plan.now) done.now build }
+fn has_step_left(plan: &Plan, done: &StepsDone, build: usize) -> bool
+    ensures { result ≡ has_step_left (plan_view plan.now) done.now build }
 {
     step_after(plan, build, done_of(done, build)).is_some()
 }
@@ -55,11 +55,11 @@ fn is_of_build(edges: &[Edge<Label>], at: usize, build: usize) -> bool
 
 // Whether the edges are those of the builds with a step left, one each.
 fn are_of_left(plan: &Plan, done: &StepsDone, builds: &[usize], edges: &[Edge<Label>]) -> bool
-    ensures { OnTrue result (map (λ edge. edge.label.build) edges.now ≡ filter (has_left (plan_view plan.now) done.now) builds.now) }
+    ensures { OnTrue result (map (λ edge. edge.label.build) edges.now ≡ filter (has_step_left (plan_view plan.now) done.now) builds.now) }
 {
     let mut at = 0;
     for build in builds {
-        if has_left(plan, done, *build) {
+        if has_step_left(plan, done, *build) {
             if !is_of_build(edges, at, *build) {
                 return false;
             }
@@ -120,11 +120,13 @@ fn are_done_after(done: &StepsDone, label: &Label, then: &StepsDone) -> bool
 }
 
 // Whether no build has a step left.
-fn is_over(plan: &Plan, done: &StepsDone) -> bool
-    ensures { result ≡ is_over (plan_view plan.now) done.now }
+fn are_over(plan: &Plan, done: &StepsDone) -> bool
+    ensures { result ≡ are_over (plan_view plan.now) done.now }
 {
     let builds = all_builds();
-    builds.iter().all(|build| !has_left(plan, done, *build))
+    builds
+        .iter()
+        .all(|build| !has_step_left(plan, done, *build))
 }
 
 // Whether a turn has a map, one of so many, exactly where schedules end.
@@ -138,7 +140,7 @@ fn has_map(maps: usize, over: bool, map: Option<usize>) -> bool
 }
 
 // Whether a turn leads to a state with this progress.
-fn leads_to(
+fn leads_to_state(
     plan: &Plan,
     ends: &[EndOfStep],
     maps: usize,
@@ -146,11 +148,11 @@ fn leads_to(
     label: &Label,
     then: &StepsDone,
 ) -> bool
-    ensures { result ≡ leads_to (plan_view plan.now) ends.now maps done.now label.now then.now }
+    ensures { result ≡ leads_to_state (plan_view plan.now) ends.now maps done.now label.now then.now }
 {
     uses_next(plan, ends, done_of(done, label.build), label)
         && are_done_after(done, label, then)
-        && has_map(maps, is_over(plan, then), label.map)
+        && has_map(maps, are_over(plan, then), label.map)
 }
 
 // Whether an edge leads to a state of the next layer that fits its turn.
@@ -165,7 +167,7 @@ fn leads_on(
     ensures { result ≡ leads_on (plan_view plan.now) ends.now maps done.now next.now edge.now }
 {
     match next.get(edge.to) {
-        Some(then) => leads_to(plan, ends, maps, done, &edge.label, then),
+        Some(then) => leads_to_state(plan, ends, maps, done, &edge.label, then),
         None => false,
     }
 }
@@ -284,7 +286,7 @@ fn is_at_start(states: &[StepsDone]) -> bool
 
 /// Whether a graph is whole.
 pub(crate) fn is_whole(plan: &Plan, graph: &Graph) -> bool
-    ensures { OnTrue result (IsWhole (plan_view plan.now) graph.now) }
+    ensures { OnTrue result (IsWholeGraph (plan_view plan.now) graph.now) }
 {
     if graph.progress.len() != graph.layers.len() || graph.maps.is_empty() {
         return false;
