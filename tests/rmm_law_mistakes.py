@@ -116,6 +116,27 @@ def data_is_moved(self: tables.DataCreate) -> Outcome:
     return done()
 
 
+of_data = tables.DataCreate.checks
+
+
+def data_is_read_anywhere(self: tables.DataCreate) -> Checks:
+    yield from (it for it in of_data(self) if it.name != "src_pas")
+
+
+def page_is_not_mapped(self: tables.DataCreateUnknown) -> Outcome:
+    self.machine.become(self.data, "DATA")
+    return done()
+
+
+of_rec = recs.RecCreate.effect
+
+
+def rec_begins_at_zero(self: recs.RecCreate) -> Outcome:
+    outcome = of_rec(self)
+    self.machine.rec(self.rec).pc = 0
+    return outcome
+
+
 def rec_stays_counted(self: recs.RecDestroy) -> Outcome:
     for it in (*self.named.aux, self.rec):
         self.machine.become(it, DELEGATED)
@@ -166,6 +187,13 @@ def destroyed_page_stays_ram(self: tables.DataDestroy) -> Outcome:
     entry = self.walk.entry
     self.machine.become(entry.address, DELEGATED)
     self.machine.put(self.walk, Entry("UNASSIGNED", entry.ripas))
+    return done(data=entry.address, top=self.next_live())
+
+
+def empty_becomes_destroyed(self: tables.DataDestroy) -> Outcome:
+    entry = self.walk.entry
+    self.machine.become(entry.address, DELEGATED)
+    self.machine.put(self.walk, Entry("UNASSIGNED", DESTROYED))
     return done(data=entry.address, top=self.next_live())
 
 
@@ -244,12 +272,16 @@ MISTAKES = {
     "data_is_not_measured": Mistake(patch.object(tables.DataCreate, "effect", data_is_not_measured), ("effects",)),
     "data_is_not_copied": Mistake(patch.object(tables.DataCreate, "effect", data_is_not_copied), ("effects",)),
     "data_is_moved": Mistake(patch.object(tables.DataCreate, "effect", data_is_moved), ("hosts",)),
+    "data_is_read_anywhere": Mistake(patch.object(tables.DataCreate, "checks", data_is_read_anywhere), ("effects",)),
+    "page_is_not_mapped": Mistake(patch.object(tables.DataCreateUnknown, "effect", page_is_not_mapped), ("places", "roles")),
+    "rec_begins_at_zero": Mistake(patch.object(recs.RecCreate, "effect", rec_begins_at_zero), ("effects",)),
     "exit_shows_registers": Mistake(patch.object(guest, "leave", exit_shows_registers), ("secrets",)),
     "exit_runs_on": Mistake(patch.object(guest, "leave", exit_runs_on), ("effects",)),
     "fold_destroys": Mistake(patch.object(tables.RttFold, "effect", fold_destroys), ("folds", "ripas")),
     "refusal_counts": Mistake(patch.object(Command, "refused", refusal_counts), ("refusals",)),
     "page_is_replaced": Mistake(patch.object(tables.DataCreateUnknown, "checks", page_is_replaced), ("pages", "places")),
     "destroyed_page_stays_ram": Mistake(patch.object(tables.DataDestroy, "effect", destroyed_page_stays_ram), ("guests",)),
+    "empty_becomes_destroyed": Mistake(patch.object(tables.DataDestroy, "effect", empty_becomes_destroyed), ("ripas",)),
     "destroyed_is_changed": Mistake(patch.object(tables.RttSetRipas, "is_right", destroyed_is_changed), ("asked", "ripas")),
     "request_is_exceeded": Mistake(patch.object(tables.RttSetRipas, "checks", request_is_exceeded), ("ripas",)),
     "active_realm_gets_ram": Mistake(patch.object(tables.RttInitRipas, "checks", active_realm_gets_ram), ("ripas",)),

@@ -5,14 +5,15 @@
     hosts     a call changes a page of the host if it delegates it, and the bytes of one if a REC is entered; an interrupt
               changes the bytes of one; none of these is of the secure world
     memory    a page of data changes by steps of its realm's own guests alone, and by no more bytes than they write
-    ripas     RIPAS becomes RAM by INIT_RIPAS and DATA_CREATE in a NEW realm, DESTROYED by a destroyed page or table, and what a
-              REC asked for by SET_RIPAS; each time in the call's range alone, and by SET_RIPAS in all of it; a new realm is
-              EMPTY
+    ripas     RIPAS becomes RAM by INIT_RIPAS and DATA_CREATE in a NEW realm, DESTROYED by a destroyed page where it was RAM
+              or by a destroyed table, and what a REC asked for by SET_RIPAS; each time in the call's range alone, and by
+              SET_RIPAS in all of it; a new realm is EMPTY
     places    a protected address leads to the page that it led to; DATA_CREATE and DATA_CREATE_UNKNOWN give one where none was,
-              and DATA_DESTROY takes it
+              at their address, and DATA_DESTROY takes it
     states    a realm is NEW, ACTIVE and SYSTEM_OFF in turn; from REALM_ACTIVATE on its RIM is the same
     wiped     a granule that is delegated or given back is zero
-    effects   a realm that is activated was NEW; a page of data has the bytes that are measured; a REC that leaves is READY
+    effects   a realm that is activated was NEW; a page of data has the bytes that are measured, of a page of the host outside
+              the secure world; a REC begins where its parameters say; a REC that leaves is READY
     secrets   two machines that differ in memory and registers of guests, and in what these write to their own memory,
               answer a host alike, and differ in nothing else after that
     tops      steps by `top` from address 0 meet each live entry
@@ -32,6 +33,7 @@ from second_rmm.bench import Bench
 from second_rmm.command import COMMANDS, Command, Outcome
 from second_rmm.facts import DATA, DELEGATED, DESTROYED, EMPTY, ENTRIES, PAGE, RAM, RUNNING, SUCCESS, UNDELEGATED, size
 from second_rmm.machine import LIVE, ZEROS, Asked, Granule, Machine, Realm
+from second_rmm.pages import REC_PARAMS, one_of
 from second_rmm.reading import number, step_of
 
 NAMES_REALM, NAMES_REC = ("rd",), ("rec", "calling", "target")
@@ -159,6 +161,7 @@ class Watch:
             yield from of_memory(line, before, after, written)
             yield from of_ripas(line, before, after, asked)
             yield from of_places(line, before, after)
+            yield from of_given(line, self.bench.outcome, after)
             yield from of_new(before, after)
             yield from of_range(line, self.bench.outcome, after, asked)
             yield from of_states(line, before, after)
@@ -199,6 +202,12 @@ def of_effects(line: Line, outcome: Outcome | None, before: Seen, after: Seen) -
             yield "effects: a page of data has other bytes than its source"
         if before.realms[rd].rim == after.realms[rd].rim:
             yield "effects: a page of data is not measured"
+        if before.granules[number_of("src")][0] != UNDELEGATED or number_of("src") in before.secure:
+            yield "effects: a page of data is read from a page that is not the host's"
+    elif line.kind == "rmi_rec_create":
+        page, rec = before.granules[number_of("params")][1], after.granules[number_of("rec")][4]
+        if rec is None or rec[PC] != one_of(page, REC_PARAMS["pc"]):  # type: ignore[index,arg-type]
+            yield "effects: a REC begins elsewhere than its parameters say"
     elif line.kind == "rmi_rec_enter":
         rec = after.granules[number_of("rec")][4]
         if rec is None or rec[6]:  # type: ignore[index]
@@ -251,7 +260,7 @@ def gives_ripas(line: Line, state: str, at: int, was: int | None, now: int | Non
     if line.kind == "rmi_data_create":
         return is_new and now == RAM and begin <= at < begin + PAGE
     if line.kind == "rmi_data_destroy":
-        return now == DESTROYED and begin <= at < begin + PAGE
+        return (was, now) == (RAM, DESTROYED) and begin <= at < begin + PAGE
     if line.kind == "rmi_rtt_destroy":
         return now == DESTROYED and begin <= at < begin + size(values["level"] - 1)
     return asked is not None and asked.base <= at < asked.top and now == asked.ripas and (was != DESTROYED or asked.destroyed)
@@ -312,6 +321,15 @@ def of_places(line: Line, before: Seen, after: Seen) -> Iterator[str]:
             is_taken = line.kind == "rmi_data_destroy" and now is None
             if was != now and not (is_named and (is_given or is_taken)):
                 yield f"places: {at:#x} leads to another page"
+
+
+def of_given(line: Line, outcome: Outcome | None, after: Seen) -> Iterator[str]:
+    """The page that a call gives if it succeeds."""
+    is_data = line.kind in ("rmi_data_create", "rmi_data_create_unknown")
+    if is_data and outcome is not None and outcome.word == SUCCESS:
+        places = places_of(after, after.realms[line.values["rd"]])
+        if places.get(line.values["ipa"]) != line.values["data"]:
+            yield "places: a page that is given is not there"
 
 
 def of_states(line: Line, before: Seen, after: Seen) -> Iterator[str]:

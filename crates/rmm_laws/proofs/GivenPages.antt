@@ -1,5 +1,5 @@
 -- Pages that calls give to a realm: where their addresses lead.
-use Rattle.std.proofs.Common.{◌≡◌, ◌≢◌, ℕ, ◌+◌, ◌/◌, ◌%◌, ◌^◌, ◌<◌, ◌≤◌, true, false, List, length, Option, None, refl, sym, ap, subst, ◌∙◌, inr, arith}
+use Rattle.std.proofs.Common.{◌≡◌, ◌≢◌, ℕ, ◌/◌, ◌%◌, ◌^◌, ◌<◌, ◌≤◌, true, false, List, length, None, refl, sym, ap, subst, ◌∙◌, inr, arith}
 use Rattle.std.proofs.lemmas.Bool.{eqb-true}
 use Rattle.std.proofs.lemmas.List.{length-set}
 use Rattle.granule_addr.specs.Page.{zero_page}
@@ -27,9 +27,9 @@ use Rattle.rmm_model.specs.Walk.{entry_at, with_entry, walk, table_below}
 use Rattle.rmm_model.specs.Command.DataCreate.{data_create, source_checks, target_checks}
 use Rattle.rmm_model.specs.Command.DataCreateUnknown.{data_create_unknown}
 use Rattle.rmm_model.specs.Command.Operand.{realm_at}
-use Rattle.rmm_laws.specs.Location.{location, location_of, location_at, IsPageAt}
+use Rattle.rmm_laws.specs.Location.{location_of, IsPageAt}
 use Rattle.rmm_laws.specs.Proper.{IsProper}
-use Rattle.rmm_laws.specs.Ripas.{ripas_at, IsBetween}
+use Rattle.rmm_laws.specs.Ripas.{ripas_at}
 use Rattle.rmm_laws.specs.Walk.{IsTableOf}
 use Rattle.rmm_laws.proofs.Entries.{address_few}
 use Rattle.rmm_laws.proofs.EntryWords.{word_ripas}
@@ -92,7 +92,7 @@ module _ (m n : Machine) (proper : IsProper m) (settings : n.settings ≡ m.sett
       ∙ ap (λ (p : List ℕ). page_with_word p (entry_index found.level ipa) (entry_word (Assigned ripas page))) (page_in-other (with_granule m g kept) g found.table content (not_g found.table table)))
       (unassigned_leaf (entry_at m found ipa) vacant) refl x (page_covers found.level ipa x three begins between) in (
         ap (λ (q : RttWalk). location_of (entry_at n q x) (x % entry_size q.level)) it.0 ∙ ap (λ (f : RmmRttEntry). location_of f (x % entry_size found.level)) it.1
-        ∙ page_location ripas page found.level x three aligned (address_few m page proper.linked.sound page_inside),
+            ∙ page_location ripas page found.level x three aligned (address_few m page proper.linked.sound page_inside),
         ap (λ (q : RttWalk). ripas_in (entry_at n q x)) it.0 ∙ ap ripas_in it.1 ∙ word_ripas (Assigned ripas page),
       )
 

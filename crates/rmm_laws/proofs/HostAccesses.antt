@@ -1,5 +1,5 @@
 -- Accesses of guests at unprotected addresses, and pages that guests and the host leave.
-use Rattle.std.proofs.Common.{◌≡◌, ◌≢◌, ℕ, ◌+◌, ◌*◌, ◌/◌, ◌%◌, ◌==◌, Bool, true, false, not, List, Option, Some, None, Result, Ok, Err, refl, sym, ap, ◌∙◌, arith}
+use Rattle.std.proofs.Common.{◌≡◌, ◌≢◌, ℕ, ◌+◌, ◌*◌, ◌/◌, ◌%◌, Bool, true, false, not, Result, Ok, Err, refl, sym, ap, ◌∙◌}
 use Rattle.std.specs.Prelude.{if◌then◌else◌}
 use Rattle.std.proofs.lemmas.Bool.{both_ways, cond_both}
 use Rattle.granule_addr.specs.Page.{page_of}
@@ -26,7 +26,7 @@ use Rattle.rmm_model.specs.Walk.{entry_at, walk}
 use Rattle.rmm_model.specs.Command.RecEnter.{after_step, step_outcome}
 use Rattle.rmm_laws.specs.Apart.{IsSameAt}
 use Rattle.rmm_laws.specs.Guest.{IsHostValue}
-use Rattle.rmm_laws.specs.Location.{Location, location_at, content_at}
+use Rattle.rmm_laws.specs.Location.{content_at}
 use Rattle.rmm_laws.specs.Proper.{IsProper}
 use Rattle.rmm_laws.proofs.Accesses.{reached_normal}
 use Rattle.rmm_laws.proofs.Aside.{written_apart}

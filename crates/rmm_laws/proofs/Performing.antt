@@ -1,11 +1,11 @@
 -- Steps of RECs, performed for the realms that own them.
-use Rattle.std.proofs.Common.{◌≡◌, ◌≢◌, ℕ, ◌==◌, Option, Some, ap, ◌∙◌}
+use Rattle.std.proofs.Common.{◌≡◌, ◌≢◌, ℕ, Option, Some, ap, ◌∙◌}
 use Rattle.std.proofs.lemmas.Bool.{cond-false, ne_eqb}
 use Rattle.rmm_model.specs.declared.granule.RmmGranuleState.{RmmGranuleState}
 use Rattle.rmm_model.specs.declared.granule.RmmGranuleState.TheVariants.{Rd}
 use Rattle.rmm_model.specs.declared.realm.RmmRealm.{RmmRealm}
 use Rattle.rmm_model.specs.Granule.{realm_of}
-use Rattle.rmm_model.specs.Guest.{rec_in, first_step}
+use Rattle.rmm_model.specs.Guest.{rec_in}
 use Rattle.rmm_model.specs.Machine.{Machine, granule_at}
 use Rattle.rmm_model.specs.Command.RecEnter.{owner_realm, realm_by, step_outcome_in, after_step_in, first_step_outcome, after_first_step}
 use Rattle.rmm_laws.specs.Guest.{IsStepFor}

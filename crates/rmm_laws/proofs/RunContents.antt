@@ -5,7 +5,7 @@ use Rattle.std.specs.Prelude.{if◌then◌else◌}
 use Rattle.rmi_abi.specs.declared.rec_run.RecExit.{RecExit}
 use Rattle.rmi_abi.specs.RecRun.{entry_gpr_in, emulates_mmio, injects_sea}
 use Rattle.rmm_model.specs.declared.granule.RmmGranuleState.{RmmGranuleState}
-use Rattle.rmm_model.specs.declared.granule.RmmGranuleState.TheVariants.{Data, Rd, Rec as IsRec}
+use Rattle.rmm_model.specs.declared.granule.RmmGranuleState.TheVariants.{Data, Rec as IsRec}
 use Rattle.rmm_model.specs.declared.realm.RmmRealm.{RmmRealm}
 use Rattle.rmm_model.specs.declared.rec.LastExit.{LastExit}
 use Rattle.rmm_model.specs.declared.rec.LastExit.TheVariants.{Other, HostCall, RipasChange, EmulatableAbort, UnprotectedAbort, SystemRegister}

@@ -1,26 +1,17 @@
 -- Pages of the host that calls read, and RECs that are made of them.
-use Rattle.std.proofs.Common.{◌≡◌, ℕ, ◌+◌, ◌*◌, ◌<◌, Bool, true, false, not, length, List, refl, sym, ap, subst, ◌∙◌, unwrap_or}
+use Rattle.std.proofs.Common.{◌≡◌, ℕ, true, false, not, refl, sym, subst, ◌∙◌}
 use Rattle.std.proofs.lemmas.Bool.{and_parts, eqb-true, not-true}
 use Rattle.rmi_abi.specs.declared.call.Call.{Call}
 use Rattle.rmi_abi.specs.declared.call.Call.TheVariants.{DataCreate, RealmCreate, RecCreate}
 use Rattle.rmi_abi.specs.declared.registers.SmcResult.{SmcResult}
 use Rattle.rmi_abi.specs.declared.word.Word.TheVariants.{Success}
-use Rattle.rmm_model.specs.declared.granule.RmmGranule.{RmmGranule}
-use Rattle.rmm_model.specs.declared.granule.RmmGranuleState.TheVariants.{Rec as IsRec}
-use Rattle.rmm_model.specs.declared.realm.RttWalk.{RttWalk}
-use Rattle.rmm_model.specs.declared.rec.RmmRec.{RmmRec}
 use Rattle.rmm_model.specs.Call.{performed}
-use Rattle.rmm_model.specs.Granule.{is_undelegated, rec_of}
-use Rattle.rmm_model.specs.Level.{entry_size}
-use Rattle.rmm_model.specs.Machine.{Machine, granule_at, is_aligned, is_inside, is_secure, number_of, state_at}
-use Rattle.rmm_model.specs.Rec.{no_rec}
-use Rattle.rmm_model.specs.Walk.{walk}
+use Rattle.rmm_model.specs.Granule.{is_undelegated}
+use Rattle.rmm_model.specs.Machine.{Machine, is_aligned, is_inside, is_secure, state_at}
 use Rattle.rmm_model.specs.Command.DataCreate.{data_create, source_checks, target_checks}
-use Rattle.rmm_model.specs.Command.Operand.{is_host_s, realm_at, rec_at}
+use Rattle.rmm_model.specs.Command.Operand.{is_host_s}
 use Rattle.rmm_model.specs.Command.RealmCreate.{realm_create, params_checks}
 use Rattle.rmm_model.specs.Command.RecCreate.{rec_create, aux_checks, number_checks}
-use Rattle.rmm_model.specs.Command.RipasRange.{change_count, with_ripas_from}
-use Rattle.rmm_model.specs.Command.RttSetRipas.{rtt_set_ripas, ripas_request_checks, set_changeable, with_base}
 use Rattle.rmm_laws.specs.Apart.{IsHostPage, IsFromHost}
 use Rattle.rmm_laws.specs.Guest.{IsRecMadeOf}
 use Rattle.rmm_laws.specs.Proper.{IsProper}
@@ -28,8 +19,7 @@ use Rattle.rmm_laws.specs.Role.{IsSound}
 use Rattle.rmm_laws.proofs.Accesses.{secure_page}
 use Rattle.rmm_laws.proofs.Entries.{begins}
 use Rattle.rmm_laws.proofs.Freed.{succeeded}
-use Rattle.rmm_laws.proofs.Passed.{yes_from, is_undelegated-true, rec_of-some}
-use Rattle.rmm_laws.proofs.Writes.{granule_at-same, taken_inside}
+use Rattle.rmm_laws.proofs.Passed.{yes_from, is_undelegated-true}
 use Rattle.rmm_laws.proofs.RecLives.{rec_created_made}
 
 host_page : (m : Machine) (address : ℕ) → IsSound m → not (is_aligned address) ≡ false → not (is_inside m address) ≡ false → not (is_host_s m address) ≡ false → IsHostPage m address

@@ -225,10 +225,11 @@ pub fn activated_once()
     ensures entered { (m : Machine) (rec run : ℕ) → is_refusal (performed (RecEnter rec run) m).0.word ≡ false → (rd : ℕ) × ((granule_at m (number_of m rec)).owner ≡ Some rd) × IsRealmIn m rd Active }
 {}
 
-/// RIMs are measured: RMI_REALM_CREATE gives a realm its first RIM. RMI_DATA_CREATE, RMI_RTT_INIT_RIPAS and RMI_REC_CREATE
-/// of a REC that is measured extend it while the realm is NEW. No other call changes it, and neither do steps that
-/// guests are given, and interrupts. A page of data has the bytes that are measured. What is measured is read from a page of
-/// the host outside the secure world, and so are parameters.
+/// RIMs are measured: RMI_REALM_CREATE gives a realm its first RIM. RMI_DATA_CREATE, RMI_RTT_INIT_RIPAS and
+/// RMI_REC_CREATE of a REC that is measured extend it while the realm is NEW. No other call changes it, and neither do
+/// steps that guests are given, and interrupts. A page of data has the bytes that are measured. What is measured is
+/// read from a page of the host outside the secure world, and so are parameters. A REC that is created has what its
+/// parameters ask for.
 pub fn rims_are_measured()
     ensures calls { (r : Registers) (m : Machine) → IsProper m → KeepsRims m (call_in r) (rmi r m).1 }
     ensures steps { (m : Machine) (rec : ℕ) (w : StepWords) → KeepsRims m None (queued m rec w).1 }
@@ -258,12 +259,13 @@ pub fn requests_are_the_guest_s()
 {}
 
 /// RIPAS is the guest's. RMI_RTT_INIT_RIPAS and RMI_DATA_CREATE alone can make it RAM while a realm is NEW.
-/// RMI_DATA_DESTROY and RMI_RTT_DESTROY can make it DESTROYED, and a page that is destroyed leaves RIPAS that is not RAM.
-/// RMI_RTT_SET_RIPAS can make it what a REC of the realm asks for, within the range that it asks for. If it succeeds, it
-/// does so up to X1 and no further, and leaves the pages. So does RMI_RTT_INIT_RIPAS with RAM. No other call changes the
-/// RIPAS of a protected address, and neither do stores and fills of the host, steps that guests are given, and interrupts.
-/// A new realm is EMPTY and has no page at each protected address. An access of a guest where RIPAS is not RAM, or where
-/// there is no page, is answered an SEA or makes an exit, and reads and writes nothing.
+/// RMI_DATA_DESTROY can make it DESTROYED where it was RAM, and RMI_RTT_DESTROY whatever it was. A page that is
+/// destroyed leaves RIPAS that is not RAM. RMI_RTT_SET_RIPAS can make it what a REC of the realm asks for, within the range that
+/// it asks for. If it succeeds, it does so up to X1 and no further, and leaves the pages. So does RMI_RTT_INIT_RIPAS
+/// with RAM. No other call changes the RIPAS of a protected address, and neither do stores and fills of the host, steps
+/// that guests are given, and interrupts. A new realm is EMPTY and has no page at each protected address. An access of
+/// a guest at a protected address where RIPAS is not RAM, or where there is no page, is answered an SEA or makes an
+/// exit, and reads and writes nothing.
 pub fn ripas_is_the_guest_s()
     ensures calls { (r : Registers) (m : Machine) → IsProper m → KeepsRipas m (call_in r) (rmi r m).1 }
     ensures taken { (m : Machine) (rd ipa x : ℕ) → IsProper m → (performed (DataDestroy rd ipa) m).0.word ≡ Success → IsBetween ipa (ipa + 4096) x
@@ -286,12 +288,15 @@ pub fn ripas_is_the_guest_s()
     ensures interrupts { (m : Machine) (rec : ℕ) → IsProper m → KeepsRipas m None (interrupted m rec).1 }
 {}
 
-/// Memory is the guest's. RMI_DATA_CREATE and RMI_DATA_CREATE_UNKNOWN alone give a protected address a page, where there was
-/// none, and RMI_DATA_DESTROY alone takes it. So a page takes the place of another one only after that was destroyed. The
-/// first gives the bytes of a page of the host while the realm is NEW, the second gives zeros. Then the bytes stay, but
-/// while RECs of the realm are entered. Stores and fills of the host, steps that guests are given, and interrupts change
-/// neither. A guest reads the bytes of the page that its address leads to, if RIPAS is RAM. What it writes at a protected
-/// address changes those at no protected address of another page or realm.
+/// Memory is the guest's. RMI_DATA_CREATE and RMI_DATA_CREATE_UNKNOWN alone give a protected address a page, where
+/// there was none, and RMI_DATA_DESTROY alone takes it. So a page takes the place of another one only after that was
+/// destroyed. The first gives the bytes of a page of the host while the realm is NEW, the second gives zeros. Each
+/// address of a page that is given leads into it. Then the bytes stay, but while RECs of the realm are entered. The
+/// entry and the exit of a REC keep them too, and so does each step that is no write. A step is performed for the realm
+/// that owns the REC. Stores and fills of the host, steps that guests are given, and interrupts change neither. A guest
+/// reads the bytes of the page that its address leads to, if RIPAS is RAM. At an unprotected address it reads bytes of
+/// the host outside the secure world. What it writes at a protected address changes those at no protected address of
+/// another page or realm. What it writes at an unprotected one changes those at no protected address.
 pub fn memory_is_the_guest_s()
     ensures calls { (r : Registers) (m : Machine) → IsProper m → KeepsLocations m (call_in r) (rmi r m).1 }
     ensures stores { (m : Machine) (address word : ℕ) → IsProper m → KeepsLocations m None (after_store m address word) }
@@ -342,10 +347,11 @@ pub fn fold_and_unfold()
 
 /// Other realms stay: a call leaves each granule as it was, but for those of the realm that it is on, and UNDELEGATED
 /// and DELEGATED ones. So it keeps the RDs, tables, pages and RECs of all other realms. UNDELEGATED ones stay as they
-/// were, but for one that is delegated, and for pages that a REC writes which is entered. None of these is of the secure
-/// world. Stores and fills of the host change UNDELEGATED granules alone, a step that a guest is given its REC, and an
-/// interrupt its REC and its run page. A write of a guest changes pages of its realm, and of the host outside the secure world. Settings and the
-/// number of granules stay. VMIDs are those before, but for calls that create or destroy a realm.
+/// were, but for one that is delegated, and for pages that a REC writes which is entered. None of these is of the
+/// secure world. Stores and fills of the host change the granule of their address alone, if it is UNDELEGATED. A step
+/// that a guest is given changes its REC, and an interrupt its REC and its run page. A write of a guest changes pages of
+/// its realm, and of the host outside the secure world. At a protected address it changes none of the host. Settings
+/// and the number of granules stay. VMIDs are those before, but for that of a realm that is created or destroyed.
 pub fn other_realms_stay()
     ensures calls { (r : Registers) (m : Machine) (granule : ℕ) → IsProper m → IsOfAnother m (call_in r) granule → IsSameAt m (rmi r m).1 granule }
     ensures hosts { (r : Registers) (m : Machine) (granule : ℕ) → IsProper m → (granule_at m granule).state ≡ Undelegated → IsSameAt m (rmi r m).1 granule ⊎ IsHostChanged m (rmi r m).1 (call_in r) granule }
