@@ -1,5 +1,4 @@
 use Rattle.std.proofs.Common.{ap, sym, ◌∙◌}
-use Rattle.rmm_model.specs.declared.rec.RmmRec.{RmmRec}
 use Rattle.rmm_model.specs.declared.step.StepOutcome.{StepOutcome}
 use Rattle.rmm_model.specs.Guest.{rec_in}
 use Rattle.rmm_model.specs.Step.{is_exit}
