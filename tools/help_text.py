@@ -27,7 +27,7 @@ def rows_of(text, heading):
 
 
 def option_of(row):
-    letter, name, value, said = re.fullmatch(r" +(?:-(\w), )?--([\w-]+)(?: <(\w+)>)?  +(.*)", row).groups()
+    letter, name, value, said = re.fullmatch(r" +(?:-(\w), )?--([\w-]+)(?: <([\w:]+)>)?  +(.*)", row).groups()
     return Option(letter, name, value, said)
 
 
