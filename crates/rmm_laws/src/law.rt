@@ -259,13 +259,12 @@ pub fn requests_are_the_guest_s()
 {}
 
 /// RIPAS is the guest's. RMI_RTT_INIT_RIPAS and RMI_DATA_CREATE alone can make it RAM while a realm is NEW.
-/// RMI_DATA_DESTROY can make it DESTROYED where it was RAM, and RMI_RTT_DESTROY whatever it was. A page that is
-/// destroyed leaves RIPAS that is not RAM. RMI_RTT_SET_RIPAS can make it what a REC of the realm asks for, within the range that
-/// it asks for. If it succeeds, it does so up to X1 and no further, and leaves the pages. So does RMI_RTT_INIT_RIPAS
-/// with RAM. No other call changes the RIPAS of a protected address, and neither do stores and fills of the host, steps
-/// that guests are given, and interrupts. A new realm is EMPTY and has no page at each protected address. An access of
-/// a guest at a protected address where RIPAS is not RAM, or where there is no page, is answered an SEA or makes an
-/// exit, and reads and writes nothing.
+/// RMI_DATA_DESTROY can make it DESTROYED where it was RAM, and RMI_RTT_DESTROY whatever it was. A page that is destroyed
+/// leaves RIPAS that is not RAM. RMI_RTT_SET_RIPAS can make it what a REC of the realm asks for, within the range that it
+/// asks for. If it succeeds, it does so up to X1 and no further, and leaves the pages. So does RMI_RTT_INIT_RIPAS with
+/// RAM. No other call changes the RIPAS of a protected address, and neither do stores and fills of the host, steps that
+/// guests are given, and interrupts. A new realm is EMPTY and has no page at each protected address. An access of a guest
+/// to a protected address without RAM or without a page is answered an SEA or makes an exit. It reads and writes nothing.
 pub fn ripas_is_the_guest_s()
     ensures calls { (r : Registers) (m : Machine) → IsProper m → KeepsRipas m (call_in r) (rmi r m).1 }
     ensures taken { (m : Machine) (rd ipa x : ℕ) → IsProper m → (performed (DataDestroy rd ipa) m).0.word ≡ Success → IsBetween ipa (ipa + 4096) x
