@@ -112,7 +112,8 @@ pub trait PageStore {
             ≡ slice_set (page_bytes self.old) granule (with_bytes (page_at (page_bytes self.old) granule) offset bytes.now) }
         ensures flags { free_flags self.new ≡ free_flags self.old };
 
-    /// Writes 512 words of one kind to a page. Bits 47:0 of the first are `first`, and those of the others rise by `step`.
+    /// Writes 512 words of one kind to a page. Bits 47:0 of the first are `first`, and those of the others rise by
+    /// `step`.
     fn write_rising(&mut self, granule: Gran, kind: u64, first: u64, step: u64)
         requires inside { granule < length (page_bytes self.old) }
         requires taken { is_free (free_flags self.old) granule ≡ false }
