@@ -2,13 +2,15 @@
 
 The orders of a plan are found here by replays alone: a build has a step left where its next turn is not idle. Of each order the
 lines of the replay tell how each step ended, and what the map is. From these the whole text of `explore` is made, and it has to
-be the one that the program writes. How many orders there are is known besides, where each step has one turn: the multinomial
-of the builds' numbers of steps.
+be the one that the program writes. Of a plan of more orders the first order of each line is replayed: it has to show what the
+line says. How many orders there are is known besides, where each step has one turn: the multinomial of the builds' numbers of
+steps.
 Of orders that are drawn, the numbers of xoshiro256++ are made here too. What is told of the progress is read from a terminal.
 
 What `order` writes of a plan is replayed: no turn is idle, each build performs every step, and the builds take turns as they have
 to. The rest of the text is as it was. A few such texts are stored in tests/reordered.
 """
+import json
 import math
 import os
 import pty
@@ -171,7 +173,32 @@ def plan_of(builds, **settings):
     return head + "order = [0]\n" + "".join(f"[[build]]\nsteps = {list(steps)}\n".replace("'", '"') for steps in builds)
 
 
+def shows(replay, words, rest):
+    """Whether a replay shows what a line says of its order. `rest` is the text below the line."""
+    ends = list(replay.ends())
+    refused = {build for build, _, _, answer in ends if answer != "ok"}
+    match words.split(" ", 2):
+        case ["map"]:
+            return rest.startswith(replay.map)
+        case ["no", *_]:
+            return not refused
+        case ["some", *_]:
+            return bool(refused)
+        case ["never", _, build]:
+            return int(build) not in refused
+    return words in ["step {} {} {} = {}".format(*end) for end in ends]
+
+
+def of_first_orders(name, plan):
+    """The first order of each line, replayed: it shows what the line says."""
+    status, out, err = run(VIEW, ["explore"], plan)
+    yield f"{name}, status", (status, err), (0, "")
+    for line in re.finditer(r"(?m)^(.*) in \d+, order = (\[.*\])\n", out):
+        yield f"{name}, {line[0]}", shows(Replay(plan, json.loads(line[2])), line[1], out[line.end() :]), True
+
+
 def of_plan(name, plan, builds, most=MOST):
+    yield from of_first_orders(name, plan)
     if wanted := text_of(plan, builds, most):
         yield name, run(VIEW, ["explore"], plan), (0, wanted, "")
 

@@ -3,18 +3,19 @@
 The graph is that of tests/schedule_graph.py, over the second host. What it says of a plan has to be what the program says. For
 a plan of few schedules it is what runs of each schedule say, from boot, with the text of each first schedule.
 """
+import copy
 import random
 import tomllib
 
 import pytest
 
-from programs import PLANS, TOP, VIEW, needs, over, run
+from programs import PLANS, VIEW, needs, over, run
 from schedule_graph import Graph, machine_of
 from second_host import Blocks, Build, Turn, map_of
 
 pytestmark = needs(VIEW)
 # How many schedules of a plan are run one after the other at most.
-MOST = 60
+MOST = 500
 # How many there are at most where the shortest way to a thing is found by trying all.
 FEW = 100
 RANDOM_PLANS, MOST_TURNS, PARTS = 300, 12, 10
@@ -41,19 +42,25 @@ class Run:
         if turn.build.done != before.done:
             self.ends.append((number, before.done, turn.answer))
 
+    def then(self, number: int) -> "Run":
+        """The run with one turn more. What a turn changes is made anew."""
+        more = copy.copy(self)
+        more.builds, more.ends = self.builds.copy(), self.ends.copy()
+        more.turn(number)
+        return more
+
     def map(self) -> str:
         rows = [map_of(self.machine, number, build) for number, build in enumerate(self.builds)]
         return "".join(rows) + f"free {self.blocks.free()}\n"
 
 
-def each_schedule(text: str, turns: tuple[int, ...] = ()):
-    """Each schedule of a plan that begins so, the lowest first, with its run."""
-    run = Run(text, list(turns))
+def each_schedule(run: Run, turns: tuple[int, ...] = ()):
+    """Each schedule that begins with these turns, the lowest first, with its run."""
     left = run.left()
     if not left:
         yield list(turns), run
     for build in left:
-        yield from each_schedule(text, (*turns, build))
+        yield from each_schedule(run.then(build), (*turns, build))
 
 
 class Shown(dict):
@@ -68,17 +75,17 @@ def one_by_one(text: str) -> str | None:
     """What is to be told of a plan, by a run of each schedule; none if there are too many."""
     steps = [build["steps"] for build in tomllib.loads(text)["build"]]
     orders, wholes, ends, smooth, maps = 0, Shown(), Shown(), Shown(), Shown()
-    for order, run in each_schedule(text):
+    for order, ended in each_schedule(Run(text, [])):
         orders += 1
         if orders > MOST:
             return None
-        refused = {end[0] for end in run.ends if end[2] != "ok"}
+        refused = {end[0] for end in ended.ends if end[2] != "ok"}
         wholes.add("some step refused" if refused else "no step refused", order)
-        for end in run.ends:
+        for end in ended.ends:
             ends.add(end, order)
         for build in set(range(len(steps))) - refused:
             smooth.add(build, order)
-        maps.add(run.map(), order)
+        maps.add(ended.map(), order)
 
     def shown(thing) -> str:
         count, first = thing
@@ -124,10 +131,10 @@ def shortest(text: str, shows) -> list[int] | None:
     front = [[]]
     while front:
         runs = [Run(text, turns) for turns in front]
-        for turns, run in zip(front, runs):
-            if shows(run):
+        for turns, ended in zip(front, runs):
+            if shows(ended):
                 return turns
-        front = [[*turns, build] for turns, run in zip(front, runs) for build in run.left()]
+        front = [[*turns, build] for turns, ended in zip(front, runs) for build in ended.left()]
     return None
 
 
