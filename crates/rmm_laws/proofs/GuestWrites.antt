@@ -157,12 +157,18 @@ module _ (m : Machine) (proper : IsProper m) (rd other ipa value x : ℕ) (size 
   unfolding after_step
   written_beside g outcome = ap (content_of n) same_place ∙ same_by (location_at m its x) refl
 
+-- a write at a protected address of another page reaches another page
+pub lower_apart : (m : Machine) (proper : IsProper m) (rd other ipa value x : ℕ) (size : AccessSize) (realm its : RmmRealm) (is : (granule_at m rd).state ≡ Rd realm) (also : (granule_at m other).state ≡ Rd its)
+    (protected : is_protected realm ipa ≡ true) (protected_too : is_protected its x ≡ true) (apart : (other ≢ rd) ⊎ (x / 4096 ≢ ipa / 4096))
+    → (b : Location) → location_at m its x ≡ Some b → (h : ℕ) → access m realm ipa true size (low_bytes size value) ≡ Ok h → number_of m b.address ≢ h
+lower_apart m proper rd other ipa value x size realm its is also protected protected_too apart b there h reaches here =
+    let at = reached m proper rd realm is ipa protected true size (low_bytes size value) h reaches in
+    let one = in_one_page m proper rd other realm its is also ipa x protected protected_too at.0 b at.1 there (sym at.2 ∙ sym here) in
+    ⊎_elim (λ (not_ours : other ≢ rd). not_ours (sym one.0)) (λ (far : x / 4096 ≢ ipa / 4096). far (sym one.1)) apart
+
 pub written_content : (m : Machine) (proper : IsProper m) (rd other ipa value x : ℕ) (size : AccessSize) (realm its : RmmRealm) (is : (granule_at m rd).state ≡ Rd realm) (also : (granule_at m other).state ≡ Rd its)
     (protected : is_protected realm ipa ≡ true) (protected_too : is_protected its x ≡ true) (apart : (other ≢ rd) ⊎ (x / 4096 ≢ ipa / 4096)) (g : ℕ) (outcome : StepOutcome)
     → content_at (after_step m realm g (Write ipa value size) outcome) its x ≡ content_at m its x
 written_content m proper rd other ipa value x size realm its is also protected protected_too apart =
     written_beside m proper rd other ipa value x size realm its is also protected_too
-    (λ b there h reaches here.
-    let at = reached m proper rd realm is ipa protected true size (low_bytes size value) h reaches in
-    let one = in_one_page m proper rd other realm its is also ipa x protected protected_too at.0 b at.1 there (sym at.2 ∙ sym here) in
-    ⊎_elim (λ (not_ours : other ≢ rd). not_ours (sym one.0)) (λ (far : x / 4096 ≢ ipa / 4096). far (sym one.1)) apart)
+    (lower_apart m proper rd other ipa value x size realm its is also protected protected_too apart)

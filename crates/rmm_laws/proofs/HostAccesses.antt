@@ -1,5 +1,5 @@
 -- Accesses of guests at unprotected addresses, and pages that guests and the host leave.
-use Rattle.std.proofs.Common.{◌≡◌, ◌≢◌, ℕ, ◌+◌, ◌*◌, ◌/◌, ◌%◌, Bool, true, false, not, Result, Ok, Err, refl, sym, ap, ◌∙◌}
+use Rattle.std.proofs.Common.{◌≡◌, ◌≢◌, ℕ, Some, ◌+◌, ◌*◌, ◌/◌, ◌%◌, Bool, true, false, not, Result, Ok, Err, refl, sym, ap, ◌∙◌}
 use Rattle.std.specs.Prelude.{if◌then◌else◌}
 use Rattle.std.proofs.lemmas.Bool.{both_ways, cond_both}
 use Rattle.granule_addr.specs.Page.{page_of}
@@ -26,7 +26,7 @@ use Rattle.rmm_model.specs.Walk.{entry_at, walk}
 use Rattle.rmm_model.specs.Command.RecEnter.{after_step, step_outcome}
 use Rattle.rmm_laws.specs.Apart.{IsSameAt}
 use Rattle.rmm_laws.specs.Guest.{IsHostValue}
-use Rattle.rmm_laws.specs.Location.{content_at}
+use Rattle.rmm_laws.specs.Location.{Location, location_at, content_at}
 use Rattle.rmm_laws.specs.Proper.{IsProper}
 use Rattle.rmm_laws.proofs.Accesses.{reached_normal}
 use Rattle.rmm_laws.proofs.Aside.{written_apart}
@@ -82,17 +82,21 @@ host_reached m realm ipa upper size value h =
     (λ address host is. (let same : number_of m address ≡ h = cc in ap (λ (k : ℕ). (granule_at m k).state) (sym same) ∙ host_plain m address host))
     realm upper true size value
 
+-- a write at an unprotected address reaches no page that a protected one leads to
+pub upper_apart : (m : Machine) (other ipa value x : ℕ) (size : AccessSize) (realm its : RmmRealm) → IsProper m → (granule_at m other).state ≡ Rd its → is_protected realm ipa ≡ false → is_protected its x ≡ true
+    → (b : Location) → location_at m its x ≡ Some b → (h : ℕ) → access m realm ipa true size (low_bytes size value) ≡ Ok h → number_of m b.address ≢ h
+upper_apart m other ipa value x size realm its proper also upper lower b there h reaches here =
+    let host = host_reached m realm ipa upper size (low_bytes size value) h reaches in
+    let state : (granule_at m (number_of m b.address)).state ≡ Data = ap (λ (r : RmmGranule). r.state) (leads_to_data m proper other its also x lower b there) in
+    let same : (granule_at m (number_of m b.address)).state ≡ (granule_at m h).state = ap (λ (k : ℕ). (granule_at m k).state) here in
+    cc
+
 -- a write at an unprotected address leaves the bytes at protected ones
 pub upper_written : (m : Machine) (rd other g ipa value x : ℕ) (size : AccessSize) (realm its : RmmRealm) (outcome : StepOutcome) → IsProper m → (granule_at m rd).state ≡ Rd realm → (granule_at m other).state ≡ Rd its
     → is_protected realm ipa ≡ false → is_protected its x ≡ true → content_at (after_step m realm g (Write ipa value size) outcome) its x ≡ content_at m its x
 upper_written m rd other g ipa value x size realm its outcome proper is also upper lower =
     written_beside m proper rd other ipa value x size realm its is also lower
-    (λ b there h reaches here.
-    let host = host_reached m realm ipa upper size (low_bytes size value) h reaches in
-    let state : (granule_at m (number_of m b.address)).state ≡ Data = ap (λ (r : RmmGranule). r.state) (leads_to_data m proper other its also x lower b there) in
-    let same : (granule_at m (number_of m b.address)).state ≡ (granule_at m h).state = ap (λ (k : ℕ). (granule_at m k).state) here in
-    cc)
-    g outcome
+    (upper_apart m other ipa value x size realm its proper also upper lower) g outcome
 
 -- ---- pages of the host
 

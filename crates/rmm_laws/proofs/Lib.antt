@@ -67,6 +67,7 @@ pub mod Serving
 pub mod SetRipas
 pub mod Sides
 pub mod Sources
+pub mod StepWrites
 pub mod StateCalls
 pub mod States
 pub mod Steps

@@ -83,7 +83,7 @@ module _ (o : Machine) (x g : ℕ) (other : x ≢ g) where
   unfolding after_entry
   by_entry address flags m same = by_answer (number_of m address) flags _ (rec_in m g).exit (by_gic (number_of m address) _ (by_rec m _ same))
 
-  by_passed : (m : Machine) (outcome : StepOutcome) → IsSameAt o m x → IsSameAt o (with_step_passed m g outcome) x
+  pub by_passed : (m : Machine) (outcome : StepOutcome) → IsSameAt o m x → IsSameAt o (with_step_passed m g outcome) x
   by_passed m (IsResult r) same = by_ended m r same
   by_passed m (IsExit exit last) same = cond_both _ m _ (λ (n : Machine). IsSameAt o n x) (λ sure. same) (λ never. by_past m same)
   by_passed m Spins same = by_past m same
@@ -125,7 +125,7 @@ first_step_at m x g flags other its none = cond_both ((rec_in m g).step_count ==
 -- ---- the bytes
 
 module _ (m : Machine) (g : ℕ) (run : IsProperRun m g) where
-  not_rec : (x : ℕ) → (granule_at m x).state ≡ Data → x ≢ g
+  pub not_rec : (x : ℕ) → (granule_at m x).state ≡ Data → x ≢ g
   not_rec x its same =
       let rec_is : (granule_at m g).state ≡ IsRec run.1 = run.2 in
       let states : (granule_at m x).state ≡ (granule_at m g).state = ap (λ (y : ℕ). (granule_at m y).state) same in

@@ -315,6 +315,8 @@ pub fn memory_is_the_guest_s()
         → content_at m realm ipa ≡ Some page → ripas_at m realm ipa ≡ Ram → step_outcome m realm rec flags (Read ipa size) ≡ IsResult (IsRead (value_in page size ipa)) }
     ensures entered { (m : Machine) (g address flags : ℕ) → IsProperRun m g → KeepsContents m None (after_entry m g address flags) }
     ensures stepped { (m : Machine) (g flags : ℕ) → IsProperRun m g → is_write (first_step m g) ≡ false → KeepsContents m None (after_first_step m g flags) }
+    ensures step_writes { (m : Machine) (rd other g flags ipa value x : ℕ) (size : AccessSize) (realm its : RmmRealm) → IsProperRun m g → (granule_at m g).owner ≡ Some rd → (granule_at m rd).state ≡ Rd realm → (granule_at m other).state ≡ Rd its
+        → first_step m g ≡ Write ipa value size → is_protected its x ≡ true → (is_protected realm ipa ≡ false) ⊎ ((other ≢ rd) ⊎ (x / 4096 ≢ ipa / 4096)) → content_at (after_first_step m g flags) its x ≡ content_at m its x }
     ensures left { (m : Machine) (g : ℕ) (exit : RecExit) (last : LastExit) → IsProperRun m g → KeepsContents m None (after_exit m g exit last) }
     ensures upper_reads { (m : Machine) (realm : RmmRealm) (rec flags ipa value : ℕ) (size : AccessSize) → IsProper m → is_protected realm ipa ≡ false
         → step_outcome m realm rec flags (Read ipa size) ≡ IsResult (IsRead value) → IsHostValue m size ipa value }

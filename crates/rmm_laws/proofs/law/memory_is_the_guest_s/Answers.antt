@@ -10,6 +10,7 @@ use Rattle.rmm_laws.proofs.Performing.{performed_for}
 use Rattle.rmm_laws.proofs.Plain.{stored, filled}
 use Rattle.rmm_laws.proofs.ProperCalls.{after}
 use Rattle.rmm_laws.proofs.RunContents.{entered_contents, stepped_contents, left_contents}
+use Rattle.rmm_laws.proofs.StepWrites.{step_written}
 use Rattle.rmm_laws.proofs.law.memory_is_the_guest_s.Goals as goal
 
 pub returns-clause-calls : goal.returns-clause-calls
@@ -74,3 +75,6 @@ returns-clause-created c = data_there
 
 pub returns-clause-created_unknown : goal.returns-clause-created_unknown
 returns-clause-created_unknown c = unknown_there
+
+pub returns-clause-step_writes : goal.returns-clause-step_writes
+returns-clause-step_writes c = λ m rd other g flags ipa value x size realm its run owned is also step lower apart. step_written m rd other g flags ipa value x size realm its run owned is also step lower apart
