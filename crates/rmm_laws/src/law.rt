@@ -227,9 +227,9 @@ pub fn activated_once()
 
 /// RIMs are measured: RMI_REALM_CREATE gives a realm its first RIM. RMI_DATA_CREATE, RMI_RTT_INIT_RIPAS and
 /// RMI_REC_CREATE of a REC that is measured extend it while the realm is NEW. No other call changes it, and neither do
-/// steps that guests are given, and interrupts. A page of data has the bytes that are measured. What is measured is
-/// read from a page of the host outside the secure world, and so are parameters. A REC that is created has what its
-/// parameters ask for.
+/// steps that guests are given, and interrupts. A page of data has the bytes of its source, which are measured if the
+/// flags say so. What is measured is read from a page of the host outside the secure world, and so are parameters. A
+/// REC that is created has what its parameters ask for.
 pub fn rims_are_measured()
     ensures calls { (r : Registers) (m : Machine) → IsProper m → KeepsRims m (call_in r) (rmi r m).1 }
     ensures steps { (m : Machine) (rec : ℕ) (w : StepWords) → KeepsRims m None (queued m rec w).1 }
@@ -258,13 +258,13 @@ pub fn requests_are_the_guest_s()
     ensures left { (m : Machine) (g : ℕ) (exit : RecExit) (last : LastExit) → KeepsRequests m None (after_exit m g exit last) }
 {}
 
-/// RIPAS is the guest's. RMI_RTT_INIT_RIPAS and RMI_DATA_CREATE alone can make it RAM while a realm is NEW.
-/// RMI_DATA_DESTROY can make it DESTROYED where it was RAM, and RMI_RTT_DESTROY whatever it was. A page that is destroyed
-/// leaves RIPAS that is not RAM. RMI_RTT_SET_RIPAS can make it what a REC of the realm asks for, within the range that it
-/// asks for. If it succeeds, it does so up to X1 and no further, and leaves the pages. So does RMI_RTT_INIT_RIPAS with
-/// RAM. No other call changes the RIPAS of a protected address, and neither do stores and fills of the host, steps that
-/// guests are given, and interrupts. A new realm is EMPTY and has no page at each protected address. An access of a guest
-/// to a protected address without RAM or without a page is answered an SEA or makes an exit. It reads and writes nothing.
+/// RIPAS is the guest's. RMI_RTT_INIT_RIPAS and RMI_DATA_CREATE can make it RAM, if the realm is NEW. RMI_DATA_DESTROY
+/// can make it DESTROYED where it was RAM, and RMI_RTT_DESTROY whatever it was. A page that is destroyed leaves RIPAS
+/// that is not RAM. RMI_RTT_SET_RIPAS can make it what a REC of the realm asks for, within the range that it asks for.
+/// If it succeeds, it does so up to X1 and no further, and leaves the pages. So does RMI_RTT_INIT_RIPAS with RAM. No
+/// other call changes the RIPAS of a protected address, and neither do stores and fills of the host, steps that guests
+/// are given, and interrupts. A new realm is EMPTY and has no page at each protected address. An access of a guest to a
+/// protected address without RAM or without a page is answered an SEA or makes an exit. It reads and writes nothing.
 pub fn ripas_is_the_guest_s()
     ensures calls { (r : Registers) (m : Machine) → IsProper m → KeepsRipas m (call_in r) (rmi r m).1 }
     ensures taken { (m : Machine) (rd ipa x : ℕ) → IsProper m → (performed (DataDestroy rd ipa) m).0.word ≡ Success → IsBetween ipa (ipa + 4096) x
@@ -350,9 +350,9 @@ pub fn fold_and_unfold()
 /// and DELEGATED ones. So it keeps the RDs, tables, pages and RECs of all other realms. UNDELEGATED ones stay as they
 /// were, but for one that is delegated, and for pages that a REC writes which is entered. None of these is of the
 /// secure world. Stores and fills of the host change the granule of their address alone, if it is UNDELEGATED. A step
-/// that a guest is given changes its REC, and an interrupt its REC and its run page. A write of a guest changes pages of
-/// its realm, and of the host outside the secure world. At a protected address it changes none of the host. Settings
-/// and the number of granules stay. VMIDs are those before, but for that of a realm that is created or destroyed.
+/// that a guest is given changes its REC, and an interrupt its REC and its run page. A write of a guest changes pages
+/// of its realm, and of the host outside the secure world. At a protected address it changes none of the host. Calls
+/// keep settings and the number of granules. They keep VMIDs, but for that of a realm that is created or destroyed.
 pub fn other_realms_stay()
     ensures calls { (r : Registers) (m : Machine) (granule : ℕ) → IsProper m → IsOfAnother m (call_in r) granule → IsSameAt m (rmi r m).1 granule }
     ensures hosts { (r : Registers) (m : Machine) (granule : ℕ) → IsProper m → (granule_at m granule).state ≡ Undelegated → IsSameAt m (rmi r m).1 granule ⊎ IsHostChanged m (rmi r m).1 (call_in r) granule }
