@@ -214,6 +214,16 @@ pub done_passed : (call : Call) (m : Machine) → is_refusal (performed call m).
 unfolding performed
 done_passed call m done = passed_at (first_failing (command_of call m).checks) (command_of call m) m refl (all_refuse call m) done
 
+own_at : (f : Option FailedCondition) (command : Command) (m : Machine) → first_failing command.checks ≡ f → refuses [] command.checks ≡ true → is_refusal (decided f command m).0.word ≡ false
+    → decided f command m ≡ (command.answer, command.machine)
+own_at (Some refusal) command m is all done = absurd (both_ways (is_refusal refusal.answer.word) done (first_word [] command.checks refusal all is).2)
+own_at None command m is all done = refl
+
+-- a call that is not refused has its own answer and its own machine
+pub done_own : (call : Call) (m : Machine) → is_refusal (performed call m).0.word ≡ false → performed call m ≡ ((command_of call m).answer, (command_of call m).machine)
+unfolding performed
+done_own call m done = own_at (first_failing (command_of call m).checks) (command_of call m) m refl (all_refuse call m) done
+
 refused_at : (f : Option FailedCondition) (command : Command) (m : Machine) → first_failing command.checks ≡ f → refuses [] command.checks ≡ true → IsOwn command.answer.word → is_refusal (decided f command m).0.word ≡ true
     → IsOneOf (decided f command m).0.word (allowed_words command) × ((word : Word) → IsOneOf word (allowed_words command) → is_refusal word ≡ true)
 unfolding allowed_words

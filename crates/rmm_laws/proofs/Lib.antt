@@ -61,6 +61,7 @@ pub mod RipasCalls
 pub mod RipasTables
 pub mod RunContents
 pub mod Running
+pub mod Runs
 pub mod SameTables
 pub mod Seats
 pub mod Serving

@@ -10,6 +10,7 @@ pub mod Refusal
 pub mod Request
 pub mod Ripas
 pub mod Role
+pub mod Run
 pub mod State
 pub mod Step
 pub mod Walk

@@ -11,6 +11,7 @@ ghost use Rattle.rmi_abi.specs.declared.call.Call.TheVariants.{GranuleUndelegate
 ghost use Rattle.rmi_abi.specs.declared.word.Word.{Word};
 ghost use Rattle.rmi_abi.specs.declared.word.Word.TheVariants.{Success};
 ghost use Rattle.rmi_abi.specs.Call.{call_in};
+ghost use Rattle.rmi_abi.specs.RecRun.{flags_in};
 ghost use Rattle.rmi_abi.specs.Settings.{IsPlatform};
 ghost use Rattle.rmm_granules.specs.Inside.{platform_machine};
 ghost use Rattle.rmm_model.specs.declared.access.AccessSize.{AccessSize};
@@ -58,6 +59,7 @@ ghost use Rattle.rmm_laws.specs.Refusal.{IsRefused, is_refusal, IsOneOf, IsRecEn
 ghost use Rattle.rmm_laws.specs.Request.{KeepsRequests, IsRestFrom, IsAskedFor};
 ghost use Rattle.rmm_laws.specs.Ripas.{KeepsRipas, ripas_at, IsBetween, IsRipasSet, IsWithoutMemory, outcome_without_memory};
 ghost use Rattle.rmm_laws.specs.Role.{Used, page_count, uses, IsSound};
+ghost use Rattle.rmm_laws.specs.Run.{HasRun};
 ghost use Rattle.rmm_laws.specs.State.{IsRealmIn, KeepsStates, KeepsRealms, HasRim, IsMeasured, Measures, KeepsRims};
 ghost use Rattle.rmm_laws.specs.Step.{HasNextStep, HasRemoval, CanBeTornDown};
 ghost use Rattle.rmm_laws.specs.Walk.{IsTableOf, Serves, EndsWell, IsPassed, IsAtLive, IsNextTop, LeadsToTable, walked_to};
@@ -245,7 +247,8 @@ pub fn rims_are_measured()
 /// RMI_RTT_SET_RIPAS, after which the REC asks for the rest. So do steps that a guest is given, and interrupts. A REC that
 /// left with a request asks for nothing once it is entered, and any other asks for what it asked for before. A step of
 /// its guest asks for a range of the protected half, or leaves what is asked for as it is, and so does the exit.
-/// RMI_RTT_SET_RIPAS begins where the REC asks, and then the REC asks for the rest from X1 on.
+/// RMI_RTT_SET_RIPAS begins where the REC asks, and then the REC asks for the rest from X1 on. RMI_REC_ENTER that is not
+/// refused is an entry, at most 16 steps, and an exit unless the guest spins.
 pub fn requests_are_the_guest_s()
     ensures calls { (r : Registers) (m : Machine) → KeepsRequests m (call_in r) (rmi r m).1 }
     ensures steps { (m : Machine) (rec : ℕ) (w : StepWords) → KeepsRequests m None (queued m rec w).1 }
@@ -255,6 +258,8 @@ pub fn requests_are_the_guest_s()
     ensures asked { (m : Machine) (g flags : ℕ) (rec : RmmRec) → (granule_at (after_first_step m g flags) g).state ≡ Rec rec → (rec.ripas ≡ (rec_in m g).ripas) ⊎ IsAskedFor m g rec.ripas }
     ensures rest { (m : Machine) (rd rec base top : ℕ) → (performed (RttSetRipas rd rec base top) m).0.word ≡ Success
         → IsRestFrom m (performed (RttSetRipas rd rec base top) m).1 rec base (performed (RttSetRipas rd rec base top) m).0.x1 }
+    ensures run { (m : Machine) (rec run : ℕ) → is_refusal (performed (RecEnter rec run) m).0.word ≡ false
+        → HasRun (after_entry m (number_of m rec) run (flags_in (page_in m (number_of m run)))) (number_of m rec) (flags_in (page_in m (number_of m run))) 16 (performed (RecEnter rec run) m).0.word (performed (RecEnter rec run) m).1 }
     ensures left { (m : Machine) (g : ℕ) (exit : RecExit) (last : LastExit) → KeepsRequests m None (after_exit m g exit last) }
 {}
 

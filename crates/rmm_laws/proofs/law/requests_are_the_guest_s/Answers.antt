@@ -2,6 +2,7 @@ use Rattle.rmi_abi.specs.Call.{call_in}
 use Rattle.rmm_model.specs.Call.{rmi}
 use Rattle.rmm_laws.proofs.Asking.{nothing_asked, request_kept, asked_by_step}
 use Rattle.rmm_laws.proofs.Requests.{call_requests, queued_requests, interrupt_requests, left_requests}
+use Rattle.rmm_laws.proofs.Runs.{entered_run}
 use Rattle.rmm_laws.proofs.SetRipas.{rest_after}
 use Rattle.rmm_laws.proofs.law.requests_are_the_guest_s.Goals as goal
 
@@ -29,3 +30,6 @@ returns-clause-rest c = rest_after
 
 pub returns-clause-left : goal.returns-clause-left
 returns-clause-left c = λ m g exit last. left_requests m g exit last
+
+pub returns-clause-run : goal.returns-clause-run
+returns-clause-run c = entered_run
