@@ -1,7 +1,7 @@
 -- What calls that succeed have found and done.
 use Rattle.std.proofs.Common.{◌≡◌, ◌≢◌, ℕ, zero, suc, ◌<◌, Bool, true, false, List, length, Option, Some, None, refl, sym, ap, subst, ◌∙◌}
 use Rattle.std.specs.Prelude.{is_some}
-use Rattle.std.proofs.lemmas.List.{length-set}
+use Rattle.std.proofs.lemmas.List.{length-set, get_or-set_same}
 use Rattle.rmi_abi.specs.declared.call.Call.{Call}
 use Rattle.rmi_abi.specs.declared.call.Call.TheVariants.{DataCreate, DataDestroy, RealmActivate, RealmCreate, RecCreate, RecEnter, RttInitRipas}
 use Rattle.rmi_abi.specs.declared.registers.SmcResult.{SmcResult}
@@ -39,7 +39,7 @@ use Rattle.rmm_laws.specs.Back.{IsAssignedTo}
 use Rattle.rmm_laws.specs.Owner.{is_rd}
 use Rattle.rmm_laws.specs.Proper.{IsProper}
 use Rattle.rmm_laws.specs.Refusal.{is_refusal}
-use Rattle.rmm_laws.specs.State.{IsRealmIn, HasRim, IsMeasured, Measures, rim_with_range}
+use Rattle.rmm_laws.specs.State.{IsRealmIn, IsRealmMadeOf, HasRim, IsMeasured, Measures, rim_with_range}
 use Rattle.rmm_laws.proofs.Answered.{done_passed}
 use Rattle.rmm_laws.proofs.Freed.{succeeded}
 use Rattle.rmm_laws.proofs.Guests.{active_if}
@@ -48,6 +48,7 @@ use Rattle.rmm_laws.proofs.Passed.{yes_from, is_delegated-true, realm_of-some}
 use Rattle.rmm_laws.proofs.Realms.{made_count}
 use Rattle.rmm_laws.proofs.Running.{entered_left}
 use Rattle.rmm_laws.proofs.StateCalls.{new_if}
+use Rattle.rmm_laws.proofs.Vmids.{made_vmids}
 use Rattle.rmm_laws.proofs.Walks.{IsPlace}
 use Rattle.rmm_laws.proofs.Writes.{granule_at-same, page_in-same, page_in-other, taken_inside}
 
@@ -67,6 +68,25 @@ activated_then m rd success =
     let inside : g < length m.granules = taken_inside m g (λ none. cc) in
     subst (λ (p : SmcResult × Machine). IsRealmIn m g New × IsRealmIn p.1 g Active) (sym now)
     ((old, is, fresh), (new, ap (λ (r : RmmGranule). r.state) (granule_at-same m g (of_no_realm (Rd new)) inside), refl)))
+
+-- a realm that is created has what its parameters ask for
+pub created_then : (m : Machine) (rd params : ℕ) → (performed (RealmCreate rd params) m).0.word ≡ Success → IsRealmMadeOf m (performed (RealmCreate rd params) m).1 rd params
+unfolding realm_create params_checks realm_for
+created_then m rd params success =
+    let g : ℕ = number_of m rd in
+    succeeded (IsRealmMadeOf m (performed (RealmCreate rd params) m).1 rd params) (RealmCreate rd params) m refl success
+    (λ ok now.
+    let realm : RmmRealm = realm_for m (params_at m params) in
+    let tables : Machine = with_tables m g realm realm.table_count in
+    let free = is_delegated-true (state_at m rd) (yes_from (is_delegated (state_at m rd)) ok.1.1.1.1.1.1.1.1.1.1.0) in
+    let inside : g < length m.granules = taken_inside m g (λ none. cc) in
+    let count : length tables.granules ≡ length m.granules = made_count m g realm realm.table_count in
+    let flags : tables.vmids ≡ m.vmids = made_vmids m g realm realm.table_count in
+    let is : granule_at (with_granule tables g (of_no_realm (Rd realm))) g ≡ of_no_realm (Rd realm) = granule_at-same tables g (of_no_realm (Rd realm)) (subst (λ (c : ℕ). g < c) (sym count) inside) in
+    subst (λ (p : SmcResult × Machine). IsRealmMadeOf m p.1 rd params) (sym now) (
+      realm, is, refl, refl, refl, refl, refl, refl, refl, refl, refl,
+      λ has. get_or-set_same tables.vmids realm.vmid true false (subst (λ (l : List Bool). realm.vmid < length l) (sym flags) has),
+    ))
 
 -- an RD whose realm is neither NEW nor off
 active_rd : (s : RmmGranuleState) → is_new (state_of (realm_of s)) ≡ false → is_system_off (state_of (realm_of s)) ≡ false → (realm : RmmRealm) × (s ≡ Rd realm) × (realm.state ≡ Active)

@@ -1,7 +1,7 @@
 -- A range of addresses after RMI_RTT_INIT_RIPAS and RMI_RTT_SET_RIPAS: what it gets, and what stays.
 use Rattle.std.proofs.Common.{◌≡◌, ◌≢◌, ℕ, zero, suc, ◌+◌, ◌-◌, ◌*◌, ◌/◌, ◌%◌, ◌^◌, ◌<◌, ◌≤◌, ◌⊎◌, inl, inr, true, false, List, length, unwrap_or, refl, sym, ap, subst, ◌∙◌, ⊎_elim, arith}
 use Rattle.std.specs.Prelude.{nat_le}
-use Rattle.std.proofs.lemmas.Bool.{cases_eq, cond_both, cond-true, eqb-true, leb-true}
+use Rattle.std.proofs.lemmas.Bool.{and_parts, cases_eq, cond_both, cond-true, eqb-true, leb-true}
 use Rattle.rmi_abi.specs.declared.call.Call.TheVariants.{RttInitRipas, RttSetRipas}
 use Rattle.rmi_abi.specs.declared.registers.SmcResult.{SmcResult}
 use Rattle.rmi_abi.specs.declared.word.Word.TheVariants.{Success}
@@ -238,8 +238,12 @@ module _ (m n : Machine) (proper : IsProper m) (settings : n.settings ≡ m.sett
 
 -- ---- the commands
 
+no_later : (x top last : ℕ) → x ≤ top → top ≤ last → x ≤ last
+no_later x top last below within = omega arith
+
 set_after : (rd rec base top : ℕ) (m : Machine) → IsProper m → Passed (rtt_set_ripas rd rec base top m).checks
     → IsRipasSet m (rtt_set_ripas rd rec base top m).machine (realm_at m rd) (rec_at m rec).ripas.ripas base (rtt_set_ripas rd rec base top m).answer.x1 × ((rtt_set_ripas rd rec base top m).answer.x1 ≤ top)
+    × ((rtt_set_ripas rd rec base top m).answer.x1 ≤ (rec_at m rec).ripas.top)
 unfolding rtt_set_ripas ripas_request_checks with_ripas_from
 set_after rd rec base top m proper ok =
     let realm : RmmRealm = realm_at m rd in
@@ -254,9 +258,12 @@ set_after rd rec base top m proper ok =
     let begins : base % entry_size found.level ≡ 0 = eqb-true _ _ (yes_from _ ok.1.1.1.1.1.1.1.1.1.1.1.1.0) in
     let can = yes_from _ ok.1.1.1.1.1.1.1.1.1.1.1.1.1.0 in
     let fits : base + entry_size found.level ≤ top = leb-true _ _ (yes_from _ ok.1.1.1.1.1.1.1.1.1.1.1.1.1.1.0) in
-    let others : (h : ℕ) → h ≢ found.table → page_in n h ≡ page_in m h = λ h other. page_in-other m found.table h _ other in (
+    let others : (h : ℕ) → h ≢ found.table → page_in n h ≡ page_in m h = λ h other. page_in-other m found.table h _ other in
+    let most = stop_most m n proper refl count r base top realm is within changeable asked.ripas begins can fits refl others in
+    let asked_top : top ≤ asked.top = leb-true top asked.top (and_parts (nat_le top asked.top) _ (yes_from _ ok.1.1.1.1.1.1.1.1.1.1.1.0)).0 in (
       range_set m n proper refl count r base top realm is within changeable asked.ripas begins can fits refl others,
-      stop_most m n proper refl count r base top realm is within changeable asked.ripas begins can fits refl others,
+      most,
+      no_later _ top asked.top most asked_top,
     )
 
 init_after : (rd base top : ℕ) (m : Machine) → IsProper m → Passed (rtt_init_ripas rd base top m).checks
@@ -282,12 +289,14 @@ init_after rd base top m proper ok =
 -- RMI_RTT_SET_RIPAS gives a range up to X1 what was asked for, and leaves all other addresses
 pub range_after : (m : Machine) (rd rec base top : ℕ) → IsProper m → (performed (RttSetRipas rd rec base top) m).0.word ≡ Success
     → IsRipasSet m (performed (RttSetRipas rd rec base top) m).1 (realm_at m rd) (rec_at m rec).ripas.ripas base (performed (RttSetRipas rd rec base top) m).0.x1 × ((performed (RttSetRipas rd rec base top) m).0.x1 ≤ top)
+    × ((performed (RttSetRipas rd rec base top) m).0.x1 ≤ (rec_at m rec).ripas.top)
 unfolding rtt_set_ripas ripas_request_checks
 range_after m rd rec base top proper success =
     succeeded
-    (IsRipasSet m (performed (RttSetRipas rd rec base top) m).1 (realm_at m rd) (rec_at m rec).ripas.ripas base (performed (RttSetRipas rd rec base top) m).0.x1 × ((performed (RttSetRipas rd rec base top) m).0.x1 ≤ top))
+    (IsRipasSet m (performed (RttSetRipas rd rec base top) m).1 (realm_at m rd) (rec_at m rec).ripas.ripas base (performed (RttSetRipas rd rec base top) m).0.x1 × ((performed (RttSetRipas rd rec base top) m).0.x1 ≤ top)
+    × ((performed (RttSetRipas rd rec base top) m).0.x1 ≤ (rec_at m rec).ripas.top))
     (RttSetRipas rd rec base top) m refl success
-    (λ ok now. subst (λ (p : SmcResult × Machine). IsRipasSet m p.1 (realm_at m rd) (rec_at m rec).ripas.ripas base p.0.x1 × (p.0.x1 ≤ top)) (sym now) (set_after rd rec base top m proper ok))
+    (λ ok now. subst (λ (p : SmcResult × Machine). IsRipasSet m p.1 (realm_at m rd) (rec_at m rec).ripas.ripas base p.0.x1 × (p.0.x1 ≤ top) × (p.0.x1 ≤ (rec_at m rec).ripas.top)) (sym now) (set_after rd rec base top m proper ok))
 
 -- RMI_RTT_INIT_RIPAS gives a range up to X1 RAM, and leaves all other addresses
 pub range_inited : (m : Machine) (rd base top : ℕ) → IsProper m → (performed (RttInitRipas rd base top) m).0.word ≡ Success

@@ -6,7 +6,7 @@ use Rattle.granule_addr.specs.Page.{zero_page}
 use Rattle.rmi_abi.specs.declared.registers.SmcResult.{SmcResult}
 use Rattle.rmi_abi.specs.declared.word.Word.TheVariants.{Success}
 use Rattle.rmi_abi.specs.declared.call.Call.{Call}
-use Rattle.rmi_abi.specs.declared.call.Call.TheVariants.{GranuleUndelegate, RealmDestroy, RecDestroy, RttDestroy, RttUnmapUnprotected, DataDestroy}
+use Rattle.rmi_abi.specs.declared.call.Call.TheVariants.{GranuleDelegate, GranuleUndelegate, RealmDestroy, RecDestroy, RttDestroy, RttUnmapUnprotected, DataDestroy}
 use Rattle.rmm_model.specs.declared.entry.RmmRipas.{RmmRipas}
 use Rattle.rmm_model.specs.declared.entry.RmmRttEntry.{RmmRttEntry}
 use Rattle.rmm_model.specs.declared.entry.RmmRttEntry.TheVariants.{Assigned, AssignedNs}
@@ -25,6 +25,7 @@ use Rattle.rmm_model.specs.Rec.{is_running}
 use Rattle.rmm_model.specs.Table.{has_live}
 use Rattle.rmm_model.specs.Walk.{entry_at, table_below, memory_below, walk}
 use Rattle.rmm_model.specs.Command.DataDestroy.{data_destroy}
+use Rattle.rmm_model.specs.Command.GranuleDelegate.{granule_delegate}
 use Rattle.rmm_model.specs.Command.GranuleUndelegate.{granule_undelegate}
 use Rattle.rmm_model.specs.Command.Operand.{realm_at, rec_at, is_level}
 use Rattle.rmm_model.specs.Command.RealmDestroy.{realm_destroy, has_live_table, is_realm_live}
@@ -221,6 +222,19 @@ undelegated m address proper success =
     let pages = proper.linked.sound.pages in
     subst (λ (p : SmcResult × Machine). (granule_at p.1 g ≡ of_no_realm Undelegated) × (page_in p.1 g ≡ zero_page)) (sym now)
     (granule_at-same m g (of_no_realm Undelegated) inside, page_in-same (with_granule m g (of_no_realm Undelegated)) g zero_page (omega arith)))
+
+-- a granule that is DELEGATED
+pub delegated : (m : Machine) (address : ℕ) → IsProper m → (performed (GranuleDelegate address) m).0.word ≡ Success
+    → (granule_at (performed (GranuleDelegate address) m).1 (number_of m address) ≡ of_no_realm Delegated) × (page_in (performed (GranuleDelegate address) m).1 (number_of m address) ≡ zero_page)
+unfolding granule_delegate
+delegated m address proper success =
+    let g : ℕ = number_of m address in
+    succeeded ((granule_at (performed (GranuleDelegate address) m).1 g ≡ of_no_realm Delegated) × (page_in (performed (GranuleDelegate address) m).1 g ≡ zero_page)) (GranuleDelegate address) m refl success
+    (λ ok now.
+    let inside = number_inside m address (yes_from (is_inside m address) ok.1.0) in
+    let pages = proper.linked.sound.pages in
+    subst (λ (p : SmcResult × Machine). (granule_at p.1 g ≡ of_no_realm Delegated) × (page_in p.1 g ≡ zero_page)) (sym now)
+    (granule_at-same m g (of_no_realm Delegated) inside, page_in-same (with_granule m g (of_no_realm Delegated)) g zero_page (omega arith)))
 
 -- ---- what is left of a realm
 

@@ -16,7 +16,7 @@ use Rattle.rmm_laws.specs.Proper.{IsProper}
 use Rattle.rmm_laws.proofs.Passed.{kept}
 use Rattle.rmm_laws.proofs.ReleasingCalls.{call_vmids}
 
-made_vmids : (m : Machine) (rd : ℕ) (realm : RmmRealm) (k : ℕ) → (with_tables m rd realm k).vmids ≡ m.vmids
+pub made_vmids : (m : Machine) (rd : ℕ) (realm : RmmRealm) (k : ℕ) → (with_tables m rd realm k).vmids ≡ m.vmids
 unfolding with_tables
 made_vmids m rd realm zero = refl
 made_vmids m rd realm (suc k) = made_vmids m rd realm k

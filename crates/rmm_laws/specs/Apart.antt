@@ -67,6 +67,10 @@ IsSpare m g = ((granule_at m g).state ≡ Undelegated) ⊎ ((granule_at m g).sta
 abbrev pub IsSameAt : Machine → Machine → ℕ → Type 0
 IsSameAt m n g = (granule_at n g ≡ granule_at m g) × (page_in n g ≡ page_in m g)
 
+-- settings and VMIDs are those of before
+abbrev pub KeepsSettings : Machine → Machine → Type 0
+KeepsSettings m n = (n.settings ≡ m.settings) × (n.vmids ≡ m.vmids)
+
 -- the page of a granule is not of the secure world
 abbrev pub IsNormal : Machine → ℕ → Type 0
 IsNormal m g = is_secure m (m.settings.base + g * 4096) ≡ false

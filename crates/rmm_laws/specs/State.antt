@@ -1,17 +1,18 @@
 -- The states and RIMs of realms, and the calls that change them. RMM 1.0, Realm lifecycle, Realm Initial Measurement.
-use Rattle.std.specs.Prelude.{◌≡◌, ℕ, ◌⊎◌, false, List, [], Option, Some}
+use Rattle.std.specs.Prelude.{◌≡◌, ℕ, ◌<◌, ◌⊎◌, true, false, List, [], length, Option, Some}
 use Rattle.rmi_abi.specs.declared.call.Call.{Call}
 use Rattle.rmi_abi.specs.declared.call.Call.TheVariants.{DataCreate, RealmCreate, RealmActivate, RealmDestroy, RecCreate, RecEnter, RttInitRipas}
 use Rattle.rmm_model.specs.declared.granule.RmmGranuleState.TheVariants.{Rd}
 use Rattle.rmm_model.specs.declared.realm.RmmRealm.{RmmRealm}
 use Rattle.rmm_model.specs.declared.realm.RmmRealmState.{RmmRealmState}
 use Rattle.rmm_model.specs.declared.realm.RmmRealmState.TheVariants.{New, Active, SystemOff}
+use Rattle.rmm_model.specs.Granule.{of_no_realm}
 use Rattle.rmm_model.specs.Level.{entry_size}
-use Rattle.rmm_model.specs.Machine.{Machine, granule_at, page_in, number_of}
+use Rattle.rmm_model.specs.Machine.{Machine, granule_at, page_in, number_of, is_vmid_used}
 use Rattle.rmm_model.specs.Walk.{walk}
 use Rattle.rmm_model.specs.Command.DataCreate.{rim_with_data}
 use Rattle.rmm_model.specs.Command.Operand.{realm_at}
-use Rattle.rmm_model.specs.Command.RealmCreate.{params_at, realm_for}
+use Rattle.rmm_model.specs.Command.RealmCreate.{params_at, hash_of, realm_for}
 use Rattle.rmm_model.specs.Command.RecMeasurement.{rim_with_rec}
 use Rattle.rmm_model.specs.Command.RipasRange.{change_count}
 use Rattle.rmm_model.specs.Command.RttInitRipas.{rim_with_ripas, init_changeable}
@@ -20,6 +21,15 @@ use Rattle.rmm_laws.specs.Owner.{is_rd}
 -- a granule is the RD of a realm of a state
 abbrev pub IsRealmIn : Machine → ℕ → RmmRealmState → Type 0
 IsRealmIn m rd state = (realm : RmmRealm) × ((granule_at m rd).state ≡ Rd realm) × (realm.state ≡ state)
+
+-- A NEW realm has what parameters ask for: hash algorithm, width, starting tables and VMID. It has no RECs. Its VMID is
+-- used, if the machine has a flag for it.
+abbrev pub IsRealmMadeOf : Machine → Machine → ℕ → ℕ → Type 0
+IsRealmMadeOf m n rd params =
+    let p = params_at m params in
+    (realm : RmmRealm) × (granule_at n (number_of m rd) ≡ of_no_realm (Rd realm)) × (realm.state ≡ New) × (realm.hash ≡ hash_of p.hash_algo) × (realm.s2sz ≡ p.s2sz)
+    × (realm.start_level ≡ p.rtt_level_start) × (realm.first_table ≡ number_of m p.rtt_base) × (realm.table_count ≡ p.rtt_num_start) × (realm.vmid ≡ p.vmid)
+    × (realm.next_rec ≡ 0) × (realm.rec_count ≡ 0) × (p.vmid < length m.vmids → is_vmid_used n p.vmid ≡ true)
 
 -- A call can bring a realm to a state: it creates a NEW one, or it activates one that is NEW. Or it enters a REC of one
 -- that is ACTIVE, which can become SYSTEM_OFF.

@@ -7,7 +7,7 @@ ghost use Rattle.rmi_abi.specs.declared.registers.SmcResult.{SmcResult};
 ghost use Rattle.rmi_abi.specs.declared.rec_run.RecExit.{RecExit};
 ghost use Rattle.rmi_abi.specs.declared.settings.RmmSettings.{RmmSettings};
 ghost use Rattle.rmi_abi.specs.declared.call.Call.{Call};
-ghost use Rattle.rmi_abi.specs.declared.call.Call.TheVariants.{GranuleUndelegate, RealmActivate, RealmCreate, RealmDestroy, RecCreate, RecDestroy, RecEnter, RttCreate, RttDestroy, RttFold, RttInitRipas, RttSetRipas, RttUnmapUnprotected, DataCreate, DataCreateUnknown, DataDestroy};
+ghost use Rattle.rmi_abi.specs.declared.call.Call.TheVariants.{GranuleDelegate, GranuleUndelegate, RealmActivate, RealmCreate, RealmDestroy, RecCreate, RecDestroy, RecEnter, RttCreate, RttDestroy, RttFold, RttInitRipas, RttSetRipas, RttUnmapUnprotected, DataCreate, DataCreateUnknown, DataDestroy};
 ghost use Rattle.rmi_abi.specs.declared.word.Word.{Word};
 ghost use Rattle.rmi_abi.specs.declared.word.Word.TheVariants.{Success};
 ghost use Rattle.rmi_abi.specs.Call.{call_in};
@@ -47,7 +47,7 @@ ghost use Rattle.rmm_model.specs.Machine.{Machine, granule_at, is_inside, is_sec
 ghost use Rattle.rmm_model.specs.Table.{entry_in_page, has_live};
 ghost use Rattle.rmm_model.specs.Walk.{entry_at, table_below, walk, top};
 ghost use Rattle.rmm_model.specs.Command.RecEnter.{interrupted, step_outcome, after_step, after_entry, after_first_step, after_exit};
-ghost use Rattle.rmm_laws.specs.Apart.{rd_named, changes_vmids, IsFromHost, IsHostChanged, IsRunPage, IsOfRealm, IsOfAnother, IsOtherVmid, IsSameAt};
+ghost use Rattle.rmm_laws.specs.Apart.{rd_named, changes_vmids, IsFromHost, IsHostChanged, IsRunPage, KeepsSettings, IsOfRealm, IsOfAnother, IsOtherVmid, IsSameAt};
 ghost use Rattle.rmm_laws.specs.Back.{ComesBack, RecComesBack, IsAssignedTo, IsReleased};
 ghost use Rattle.rmm_laws.specs.Fold.{CanReplaceTable, IsAlike};
 ghost use Rattle.rmm_laws.specs.Guest.{IsHostValue, IsRecMadeOf, IsStepFor, is_write};
@@ -60,7 +60,7 @@ ghost use Rattle.rmm_laws.specs.Request.{KeepsRequests, IsRestFrom, IsAskedFor};
 ghost use Rattle.rmm_laws.specs.Ripas.{KeepsRipas, ripas_at, IsBetween, IsRipasSet, IsWithoutMemory, outcome_without_memory};
 ghost use Rattle.rmm_laws.specs.Role.{Used, page_count, uses, IsSound};
 ghost use Rattle.rmm_laws.specs.Run.{HasRun};
-ghost use Rattle.rmm_laws.specs.State.{IsRealmIn, KeepsStates, KeepsRealms, HasRim, IsMeasured, Measures, KeepsRims};
+ghost use Rattle.rmm_laws.specs.State.{IsRealmIn, IsRealmMadeOf, KeepsStates, KeepsRealms, HasRim, IsMeasured, Measures, KeepsRims};
 ghost use Rattle.rmm_laws.specs.Step.{HasNextStep, HasRemoval, CanBeTornDown};
 ghost use Rattle.rmm_laws.specs.Walk.{IsTableOf, Serves, EndsWell, IsPassed, IsAtLive, IsNextTop, LeadsToTable, walked_to};
 
@@ -195,6 +195,8 @@ pub fn teardown_steps_succeed()
         → (performed (GranuleUndelegate address) m).0.word ≡ Success }
     ensures undelegated { (m : Machine) (address : ℕ) → IsProper m → (performed (GranuleUndelegate address) m).0.word ≡ Success → (granule_at (performed (GranuleUndelegate address) m).1 (number_of m address) ≡ of_no_realm Undelegated)
         × (page_in (performed (GranuleUndelegate address) m).1 (number_of m address) ≡ zero_page) }
+    ensures delegated { (m : Machine) (address : ℕ) → IsProper m → (performed (GranuleDelegate address) m).0.word ≡ Success → (granule_at (performed (GranuleDelegate address) m).1 (number_of m address) ≡ of_no_realm Delegated)
+        × (page_in (performed (GranuleDelegate address) m).1 (number_of m address) ≡ zero_page) }
     ensures next { (m : Machine) (rd spare table i : ℕ) → IsProper m → rd_named m rd ≡ Some (number_of m rd) → spare % 4096 ≡ 0 → is_inside m spare ≡ true → (granule_at m (number_of m spare)).state ≡ Delegated
         → IsTableOf m (number_of m rd) table → i < 512 → is_live (entry_in_page (page_in m table) i) ≡ true → HasNextStep m rd spare }
     ensures end { (m : Machine) (rd spare : ℕ) → IsProper m → rd_named m rd ≡ Some (number_of m rd) → spare % 4096 ≡ 0 → is_inside m spare ≡ true → (granule_at m (number_of m spare)).state ≡ Delegated
@@ -224,6 +226,7 @@ pub fn activated_once()
     ensures interrupts { (m : Machine) (rec : ℕ) → KeepsStates m None (interrupted m rec).1 }
     ensures stay { (r : Registers) (m : Machine) → IsProper m → KeepsRealms m (call_in r) (rmi r m).1 }
     ensures activated { (m : Machine) (rd : ℕ) → (performed (RealmActivate rd) m).0.word ≡ Success → IsRealmIn m (number_of m rd) New × IsRealmIn (performed (RealmActivate rd) m).1 (number_of m rd) Active }
+    ensures created { (m : Machine) (rd params : ℕ) → (performed (RealmCreate rd params) m).0.word ≡ Success → IsRealmMadeOf m (performed (RealmCreate rd params) m).1 rd params }
     ensures entered { (m : Machine) (rec run : ℕ) → is_refusal (performed (RecEnter rec run) m).0.word ≡ false → (rd : ℕ) × ((granule_at m (number_of m rec)).owner ≡ Some rd) × IsRealmIn m rd Active }
 {}
 
@@ -275,7 +278,8 @@ pub fn ripas_is_the_guest_s()
     ensures taken { (m : Machine) (rd ipa x : ℕ) → IsProper m → (performed (DataDestroy rd ipa) m).0.word ≡ Success → IsBetween ipa (ipa + 4096) x
         → is_ram (ripas_at (performed (DataDestroy rd ipa) m).1 (realm_at m rd) x) ≡ false }
     ensures changed { (m : Machine) (rd rec base top : ℕ) → IsProper m → (performed (RttSetRipas rd rec base top) m).0.word ≡ Success
-        → IsRipasSet m (performed (RttSetRipas rd rec base top) m).1 (realm_at m rd) (rec_at m rec).ripas.ripas base (performed (RttSetRipas rd rec base top) m).0.x1 × ((performed (RttSetRipas rd rec base top) m).0.x1 ≤ top) }
+        → IsRipasSet m (performed (RttSetRipas rd rec base top) m).1 (realm_at m rd) (rec_at m rec).ripas.ripas base (performed (RttSetRipas rd rec base top) m).0.x1 × ((performed (RttSetRipas rd rec base top) m).0.x1 ≤ top)
+        × ((performed (RttSetRipas rd rec base top) m).0.x1 ≤ (rec_at m rec).ripas.top) }
     ensures inited { (m : Machine) (rd base top : ℕ) → IsProper m → (performed (RttInitRipas rd base top) m).0.word ≡ Success
         → IsRipasSet m (performed (RttInitRipas rd base top) m).1 (realm_at m rd) Ram base (performed (RttInitRipas rd base top) m).0.x1 × ((performed (RttInitRipas rd base top) m).0.x1 ≤ top) }
     ensures new { (m : Machine) (rd params ipa : ℕ) (realm : RmmRealm) → IsProper m → (performed (RealmCreate rd params) m).0.word ≡ Success
@@ -378,6 +382,11 @@ pub fn other_realms_stay()
     ensures store_beside { (m : Machine) (address word granule : ℕ) → granule ≢ number_of m address → IsSameAt m (after_store m address word) granule }
     ensures fill_beside { (m : Machine) (address value granule : ℕ) → granule ≢ number_of m address → IsSameAt m (after_fill m address value) granule }
     ensures vmid { (r : Registers) (m : Machine) (vmid : ℕ) → IsProper m → IsOtherVmid m (call_in r) vmid → is_vmid_used (rmi r m).1 vmid ≡ is_vmid_used m vmid }
+    ensures store_settings { (m : Machine) (address word : ℕ) → KeepsSettings m (after_store m address word) }
+    ensures fill_settings { (m : Machine) (address value : ℕ) → KeepsSettings m (after_fill m address value) }
+    ensures given_settings { (m : Machine) (rec : ℕ) (w : StepWords) → IsProper m → KeepsSettings m (queued m rec w).1 }
+    ensures ended_settings { (m : Machine) (rec : ℕ) → IsProper m → KeepsSettings m (interrupted m rec).1 }
+    ensures guest_settings { (m : Machine) (g flags : ℕ) → IsProperRun m g → KeepsSettings m (after_first_step m g flags) }
     ensures settings { (r : Registers) (m : Machine) → IsProper m → ((rmi r m).1.settings ≡ m.settings) × (length (rmi r m).1.granules ≡ length m.granules) }
 {}
 

@@ -1,7 +1,7 @@
 use Rattle.std.proofs.Common.{inl}
 use Rattle.rmi_abi.specs.Call.{call_in}
 use Rattle.rmm_model.specs.Call.{rmi}
-use Rattle.rmm_laws.proofs.Effects.{activated_then, entered_then}
+use Rattle.rmm_laws.proofs.Effects.{activated_then, created_then, entered_then}
 use Rattle.rmm_laws.proofs.LastingCalls.{call_realms}
 use Rattle.rmm_laws.proofs.StateCalls.{call_states, queued_states, interrupt_states}
 use Rattle.rmm_laws.proofs.law.activated_once.Goals as goal
@@ -25,3 +25,6 @@ returns-clause-entered c = entered_then
 pub returns-clause-stay : goal.returns-clause-stay
 unfolding rmi
 returns-clause-stay c = λ r m proper. call_realms (call_in r) r m proper
+
+pub returns-clause-created : goal.returns-clause-created
+returns-clause-created c = created_then

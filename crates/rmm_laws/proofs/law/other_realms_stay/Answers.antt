@@ -14,8 +14,9 @@ use Rattle.rmm_model.specs.Access.{low_bytes}
 use Rattle.rmm_model.specs.Step.{access}
 use Rattle.rmm_model.specs.Command.RecEnter.{after_step}
 use Rattle.rmm_model.specs.Machine.{Machine, granule_at, is_aligned, is_secure, number_of, with_page, with_word}
-use Rattle.rmm_laws.specs.Apart.{named_realm, IsHostChanged, IsSameAt, IsOfAnother}
+use Rattle.rmm_laws.specs.Apart.{named_realm, IsHostChanged, KeepsSettings, IsSameAt, IsOfAnother}
 use Rattle.rmm_laws.specs.Proper.{IsProper}
+use Rattle.rmm_laws.proofs.Guests.{interrupted_then, given_then, step_then}
 use Rattle.rmm_laws.proofs.HostAccesses.{lower_written, store_beside, fill_beside}
 use Rattle.rmm_laws.proofs.LeftAlone.{touches_host, touches_of, host_left, interrupt_host, left_alone}
 use Rattle.rmm_laws.proofs.Passed.{kept}
@@ -123,3 +124,20 @@ returns-clause-fill_beside c = fill_beside
 pub returns-clause-vmid : goal.returns-clause-vmid
 unfolding rmi
 returns-clause-vmid c = λ r m vmid proper other. vmid_left (call_in r) r m vmid proper other
+
+pub returns-clause-store_settings : goal.returns-clause-store_settings
+returns-clause-store_settings c = λ m address word.
+    cond_both (can_access m address) (with_word m (number_of m address) (address % 4096 / 8) word) m (KeepsSettings m) (λ can. (refl, refl)) (λ cannot. (refl, refl))
+
+pub returns-clause-fill_settings : goal.returns-clause-fill_settings
+returns-clause-fill_settings c = λ m address value.
+    cond_both (can_fill m address) (with_page m (number_of m address) (page_of value)) m (KeepsSettings m) (λ can. (refl, refl)) (λ cannot. (refl, refl))
+
+pub returns-clause-given_settings : goal.returns-clause-given_settings
+returns-clause-given_settings c = λ m rec w proper. given_then (KeepsSettings m) m rec w proper (refl, refl) (λ by g n going. (going.touches.settings, going.vmids))
+
+pub returns-clause-ended_settings : goal.returns-clause-ended_settings
+returns-clause-ended_settings c = λ m rec proper. interrupted_then (KeepsSettings m) m rec proper (refl, refl) (λ by g n going. (going.touches.settings, going.vmids))
+
+pub returns-clause-guest_settings : goal.returns-clause-guest_settings
+returns-clause-guest_settings c = λ m g flags run. step_then m g run (KeepsSettings m) (λ by n going. (going.touches.settings, going.vmids)) flags

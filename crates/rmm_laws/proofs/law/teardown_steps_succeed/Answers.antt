@@ -1,5 +1,5 @@
 use Rattle.rmm_laws.proofs.Steps.{next_step, step_or_end}
-use Rattle.rmm_laws.proofs.Teardown.{rec_step, page_step, mapping_step, table_step, realm_step, granule_step, undelegated, nothing_left, nothing_else}
+use Rattle.rmm_laws.proofs.Teardown.{rec_step, page_step, mapping_step, table_step, realm_step, granule_step, undelegated, delegated, nothing_left, nothing_else}
 use Rattle.rmm_laws.proofs.law.teardown_steps_succeed.Goals as goal
 
 pub returns-clause-recs : goal.returns-clause-recs
@@ -22,6 +22,9 @@ returns-clause-granules c = granule_step
 
 pub returns-clause-undelegated : goal.returns-clause-undelegated
 returns-clause-undelegated c = undelegated
+
+pub returns-clause-delegated : goal.returns-clause-delegated
+returns-clause-delegated c = delegated
 
 pub returns-clause-nothing_left : goal.returns-clause-nothing_left
 returns-clause-nothing_left c = nothing_left
