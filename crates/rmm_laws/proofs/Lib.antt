@@ -80,6 +80,7 @@ pub mod Tops
 pub mod TornDown
 pub mod Touching
 pub mod TouchingCalls
+pub mod TriedAgain
 pub mod Unfold
 pub mod Unfolding
 pub mod Uses

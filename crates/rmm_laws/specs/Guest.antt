@@ -1,9 +1,16 @@
 -- Guests: what their RECs begin with, their steps, and what they read of the host's.
-use Rattle.std.specs.Prelude.{◌≡◌, ℕ, Bool, true, false}
+use Rattle.std.specs.Prelude.{◌≡◌, ℕ, ◌<◌, Bool, true, false}
+use Rattle.page_arena.specs.Word.{word_of_page}
 use Rattle.rmi_abi.specs.RecParams.{is_runnable_in, mpidr_in}
+use Rattle.rmi_abi.specs.RecRun.{injects_sea, emulates_mmio}
 use Rattle.rmm_model.specs.declared.access.AccessSize.{AccessSize}
 use Rattle.rmm_model.specs.declared.granule.RmmGranuleState.TheVariants.{Undelegated, Rec}
 use Rattle.rmm_model.specs.declared.realm.RmmRealm.{RmmRealm}
+use Rattle.rmm_model.specs.declared.rec.LastExit.{LastExit}
+use Rattle.rmm_model.specs.declared.rec.LastExit.TheVariants.{Other, EmulatableAbort, UnprotectedAbort}
+use Rattle.rmm_model.specs.declared.rec.PsciRequest.{PsciRequest}
+use Rattle.rmm_model.specs.declared.rec.PsciRequest.TheVariants.{Complete}
+use Rattle.rmm_model.specs.declared.rec.RmmRec.{RmmRec}
 use Rattle.rmm_model.specs.declared.step.GuestStep.{GuestStep}
 use Rattle.rmm_model.specs.declared.step.GuestStep.TheVariants.{Write}
 use Rattle.rmm_model.specs.Access.{value_in}
@@ -12,7 +19,7 @@ use Rattle.rmm_model.specs.Guest.{first_step}
 use Rattle.rmm_model.specs.Machine.{Machine, granule_at, page_in, number_of}
 use Rattle.rmm_model.specs.Rec.{new_rec}
 use Rattle.rmm_model.specs.Command.RecCreate.{rec_page}
-use Rattle.rmm_model.specs.Command.RecEnter.{step_outcome, after_step, with_step_passed, first_step_outcome, after_first_step}
+use Rattle.rmm_model.specs.Command.RecEnter.{running_at, step_outcome, after_step, with_step_passed, first_step_outcome, after_first_step}
 use Rattle.rmm_laws.specs.Apart.{IsNormal}
 
 -- a REC has the attributes and the registers that parameters ask for
@@ -35,3 +42,22 @@ abbrev pub IsStepFor : Machine → RmmRealm → ℕ → ℕ → Type 0
 IsStepFor m realm g flags =
     let outcome = step_outcome m realm g flags (first_step m g) in
     (first_step_outcome m g flags ≡ outcome) × (after_first_step m g flags ≡ with_step_passed (after_step m realm g (first_step m g) outcome) g outcome)
+
+-- a request of PSCI is completed
+abbrev pub is_completed : PsciRequest → Bool
+is_completed (Complete value) = true
+is_completed _ = false
+
+-- The host answers nothing to the last exit of a REC. That was at an access, and flags neither give an SEA nor emulate
+-- it. Or it was an exit that takes no answer, and no request of PSCI is completed.
+abbrev pub IsUnanswered : LastExit → PsciRequest → ℕ → Type 0
+IsUnanswered EmulatableAbort psci flags = (injects_sea flags ≡ false) × (emulates_mmio flags ≡ false)
+IsUnanswered UnprotectedAbort psci flags = injects_sea flags ≡ false
+IsUnanswered Other psci flags = is_completed psci ≡ false
+IsUnanswered last psci flags = ⊥
+
+-- A REC runs with the registers and the steps that it left with, and has no results. Words 0 to 191 of its page are those
+-- of before.
+abbrev pub IsAsLeft : Machine → Machine → ℕ → RmmRec → ℕ → Type 0
+IsAsLeft m n g rec address =
+    ((granule_at n g).state ≡ Rec (running_at rec address)) × ((i : ℕ) → i < 192 → word_of_page (page_in n g) i ≡ word_of_page (page_in m g) i)

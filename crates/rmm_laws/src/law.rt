@@ -50,7 +50,7 @@ ghost use Rattle.rmm_model.specs.Command.RecEnter.{interrupted, step_outcome, af
 ghost use Rattle.rmm_laws.specs.Apart.{rd_named, changes_vmids, IsFromHost, IsHostChanged, IsRunPage, KeepsSettings, IsOfRealm, IsOfAnother, IsOtherVmid, IsSameAt};
 ghost use Rattle.rmm_laws.specs.Back.{ComesBack, RecComesBack, IsAssignedTo, IsReleased};
 ghost use Rattle.rmm_laws.specs.Fold.{CanReplaceTable, IsAlike};
-ghost use Rattle.rmm_laws.specs.Guest.{IsHostValue, IsRecMadeOf, IsStepFor, is_write};
+ghost use Rattle.rmm_laws.specs.Guest.{IsHostValue, IsUnanswered, IsAsLeft, IsRecMadeOf, IsStepFor, is_write};
 ghost use Rattle.rmm_laws.specs.Half.{IsOfHalf, IsPlaced};
 ghost use Rattle.rmm_laws.specs.Location.{location_at, content_at, IsPageAt, KeepsLocations, KeepsContents};
 ghost use Rattle.rmm_laws.specs.Owner.{is_rec_in};
@@ -176,7 +176,7 @@ pub fn tops_are_complete()
 /// Steps of a teardown succeed: RMI_REC_DESTROY of a REC that does not run, and RMI_DATA_DESTROY of a page. So do
 /// RMI_RTT_UNMAP_UNPROTECTED of a mapping, and RMI_RTT_DESTROY of a table without live entries. RMI_REALM_DESTROY succeeds
 /// for a realm without RECs and live entries, and RMI_GRANULE_UNDELEGATE for a DELEGATED granule, which is UNDELEGATED and
-/// zero then. If a granule is DELEGATED, a step succeeds while an entry of a realm is live. If no REC of it runs either,
+/// zero then. After RMI_GRANULE_DELEGATE a granule is DELEGATED and zero. If a granule is DELEGATED, a step succeeds while an entry of a realm is live. If no REC of it runs either,
 /// one succeeds until the realm is destroyed. What a realm had until its RMI_REALM_DESTROY is its RD and its starting
 /// tables, which are DELEGATED and zero.
 pub fn teardown_steps_succeed()
@@ -219,7 +219,8 @@ pub fn realms_can_be_torn_down()
 /// A realm is activated once. It is NEW when it is created, and RMI_REALM_ACTIVATE makes it ACTIVE if it is NEW. An
 /// RMI_REC_ENTER of a REC of it can make it SYSTEM_OFF if it is ACTIVE. Nothing else changes its state: no other call,
 /// no step that a guest is given, and no interrupt. A REC is entered only while its realm is ACTIVE.
-/// A realm stays until its RMI_REALM_DESTROY, with what it was created with.
+/// A realm that is created has what its parameters ask for, and its VMID is used. It stays until its RMI_REALM_DESTROY,
+/// with what it was created with.
 pub fn activated_once()
     ensures calls { (r : Registers) (m : Machine) → IsProper m → KeepsStates m (call_in r) (rmi r m).1 }
     ensures steps { (m : Machine) (rec : ℕ) (w : StepWords) → KeepsStates m None (queued m rec w).1 }
@@ -269,10 +270,12 @@ pub fn requests_are_the_guest_s()
 /// RIPAS is the guest's. RMI_RTT_INIT_RIPAS and RMI_DATA_CREATE can make it RAM, if the realm is NEW. RMI_DATA_DESTROY
 /// can make it DESTROYED where it was RAM, and RMI_RTT_DESTROY whatever it was. A page that is destroyed leaves RIPAS
 /// that is not RAM. RMI_RTT_SET_RIPAS can make it what a REC of the realm asks for, within the range that it asks for.
-/// If it succeeds, it does so up to X1 and no further, and leaves the pages. So does RMI_RTT_INIT_RIPAS with RAM. No
+/// If it succeeds, it does so up to X1 and no further, and leaves the pages. X1 is not after the end of the request.
+/// RMI_RTT_INIT_RIPAS does the same with RAM, without a request. No
 /// other call changes the RIPAS of a protected address, and neither do stores and fills of the host, steps that guests
 /// are given, and interrupts. A new realm is EMPTY and has no page at each protected address. An access of a guest to a
 /// protected address without RAM or without a page is answered an SEA or makes an exit. It reads and writes nothing.
+/// After an exit that the host does not answer, the REC goes on with its registers and its steps, and has no results.
 pub fn ripas_is_the_guest_s()
     ensures calls { (r : Registers) (m : Machine) → IsProper m → KeepsRipas m (call_in r) (rmi r m).1 }
     ensures taken { (m : Machine) (rd ipa x : ℕ) → IsProper m → (performed (DataDestroy rd ipa) m).0.word ≡ Success → IsBetween ipa (ipa + 4096) x
@@ -290,6 +293,7 @@ pub fn ripas_is_the_guest_s()
     ensures writes { (m : Machine) (realm : RmmRealm) (rec flags ipa value : ℕ) (size : AccessSize) (outcome : StepOutcome) → IsWithoutMemory m realm ipa
         → (step_outcome m realm rec flags (Write ipa value size) ≡ outcome_without_memory m realm 0x90000000 ipa) × (after_step m realm rec (Write ipa value size) outcome ≡ m) }
     ensures fetches { (m : Machine) (realm : RmmRealm) (rec flags ipa : ℕ) → IsWithoutMemory m realm ipa → step_outcome m realm rec flags (Fetch ipa) ≡ outcome_without_memory m realm 0x80000000 ipa }
+    ensures tried_again { (m : Machine) (g address flags : ℕ) (rec : RmmRec) → IsProper m → (granule_at m g).state ≡ Rec rec → IsUnanswered rec.exit rec.psci flags → IsAsLeft m (after_entry m g address flags) g rec address }
     ensures stores { (m : Machine) (address word : ℕ) → IsProper m → KeepsRipas m None (after_store m address word) }
     ensures fills { (m : Machine) (address value : ℕ) → IsProper m → KeepsRipas m None (after_fill m address value) }
     ensures steps { (m : Machine) (rec : ℕ) (w : StepWords) → IsProper m → KeepsRipas m None (queued m rec w).1 }
@@ -362,6 +366,7 @@ pub fn fold_and_unfold()
 /// that a guest is given changes its REC, and an interrupt its REC and its run page. A write of a guest changes pages
 /// of its realm, and of the host outside the secure world. At a protected address it changes none of the host. Calls
 /// keep settings and the number of granules. They keep VMIDs, but for that of a realm that is created or destroyed.
+/// Stores, fills, steps that guests are given, interrupts, and steps of guests keep settings and VMIDs.
 pub fn other_realms_stay()
     ensures calls { (r : Registers) (m : Machine) (granule : ℕ) → IsProper m → IsOfAnother m (call_in r) granule → IsSameAt m (rmi r m).1 granule }
     ensures hosts { (r : Registers) (m : Machine) (granule : ℕ) → IsProper m → (granule_at m granule).state ≡ Undelegated → IsSameAt m (rmi r m).1 granule ⊎ IsHostChanged m (rmi r m).1 (call_in r) granule }

@@ -4,6 +4,7 @@ use Rattle.rmm_laws.proofs.NewRipas.{new_empty}
 use Rattle.rmm_laws.proofs.NoMemory.{read_without_memory, write_without_memory, fetch_without_memory}
 use Rattle.rmm_laws.proofs.RipasTables.{call_ripas, taken_ripas, stored_ripas, filled_ripas, given_ripas, interrupted_ripas}
 use Rattle.rmm_laws.proofs.SetRipas.{range_after, range_inited}
+use Rattle.rmm_laws.proofs.TriedAgain.{as_left}
 use Rattle.rmm_laws.proofs.law.ripas_is_the_guest_s.Goals as goal
 
 pub returns-clause-calls : goal.returns-clause-calls
@@ -42,3 +43,6 @@ returns-clause-steps c = given_ripas
 
 pub returns-clause-interrupts : goal.returns-clause-interrupts
 returns-clause-interrupts c = interrupted_ripas
+
+pub returns-clause-tried_again : goal.returns-clause-tried_again
+returns-clause-tried_again c = as_left
