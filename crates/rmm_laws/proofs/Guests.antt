@@ -50,6 +50,7 @@ use Rattle.rmm_laws.proofs.PageWords.{length-page_with_word, length-with_words_f
 use Rattle.rmm_laws.proofs.Orders.{is_memory_state, owner_is, rd_is, rd_of}
 use Rattle.rmm_laws.proofs.Passed.{Passed, yes_from, some_same, realm_of-is, rec_of-some, rec_of-there, rec_named-is}
 use Rattle.rmm_laws.proofs.Plain.{host_inside, host_plain}
+use Rattle.rmm_laws.proofs.RecOwners.{RecsStay}
 use Rattle.rmm_laws.proofs.Recs.{IsSecureHost, IsGoing, going_first, going_rec, going_word, going_words, going_plain, going_realm}
 use Rattle.rmm_laws.proofs.Lasting.{Lasts}
 use Rattle.rmm_laws.proofs.Releasing.{Held}
@@ -263,6 +264,7 @@ module _ (o : Machine) (w : ℕ) where
         tables = (going_rec o w g m rec going).tables;
         hosts = (going_rec o w g m rec going).hosts;
         secure = (going_rec o w g m rec going).secure;
+        recs = (going_rec o w g m rec going).recs;
         states = (going_rec o w g m rec going).states;
       })
       (cases_eq h g)
@@ -346,6 +348,9 @@ module _ (rec address : ℕ) (m : Machine) (proper : IsProper m) (ok : Passed (r
   pub entered_secure : (h : ℕ) → IsSecureHost m h → page_in (rec_enter rec address m).machine h ≡ page_in m h
   entered_secure = entry_going.secure
 
+  pub entered_recs : RecsStay m (rec_enter rec address m).machine
+  entered_recs = entry_going.recs
+
   pub entered_tables : KeepsTables m (rec_enter rec address m).machine
   entered_tables = entry_going.tables
 
@@ -387,6 +392,9 @@ module _ (calling target status : ℕ) (m : Machine) (proper : IsProper m) (ok :
 
   pub completed_held : Held m (psci_complete calling target status m).machine
   completed_held = target_going.held
+
+  pub completed_recs : RecsStay m (psci_complete calling target status m).machine
+  completed_recs = target_going.recs
 
   pub completed_tables : KeepsTables m (psci_complete calling target status m).machine
   completed_tables = target_going.tables

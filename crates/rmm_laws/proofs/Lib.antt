@@ -23,6 +23,7 @@ pub mod Halving
 pub mod HostAccesses
 pub mod Keeping
 pub mod KeptData
+pub mod KeptRecs
 pub mod KeptTables
 pub mod Lasting
 pub mod LastingCalls
@@ -51,6 +52,7 @@ pub mod ReadCalls
 pub mod RealmOrders
 pub mod Realms
 pub mod RecLives
+pub mod RecOwners
 pub mod Recs
 pub mod RecsGone
 pub mod Refolding

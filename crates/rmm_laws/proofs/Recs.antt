@@ -28,6 +28,7 @@ use Rattle.rmm_laws.proofs.Plain.{keep_plain_page}
 use Rattle.rmm_laws.proofs.Lasting.{Lasts, lasts_all, lasts_plain, lasts_realm}
 use Rattle.rmm_laws.proofs.Releasing.{Held, held_all, held_granule}
 use Rattle.rmm_laws.proofs.States.{IsAsBefore, same_realm, write_back}
+use Rattle.rmm_laws.proofs.RecOwners.{RecsStay, recs_all, recs_plain, recs_rec}
 use Rattle.rmm_laws.proofs.SameTables.{KeepsTables, tables_all, tables_granule, tables_page}
 use Rattle.rmm_laws.proofs.Touching.{Touches, IsMine, untouched, mine_before, touch_granule, touch_page}
 use Rattle.rmm_laws.proofs.Writes.{is_user, granule_at-same, granule_at-other, page_in-other, taken_inside}
@@ -115,11 +116,12 @@ pub record IsGoing (o : Machine) (w : ℕ) (g : ℕ) (m : Machine) : Type 0 wher
   pub tables : KeepsTables o m
   pub hosts : (h : ℕ) → (granule_at o h).state ≡ Undelegated → granule_at m h ≡ granule_at o h
   pub secure : (h : ℕ) → IsSecureHost o h → page_in m h ≡ page_in o h
+  pub recs : RecsStay o m
   pub states : (rd : ℕ) (realm : RmmRealm) → (granule_at m rd).state ≡ Rd realm → IsAsBefore o rd realm ⊎ ((rd ≡ w) × (realm.state ≡ IsSystemOff) × HasRim o rd realm.rim)
 
 -- a REC before any write
 pub going_first : (g w : ℕ) (m : Machine) (rec : RmmRec) → IsProper m → (granule_at m g).state ≡ IsRec rec → (granule_at m g).owner ≡ Some w → IsGoing m w g m
-going_first g w m rec proper is owned = record { proper = proper.linked; ordered = proper.ordered; rec = rec; is = is; touches = untouched true m (Some w); owned = owned; mine = inl (inr owned); vmids = refl; held = held_all m; lasts = lasts_all m; tables = tables_all m; hosts = λ h free. refl; secure = λ h it. refl; states = λ rd realm at. inl (realm, at, refl, refl) }
+going_first g w m rec proper is owned = record { proper = proper.linked; ordered = proper.ordered; rec = rec; is = is; touches = untouched true m (Some w); owned = owned; mine = inl (inr owned); vmids = refl; held = held_all m; lasts = lasts_all m; tables = tables_all m; hosts = λ h free. refl; secure = λ h it. refl; recs = recs_all m; states = λ rd realm at. inl (realm, at, refl, refl) }
 
 module _ (o : Machine) (w : ℕ) where
   pub going_inside : (g : ℕ) (m : Machine) → IsGoing o w g m → g < length m.granules
@@ -143,6 +145,7 @@ module _ (o : Machine) (w : ℕ) where
         tables = tables_granule o m g kept (λ table. (let rec_is = going.is in cc)) going.tables;
         hosts = λ h free. host_beside o m g kept h free (λ host. (let rec_is = going.is in cc)) (going.hosts h free);
         secure = going.secure;
+        recs = recs_rec o m g rec going.rec going.is going.recs;
         states = λ rd realm at. ⊎_elim
             (λ (written : (rd ≡ g) × (IsRec rec ≡ Rd realm)). (let never = written.1 in absurd (cc)))
             (λ (before : (granule_at m rd).state ≡ Rd realm). going.states rd realm before)
@@ -172,6 +175,7 @@ module _ (o : Machine) (w : ℕ) where
             let rec_is = going.is in
             cc) in
             page_in-other m g h page apart ∙ going.secure h it;
+        recs = going.recs;
         states = going.states;
       }
 
@@ -206,6 +210,7 @@ module _ (o : Machine) (w : ℕ) where
     tables = tables_page o m h page (λ table. no_memory (granule_at m h).state memory table) going.tables;
     hosts = going.hosts;
     secure = λ x it. page_in-other m h x page (λ here. normal (subst (λ (y : ℕ). IsSecureHost o y) here it)) ∙ going.secure x it;
+    recs = going.recs;
     states = going.states;
   }
 
@@ -233,6 +238,7 @@ module _ (o : Machine) (w : ℕ) where
         tables = tables_granule o m rd (of_no_realm (Rd other)) (λ table. cc) going.tables;
         hosts = λ h free. host_beside o m rd (of_no_realm (Rd other)) h free (λ host. cc) (going.hosts h free);
         secure = going.secure;
+        recs = recs_plain o m rd (of_no_realm (Rd other)) refl going.recs;
         states = λ x new at. ⊎_elim
             (λ (written : (x ≡ rd) × (Rd other ≡ Rd new)).
             let it : other ≡ new = same_realm written.1 in

@@ -1,14 +1,17 @@
 -- Owners of granules: the realms that have them, and the RECs that an RD counts. RMM 1.0, Granule, Realm and REC
 -- attributes.
-use Rattle.std.specs.Prelude.{◌≡◌, ℕ, ◌<◌, ◌==◌, ◌&&◌, Bool, true, false, List, Option, Some, None, is_some}
+use Rattle.std.specs.Prelude.{◌≡◌, ℕ, ◌<◌, ◌==◌, ◌&&◌, ◌⊎◌, Bool, true, false, List, Option, Some, None, is_some}
 use Rattle.std.specs.List.{count_by}
 use Rattle.granule_addr.specs.Page.{zero_page}
+use Rattle.rmi_abi.specs.declared.call.Call.{Call}
+use Rattle.rmi_abi.specs.declared.call.Call.TheVariants.{RecCreate}
 use Rattle.rmm_model.specs.declared.granule.RmmGranule.{RmmGranule}
 use Rattle.rmm_model.specs.declared.granule.RmmGranuleState.{RmmGranuleState}
 use Rattle.rmm_model.specs.declared.granule.RmmGranuleState.TheVariants.{Undelegated, Delegated, Rd, Rec as IsRec, RecAux, Data, Rtt}
 use Rattle.rmm_model.specs.declared.realm.RmmRealm.{RmmRealm}
+use Rattle.rmm_model.specs.declared.rec.RmmRec.{RmmRec}
 use Rattle.rmm_model.specs.Granule.{rec_of}
-use Rattle.rmm_model.specs.Machine.{Machine, granule_at, page_in}
+use Rattle.rmm_model.specs.Machine.{Machine, granule_at, page_in, number_of}
 use Rattle.rmm_model.specs.Rec.{aux_of}
 use Rattle.rmm_laws.specs.Half.{HasHalves}
 use Rattle.rmm_laws.specs.Role.{IsBegin}
@@ -47,6 +50,20 @@ is_owner rd None = false
 -- a granule is a REC of the realm of an RD
 abbrev pub is_rec_in : ℕ → RmmGranule → Bool
 is_rec_in rd granule = is_some (rec_of granule.state) && is_owner rd granule.owner
+
+-- a granule is a REC of an owner
+abbrev pub IsRecOf : Machine → ℕ → Option ℕ → Type 0
+IsRecOf m g owner = (rec : RmmRec) × ((granule_at m g).state ≡ IsRec rec) × ((granule_at m g).owner ≡ owner)
+
+-- a call makes a REC of the realm of an RD
+abbrev pub IsRecMade : Machine → Option Call → ℕ → Option ℕ → Type 0
+IsRecMade m (Some (RecCreate rd rec params)) g owner = (g ≡ number_of m rec) × (owner ≡ Some (number_of m rd))
+IsRecMade m call g owner = ⊥
+
+-- Each REC after a call was a REC of the same owner before it, or the call makes it.
+abbrev pub KeepsRecs : Machine → Option Call → Machine → Type 0
+KeepsRecs m call n =
+    (g : ℕ) (rec : RmmRec) → (granule_at n g).state ≡ IsRec rec → IsRecOf m g (granule_at n g).owner ⊎ IsRecMade m call g (granule_at n g).owner
 
 -- Each granule has the owner and the page that its state asks for, and each RD counts the RECs of its realm. Entries of
 -- tables are of the half of the address space that they cover.

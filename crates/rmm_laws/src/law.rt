@@ -53,7 +53,7 @@ ghost use Rattle.rmm_laws.specs.Fold.{CanReplaceTable, IsAlike};
 ghost use Rattle.rmm_laws.specs.Guest.{IsHostValue, IsUnanswered, IsAsLeft, IsRecMadeOf, IsStepFor, is_write};
 ghost use Rattle.rmm_laws.specs.Half.{IsOfHalf, IsPlaced};
 ghost use Rattle.rmm_laws.specs.Location.{location_at, content_at, IsPageAt, KeepsLocations, KeepsContents};
-ghost use Rattle.rmm_laws.specs.Owner.{is_rec_in};
+ghost use Rattle.rmm_laws.specs.Owner.{is_rec_in, KeepsRecs};
 ghost use Rattle.rmm_laws.specs.Proper.{IsProper, IsProperRun};
 ghost use Rattle.rmm_laws.specs.Refusal.{IsRefused, is_refusal, IsOneOf, IsRecEnter, IsFault, IsNotGiven, IsNotQueued, IsNotRunning, IsAccess, IsNotDone};
 ghost use Rattle.rmm_laws.specs.Request.{KeepsRequests, IsRestFrom, IsAskedFor};
@@ -174,11 +174,12 @@ pub fn tops_are_complete()
 {}
 
 /// Steps of a teardown succeed: RMI_REC_DESTROY of a REC that does not run, and RMI_DATA_DESTROY of a page. So do
-/// RMI_RTT_UNMAP_UNPROTECTED of a mapping, and RMI_RTT_DESTROY of a table without live entries. RMI_REALM_DESTROY succeeds
-/// for a realm without RECs and live entries, and RMI_GRANULE_UNDELEGATE for a DELEGATED granule, which is UNDELEGATED and
-/// zero then. After RMI_GRANULE_DELEGATE a granule is DELEGATED and zero. If a granule is DELEGATED, a step succeeds while an entry of a realm is live. If no REC of it runs either,
-/// one succeeds until the realm is destroyed. What a realm had until its RMI_REALM_DESTROY is its RD and its starting
-/// tables, which are DELEGATED and zero.
+/// RMI_RTT_UNMAP_UNPROTECTED of a mapping, and RMI_RTT_DESTROY of a table without live entries. RMI_REALM_DESTROY
+/// succeeds for a realm without RECs and live entries, and RMI_GRANULE_UNDELEGATE for a DELEGATED granule, which is
+/// UNDELEGATED and zero then. After RMI_GRANULE_DELEGATE a granule is DELEGATED and zero. If a granule is DELEGATED, a
+/// step succeeds while an entry of a realm is live. If no REC of it runs either, one succeeds until the realm is
+/// destroyed. What a realm had until its RMI_REALM_DESTROY is its RD and its starting tables, which are DELEGATED and
+/// zero.
 pub fn teardown_steps_succeed()
     ensures recs { (m : Machine) (rec : ℕ) → is_rec_named m rec ≡ true → is_running (rec_at m rec).state ≡ false → (performed (RecDestroy rec) m).0.word ≡ Success }
     ensures pages { (m : Machine) (rd ipa address : ℕ) (ripas : RmmRipas) → IsProper m → rd_named m rd ≡ Some (number_of m rd) → ipa % 4096 ≡ 0 → is_protected (realm_at m rd) ipa ≡ true
@@ -218,9 +219,9 @@ pub fn realms_can_be_torn_down()
 
 /// A realm is activated once. It is NEW when it is created, and RMI_REALM_ACTIVATE makes it ACTIVE if it is NEW. An
 /// RMI_REC_ENTER of a REC of it can make it SYSTEM_OFF if it is ACTIVE. Nothing else changes its state: no other call,
-/// no step that a guest is given, and no interrupt. A REC is entered only while its realm is ACTIVE.
-/// A realm that is created has what its parameters ask for, and its VMID is used. It stays until its RMI_REALM_DESTROY,
-/// with what it was created with.
+/// no step that a guest is given, and no interrupt. A REC is entered only while its realm is ACTIVE. A realm that is
+/// created has what its parameters ask for, and its VMID is used. It stays until its RMI_REALM_DESTROY, with what it
+/// was created with.
 pub fn activated_once()
     ensures calls { (r : Registers) (m : Machine) → IsProper m → KeepsStates m (call_in r) (rmi r m).1 }
     ensures steps { (m : Machine) (rec : ℕ) (w : StepWords) → KeepsStates m None (queued m rec w).1 }
@@ -248,11 +249,11 @@ pub fn rims_are_measured()
 {}
 
 /// What RECs ask for of RIPAS is their guests'. A call keeps what each REC asks for, but RMI_REC_ENTER of the REC, and
-/// RMI_RTT_SET_RIPAS, after which the REC asks for the rest. So do steps that a guest is given, and interrupts. A REC that
-/// left with a request asks for nothing once it is entered, and any other asks for what it asked for before. A step of
-/// its guest asks for a range of the protected half, or leaves what is asked for as it is, and so does the exit.
-/// RMI_RTT_SET_RIPAS begins where the REC asks, and then the REC asks for the rest from X1 on. RMI_REC_ENTER that is not
-/// refused is an entry, at most 16 steps, and an exit unless the guest spins.
+/// RMI_RTT_SET_RIPAS, after which the REC asks for the rest. So do steps that a guest is given, and interrupts. A REC
+/// that left with a request asks for nothing once it is entered, and any other asks for what it asked for before. A
+/// step of its guest asks for a range of the protected half, or leaves what is asked for as it is, and so does the
+/// exit. RMI_RTT_SET_RIPAS begins where the REC asks, and then the REC asks for the rest from X1 on. RMI_REC_ENTER that
+/// is not refused is an entry, at most 16 steps, and an exit unless the guest spins.
 pub fn requests_are_the_guest_s()
     ensures calls { (r : Registers) (m : Machine) → KeepsRequests m (call_in r) (rmi r m).1 }
     ensures steps { (m : Machine) (rec : ℕ) (w : StepWords) → KeepsRequests m None (queued m rec w).1 }
@@ -271,11 +272,11 @@ pub fn requests_are_the_guest_s()
 /// can make it DESTROYED where it was RAM, and RMI_RTT_DESTROY whatever it was. A page that is destroyed leaves RIPAS
 /// that is not RAM. RMI_RTT_SET_RIPAS can make it what a REC of the realm asks for, within the range that it asks for.
 /// If it succeeds, it does so up to X1 and no further, and leaves the pages. X1 is not after the end of the request.
-/// RMI_RTT_INIT_RIPAS does the same with RAM, without a request. No
-/// other call changes the RIPAS of a protected address, and neither do stores and fills of the host, steps that guests
-/// are given, and interrupts. A new realm is EMPTY and has no page at each protected address. An access of a guest to a
-/// protected address without RAM or without a page is answered an SEA or makes an exit. It reads and writes nothing.
-/// After an exit that the host does not answer, the REC goes on with its registers and its steps, and has no results.
+/// RMI_RTT_INIT_RIPAS does the same with RAM, without a request. No other call changes the RIPAS of a protected
+/// address, and neither do stores and fills of the host, steps that guests are given, and interrupts. A new realm is
+/// EMPTY and has no page at each protected address. An access of a guest to a protected address without RAM or without
+/// a page is answered an SEA or makes an exit. It reads and writes nothing. After an exit that the host does not
+/// answer, the REC goes on with its registers and its steps, and has no results.
 pub fn ripas_is_the_guest_s()
     ensures calls { (r : Registers) (m : Machine) → IsProper m → KeepsRipas m (call_in r) (rmi r m).1 }
     ensures taken { (m : Machine) (rd ipa x : ℕ) → IsProper m → (performed (DataDestroy rd ipa) m).0.word ≡ Success → IsBetween ipa (ipa + 4096) x
@@ -366,7 +367,8 @@ pub fn fold_and_unfold()
 /// that a guest is given changes its REC, and an interrupt its REC and its run page. A write of a guest changes pages
 /// of its realm, and of the host outside the secure world. At a protected address it changes none of the host. Calls
 /// keep settings and the number of granules. They keep VMIDs, but for that of a realm that is created or destroyed.
-/// Stores, fills, steps that guests are given, interrupts, and steps of guests keep settings and VMIDs.
+/// Stores, fills, steps that guests are given, interrupts, and steps of guests keep settings and VMIDs. RMI_REC_CREATE
+/// alone makes RECs, and no REC comes to another realm.
 pub fn other_realms_stay()
     ensures calls { (r : Registers) (m : Machine) (granule : ℕ) → IsProper m → IsOfAnother m (call_in r) granule → IsSameAt m (rmi r m).1 granule }
     ensures hosts { (r : Registers) (m : Machine) (granule : ℕ) → IsProper m → (granule_at m granule).state ≡ Undelegated → IsSameAt m (rmi r m).1 granule ⊎ IsHostChanged m (rmi r m).1 (call_in r) granule }
@@ -386,6 +388,7 @@ pub fn other_realms_stay()
         → (granule_at m granule).state ≡ Undelegated → IsSameAt m (after_step m realm rec (Write ipa value size) outcome) granule }
     ensures store_beside { (m : Machine) (address word granule : ℕ) → granule ≢ number_of m address → IsSameAt m (after_store m address word) granule }
     ensures fill_beside { (m : Machine) (address value granule : ℕ) → granule ≢ number_of m address → IsSameAt m (after_fill m address value) granule }
+    ensures recs { (r : Registers) (m : Machine) → IsProper m → KeepsRecs m (call_in r) (rmi r m).1 }
     ensures vmid { (r : Registers) (m : Machine) (vmid : ℕ) → IsProper m → IsOtherVmid m (call_in r) vmid → is_vmid_used (rmi r m).1 vmid ≡ is_vmid_used m vmid }
     ensures store_settings { (m : Machine) (address word : ℕ) → KeepsSettings m (after_store m address word) }
     ensures fill_settings { (m : Machine) (address value : ℕ) → KeepsSettings m (after_fill m address value) }

@@ -18,6 +18,7 @@ use Rattle.rmm_laws.specs.Apart.{named_realm, IsHostChanged, KeepsSettings, IsSa
 use Rattle.rmm_laws.specs.Proper.{IsProper}
 use Rattle.rmm_laws.proofs.Guests.{interrupted_then, given_then, step_then}
 use Rattle.rmm_laws.proofs.HostAccesses.{lower_written, store_beside, fill_beside}
+use Rattle.rmm_laws.proofs.KeptRecs.{call_recs}
 use Rattle.rmm_laws.proofs.LeftAlone.{touches_host, touches_of, host_left, interrupt_host, left_alone}
 use Rattle.rmm_laws.proofs.Passed.{kept}
 use Rattle.rmm_laws.proofs.Plain.{host_plain}
@@ -141,3 +142,7 @@ returns-clause-ended_settings c = λ m rec proper. interrupted_then (KeepsSettin
 
 pub returns-clause-guest_settings : goal.returns-clause-guest_settings
 returns-clause-guest_settings c = λ m g flags run. step_then m g run (KeepsSettings m) (λ by n going. (going.touches.settings, going.vmids)) flags
+
+pub returns-clause-recs : goal.returns-clause-recs
+unfolding rmi
+returns-clause-recs c = λ r m proper. call_recs (call_in r) r m proper
