@@ -84,7 +84,17 @@ created_then m rd params success =
     let flags : tables.vmids ≡ m.vmids = made_vmids m g realm realm.table_count in
     let is : granule_at (with_granule tables g (of_no_realm (Rd realm))) g ≡ of_no_realm (Rd realm) = granule_at-same tables g (of_no_realm (Rd realm)) (subst (λ (c : ℕ). g < c) (sym count) inside) in
     subst (λ (p : SmcResult × Machine). IsRealmMadeOf m p.1 rd params) (sym now) (
-      realm, is, refl, refl, refl, refl, refl, refl, refl, refl, refl,
+      realm,
+      is,
+      refl,
+      refl,
+      refl,
+      refl,
+      refl,
+      refl,
+      refl,
+      refl,
+      refl,
       λ has. get_or-set_same tables.vmids realm.vmid true false (subst (λ (l : List Bool). realm.vmid < length l) (sym flags) has),
     ))
 

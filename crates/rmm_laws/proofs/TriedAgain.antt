@@ -1,7 +1,6 @@
 -- RECs that are entered after exits to which the host answers nothing.
-use Rattle.std.proofs.Common.{◌≡◌, ℕ, ◌+◌, ◌-◌, ◌<◌, inl, true, false, length, List, unwrap_or, refl, sym, ap, subst, ◌∙◌, arith}
+use Rattle.std.proofs.Common.{◌≡◌, ℕ, ◌+◌, ◌-◌, ◌<◌, inl, false, length, List, unwrap_or, refl, sym, ap, subst, ◌∙◌, arith}
 use Rattle.std.proofs.lemmas.Bool.{cond_both, cond-false}
-use Rattle.std.proofs.lemmas.List.{length-set}
 use Rattle.page_arena.specs.Word.{word_of_page}
 use Rattle.rmi_abi.specs.RecRun.{injects_sea, emulates_mmio}
 use Rattle.rmm_model.specs.declared.granule.RmmGranule.{RmmGranule}

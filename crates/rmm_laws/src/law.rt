@@ -220,8 +220,8 @@ pub fn realms_can_be_torn_down()
 /// A realm is activated once. It is NEW when it is created, and RMI_REALM_ACTIVATE makes it ACTIVE if it is NEW. An
 /// RMI_REC_ENTER of a REC of it can make it SYSTEM_OFF if it is ACTIVE. Nothing else changes its state: no other call,
 /// no step that a guest is given, and no interrupt. A REC is entered only while its realm is ACTIVE. A realm that is
-/// created has what its parameters ask for, and its VMID is used. It stays until its RMI_REALM_DESTROY, with what it
-/// was created with.
+/// created has what its parameters ask for. Its VMID is used then, if the machine has a flag for it. It stays until its
+/// RMI_REALM_DESTROY, with what it was created with.
 pub fn activated_once()
     ensures calls { (r : Registers) (m : Machine) → IsProper m → KeepsStates m (call_in r) (rmi r m).1 }
     ensures steps { (m : Machine) (rec : ℕ) (w : StepWords) → KeepsStates m None (queued m rec w).1 }
