@@ -234,9 +234,9 @@ pub fn activated_once()
 
 /// RIMs are measured: RMI_REALM_CREATE gives a realm its first RIM. RMI_DATA_CREATE, RMI_RTT_INIT_RIPAS and
 /// RMI_REC_CREATE of a REC that is measured extend it while the realm is NEW. No other call changes it, and neither do
-/// steps that guests are given, and interrupts. A page of data has the bytes of its source, which are measured if the
-/// flags say so. What is measured is read from a page of the host outside the secure world, and so are parameters. A
-/// REC that is created has what its parameters ask for.
+/// steps that guests are given, and interrupts. A page of data has the bytes of its source, measured as `rim_with_data`
+/// says. What is measured is read from a page of the host outside the secure world, and so are parameters. A REC that
+/// is created has what its parameters ask for.
 pub fn rims_are_measured()
     ensures calls { (r : Registers) (m : Machine) → IsProper m → KeepsRims m (call_in r) (rmi r m).1 }
     ensures steps { (m : Machine) (rec : ℕ) (w : StepWords) → KeepsRims m None (queued m rec w).1 }
@@ -250,10 +250,10 @@ pub fn rims_are_measured()
 
 /// What RECs ask for of RIPAS is their guests'. A call keeps what each REC asks for, but RMI_REC_ENTER of the REC, and
 /// RMI_RTT_SET_RIPAS, after which the REC asks for the rest. So do steps that a guest is given, and interrupts. A REC
-/// that left with a request asks for nothing once it is entered, and any other asks for what it asked for before. A
-/// step of its guest asks for a range of the protected half, or leaves what is asked for as it is, and so does the
-/// exit. RMI_RTT_SET_RIPAS begins where the REC asks, and then the REC asks for the rest from X1 on. RMI_REC_ENTER that
-/// is not refused is an entry, at most 16 steps, and an exit unless the guest spins.
+/// that keeps RIPAS_CHANGE as its exit has `no_request` once it is entered, and any other what it had before. A step of
+/// its guest asks for a range by `is_ripas_range`, or leaves what is asked for as it is, and so does the exit.
+/// RMI_RTT_SET_RIPAS begins where the REC asks, and then the REC asks for the rest from X1 on. RMI_REC_ENTER that is
+/// not refused is an entry, at most 16 steps, and an exit unless the guest spins.
 pub fn requests_are_the_guest_s()
     ensures calls { (r : Registers) (m : Machine) → KeepsRequests m (call_in r) (rmi r m).1 }
     ensures steps { (m : Machine) (rec : ℕ) (w : StepWords) → KeepsRequests m None (queued m rec w).1 }
@@ -275,8 +275,8 @@ pub fn requests_are_the_guest_s()
 /// RMI_RTT_INIT_RIPAS does the same with RAM, without a request. No other call changes the RIPAS of a protected
 /// address, and neither do stores and fills of the host, steps that guests are given, and interrupts. A new realm is
 /// EMPTY and has no page at each protected address. An access of a guest to a protected address without RAM or without
-/// a page is answered an SEA or makes an exit. It reads and writes nothing. After an exit that the host does not
-/// answer, the REC goes on with its registers and its steps, and has no results.
+/// a page is answered an SEA or makes an exit. It reads and writes nothing. If the exit that a REC keeps has no answer,
+/// the REC goes on with its registers and its steps, and has no results.
 pub fn ripas_is_the_guest_s()
     ensures calls { (r : Registers) (m : Machine) → IsProper m → KeepsRipas m (call_in r) (rmi r m).1 }
     ensures taken { (m : Machine) (rd ipa x : ℕ) → IsProper m → (performed (DataDestroy rd ipa) m).0.word ≡ Success → IsBetween ipa (ipa + 4096) x
