@@ -1,5 +1,5 @@
 -- The parts of a plan, read one after another: the first that fails is its fault.
-use Rattle.std.proofs.Common.{◌≡◌, ℕ, List, length, Result, Ok, refl}
+use Rattle.std.proofs.Common.{◌≡◌, ℕ, false, List, length, Result, Ok, refl}
 use Rattle.realm_plan.specs.declared.step.PlanStep.{PlanStep}
 use Rattle.realm_plan.specs.Contents.{Contents}
 use Rattle.realm_plan.specs.Outcome.{◌>>=◌, Fails}
@@ -16,7 +16,7 @@ fails_first f r (errors.Fault fault) wrong = rw wrong refl
 -- what comes after the steps are read, one bind after another
 module _ (c : Contents) where
   abbrev pub made : List (List PlanStep) → List ℕ → Numbers → Plan
-  made builds order n = record { pages = n.pages; vmids = n.vmids; aux = n.aux; history = n.history; builds = builds; order = order }
+  made builds order n = record { pages = n.pages; vmids = n.vmids; aux = n.aux; history = n.history; builds = builds; order = order; gives_up = false }
 
   abbrev pub ends : List (List PlanStep) → List ℕ → Numbers → Result Plan PlanFault
   ends builds order n = lengths_of builds order >>= (λ _. Ok (made builds order n))

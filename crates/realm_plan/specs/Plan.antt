@@ -1,5 +1,5 @@
 -- The plan of a byte list, or its one fault.
-use Rattle.std.specs.Prelude.{ℕ, ◌+◌, ℤ, pos, negsuc, nat_lt, nat_le, Bool, ◌&&◌, List, [], ◌∷◌, length, if◌then◌else◌, Option, Some, None, Result, Ok, Err}
+use Rattle.std.specs.Prelude.{ℕ, ◌+◌, ℤ, pos, negsuc, nat_lt, nat_le, Bool, false, ◌&&◌, List, [], ◌∷◌, length, if◌then◌else◌, Option, Some, None, Result, Ok, Err}
 use Rattle.std.specs.List.{list_all}
 use Rattle.std.specs.Str.{is_utf8}
 use Rattle.toml.specs.Data.{Members}
@@ -62,6 +62,7 @@ lengths_of builds order =
 
 -- ---- the plan
 
+-- If the plan gives up, a build whose step is refused leaves out its other steps, and aborts.
 pub record Plan : Type 0 where
   pub pages : ℕ
   pub vmids : ℕ
@@ -69,15 +70,16 @@ pub record Plan : Type 0 where
   pub history : ℕ
   pub builds : List (List PlanStep)
   pub order : List ℕ
+  pub gives_up : Bool
 
--- Steps before turns, and turns before limits.
+-- Steps before turns, and turns before limits. No document says that a plan gives up.
 unfoldable pub plan_of_contents : Contents → Result Plan PlanFault
 plan_of_contents c =
     builds_of 0 c.builds >>= (λ builds.
     order_of (length builds) 0 c.order >>= (λ order.
     plan_numbers_of c >>= (λ n.
     lengths_of builds order >>= (λ _.
-    Ok (record { pages = n.pages; vmids = n.vmids; aux = n.aux; history = n.history; builds = builds; order = order })))))
+    Ok (record { pages = n.pages; vmids = n.vmids; aux = n.aux; history = n.history; builds = builds; order = order; gives_up = false })))))
 
 -- the document that the bytes are
 unfoldable pub document_of : List ℕ → Option Members

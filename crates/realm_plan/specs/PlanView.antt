@@ -11,4 +11,5 @@ plan_view p = record {
   history = p.history;
   builds = map (λ b. b.items) p.builds.items;
   order = p.order.items;
+  gives_up = p.gives_up;
 }

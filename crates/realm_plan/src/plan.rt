@@ -1,5 +1,7 @@
 //! The plan: a machine, the builds on it, and their turns.
-ghost use Rattle.std.specs.Prelude.{◌≡◌, ◌<◌, ◌≤◌, map, All, IfOk, vec_len};
+ghost use Rattle.host_commands.specs.declared.cmd.Step.TheVariants.{Abort};
+ghost use Rattle.realm_plan.specs.declared.step.PlanStep.TheVariants.{Whole};
+ghost use Rattle.std.specs.Prelude.{◌≡◌, ◌<◌, ◌≤◌, true, map, All, IfOk, vec_len};
 
 use crate::PlanStep;
 use crate::contents::Contents;
@@ -7,6 +9,7 @@ use crate::fault::{PlanError, PlanFault};
 use crate::limits::{lengths_of, numbers_of};
 use crate::turns::{builds_of, order_of, turns_of};
 use granule_addr::BuildId;
+use host_commands::Step;
 use std::alloc::Global;
 use toml::Table;
 
@@ -26,6 +29,10 @@ pub struct Plan {
     pub builds: Vec<Vec<PlanStep>>,
     /// The build of each turn.
     pub order: Vec<BuildId>,
+    /// Whether a build whose step is refused leaves out its other steps, and aborts.
+    pub gives_up: bool,
+    /// The step of a build that gives up: an abort.
+    pub abort: PlanStep,
     pub ghost pages_in_limits: { (1 ≤ pages) × (pages ≤ 4096) },
     pub ghost vmids_in_limits: { 1 ≤ vmids },
     pub ghost aux_in_limits: { aux ≤ 16 },
@@ -34,6 +41,7 @@ pub struct Plan {
     pub ghost steps_in_limits: { All (λ steps. vec_len steps ≤ 1024) builds.items },
     pub ghost order_in_limits: { vec_len order ≤ 16384 },
     pub ghost turns_of_builds: { All (λ build. build < vec_len builds) order.items },
+    pub ghost is_abort: { abort ≡ Whole Abort },
 }
 
 impl Plan {
@@ -79,6 +87,8 @@ impl Plan {
             history: numbers.history,
             builds,
             order: turns,
+            gives_up: false,
+            abort: PlanStep::Whole(Step::Abort),
         })
     }
 
@@ -98,5 +108,14 @@ impl Plan {
             return Err(PlanError::Fault(PlanFault::Key));
         };
         Plan::from_contents(alloc, &contents)
+    }
+
+    /// The same plan, but one that gives up. The bytes of a plan never say so.
+    pub fn giving_up(self) -> Plan
+        ensures { plan_view result ≡ record (plan_view self) { gives_up = true } }
+    {
+        let mut plan = self;
+        plan.gives_up = true;
+        plan
     }
 }

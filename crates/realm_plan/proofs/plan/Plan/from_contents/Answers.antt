@@ -1,4 +1,4 @@
-use Rattle.std.proofs.Common.{◌≡◌, ℕ, List, map, length, Vec, vec_len, Global, sym, ◌∙◌}
+use Rattle.std.proofs.Common.{◌≡◌, ℕ, List, map, length, Vec, vec_len, Global, refl, sym, ◌∙◌}
 use Rattle.std.proofs.lemmas.List.{length-map}
 use Rattle.std.proofs.lemmas.Result.{err_from_is_err_and}
 use Rattle.realm_plan.specs.declared.step.PlanStep.{PlanStep}
@@ -58,6 +58,7 @@ invariant_of-result c =
       steps_in_limits = rw c.deref-3.ensures.value at short.steps;
       order_in_limits = rw (c.in_ok-turns.turns.ok.0, same) (rw c.deref-4.ensures.value at short.order);
       turns_of_builds = rw same (rw c.len.ensures at c.in_ok-order.ensures.below);
+      is_abort = refl;
     }
 
 pub returns : goal.returns
