@@ -27,11 +27,11 @@ pub step_turn :
     (plan : Plan) (from : Position) (id build : ℕ) (step : PlanStep) (host : HostView) (moved : PlanCursor) (report : TurnReport)
     → id ≡ build
     → step_after plan build (place_of from.places build).done ≡ Some step
-    → IsExplainedStep from.host id (place_of from.places build) step host moved report
+    → IsExplainedStep plan.gives_up from.host id (place_of from.places build) step host moved report
     → IsExplainedTurn plan from build (record { host = host; places = slice_set from.places build moved }) report
 step_turn plan from id build step host moved report is_id is_step made =
-    let same : IsExplainedStep from.host build (place_of from.places build) step host moved report = subst
-    (λ b. IsExplainedStep from.host b (place_of from.places build) step host moved report) is_id made in
+    let same : IsExplainedStep plan.gives_up from.host build (place_of from.places build) step host moved report = subst
+    (λ b. IsExplainedStep plan.gives_up from.host b (place_of from.places build) step host moved report) is_id made in
     record {
       turn = record { build = build; told = Some (step, same.answer) };
       of_build = refl;

@@ -1,5 +1,5 @@
 -- The runs of a plan, with the checks of each turn that is refused.
-use Rattle.std.specs.Prelude.{◌≡◌, ℕ, List, [], ◌∷◌, cond, map, string_bytes, Option, Some, None, option_map}
+use Rattle.std.specs.Prelude.{◌≡◌, ℕ, Bool, List, [], ◌∷◌, cond, map, string_bytes, Option, Some, None, option_map}
 use Rattle.host_ledger.specs.View.{HostView}
 use Rattle.host_commands.specs.declared.cmd.Step.{Step}
 use Rattle.realm_plan.specs.Asked.{asked}
@@ -66,12 +66,12 @@ idle_report build = record { line = idle_line build; reason = None }
 
 -- ---- turns and runs
 
--- the turn of a build's step, and its report
-pub record IsExplainedStep (host : HostView) (build : ℕ) (place : PlanCursor) (step : PlanStep) (new : HostView) (after : PlanCursor) (report : TurnReport) : Type 0 where
+-- the turn of a build's step in a plan that gives up or does not, and its report
+pub record IsExplainedStep (gives_up : Bool) (host : HostView) (build : ℕ) (place : PlanCursor) (step : PlanStep) (new : HostView) (after : PlanCursor) (report : TurnReport) : Type 0 where
   pub answer : TurnAnswer
   pub left : PlanCursor
   pub is_turn : IsStepTurn host build place (asked step) answer new left
-  pub moved : after ≡ moved_on left
+  pub moved : after ≡ moved_on gives_up answer left
   pub reported : report ≡ record { line = turn_line build step answer; reason = reason_of_step host build place step answer }
 
 -- The turn of a build leads here, and this is its report.

@@ -1,7 +1,8 @@
 //! The runs of a plan, with the checks of each turn that is refused.
-ghost use Rattle.std.specs.Prelude.{◌≡◌, ◌<◌, IfOk, map, option_map, vec_len};
+ghost use Rattle.std.specs.Prelude.{◌≡◌, ◌<◌, ◌≤◌, IfOk, map, option_map, vec_len};
 ghost use Rattle.realm_plan.specs.Asked.{asked};
 ghost use Rattle.realm_plan.specs.PlanView.{plan_view};
+ghost use Rattle.plan_replay.specs.Place.{giving_up};
 ghost use Rattle.explain.specs.Explained.{up_to_failing, reason_for, report_of, idle_report, report_of_reason, IsExplainedStep, IsExplainedTurn, IsExplainedRun};
 
 use crate::check::{Check, add};
@@ -63,20 +64,21 @@ fn reason_for<S: PageStore>(
     }
 }
 
-// One turn of a build's step.
+// One turn of a build's step, in a plan that gives up or does not.
 fn explain_step<S: PageStore>(
     alloc: Global,
     host: &mut Host<S>,
     build: BuildId,
     place: &mut PlanCursor,
     step: &PlanStep,
+    gives_up: bool,
 ) -> Result<ExplainedTurn, AllocError>
-    requires { place.old.done < 1024 }
-    ensures { IfOk result (λ turn. IsExplainedStep host.old build place.old step.now host.new place.new (report_of turn)) }
+    requires { place.old.done ≤ giving_up }
+    ensures { IfOk result (λ turn. IsExplainedStep gives_up host.old build place.old step.now host.new place.new (report_of turn)) }
 {
     let checks = step_checks(alloc, host, build, place, &step.asked())?;
     let answer = plan_turn(host, build, place, step);
-    place.move_on();
+    place.move_on(gives_up, &answer);
     let mut line = String::new(alloc);
     push_turn(&mut line, build, step, answer)?;
     let reason = reason_for(alloc, host, build, step, &answer, &checks)?;
@@ -109,7 +111,7 @@ fn explain_turn<S: PageStore>(
     let Some(step) = step_after(plan, build, place.done) else {
         return idle_turn(alloc, id);
     };
-    let turn = explain_step(alloc, host, id, &mut place, step)?;
+    let turn = explain_step(alloc, host, id, &mut place, step, plan.gives_up)?;
     places[build] = place;
     Ok(turn)
 }

@@ -25,7 +25,7 @@ use Rattle.realm_plan.specs.declared.step.PlanStep.{PlanStep}
 use Rattle.realm_plan.specs.declared.step.PlanStep.TheVariants.{Whole}
 use Rattle.realm_plan.specs.Plan.{Plan}
 use Rattle.plan_replay.specs.Aborts.{HasLeftNothing, ReportsOfAbort}
-use Rattle.plan_replay.specs.Place.{first_place, moved_on}
+use Rattle.plan_replay.specs.Place.{first_place, is_refusal, moved_on, number_after}
 use Rattle.plan_replay.specs.Run.{Position, Turn, start, place_of, step_after, IsTurnOf, IsTurn, AreTurns}
 use Rattle.plan_replay.specs.Turn.{to_go_back, answer_of_one, left_after, IsOneOfMany, IsTurnOfMany, IsAbortTurn, IsStepTurn}
 use Rattle.plan_replay.specs.declared.answer.TurnAnswer.{TurnAnswer}
@@ -228,7 +228,7 @@ at_start plan host legal = record {
 module _ (plan : Plan) (from : Position) (turn : Turn) (to : Position) (midway : AllMidway plan from) (step : PlanStep) (answer : TurnAnswer) (after : PlanCursor)
     (read : step_after plan turn.build (place_of from.places turn.build).done ≡ Some step)
     (is : IsStepTurn from.host turn.build (place_of from.places turn.build) (asked step) answer to.host after)
-    (places : to.places ≡ set from.places turn.build (moved_on after)) where
+    (places : to.places ≡ set from.places turn.build (moved_on plan.gives_up answer after)) where
   abbrev before : PlanCursor
   before = place_of from.places turn.build
 
@@ -244,10 +244,10 @@ module _ (plan : Plan) (from : Position) (turn : Turn) (to : Position) (midway :
       ap (step_after plan turn.build) (same_done from.host turn.build before (asked step) answer to.host after is) in
       (abort_stands (same_Some _ _ (sym read ∙ sym same ∙ is_abort))).half some
 
-  own_moved : IsMidway plan to.host turn.build (moved_on after)
+  own_moved : IsMidway plan to.host turn.build (moved_on plan.gives_up answer after)
   own_moved = at (after.left == 0) refl
     where
-      at : (t : Bool) → (after.left == 0) ≡ t → IsMidway plan to.host turn.build (cond t (record after { done = after.done + 1 }) after)
+      at : (t : Bool) → (after.left == 0) ≡ t → IsMidway plan to.host turn.build (cond t (record after { done = number_after plan.gives_up (is_refusal answer) after.done }) after)
       at true none is_abort some = absurd (let no = eqb-true after.left 0 none in omega (arith, some, no))
       at false more is_abort some = own_after is_abort some
 
@@ -257,18 +257,18 @@ module _ (plan : Plan) (from : Position) (turn : Turn) (to : Position) (midway :
       at : (t : Bool) → nat_lt turn.build (length from.places) ≡ t → IsMidway plan to.host turn.build (place_of to.places turn.build)
       at true there =
           subst (IsMidway plan to.host turn.build)
-          (sym (ap (λ ps. place_of ps turn.build) places ∙ get_or-set_same from.places turn.build (moved_on after) first_place (ltb-true turn.build (length from.places) there))) own_moved
+          (sym (ap (λ ps. place_of ps turn.build) places ∙ get_or-set_same from.places turn.build (moved_on plan.gives_up answer after) first_place (ltb-true turn.build (length from.places) there))) own_moved
       at false past =
           let outside = ltb-false turn.build (length from.places) past in
           subst (IsMidway plan to.host turn.build)
-          (sym (ap (λ ps. place_of ps turn.build) (places ∙ set_past from.places turn.build (moved_on after) outside) ∙ get_or_past from.places turn.build first_place outside))
+          (sym (ap (λ ps. place_of ps turn.build) (places ∙ set_past from.places turn.build (moved_on plan.gives_up answer after) outside) ∙ get_or_past from.places turn.build first_place outside))
           (λ is_abort some. absurd (omega (arith, some)))
 
   others : (build : ℕ) → turn.build ≢ build → IsMidway plan to.host build (place_of to.places build)
   others build not =
       let by_calls = turn_calls from.host turn.build before (asked step) answer to.host after is in
       let there : place_of to.places build ≡ place_of from.places build =
-      ap (λ ps. place_of ps build) places ∙ get_or-set_other from.places turn.build build (moved_on after) first_place (λ same. not (sym same)) in
+      ap (λ ps. place_of ps build) places ∙ get_or-set_other from.places turn.build build (moved_on plan.gives_up answer after) first_place (λ same. not (sym same)) in
       subst (IsMidway plan to.host build) (sym there)
       (λ is_abort some. others_calls from.host build turn.build (place_of from.places build).left by_calls.calls to.host not some (midway.aborts build is_abort some) by_calls.are)
 
@@ -287,7 +287,7 @@ module _ (plan : Plan) (from : Position) (turn : Turn) (to : Position) (midway :
 after_turn : (plan : Plan) (from : Position) (turn : Turn) (to : Position) → AllMidway plan from → IsTurn plan from turn to → AllMidway plan to
 after_turn plan from turn to midway is = at (step_after plan turn.build (place_of from.places turn.build).done) refl is
   where
-    at : (step : Option PlanStep) → step_after plan turn.build (place_of from.places turn.build).done ≡ step → IsTurnOf step from turn to → AllMidway plan to
+    at : (step : Option PlanStep) → step_after plan turn.build (place_of from.places turn.build).done ≡ step → IsTurnOf plan.gives_up step from turn to → AllMidway plan to
     at None read idle = subst (AllMidway plan) (sym idle.1) midway
     at (Some step) read it = all_after plan from turn to midway step it.0 it.1 read it.3 it.4
 
@@ -304,7 +304,7 @@ told plan host order turns from to turn answer legal run is tells_abort = at (st
     midway : AllMidway plan from
     midway = along plan order (start host) turns from (at_start plan host legal) run
 
-    at : (step : Option PlanStep) → step_after plan turn.build (place_of from.places turn.build).done ≡ step → IsTurnOf step from turn to → ReportsOfAbort answer from turn.build to
+    at : (step : Option PlanStep) → step_after plan turn.build (place_of from.places turn.build).done ≡ step → IsTurnOf plan.gives_up step from turn to → ReportsOfAbort answer from turn.build to
     at None read idle = absurd (let no : Some (Whole Abort, answer) ≡ None = sym tells_abort ∙ idle.0 in cc)
     at (Some step) read it =
         let same : (step, it.0) ≡ (Whole Abort, answer) = same_Some _ _ (sym it.2 ∙ tells_abort) in

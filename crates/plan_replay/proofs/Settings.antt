@@ -1,5 +1,5 @@
 -- The settings of a host, which a run leaves as they are.
-use Rattle.std.proofs.Common.{◌≡◌, ℕ, ◌-◌, ◌==◌, true, false, List, [], ◌∷◌, Option, Some, None, Result, Ok, Err, ap, ap₂, sym, ◌∙◌}
+use Rattle.std.proofs.Common.{◌≡◌, ℕ, ◌-◌, ◌==◌, Bool, true, false, List, [], ◌∷◌, Option, Some, None, Result, Ok, Err, ap, ap₂, sym, ◌∙◌}
 use Rattle.std.specs.Bool.{OnTrue, OnFalse}
 use Rattle.host_ledger.specs.View.{HostView}
 use Rattle.host_ledger.specs.Booted.{booted}
@@ -81,9 +81,9 @@ step_same host build place Abort answer new after is =
 step_same host build place KeepMark answer new after is = mark_same host build is.result new is.is_marked
 step_same host build place Back answer new after is = many_same (to_go_back host build place) host build place answer new after is
 
-turn_same : (step : Option PlanStep) (from : Position) (turn : Turn) (to : Position) → IsTurnOf step from turn to → SameSettings from.host to.host
-turn_same None from turn to is = (ap (λ (p : Position). p.host.limits) is.1, ap (λ (p : Position). p.host.capacity) is.1)
-turn_same (Some step) from turn to is = step_same from.host turn.build (place_of from.places turn.build) (asked step) is.0 to.host is.1 is.3
+turn_same : (gives_up : Bool) (step : Option PlanStep) (from : Position) (turn : Turn) (to : Position) → IsTurnOf gives_up step from turn to → SameSettings from.host to.host
+turn_same gives_up None from turn to is = (ap (λ (p : Position). p.host.limits) is.1, ap (λ (p : Position). p.host.capacity) is.1)
+turn_same gives_up (Some step) from turn to is = step_same from.host turn.build (place_of from.places turn.build) (asked step) is.0 to.host is.1 is.3
 
 -- ---- runs
 
@@ -92,7 +92,7 @@ run_same plan [] from [] to is = (ap (λ (p : Position). p.host.limits) is, ap (
 run_same plan [] from (t ∷ turns) to is = elim is [ ]
 run_same plan (b ∷ order) from [] to is = elim is [ ]
 run_same plan (b ∷ order) from (t ∷ turns) to is =
-    same_then from.host is.1.host to.host (turn_same (step_after plan t.build (place_of from.places t.build).done) from t is.1 is.2) (run_same plan order is.1 turns to is.3)
+    same_then from.host is.1.host to.host (turn_same plan.gives_up (step_after plan t.build (place_of from.places t.build).done) from t is.1 is.2) (run_same plan order is.1 turns to is.3)
 
 -- a fresh host like the last one is one like the first
 pub fresh_like-run : (plan : Plan) (from to : HostView) (old new : List ℕ) → IsReportedRun plan from to old new → fresh_like from ≡ fresh_like to

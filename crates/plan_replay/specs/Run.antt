@@ -1,6 +1,7 @@
 -- The runs of a plan, and the text of one.
-use Rattle.std.specs.Prelude.{◌≡◌, ℕ, List, [], ◌∷◌, ◌++◌, length, replicate, sum, Option, Some, None, slice_get, slice_index, slice_index_or, slice_set, option_and_then}
+use Rattle.std.specs.Prelude.{◌≡◌, ℕ, List, [], ◌∷◌, ◌++◌, length, replicate, sum, Option, Some, None, slice_get, slice_index, slice_index_or, slice_set, option_and_then, nat_le, ◌==◌, ◌&&◌, Bool, if◌then◌else◌}
 use Rattle.std.specs.List.{flat_map, range_with_len}
+use Rattle.host_commands.specs.declared.cmd.Step.TheVariants.{Abort}
 use Rattle.host_ledger.specs.View.{HostView, world_of, pages_of_build}
 use Rattle.realm_host.specs.Readings.{realm_at}
 use Rattle.realm_model.specs.Machine.{cell_at}
@@ -9,8 +10,9 @@ use Rattle.realm_model.specs.declared.states.RealmState.{RealmState}
 use Rattle.realm_plan.specs.Asked.{asked}
 use Rattle.realm_plan.specs.Lines.{idle_line, page_line, realm_line, free_line}
 use Rattle.realm_plan.specs.declared.step.PlanStep.{PlanStep}
+use Rattle.realm_plan.specs.declared.step.PlanStep.TheVariants.{Whole}
 use Rattle.realm_plan.specs.Plan.{Plan}
-use Rattle.plan_replay.specs.Place.{first_place, moved_on}
+use Rattle.plan_replay.specs.Place.{first_place, giving_up, moved_on}
 use Rattle.plan_replay.specs.Text.{turn_line}
 use Rattle.plan_replay.specs.Turn.{IsStepTurn}
 use Rattle.plan_replay.specs.declared.answer.TurnAnswer.{TurnAnswer}
@@ -35,23 +37,31 @@ start host = record { host = host; places = replicate 8 first_place }
 abbrev pub place_of : List PlanCursor → ℕ → PlanCursor
 place_of places build = slice_index_or places build first_place
 
+-- Of a build that gives up an abort comes beyond its steps, and nothing after that.
+abbrev pub given_up : ℕ → Option PlanStep
+given_up number = if number == giving_up then Some (Whole Abort) else None
+
+-- the step of this number, if there is one
+abbrev pub step_numbered : Bool → List PlanStep → ℕ → Option PlanStep
+step_numbered gives_up steps number = if gives_up && nat_le giving_up number then given_up number else slice_get steps number
+
 -- the step of a build that comes after `done` others, if there is one
 abbrev pub step_after : Plan → ℕ → ℕ → Option PlanStep
-step_after plan build done = option_and_then (λ steps. slice_get steps done) (slice_get plan.builds build)
+step_after plan build done = option_and_then (λ steps. step_numbered plan.gives_up steps done) (slice_get plan.builds build)
 
 -- Without a step nothing changes. A step has its turn, with an answer that the host may give, and is used up once no
--- undo of it is left. Until then the build's next turn is the step's again.
-abbrev pub IsTurnOf : Option PlanStep → Position → Turn → Position → Type 0
-IsTurnOf None from turn to = (turn.told ≡ None) × (to ≡ from)
-IsTurnOf (Some step) from turn to =
+-- undo of it is left. Until then the build's next turn is the step's again. A refusal may lead to giving up.
+abbrev pub IsTurnOf : Bool → Option PlanStep → Position → Turn → Position → Type 0
+IsTurnOf gives_up None from turn to = (turn.told ≡ None) × (to ≡ from)
+IsTurnOf gives_up (Some step) from turn to =
     (answer : TurnAnswer)
     × (after : PlanCursor)
     × (turn.told ≡ Some (step, answer))
     × IsStepTurn from.host turn.build (place_of from.places turn.build) (asked step) answer to.host after
-    × (to.places ≡ slice_set from.places turn.build (moved_on after))
+    × (to.places ≡ slice_set from.places turn.build (moved_on gives_up answer after))
 
 abbrev pub IsTurn : Plan → Position → Turn → Position → Type 0
-IsTurn plan from turn to = IsTurnOf (step_after plan turn.build (place_of from.places turn.build).done) from turn to
+IsTurn plan from turn to = IsTurnOf plan.gives_up (step_after plan turn.build (place_of from.places turn.build).done) from turn to
 
 -- The turns of these builds, one after the other.
 abbrev pub AreTurns : Plan → List ℕ → Position → List Turn → Position → Type 0

@@ -25,6 +25,17 @@ pub enum TurnAnswer {
     Refused(Refusal),
 }
 
+impl TurnAnswer {
+    ghost use Rattle.plan_replay.specs.Place.{is_refusal};
+
+    /// Whether the host refused what was asked for.
+    pub fn is_refusal(&self) -> bool
+        ensures { result ≡ is_refusal self.now }
+    {
+        matches!(self, TurnAnswer::Refused(_))
+    }
+}
+
 impl fmt::Display for TurnAnswer {
     ghost use Rattle.std.specs.Prelude.{Some};
     ghost use Rattle.plan_replay.specs.Text.{answer_text};

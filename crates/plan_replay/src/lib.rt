@@ -15,6 +15,6 @@ mod turn;
 
 pub use answer::{TurnAnswer, push_turn, text_for};
 pub use map::{map_text, push_map};
-pub use place::PlanCursor;
+pub use place::{GIVING_UP, PlanCursor, number_after};
 pub use run::{run_turns, step_after, take_turn};
 pub use turn::plan_turn;

@@ -1,11 +1,28 @@
 //! The cursor of a build in its plan.
-ghost use Rattle.std.specs.Prelude.{◌≡◌, ◌<◌};
-ghost use Rattle.plan_replay.specs.Place.{first_place, moved_on};
+ghost use Rattle.std.specs.Prelude.{◌≡◌, ◌≤◌, ◌^◌, ◌<◌};
+ghost use Rattle.plan_replay.specs.Place.{first_place, giving_up, moved_on, number_after};
 
+use crate::answer::TurnAnswer;
 use realm_host::Mark;
+use realm_plan::MOST_STEPS;
+
+/// The number of the abort of a build that gives up. Those of a plan's steps are lower.
+pub const GIVING_UP: usize = MOST_STEPS + 1;
+
+/// The number after a step that is used up. A refused step of a plan that gives up leads to the abort.
+pub fn number_after(gives_up: bool, is_refused: bool, done: usize) -> usize
+    requires { done < 2 ^ 32 }
+    ensures { result ≡ number_after gives_up is_refused done }
+{
+    if gives_up && is_refused && done < GIVING_UP {
+        GIVING_UP
+    } else {
+        done + 1
+    }
+}
 
 /// The position of a build in its plan: the number of steps done, the number of undos left of the one under way, and
-/// its last mark.
+/// its last mark. In a plan that gives up the number may be `GIVING_UP`, and once that abort is over the next one.
 #[derive(Clone, Copy)]
 pub struct PlanCursor {
     pub done: usize,
@@ -25,13 +42,13 @@ impl PlanCursor {
         }
     }
 
-    /// Moves on after a turn: its step is used up, unless undos of it are left.
-    pub fn move_on(&mut self)
-        requires { self.old.done < 1024 }
-        ensures { self.new ≡ moved_on self.old }
+    /// Moves on after a turn with this answer: its step is used up, unless undos of it are left.
+    pub fn move_on(&mut self, gives_up: bool, answer: &TurnAnswer)
+        requires { self.old.done ≤ giving_up }
+        ensures { self.new ≡ moved_on gives_up answer.now self.old }
     {
         if self.left == 0 {
-            self.done += 1;
+            self.done = number_after(gives_up, answer.is_refusal(), self.done);
         }
     }
 }

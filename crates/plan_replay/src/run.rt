@@ -1,23 +1,47 @@
 //! The turns of a plan, and their lines.
-ghost use Rattle.std.specs.Prelude.{◌≡◌, ◌<◌, OnOk, IfSome, string_bytes, vec_len, option_map};
+ghost use Rattle.std.specs.Prelude.{◌≡◌, ◌<◌, ◌≤◌, OnOk, IfSome, string_bytes, vec_len, option_map};
 ghost use Rattle.realm_plan.specs.PlanView.{plan_view};
-ghost use Rattle.plan_replay.specs.Run.{step_after as nth_step, IsTurn, IsReportedTurn, IsReportedRun};
+ghost use Rattle.plan_replay.specs.Place.{giving_up};
+ghost use Rattle.plan_replay.specs.Run.{given_up, step_numbered, step_after as nth_step, IsTurn, IsReportedTurn, IsReportedRun};
 
 use crate::answer::{TurnAnswer, push_turn};
-use crate::place::PlanCursor;
+use crate::place::{GIVING_UP, PlanCursor};
 use crate::turn::{id_of, plan_turn};
 use page_arena::PageStore;
 use realm_host::Host;
 use realm_plan::{Plan, PlanStep, push_idle};
 use std::alloc::AllocError;
 
-/// The step of a build that comes after `done` others; None if it has no more.
+// The step beyond those of a build that gives up.
+fn given_up(plan: &Plan, number: usize) -> Option<&PlanStep>
+    ensures { option_map (λ step. step.now) result ≡ given_up number }
+{
+    if number == GIVING_UP {
+        Some(&plan.abort)
+    } else {
+        None
+    }
+}
+
+// The step of this number among those of a build; None if there is none.
+fn step_numbered<'a>(plan: &'a Plan, steps: &'a [PlanStep], number: usize) -> Option<&'a PlanStep>
+    ensures { option_map (λ step. step.now) result ≡ step_numbered plan.now.gives_up steps.now number }
+{
+    if plan.gives_up && number >= GIVING_UP {
+        given_up(plan, number)
+    } else {
+        steps.get(number)
+    }
+}
+
+/// The step of a build that comes after `done` others; None if it has no more. After a refusal of a build that gives
+/// up this is an abort.
 pub fn step_after(plan: &Plan, build: usize, done: usize) -> Option<&PlanStep>
     ensures value { option_map (λ step. step.now) result ≡ nth_step (plan_view plan.now) build done }
-    ensures few { IfSome result (λ _. done < 1024) }
+    ensures few { IfSome result (λ _. done ≤ giving_up) }
 {
     match plan.builds.get(build) {
-        Some(steps) => steps.get(done),
+        Some(steps) => step_numbered(plan, steps, done),
         None => None,
     }
 }
@@ -36,7 +60,7 @@ pub fn take_turn<'a, S: PageStore>(
     let mut place = places[build];
     let step = step_after(plan, build, place.done)?;
     let answer = plan_turn(host, id_of(build), &mut place, step);
-    place.move_on();
+    place.move_on(plan.gives_up, &answer);
     places[build] = place;
     Some((step, answer))
 }

@@ -6,7 +6,8 @@ use Rattle.std.proofs.lemmas.List.{map-set}
 use Rattle.realm_model.proofs.Booleans.{and_false}
 use Rattle.host_ledger.specs.declared.mark.Mark.{Mark}
 use Rattle.host_ledger.specs.Marks.{is_same_mark, mark_while}
-use Rattle.plan_replay.specs.Place.{first_place, moved_on}
+use Rattle.plan_replay.specs.Place.{first_place, is_refusal, moved_on, number_after}
+use Rattle.plan_replay.specs.declared.answer.TurnAnswer.{TurnAnswer}
 use Rattle.plan_replay.specs.declared.place.PlanCursor.{PlanCursor}
 use Rattle.schedule_graph.specs.State.{Progress, progress_of}
 
@@ -93,22 +94,26 @@ progress_set ones others b one other same alike =
     map-set progress_of others b other ∙ (λ i. set (same i) b (alike i)) ∙ sym (map-set progress_of ones b one)
 
 -- the progress once a turn has used its step up, if it has
-abbrev moved : Progress → Progress
-moved it = cond (it.left == 0) (record it { done = it.done + 1 }) it
+module _ (gives_up : Bool) (answer : TurnAnswer) where
+  abbrev next : ℕ → ℕ
+  next done = number_after gives_up (is_refusal answer) done
 
-progress-moved_on : (place : PlanCursor) → progress_of (moved_on place) ≡ moved (progress_of place)
-progress-moved_on place =
-    elim (place.left == 0) as (λ t. progress_of (cond t (record place { done = place.done + 1 }) place) ≡ cond t (record (progress_of place) { done = place.done + 1 }) (progress_of place)) [
-      | true ↦ refl
-      | false ↦ refl
-    ]
+  abbrev moved : Progress → Progress
+  moved it = cond (it.left == 0) (record it { done = next it.done }) it
 
-pub progress_moved : (one other : PlanCursor) → progress_of other ≡ progress_of one → progress_of (moved_on other) ≡ progress_of (moved_on one)
-progress_moved one other same = progress-moved_on other ∙ ap moved same ∙ sym (progress-moved_on one)
+  progress-moved_on : (place : PlanCursor) → progress_of (moved_on gives_up answer place) ≡ moved (progress_of place)
+  progress-moved_on place =
+      elim (place.left == 0) as (λ t. progress_of (cond t (record place { done = next place.done }) place) ≡ cond t (record (progress_of place) { done = next place.done }) (progress_of place)) [
+        | true ↦ refl
+        | false ↦ refl
+      ]
 
-pub mark-moved_on : (place : PlanCursor) → (moved_on place).mark ≡ place.mark
-mark-moved_on place =
-    elim (place.left == 0) as (λ t. (cond t (record place { done = place.done + 1 }) place).mark ≡ place.mark) [ true ↦ refl | false ↦ refl ]
+  pub progress_moved : (one other : PlanCursor) → progress_of other ≡ progress_of one → progress_of (moved_on gives_up answer other) ≡ progress_of (moved_on gives_up answer one)
+  progress_moved one other same = progress-moved_on other ∙ ap moved same ∙ sym (progress-moved_on one)
+
+  pub mark-moved_on : (place : PlanCursor) → (moved_on gives_up answer place).mark ≡ place.mark
+  mark-moved_on place =
+      elim (place.left == 0) as (λ t. (cond t (record place { done = next place.done }) place).mark ≡ place.mark) [ true ↦ refl | false ↦ refl ]
 
 -- the mark of a cursor that is set is kept in both or in neither
 pub goes-set : (ones others : List PlanCursor) (b : ℕ) (one other : PlanCursor) (kept also : Option Mark) → map progress_of others ≡ map progress_of ones

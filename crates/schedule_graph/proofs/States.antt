@@ -267,9 +267,9 @@ module _ (b : ℕ) (place other : PlanCursor) (alike_places : progress_of other 
 
 -- ---- turns of positions that are one state
 
-record TurnToo (step : Option PlanStep) (other : Position) (turn : Turn) (to : Position) : Type 0 where
+record TurnToo (gives_up : Bool) (step : Option PlanStep) (other : Position) (turn : Turn) (to : Position) : Type 0 where
   then : Position
-  is_turn : IsTurnOf step other turn then
+  is_turn : IsTurnOf gives_up step other turn then
   same : AreOneState to then
 
 module _ (one other : Position) (same : AreOneState one other) where
@@ -279,31 +279,31 @@ module _ (one other : Position) (same : AreOneState one other) where
   kept_at : (b : ℕ) → AreKeptAlike b one.host other.host (place_of one.places b).mark (place_of other.places b).mark
   kept_at b = record { points = ap (λ (p : Progress). p.mark) (progress_of_both b); kept = same.ways_back b }
 
-  turn_of : (step : Option PlanStep) (turn : Turn) (to : Position) → IsTurnOf step one turn to → TurnToo step other turn to
-  turn_of None turn to (told, stays_there) = record {
+  turn_of : (gives_up : Bool) (step : Option PlanStep) (turn : Turn) (to : Position) → IsTurnOf gives_up step one turn to → TurnToo gives_up step other turn to
+  turn_of gives_up None turn to (told, stays_there) = record {
     then = other;
     is_turn = (told, refl);
     same = subst (λ p. AreOneState p other) (sym stays_there) same;
   }
-  turn_of (Some step) turn to (answer, after, told, is_step, places) =
+  turn_of gives_up (Some step) turn to (answer, after, told, is_step, places) =
       let b = turn.build in
       let too = step_too b (place_of one.places b) (place_of other.places b) (progress_of_both b) (asked step) one.host other.host to.host answer after same.hosts (kept_at b) is_step in
-      let then : Position = record { host = too.then; places = set other.places b (moved_on too.also) } in
-      let marks : goes (mark_of too.then b) (moved_on too.also).mark ≡ goes (mark_of to.host b) (moved_on after).mark =
-      ap (goes (mark_of too.then b)) (mark-moved_on too.also) ∙ too.kept ∙ sym (ap (goes (mark_of to.host b)) (mark-moved_on after)) in
+      let then : Position = record { host = too.then; places = set other.places b (moved_on gives_up answer too.also) } in
+      let marks : goes (mark_of too.then b) (moved_on gives_up answer too.also).mark ≡ goes (mark_of to.host b) (moved_on gives_up answer after).mark =
+      ap (goes (mark_of too.then b)) (mark-moved_on gives_up answer too.also) ∙ too.kept ∙ sym (ap (goes (mark_of to.host b)) (mark-moved_on gives_up answer after)) in
       let own : has_way_back then b ≡ has_way_back to b =
-      goes-set one.places other.places b (moved_on after) (moved_on too.also) (mark_of to.host b) (mark_of too.then b) same.progress marks
+      goes-set one.places other.places b (moved_on gives_up answer after) (moved_on gives_up answer too.also) (mark_of to.host b) (mark_of too.then b) same.progress marks
       ∙ ap (λ ps. goes (mark_of to.host b) (get_or ps b first_place).mark) (sym places) in
       let another : (c : ℕ) → c ≢ b → has_way_back then c ≡ has_way_back to c = λ c ne.
-      (λ i. goes (too.also_rest c ne i) (get_or-set_other other.places b c (moved_on too.also) first_place ne i).mark)
+      (λ i. goes (too.also_rest c ne i) (get_or-set_other other.places b c (moved_on gives_up answer too.also) first_place ne i).mark)
       ∙ same.ways_back c
-      ∙ sym (λ i. goes (too.rest c ne i) ((ap (λ ps. get_or ps c first_place) places ∙ get_or-set_other one.places b c (moved_on after) first_place ne) i).mark) in
+      ∙ sym (λ i. goes (too.rest c ne i) ((ap (λ ps. get_or ps c first_place) places ∙ get_or-set_other one.places b c (moved_on gives_up answer after) first_place ne) i).mark) in
       record {
         then = then;
         is_turn = (answer, too.also, told, too.is_step, refl);
         same = record {
           hosts = too.differ;
-          progress = progress_set one.places other.places b (moved_on after) (moved_on too.also) same.progress (progress_moved after too.also too.progress) ∙ ap (map progress_of) (sym places);
+          progress = progress_set one.places other.places b (moved_on gives_up answer after) (moved_on gives_up answer too.also) same.progress (progress_moved gives_up answer after too.also too.progress) ∙ ap (map progress_of) (sym places);
           ways_back = λ c. ⊎_elim (λ e. subst (λ k. has_way_back then k ≡ has_way_back to k) (sym e) own) (another c) (cases_eq c b);
         };
       }
@@ -313,8 +313,8 @@ module _ (one other : Position) (same : AreOneState one other) where
 
   pub turn_too : (plan : Plan) (turn : Turn) (to : Position) → IsTurn plan one turn to → IsAlsoTaken plan other turn to
   turn_too plan turn to is =
-      let too = turn_of (step_after plan turn.build (place_of one.places turn.build).done) turn to is in
-      record { then = too.then; is_turn = subst (λ step. IsTurnOf step other turn too.then) (sym (same_step plan turn.build)) too.is_turn; same = too.same }
+      let too = turn_of plan.gives_up (step_after plan turn.build (place_of one.places turn.build).done) turn to is in
+      record { then = too.then; is_turn = subst (λ step. IsTurnOf plan.gives_up step other turn too.then) (sym (same_step plan turn.build)) too.is_turn; same = too.same }
 
   pub same_text : map_text other.host ≡ map_text one.host
   same_text = same_map one.host other.host same.hosts.same

@@ -32,5 +32,5 @@ returns g c =
     c.id_of-id.ensures
     (subst (λ place. step_after (plan_view c.args.plan.now) build place.done ≡ Some c.in-Some.step.now) same
     (sym c.step_after.ensures.value ∙ ap (option_map (λ step. step.now)) c.in-Some.is))
-    (subst (λ place. IsExplainedStep c.args.host.now c.id_of-id.result place c.in-Some.step.now c.explain_step.new.host c.explain_step.new.place report) same
+    (subst (λ place. IsExplainedStep c.args.plan.now.gives_up c.args.host.now c.id_of-id.result place c.in-Some.step.now c.explain_step.new.host c.explain_step.new.place report) same
     c.in_ok-turn.ensures)
