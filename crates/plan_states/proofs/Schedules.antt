@@ -1,40 +1,32 @@
 -- The schedules of a whole graph's paths: none is missing, none is another one's, and they rise.
 use Rattle.std.proofs.Common.{◌≡◌, ℕ, zero, suc, ◌+◌, ◌-◌, ◌<◌, ◌≤◌, ◌==◌, ◌&&◌, inl, inr, Bool, true, false, cond, List, [], ◌∷◌, ◌++◌, map, length, get_or, drop, All, Option, Some, None, Vec, Global, vec_items, is_some, refl, sym, ap, subst, ◌∙◌, arith, append_assoc, add-one, drop-cons, eqb-true}
-use Rattle.std.specs.Prelude.{AllPairs, Contains, count_by, filter, slice_get}
+use Rattle.std.specs.Prelude.{◌⊎◌, AllPairs, Contains, count_by, filter, option_and_then, slice_get}
 use Rattle.std.specs.List.{find, list_all, range_with_len}
 use Rattle.std.proofs.Math.Nat.{sub-zero}
 use Rattle.std.proofs.lemmas.Bool.{and_parts, both_ways, false_from_ne_true}
 use Rattle.std.proofs.lemmas.List.{get_or_past, length-map, map-append}
 use Rattle.std.proofs.lemmas.List.Elements.{filter-append}
-use Rattle.std.proofs.lemmas.List.Sums.{sum_by-cons, sum_by_push}
+use Rattle.std.proofs.lemmas.List.Sums.{fold-append, sum_by-cons}
 use Rattle.std.proofs.lemmas.Option.{slice_get-get_or, slice_get_within, get_or_from_slice_get}
+use Rattle.host_commands.specs.declared.cmd.Step.TheVariants.{Abort}
 use Rattle.realm_plan.specs.Plan.{Plan}
-use Rattle.plan_replay.specs.Run.{step_after}
+use Rattle.realm_plan.specs.declared.step.PlanStep.{PlanStep}
+use Rattle.realm_plan.specs.declared.step.PlanStep.TheVariants.{Whole}
+use Rattle.plan_replay.specs.Place.{giving_up}
+use Rattle.plan_replay.specs.Run.{step_after, step_numbered}
 use Rattle.schedule_graph.specs.First.{layers_in}
 use Rattle.schedule_graph.specs.Paths.{Layer, Path, paths_by_edges, paths}
 use Rattle.schedule_graph.specs.declared.graph.Edge.{Edge}
 use Rattle.plan_states.specs.Lines.{step_number}
-use Rattle.plan_states.specs.Schedules.{by_builds, by_turns, end_at, ends_of_path, own_rule, schedules_after, steps_ended, turns_from, used_by, HasSingleTurns, IsRuleOf, IsSchedule}
+use Rattle.plan_states.specs.Schedules.{by_builds, by_turns, done_by, end_at, ends_of, ends_of_path, own_rule, schedules_after, steps_ended, turns_from, used_by, AreInSequence, HasSingleTurns, IsRuleOf, IsSchedule}
 use Rattle.plan_states.specs.Tallies.{builds_of_path, is_before, layers_of, paths_of}
-use Rattle.plan_states.specs.Whole.{are_done_after, done_after, done_of, has_step_left, has_map, are_over, layer_at, leads_if_there, leads_on, states_at, takes_many, uses_next, IsStateWhole, IsWholeGraph}
+use Rattle.plan_states.specs.Whole.{are_done_after, done_after, done_of, has_step_left, has_map, are_over, layer_at, number_by, leads_if_there, leads_on, states_at, takes_many, uses_next, IsStateWhole, IsWholeGraph}
 use Rattle.plan_states.specs.declared.edges.Label.{Label}
 use Rattle.plan_states.specs.declared.graph.Graph.{Graph}
 use Rattle.plan_states.specs.declared.step_end.EndOfStep.{EndOfStep}
 use Rattle.plan_states.proofs.Members.{IsIn, IsMadeOf, in_left, in_map, of_map, in_filter, of_filter, filter_alike, at_list_all, in_range, of_range, in_contains, contains_in, all_in, Pairs, all_pairs, pairs_map, pairs_of_map, pairs_filter, pairs_range}
 use Rattle.plan_states.proofs.Paths.{Rises, edge_found, in_by_edges, of_by_edges, some_by_edges, rising_by_edges, schedules_by_edges}
-use Rattle.plan_states.proofs.StepEnds.{none_left, more_left, steps_of, turn_ends, steps_join}
-
--- ---- steps that are used up
-
-one_more : (t : Bool) (n m : ℕ) → n ≡ m → cond t (n + 1) n ≡ m + cond t 1 0
-one_more true n m same = omega arith
-one_more false n m same = omega arith
-
-used_more : (done : List ℕ) (before : Path Label) (edge : Edge Label) (build : ℕ) → done_of done build ≡ used_by before build
-    → done_after done edge.label build ≡ used_by (before ++ edge ∷ []) build
-used_more done before edge build same =
-    one_more (build == edge.label.build && is_some edge.label.end) (done_of done build) (used_by before build) same
-    ∙ sym (sum_by_push (λ (e : Edge Label). cond (build == e.label.build && is_some e.label.end) 1 0) before edge)
+use Rattle.plan_states.proofs.StepEnds.{none_left, more_left, number_plain, sequence_join, steps_counted, steps_of, turn_ends, steps_join}
 
 -- ---- layers
 
@@ -68,7 +60,7 @@ module _ (plan : Plan) (graph : Graph) (whole : IsWholeGraph plan graph) where
   -- What an edge of a state leads to: a state of the next layer, and how many steps are done there.
   record Leads (depth state : ℕ) (edge : Edge Label) : Type 0 where
     inside : edge.to < length (states_at graph (depth + 1))
-    done : (build : ℕ) → build < 8 → done_of (done_at (depth + 1) edge.to) build ≡ done_after (done_at depth state) edge.label build
+    done : (build : ℕ) → build < 8 → done_of (done_at (depth + 1) edge.to) build ≡ done_after plan graph.ends.items (done_at depth state) edge.label build
     uses : uses_next plan graph.ends.items edge.label.build (done_of (done_at depth state) edge.label.build) edge.label.end ≡ true
 
   module _ (depth state : ℕ) (early : depth < length graph.layers.items) (inside : state < length (states_at graph depth)) where
@@ -124,14 +116,14 @@ module _ (plan : Plan) (graph : Graph) (whole : IsWholeGraph plan graph) where
         at (Some then) there goes =
             let done = done_at depth state in
             let first = and_parts (uses_next plan graph.ends.items edge.label.build (done_of done edge.label.build) edge.label.end)
-            (are_done_after done edge.label then && has_map (length graph.maps.items) (are_over plan then) edge.label.map) goes in
-            let second = and_parts (are_done_after done edge.label then) (has_map (length graph.maps.items) (are_over plan then) edge.label.map) first.1 in
+            (are_done_after plan graph.ends.items done edge.label then && has_map (length graph.maps.items) (are_over plan then) edge.label.map) goes in
+            let second = and_parts (are_done_after plan graph.ends.items done edge.label then) (has_map (length graph.maps.items) (are_over plan then) edge.label.map) first.1 in
             record {
               inside = slice_get_within (states_at graph (depth + 1)) edge.to then there;
               done = λ build few.
                   ap (λ (d : List ℕ). done_of d build) (get_or_from_slice_get (states_at graph (depth + 1)) edge.to then [] there)
-                  ∙ eqb-true (done_of then build) (done_after done edge.label build)
-                  (at_list_all (λ (b : ℕ). done_of then b == done_after done edge.label b) build (range_with_len 0 8) second.0 (in_range 0 8 build (omega arith) few));
+                  ∙ eqb-true (done_of then build) (done_after plan graph.ends.items done edge.label build)
+                  (at_list_all (λ (b : ℕ). done_of then b == done_after plan graph.ends.items done edge.label b) build (range_with_len 0 8) second.0 (in_range 0 8 build (omega arith) few));
               uses = first.0;
             }
 
@@ -178,10 +170,16 @@ module _ (plan : Plan) (graph : Graph) (whole : IsWholeGraph plan graph) where
 
   -- ---- states that turns lead to
 
-  -- Turns lead to a state: its steps done are those that they use up, and each path from it goes on with them.
+  done_more : (done : List ℕ) (before : Path Label) (edge : Edge Label) (build : ℕ) → done_of done build ≡ done_by plan graph before build
+      → done_after plan graph.ends.items done edge.label build ≡ done_by plan graph (before ++ edge ∷ []) build
+  done_more done before edge build same =
+      ap (λ (n : ℕ). number_by plan graph.ends.items build n edge.label) same
+      ∙ sym (fold-append (λ (n : ℕ) (e : Edge Label). number_by plan graph.ends.items build n e.label) 0 before (edge ∷ []))
+
+  -- Turns lead to a state: the numbers of builds are those that they lead to, and each path from it goes on with them.
   record IsReachedBy (before : Path Label) (depth state : ℕ) : Type 0 where
     inside : state < length (states_at graph depth)
-    done : (build : ℕ) → build < 8 → done_of (done_at depth state) build ≡ used_by before build
+    done : (build : ℕ) → build < 8 → done_of (done_at depth state) build ≡ done_by plan graph before build
     goes_on : (path : Path Label) → IsIn path (paths_at depth state) → Contains (paths_of graph) (before ++ path)
 
   reached_first : IsReachedBy [] 0 0
@@ -197,7 +195,7 @@ module _ (plan : Plan) (graph : Graph) (whole : IsWholeGraph plan graph) where
       let to = leads depth state early reached.inside edge is in
       record {
         inside = to.inside;
-        done = λ build few. to.done build few ∙ used_more (done_at depth state) before edge build (reached.done build few);
+        done = λ build few. to.done build few ∙ done_more (done_at depth state) before edge build (reached.done build few);
         goes_on = λ path there.
             subst (λ (all : Path Label). Contains (paths_of graph) all) (sym (append_assoc before (edge ∷ []) path))
             (reached.goes_on (edge ∷ path) (subst (λ (ps : List (Path Label)). IsIn (edge ∷ path) ps) (sym (paths_are depth state early reached.inside))
@@ -350,7 +348,7 @@ module _ (plan : Plan) (graph : Graph) (whole : IsWholeGraph plan graph) where
   pub own_is_rule : IsRuleOf plan graph (own_rule plan graph)
   own_is_rule = λ front rest is build few.
       let first = one_first in
-      ap (λ (path : Path Label). is_some (step_after plan build (used_by path build)))
+      ap (λ (path : Path Label). is_some (step_after plan build (done_by plan graph path build)))
       (turns_are (length graph.layers.items) 0 0 front rest (omega arith) (omega arith) (in_contains (front ++ rest) (paths_of graph) is))
 
   -- ---- plans in which each step takes one turn
@@ -393,13 +391,32 @@ module _ (plan : Plan) (graph : Graph) (whole : IsWholeGraph plan graph) where
         (ends edge (inl refl)) (turns_used front build (λ e is. ends e (inr is)))
         ∙ sym (sum_by-cons (λ (e : Edge Label). cond (build == e.label.build && is_some e.label.end) 1 0) edge front)
 
+    -- a build that there is does not give up, since an abort may take more turns
+    plain_or_none : (build : ℕ) → (plan.gives_up ≡ false) ⊎ (slice_get plan.builds build ≡ None)
+    plain_or_none build = at plan.gives_up refl (slice_get plan.builds build) refl
+      where
+        at : (g : Bool) → plan.gives_up ≡ g → (steps : Option (List PlanStep)) → slice_get plan.builds build ≡ steps
+            → (plan.gives_up ≡ false) ⊎ (slice_get plan.builds build ≡ None)
+        at false plain steps there = inl plain
+        at true gives_up None there = inr there
+        at true gives_up (Some steps) there =
+            let abort : step_after plan build giving_up ≡ Some (Whole Abort) =
+            λ i. option_and_then (λ (ss : List PlanStep). step_numbered (gives_up i) ss giving_up) (there i) in
+            absurd (both_ways (takes_many (step_after plan build giving_up)) (single build giving_up) (ap takes_many abort))
+
     pub turns_rule : IsRuleOf plan graph (by_turns plan)
-    turns_rule = λ front rest is build few.
-        let first = one_first in
-        ap (λ (done : ℕ). is_some (step_after plan build done))
-        (turns_used front build (λ edge there.
-        ends_from (length graph.layers.items) 0 0 (front ++ rest) edge (omega arith) (omega arith)
-        (in_contains (front ++ rest) (paths_of graph) is) (in_left edge front rest there)))
+    turns_rule = λ front rest is build few. elim (plain_or_none build) as (λ _. by_turns plan (builds_of_path front) build ≡ is_some (step_after plan build (done_by plan graph front build))) [
+      | inl plain ↦
+          let first = one_first in
+          ap (λ (done : ℕ). is_some (step_after plan build done))
+          (turns_used front build (λ edge there.
+          ends_from (length graph.layers.items) 0 0 (front ++ rest) edge (omega arith) (omega arith)
+          (in_contains (front ++ rest) (paths_of graph) is) (in_left edge front rest there))
+          ∙ sym (steps_counted plan graph front build plain))
+      | inr none ↦
+          (λ i. is_some (option_and_then (λ (ss : List PlanStep). step_numbered plan.gives_up ss (count_by (λ (turn : ℕ). build == turn) (builds_of_path front))) (none i)))
+          ∙ sym (λ i. is_some (option_and_then (λ (ss : List PlanStep). step_numbered plan.gives_up ss (done_by plan graph front build)) (none i)))
+    ]
 
   -- ---- the steps that paths end
 
@@ -412,11 +429,11 @@ module _ (plan : Plan) (graph : Graph) (whole : IsWholeGraph plan graph) where
       (filter (λ (end : EndOfStep). end.build == build) (ends_of_path ends rest))
 
   steps_from : (n depth state : ℕ) (path : Path Label) (build : ℕ) → depth + n ≡ length graph.layers.items
-      → state < length (states_at graph depth) → build < 8 → IsIn path (paths_at depth state)
+      → state < length (states_at graph depth) → build < 8 → plan.gives_up ≡ false → IsIn path (paths_at depth state)
       → steps_ended graph.ends.items build path
       ≡ range_with_len (done_of (done_at depth state) build) (step_number plan build - done_of (done_at depth state) build)
-  steps_from zero depth state path build sum inside few is = absurd (none_past depth state (omega arith) inside)
-  steps_from (suc n) depth state path build sum inside few is =
+  steps_from zero depth state path build sum inside few plain is = absurd (none_past depth state (omega arith) inside)
+  steps_from (suc n) depth state path build sum inside few plain is =
       let early : depth < length graph.layers.items = omega arith in
       let done = done_of (done_at depth state) build in
       elim (of_by_edges (paths_at (depth + 1)) (edges_at depth state) path
@@ -426,7 +443,7 @@ module _ (plan : Plan) (graph : Graph) (whole : IsWholeGraph plan graph) where
             let fails = false_from_ne_true (has_step_left plan (done_at depth state) build) (λ holds.
             let way = edge_of depth state early inside build few holds in
             subst (λ (edges : List (Edge Label)). IsIn way.one edges) end.0 way.is_in) in
-            let below = none_left plan build done fails in
+            let below = none_left plan build done plain fails in
             let nothing : 0 ≡ step_number plan build - done = omega arith in
             ap (λ (p : Path Label). steps_ended graph.ends.items build p) end.1 ∙ ap (range_with_len done) nothing
         | inr on ↦
@@ -434,20 +451,59 @@ module _ (plan : Plan) (graph : Graph) (whole : IsWholeGraph plan graph) where
             let to = leads depth state early inside on.edge on.is_in in
             let it = build_left depth state early inside on.edge on.is_in in
             let ends = turn_ends plan graph.ends.items build own (done_of (done_at depth state) own) on.edge.label.end to.uses in
-            let later = steps_from n (depth + 1) on.edge.to on.rest build (omega arith) to.inside few on.goes_on in
+            let later = steps_from n (depth + 1) on.edge.to on.rest build (omega arith) to.inside few plain on.goes_on in
             let one = λ (t : (build == own && is_some on.edge.label.end) ≡ true). eqb-true build own (and_parts (build == own) (is_some on.edge.label.end) t).0 in
             ap (λ (p : Path Label). steps_ended graph.ends.items build p) on.is_path
             ∙ steps_more graph.ends.items build on.edge on.rest
             ∙ (λ i. ends i ++ later i)
             ∙ steps_join (build == own && is_some on.edge.label.end) done (done_of (done_at depth state) own) (done_of (done_at (depth + 1) on.edge.to) build) (step_number plan build)
-            (to.done build few)
+            (to.done build few ∙ number_plain plan graph.ends.items build done on.edge.label plain)
             (λ t. ap (λ (b : ℕ). done_of (done_at depth state) b) (sym (one t)))
-            (λ t. more_left plan build done (subst (λ (b : ℕ). has_step_left plan (done_at depth state) b ≡ true) (sym (one t)) it.1))
+            (λ t. more_left plan build done plain (subst (λ (b : ℕ). has_step_left plan (done_at depth state) b ≡ true) (sym (one t)) it.1))
       ]
 
-  pub each_step_ends : All (λ (path : Path Label). (build : ℕ) → build < 8 → steps_ended graph.ends.items build path ≡ range_with_len 0 (step_number plan build)) (paths_of graph)
-  each_step_ends = all_in (λ (path : Path Label). (build : ℕ) → build < 8 → steps_ended graph.ends.items build path ≡ range_with_len 0 (step_number plan build)) (paths_of graph) (λ path is build few.
+  pub each_step_ends : plan.gives_up ≡ false → All (λ (path : Path Label). (build : ℕ) → build < 8 → steps_ended graph.ends.items build path ≡ range_with_len 0 (step_number plan build)) (paths_of graph)
+  each_step_ends plain = all_in (λ (path : Path Label). (build : ℕ) → build < 8 → steps_ended graph.ends.items build path ≡ range_with_len 0 (step_number plan build)) (paths_of graph) (λ path is build few.
       let first = one_first in
       let none = none_done build few in
-      steps_from (length graph.layers.items) 0 0 path build (omega arith) (omega arith) few is
+      steps_from (length graph.layers.items) 0 0 path build (omega arith) (omega arith) few plain is
       ∙ (λ i. range_with_len (none i) (step_number plan build - none i)) ∙ ap (range_with_len 0) (sub-zero (step_number plan build)))
+
+  -- ---- and their sequence
+
+  ends_more : (ends : List EndOfStep) (build : ℕ) (edge : Edge Label) (rest : Path Label)
+      → ends_of ends build (edge ∷ rest) ≡ filter (λ (end : EndOfStep). end.build == build) (end_at ends edge.label.end) ++ ends_of ends build rest
+  ends_more ends build edge rest =
+      filter-append (λ (end : EndOfStep). end.build == build) (end_at ends edge.label.end) (ends_of_path ends rest)
+
+  sequence_from : (n depth state : ℕ) (path : Path Label) (build : ℕ) → depth + n ≡ length graph.layers.items
+      → state < length (states_at graph depth) → build < 8 → IsIn path (paths_at depth state)
+      → AreInSequence plan build (done_of (done_at depth state) build) (ends_of graph.ends.items build path)
+  sequence_from zero depth state path build sum inside few is = absurd (none_past depth state (omega arith) inside)
+  sequence_from (suc n) depth state path build sum inside few is =
+      let early : depth < length graph.layers.items = omega arith in
+      let done = done_of (done_at depth state) build in
+      elim (of_by_edges (paths_at (depth + 1)) (edges_at depth state) path
+      (subst (λ (ps : List (Path Label)). IsIn path ps) (paths_are depth state early inside) is))
+      as (λ _. AreInSequence plan build done (ends_of graph.ends.items build path)) [
+        | inl end ↦ subst (λ (p : Path Label). AreInSequence plan build done (ends_of graph.ends.items build p)) (sym end.1)
+            (false_from_ne_true (has_step_left plan (done_at depth state) build) (λ holds.
+            let way = edge_of depth state early inside build few holds in
+            subst (λ (edges : List (Edge Label)). IsIn way.one edges) end.0 way.is_in))
+        | inr on ↦
+            let own = on.edge.label.build in
+            let to = leads depth state early inside on.edge on.is_in in
+            subst (λ (p : Path Label). AreInSequence plan build done (ends_of graph.ends.items build p)) (sym on.is_path)
+            (subst (AreInSequence plan build done) (sym (ends_more graph.ends.items build on.edge on.rest))
+            (sequence_join plan graph.ends.items build own (done_of (done_at depth state) own) on.edge.label.end done
+            (done_of (done_at (depth + 1) on.edge.to) build) (ends_of graph.ends.items build on.rest) to.uses
+            (λ same. ap (λ (b : ℕ). done_of (done_at depth state) b) (sym same))
+            (to.done build few)
+            (sequence_from n (depth + 1) on.edge.to on.rest build (omega arith) to.inside few on.goes_on)))
+      ]
+
+  pub ends_in_sequence : All (λ (path : Path Label). (build : ℕ) → build < 8 → AreInSequence plan build 0 (ends_of graph.ends.items build path)) (paths_of graph)
+  ends_in_sequence = all_in (λ (path : Path Label). (build : ℕ) → build < 8 → AreInSequence plan build 0 (ends_of graph.ends.items build path)) (paths_of graph) (λ path is build few.
+      let first = one_first in
+      subst (λ (n : ℕ). AreInSequence plan build n (ends_of graph.ends.items build path)) (none_done build few)
+      (sequence_from (length graph.layers.items) 0 0 path build (omega arith) (omega arith) few is))

@@ -9,6 +9,7 @@ use Rattle.realm_plan.specs.Answers.{refusal_text}
 use Rattle.realm_plan.specs.StepsWritten.{spelling}
 use Rattle.realm_plan.specs.declared.step.PlanStep.{PlanStep}
 use Rattle.realm_plan.specs.Plan.{Plan}
+use Rattle.plan_replay.specs.Place.{giving_up}
 use Rattle.plan_replay.specs.Run.{step_after}
 use Rattle.schedule_graph.specs.Number.{numeral}
 use Rattle.plan_states.specs.declared.tally.PathTally.{PathTally}
@@ -47,6 +48,12 @@ end_shown orders step tally =
     ++ (32 ∷ decimal tally.thing.step
     ++ (32 ∷ spelling step ++ (codes " = " ++ (words_of_end tally.thing.refusal ++ share_text orders tally.count tally.first.items)))))
 
+-- the build that gave up, and the end of its abort
+abbrev pub give_up_shown : ℕ → PathTally EndOfStep → List ℕ
+give_up_shown orders tally =
+    codes "give up "
+    ++ (decimal tally.thing.build ++ (codes " = " ++ (words_of_end tally.thing.refusal ++ share_text orders tally.count tally.first.items)))
+
 -- the number of schedules in which a build was never refused
 abbrev pub never_refused_line : ℕ → PathTally ℕ → List ℕ
 never_refused_line orders tally = codes "never refused " ++ (decimal tally.thing ++ share_text orders tally.count tally.first.items)
@@ -75,8 +82,15 @@ step_number plan build = unwrap_or (option_map length (slice_get plan.builds bui
 abbrev pub ends_of_step : Plan → StepOutcomes → ℕ → ℕ → List ℕ
 ends_of_step plan outcomes build place = step_ends outcomes build place (step_after plan build place)
 
+-- the ends of the aborts with which a build gave up, if the plan gives up
+abbrev pub ends_of_giving_up : Plan → StepOutcomes → ℕ → List ℕ
+ends_of_giving_up plan outcomes build =
+    if plan.gives_up then flat_map (give_up_shown outcomes.orders) (filter (is_of_step build giving_up) outcomes.ends.items) else []
+
+-- the ends of a build's steps, and of its giving up
 abbrev pub ends_of_build : Plan → StepOutcomes → ℕ → List ℕ
-ends_of_build plan outcomes build = flat_map (ends_of_step plan outcomes build) (range_with_len 0 (step_number plan build))
+ends_of_build plan outcomes build =
+    flat_map (ends_of_step plan outcomes build) (range_with_len 0 (step_number plan build)) ++ ends_of_giving_up plan outcomes build
 
 -- the number of schedules in which the build was never refused, even if 0
 abbrev pub never_refused_lines : ℕ → List (PathTally ℕ) → ℕ → List ℕ

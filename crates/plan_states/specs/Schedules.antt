@@ -1,11 +1,12 @@
 -- The schedules of a plan, against the paths of its graph.
-use Rattle.std.specs.Prelude.{◌≡◌, ◌<◌, ◌==◌, ◌&&◌, ◌+◌, ℕ, zero, suc, Bool, true, false, List, [], ◌∷◌, ◌++◌, map, filter, Contains, count_by, Option, Some, None, is_some, option_to_list, slice_get, slice_index_or}
+use Rattle.std.specs.Prelude.{◌≡◌, ◌<◌, ◌==◌, ◌&&◌, ◌+◌, ℕ, zero, suc, Bool, true, false, List, [], ◌∷◌, ◌++◌, map, filter, Contains, count_by, fold, Option, Some, None, is_some, option_to_list, slice_get, slice_index_or}
 use Rattle.std.specs.List.{find, flat_map, range_with_len}
 use Rattle.realm_plan.specs.Plan.{Plan}
+use Rattle.plan_replay.specs.Place.{number_after}
 use Rattle.plan_replay.specs.Run.{step_after}
 use Rattle.schedule_graph.specs.Paths.{Layer, Path}
 use Rattle.plan_states.specs.Tallies.{builds_of_path, layers_of, paths_of}
-use Rattle.plan_states.specs.Whole.{takes_many}
+use Rattle.plan_states.specs.Whole.{number_by, takes_many}
 use Rattle.plan_states.specs.declared.edges.Label.{Label}
 use Rattle.plan_states.specs.declared.graph.Graph.{Graph}
 use Rattle.plan_states.specs.declared.step_end.EndOfStep.{EndOfStep}
@@ -33,11 +34,15 @@ schedules_after left (suc most) before =
 abbrev pub used_by : Path Label → ℕ → ℕ
 used_by path build = count_by (λ edge. build == edge.label.build && is_some edge.label.end) path
 
+-- The number of a build after turns. In a plan that does not give up it is that of the steps that they use up.
+abbrev pub done_by : Plan → Graph → Path Label → ℕ → ℕ
+done_by plan graph path build = fold (λ done edge. number_by plan graph.ends.items build done edge.label) 0 path
+
 -- After the turns with which a path of the graph begins, the rule has the builds that have a step left then.
 abbrev pub IsRuleOf : Plan → Graph → (List ℕ → ℕ → Bool) → Type 0
 IsRuleOf plan graph left =
     (front rest : Path Label) → Contains (paths_of graph) (front ++ rest)
-    → (build : ℕ) → build < 8 → left (builds_of_path front) build ≡ is_some (step_after plan build (used_by front build))
+    → (build : ℕ) → build < 8 → left (builds_of_path front) build ≡ is_some (step_after plan build (done_by plan graph front build))
 
 -- from a state, the edges by which these builds have their turns
 abbrev pub turns_from : List (Layer Label) → ℕ → ℕ → List ℕ → Path Label
@@ -48,9 +53,9 @@ turns_from layers depth state (build ∷ order) =
       | None ↦ []
     ]
 
--- the graph's own rule: after given turns, a build has a step left by the steps that they use up
+-- the graph's own rule: after given turns, a build has a step left by the number that they lead to
 abbrev pub own_rule : Plan → Graph → List ℕ → ℕ → Bool
-own_rule plan graph before build = is_some (step_after plan build (used_by (turns_from (layers_of graph) 0 0 before) build))
+own_rule plan graph before build = is_some (step_after plan build (done_by plan graph (turns_from (layers_of graph) 0 0 before) build))
 
 -- ---- plans in which each step takes one turn
 
@@ -72,6 +77,16 @@ end_at ends (Some number) = option_to_list (slice_get ends number)
 abbrev pub ends_of_path : List EndOfStep → Path Label → List EndOfStep
 ends_of_path ends path = flat_map (λ edge. end_at ends edge.label.end) path
 
--- the steps of a build among them
+-- those of a build among them, and their steps
+abbrev pub ends_of : List EndOfStep → ℕ → Path Label → List EndOfStep
+ends_of ends build path = filter (λ end. end.build == build) (ends_of_path ends path)
+
 abbrev pub steps_ended : List EndOfStep → ℕ → Path Label → List ℕ
-steps_ended ends build path = map (λ end. end.step) (filter (λ end. end.build == build) (ends_of_path ends path))
+steps_ended ends build path = map (λ end. end.step) (ends_of ends build path)
+
+-- Each of these ends of a build is that of its next step, from a number on, and no step is left after them. After a
+-- refusal the next step of a build that gives up is its abort.
+abbrev pub AreInSequence : Plan → ℕ → ℕ → List EndOfStep → Type 0
+AreInSequence plan build number [] = is_some (step_after plan build number) ≡ false
+AreInSequence plan build number (end ∷ ends) =
+    (end.step ≡ number) × AreInSequence plan build (number_after plan.gives_up (is_some end.refusal) number) ends

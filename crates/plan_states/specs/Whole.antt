@@ -4,6 +4,7 @@ use Rattle.std.specs.List.{list_all, range_with_len}
 use Rattle.std.specs.declared.alloc.Global.{Global}
 use Rattle.realm_plan.specs.Plan.{Plan}
 use Rattle.realm_plan.specs.declared.step.PlanStep.{PlanStep}
+use Rattle.plan_replay.specs.Place.{number_after}
 use Rattle.plan_replay.specs.Run.{step_after}
 use Rattle.plan_replay.specs.Turn.{undoes_many}
 use Rattle.schedule_graph.specs.declared.graph.Edge.{Edge}
@@ -13,7 +14,7 @@ use Rattle.plan_states.specs.declared.step_end.EndOfStep.{EndOfStep}
 
 -- ---- how far builds are
 
--- the number of a build's steps that are done, by those of all builds
+-- the number of a build's steps that are done, by those of all builds; beyond the steps is the abort of giving up
 abbrev pub done_of : List ℕ → ℕ → ℕ
 done_of done build = slice_index_or done build 0
 
@@ -47,12 +48,24 @@ abbrev pub uses_next : Plan → List EndOfStep → ℕ → ℕ → Option ℕ �
 uses_next plan ends build done None = takes_many (step_after plan build done)
 uses_next plan ends build done (Some number) = is_end_of build done (slice_get ends number)
 
--- the number of a build's steps that are done after a turn
-abbrev pub done_after : List ℕ → Label → ℕ → ℕ
-done_after done label build = if build == label.build && is_some label.end then done_of done build + 1 else done_of done build
+abbrev pub is_end_refused : Option EndOfStep → Bool
+is_end_refused None = false
+is_end_refused (Some end) = is_some end.refusal
 
-abbrev pub are_done_after : List ℕ → Label → List ℕ → Bool
-are_done_after done label after = list_all (λ build. done_of after build == done_after done label build) (range_with_len 0 8)
+-- the number after a turn that has this end, or none
+abbrev pub number_with : Plan → List EndOfStep → ℕ → Option ℕ → ℕ
+number_with plan ends done None = done
+number_with plan ends done (Some number) = number_after plan.gives_up (is_end_refused (slice_get ends number)) done
+
+-- the number of a build after a turn
+abbrev pub number_by : Plan → List EndOfStep → ℕ → ℕ → Label → ℕ
+number_by plan ends build done label = if build == label.build then number_with plan ends done label.end else done
+
+abbrev pub done_after : Plan → List EndOfStep → List ℕ → Label → ℕ → ℕ
+done_after plan ends done label build = number_by plan ends build (done_of done build) label
+
+abbrev pub are_done_after : Plan → List EndOfStep → List ℕ → Label → List ℕ → Bool
+are_done_after plan ends done label after = list_all (λ build. done_of after build == done_after plan ends done label build) (range_with_len 0 8)
 
 -- a turn has a map, one of so many, exactly where no build has a step left
 abbrev pub has_map : ℕ → Bool → Option ℕ → Bool
@@ -63,7 +76,7 @@ has_map maps over (Some number) = over && nat_lt number maps
 abbrev pub leads_to_state : Plan → List EndOfStep → ℕ → List ℕ → Label → List ℕ → Bool
 leads_to_state plan ends maps done label after =
     uses_next plan ends label.build (done_of done label.build) label.end
-    && (are_done_after done label after && has_map maps (are_over plan after) label.map)
+    && (are_done_after plan ends done label after && has_map maps (are_over plan after) label.map)
 
 abbrev pub leads_if_there : Plan → List EndOfStep → ℕ → List ℕ → Label → Option (List ℕ) → Bool
 leads_if_there plan ends maps done label None = false

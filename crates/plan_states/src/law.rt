@@ -4,7 +4,7 @@ ghost use Rattle.std.specs.List.{range_with_len};
 ghost use Rattle.realm_plan.specs.Plan.{Plan};
 ghost use Rattle.schedule_graph.specs.Paths.{Path};
 ghost use Rattle.plan_states.specs.Lines.{step_number};
-ghost use Rattle.plan_states.specs.Schedules.{by_turns, own_rule, schedules_after, steps_ended, HasSingleTurns, IsRuleOf, IsSchedule};
+ghost use Rattle.plan_states.specs.Schedules.{by_turns, done_by, ends_of, own_rule, schedules_after, steps_ended, used_by, AreInSequence, HasSingleTurns, IsRuleOf, IsSchedule};
 ghost use Rattle.plan_states.specs.Tallies.{builds_of_path, is_before, paths_of};
 ghost use Rattle.plan_states.specs.Whole.{IsWholeGraph};
 ghost use Rattle.plan_states.specs.declared.edges.Label.{Label};
@@ -35,21 +35,33 @@ pub fn path_schedules_rise()
     ensures never_twice { (order : List ℕ) → is_before order order ≡ false }
 {}
 
-/// A whole graph has such a rule. After given turns, a build has a step left by the steps that these turns use up in the
-/// graph. So of any plan the paths are all schedules by this rule.
+/// A whole graph has such a rule. After given turns, a build has a step left by the number that these turns lead to in
+/// the graph. So of any plan the paths are all schedules by this rule.
 pub fn a_whole_graph_has_a_rule()
     ensures { (plan : Plan) (graph : Graph) → IsWholeGraph plan graph → IsRuleOf plan graph (own_rule plan graph) }
 {}
 
-/// If a plan has no abort and no way back, each step takes one turn. Then the rule needs no graph: a build has a step
+/// In a plan that does not give up, the number of a build after turns is that of the steps that they use up.
+pub fn steps_are_counted()
+    ensures { (plan : Plan) (graph : Graph) (path : Path Label) (build : ℕ) → plan.gives_up ≡ false → done_by plan graph path build ≡ used_by path build }
+{}
+
+/// If a plan has no abort and no way back, and does not give up, each step takes one turn. Then the rule needs no graph: a build has a step
 /// left if it had fewer turns than steps. So the paths of a whole graph are all interleavings of the builds' steps.
 pub fn single_turns_make_a_rule()
     ensures { (plan : Plan) (graph : Graph) → IsWholeGraph plan graph → HasSingleTurns plan → IsRuleOf plan graph (by_turns plan) }
 {}
 
-/// Each path of a whole graph ends each step of each build once, in the sequence of the plan.
+/// If a plan does not give up, each path of a whole graph ends each step of each build once, in the sequence of the plan.
 pub fn paths_end_each_step()
-    ensures { (plan : Plan) (graph : Graph) → IsWholeGraph plan graph
+    ensures { (plan : Plan) (graph : Graph) → IsWholeGraph plan graph → plan.gives_up ≡ false
         → All (λ (path : Path Label). (build : ℕ) → build < 8 → steps_ended graph.ends.items build path ≡ range_with_len 0 (step_number plan build))
         (paths_of graph) }
+{}
+
+/// Of any plan, each path of a whole graph ends the steps of each build in sequence, and goes on until none is left. In a
+/// plan that gives up, a step that is refused is followed by the build's abort, and nothing comes after that.
+pub fn paths_end_steps_in_sequence()
+    ensures { (plan : Plan) (graph : Graph) → IsWholeGraph plan graph
+        → All (λ (path : Path Label). (build : ℕ) → build < 8 → AreInSequence plan build 0 (ends_of graph.ends.items build path)) (paths_of graph) }
 {}

@@ -2,13 +2,13 @@
 ghost use Rattle.std.specs.Prelude.{◌≡◌, ◌++◌, OnOk, string_bytes};
 ghost use Rattle.std.specs.List.{flat_map};
 ghost use Rattle.realm_plan.specs.PlanView.{plan_view};
-ghost use Rattle.plan_states.specs.Lines.{share_text, orders_line, refusal_words, refusals_line, end_shown, ends_of_step, never_refused_line, never_refused_lines, map_shown};
+ghost use Rattle.plan_states.specs.Lines.{share_text, orders_line, refusal_words, refusals_line, end_shown, ends_of_giving_up, ends_of_step, give_up_shown, never_refused_line, never_refused_lines, map_shown};
 
 use crate::schedule_text::ScheduleText;
 use crate::step_end::EndOfStep;
 use crate::tally::{PathTally, StepOutcomes};
 use host_commands::Refusal;
-use plan_replay::step_after;
+use plan_replay::{GIVING_UP, step_after};
 use realm_plan::{Plan, PlanStep, RefusalText, StepText};
 use schedule_graph::Count;
 use std::alloc::AllocError;
@@ -121,6 +121,39 @@ pub(crate) fn push_step(
     for tally in &outcomes.ends {
         if tally.thing.build == build && tally.thing.step == place {
             push_end(text, &outcomes.orders, step, tally)?;
+        }
+    }
+    Ok(())
+}
+
+// Appends the line of an end of a build's giving up.
+fn push_give_up(
+    text: &mut String,
+    orders: &Count,
+    tally: &PathTally<EndOfStep>,
+) -> Result<(), AllocError>
+    ensures { OnOk result (string_bytes text.new ≡ string_bytes text.old ++ give_up_shown orders.now tally.now) }
+{
+    let words = EndWords(tally.thing.refusal);
+    write!(text, "give up {} = {words}", tally.thing.build)?;
+    push_shown(text, orders, &tally.count, &tally.first)
+}
+
+/// Appends the lines of the ends of a build's giving up, if the plan gives up.
+pub(crate) fn push_give_ups(
+    text: &mut String,
+    plan: &Plan,
+    outcomes: &StepOutcomes,
+    build: usize,
+) -> Result<(), AllocError>
+    ensures { OnOk result (string_bytes text.new ≡ string_bytes text.old ++ ends_of_giving_up (plan_view plan.now) outcomes.now build) }
+{
+    if !plan.gives_up {
+        return Ok(());
+    }
+    for tally in &outcomes.ends {
+        if tally.thing.build == build && tally.thing.step == GIVING_UP {
+            push_give_up(text, &outcomes.orders, tally)?;
         }
     }
     Ok(())

@@ -7,7 +7,7 @@ ghost use Rattle.plan_states.specs.StatesText.{too_many_line, IsGraphText, IsSta
 ghost use Rattle.plan_states.specs.Lines.{step_number, ends_of_build, never_refused_lines, map_shown_by, step_outcomes_text, outcomes_text};
 
 use crate::graph::{Exploration, Graph, explore};
-use crate::lines::{push_count, push_map, push_smooth, push_step, push_wholes};
+use crate::lines::{push_count, push_give_ups, push_map, push_smooth, push_step, push_wholes};
 use crate::outcomes::outcomes_of;
 use crate::tally::{Outcomes, PathTally, StepOutcomes};
 use realm_plan::Plan;
@@ -25,7 +25,7 @@ fn step_number(plan: &Plan, build: usize) -> usize
     }
 }
 
-// Appends the lines of the ends of a build's steps.
+// Appends the lines of the ends of a build's steps, and of its giving up.
 fn push_build(
     text: &mut String,
     plan: &Plan,
@@ -37,7 +37,7 @@ fn push_build(
     for place in 0..step_number(plan, build) {
         push_step(text, plan, outcomes, build, place)?;
     }
-    Ok(())
+    push_give_ups(text, plan, outcomes, build)
 }
 
 // Appends the lines of the ends of the steps of the first `builds` builds.

@@ -5,17 +5,17 @@ ghost use Rattle.std.specs.List.{list_all, range_with_len};
 ghost use Rattle.realm_plan.specs.PlanView.{plan_view};
 ghost use Rattle.plan_replay.specs.Run.{step_after};
 ghost use Rattle.plan_replay.specs.Turn.{undoes_many};
-ghost use Rattle.plan_states.specs.Whole.{done_of, has_step_left, is_of_build, takes_many, uses_next, done_after, are_done_after, are_over, is_fresh, is_at_start, has_map, leads_to_state, leads_on, states_at, layer_at, IsStateWhole, IsLayerWhole, IsWholeGraph};
+ghost use Rattle.plan_states.specs.Whole.{done_of, has_step_left, is_of_build, takes_many, uses_next, done_after, are_done_after, is_end_refused, number_with, are_over, is_fresh, is_at_start, has_map, leads_to_state, leads_on, states_at, layer_at, IsStateWhole, IsLayerWhole, IsWholeGraph};
 
 use crate::edges::Label;
 use crate::graph::Graph;
 use crate::step_end::EndOfStep;
 use host_commands::Step;
-use plan_replay::step_after;
+use plan_replay::{number_after, step_after};
 use realm_plan::{Plan, PlanStep};
 use schedule_graph::Edge;
 
-/// How many steps of each build are done.
+/// How many steps of each build are done. Of a build that gave up it is a number beyond those of steps.
 pub type StepsDone = [u16; 8];
 
 // The eight builds.
@@ -99,24 +99,57 @@ fn uses_next(plan: &Plan, ends: &[EndOfStep], done: usize, label: &Label) -> boo
     }
 }
 
+// Whether there is an end of this number, and it is a refusal.
+fn is_end_refused(ends: &[EndOfStep], number: usize) -> bool
+    ensures { result ≡ is_end_refused (slice_get ends.now number) }
+{
+    match ends.get(number) {
+        Some(end) => end.refusal.is_some(),
+        None => false,
+    }
+}
+
+// The number after a turn that has this end, or none.
+fn number_with(plan: &Plan, ends: &[EndOfStep], done: usize, end: Option<usize>) -> usize
+    requires { done < 2 ^ 32 }
+    ensures { result ≡ number_with (plan_view plan.now) ends.now done end }
+{
+    match end {
+        Some(number) => number_after(plan.gives_up, is_end_refused(ends, number), done),
+        None => done,
+    }
+}
+
 // How many steps of a build are done after a turn.
-fn done_after(done: &StepsDone, label: &Label, build: usize) -> usize
-    ensures { result ≡ done_after done.now label.now build }
+fn done_after(
+    plan: &Plan,
+    ends: &[EndOfStep],
+    done: &StepsDone,
+    label: &Label,
+    build: usize,
+) -> usize
+    ensures { result ≡ done_after (plan_view plan.now) ends.now done.now label.now build }
 {
     let before = done_of(done, build);
-    if build == label.build && label.end.is_some() {
-        before + 1
+    if build == label.build {
+        number_with(plan, ends, before, label.end)
     } else {
         before
     }
 }
 
 // Whether so many steps of each build are done after a turn.
-fn are_done_after(done: &StepsDone, label: &Label, then: &StepsDone) -> bool
-    ensures { result ≡ are_done_after done.now label.now then.now }
+fn are_done_after(
+    plan: &Plan,
+    ends: &[EndOfStep],
+    done: &StepsDone,
+    label: &Label,
+    then: &StepsDone,
+) -> bool
+    ensures { result ≡ are_done_after (plan_view plan.now) ends.now done.now label.now then.now }
 {
     let builds = all_builds();
-    builds.iter().all(|build| done_of(then, *build) == done_after(done, label, *build))
+    builds.iter().all(|build| done_of(then, *build) == done_after(plan, ends, done, label, *build))
 }
 
 // Whether no build has a step left.
@@ -151,7 +184,7 @@ fn leads_to_state(
     ensures { result ≡ leads_to_state (plan_view plan.now) ends.now maps done.now label.now then.now }
 {
     uses_next(plan, ends, done_of(done, label.build), label)
-        && are_done_after(done, label, then)
+        && are_done_after(plan, ends, done, label, then)
         && has_map(maps, are_over(plan, then), label.map)
 }
 
