@@ -1,9 +1,11 @@
--- The schedules that options of `realmview` ask for.
-use Rattle.std.specs.Prelude.{ℕ, Option, Some, None, unwrap_or, nat_lt, if◌then◌else◌, Result, Ok, Err}
+-- The schedules that options of `realmview` ask for, and what builds do in them after a refusal.
+use Rattle.std.specs.Prelude.{ℕ, Bool, true, false, Option, Some, None, unwrap_or, nat_lt, if◌then◌else◌, Result, Ok, Err}
 use Rattle.command_line.specs.declared.realmview.Schedules.{Schedules}
 use Rattle.command_line.specs.declared.realmview.Schedules.TheVariants.{All, Drawn}
+use Rattle.command_line.specs.declared.realmview.AfterRefusal.{AfterRefusal}
+use Rattle.command_line.specs.declared.realmview.AfterRefusal.TheVariants.{GoOn, GiveUp}
 use Rattle.command_line.specs.declared.realmview.BadOption.{BadOption}
-use Rattle.command_line.specs.declared.realmview.BadOption.TheVariants.{SampleAboveMost}
+use Rattle.command_line.specs.declared.realmview.BadOption.TheVariants.{SampleAboveMost, GiveUpInPlan}
 
 -- `sample` schedules, drawn by the seed, if they are at most a million
 abbrev pub schedules_drawn : ℕ → ℕ → Result Schedules BadOption
@@ -15,3 +17,11 @@ abbrev pub schedules_asked : Option ℕ → Option ℕ → Option ℕ → Result
 schedules_asked most None None = Ok (All (unwrap_or most 1000000))
 schedules_asked most None (Some seed) = Ok (Drawn 1000 seed)
 schedules_asked most (Some sample) seed = schedules_drawn sample (unwrap_or seed 0)
+
+-- What builds do after a refusal, by whether they are to give up. They do so only in schedules whose outcomes are told:
+-- a plan that is printed does not say it.
+abbrev pub after_refusal : Bool → Schedules → Result AfterRefusal BadOption
+after_refusal false orders = Ok GoOn
+after_refusal true (All most) = Ok GiveUp
+after_refusal true (Drawn count seed) = Ok GiveUp
+after_refusal true _ = Err GiveUpInPlan

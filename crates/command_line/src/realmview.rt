@@ -1,6 +1,6 @@
 //! The command line of `realmview`.
 ghost use Rattle.std.specs.Prelude.{◌≡◌};
-ghost use Rattle.command_line.specs.Realmview.{schedules_asked, schedules_drawn};
+ghost use Rattle.command_line.specs.Realmview.{after_refusal, schedules_asked, schedules_drawn};
 
 use crate::options::build_of;
 use crate::table::{Opt, Program, Subcommand, given_file};
@@ -26,7 +26,7 @@ pub enum ViewSubcommand {
     /// Write the run of a plan, with the check that fails below each turn that is refused; or with all its checks.
     Why { all: bool },
     /// Write the outcomes of schedules of a plan.
-    Explore(Schedules),
+    Explore(Schedules, AfterRefusal),
     /// Write a plan with an order that gives each build all the turns that it needs.
     Order(SchedulingPolicy),
     /// Write the run of a plan as calls on an RMM by registers, whose memory begins at an address.
@@ -53,6 +53,15 @@ pub enum Schedules {
     ToRefusal(u32, StepPlace),
 }
 
+/// What a build does in a schedule once one of its steps is refused.
+#[derive(Clone, Copy, Drop)]
+pub enum AfterRefusal {
+    /// It goes on with its next step.
+    GoOn,
+    /// It leaves out its other steps, and aborts.
+    GiveUp,
+}
+
 /// A step of a plan: its build, and its place in the build's list.
 #[derive(Clone, Copy, Drop)]
 pub struct StepPlace {
@@ -69,6 +78,8 @@ pub enum BadOption {
     NoBase,
     /// The text is no step of a build.
     NoStep,
+    /// Builds are to give up in a plan that is printed.
+    GiveUpInPlan,
 }
 
 /// How the builds of a plan take turns.
@@ -112,6 +123,17 @@ fn schedules_asked(
         (None, None) => Ok(Schedules::All(most_states.unwrap_or(MOST_STATES))),
         (None, Some(seed)) => Ok(Schedules::Drawn(SAMPLE, seed)),
         (Some(sample), seed) => schedules_drawn(sample, seed.unwrap_or(0)),
+    }
+}
+
+// What builds do after a refusal in these schedules. A plan that is printed cannot say that its builds give up.
+fn after_refusal(gives_up: bool, orders: &Schedules) -> Result<AfterRefusal, BadOption>
+    ensures { result ≡ after_refusal gives_up orders.now }
+{
+    match (gives_up, orders) {
+        (false, _) => Ok(AfterRefusal::GoOn),
+        (true, Schedules::All(_) | Schedules::Drawn(..)) => Ok(AfterRefusal::GiveUp),
+        (true, _) => Err(BadOption::GiveUpInPlan),
     }
 }
 
@@ -166,6 +188,7 @@ const EXPLORE: &str = "Explore every order of a plan's turns, and print what dif
 const EXPLORE_EXAMPLES: &str = "Examples:
   realmview explore plans/some-orders.toml
   realmview explore --sample 100 --seed 7 plans/failed-build.toml
+  realmview explore --give-up plans/some-orders.toml
   realmview explore --refused 1:4 plans/some-orders.toml | realmview why";
 
 const MOST_STATES_HELP: &str =
@@ -180,6 +203,12 @@ const REFUSED_HELP: &str =
     "Print the plan with the shortest order that ends with a refusal of step S of build B";
 
 const NO_STEP: &str = "--refused is no step as 1:4: a build, and a place in its steps, both from 0";
+
+const GIVE_UP_HELP: &str =
+    "Let a build whose step is refused leave out its other steps, and abort";
+
+const GIVE_UP_IN_PLAN: &str =
+    "--give-up is not for --refused: a replay of the plan that it prints does not give up";
 
 const ORDER: &str =
     "Print a plan with an order that gives each build all the turns that it needs, in rotation";
@@ -261,6 +290,7 @@ const REALMVIEW: Program = Program {
                 Opt::Number("sample", "K", SAMPLE_HELP),
                 Opt::Number("seed", "S", SEED_HELP),
                 Opt::Text("refused", "B:S", REFUSED_HELP),
+                Opt::Flag("give-up", GIVE_UP_HELP),
             ],
         },
         Subcommand {
@@ -315,6 +345,13 @@ fn schedules_by(explore: &ArgMatches) -> Result<Schedules, BadOption> {
     )
 }
 
+// The exploration that is asked for by the words that were matched.
+fn explore_by(explore: &ArgMatches) -> Result<ViewSubcommand, BadOption> {
+    let orders = schedules_by(explore)?;
+    let after = after_refusal(explore.get_flag("give-up"), &orders)?;
+    Ok(ViewSubcommand::Explore(orders, after))
+}
+
 // The address of the first granule, by the words that were matched.
 fn base_by(calls: &ArgMatches) -> Result<BaseAddress, BadOption> {
     match calls.get_str("base") {
@@ -351,7 +388,7 @@ fn asked_by(name: &str, matches: &ArgMatches) -> Result<ViewSubcommand, BadOptio
         "why" => Ok(ViewSubcommand::Why {
             all: matches.get_flag("all"),
         }),
-        "explore" => Ok(ViewSubcommand::Explore(schedules_by(matches)?)),
+        "explore" => explore_by(matches),
         "order" => Ok(ViewSubcommand::Order(turns_by(matches))),
         "calls" => Ok(ViewSubcommand::Calls(base_by(matches)?, form_by(matches))),
         _ => Ok(ViewSubcommand::Check),
@@ -366,6 +403,7 @@ fn bad_option(alloc: Global, reason: BadOption) -> Result<Error, AllocError> {
         }
         BadOption::NoBase => String::from_str(alloc, NO_BASE)?,
         BadOption::NoStep => String::from_str(alloc, NO_STEP)?,
+        BadOption::GiveUpInPlan => String::from_str(alloc, GIVE_UP_IN_PLAN)?,
     };
     REALMVIEW
         .command(alloc)?
