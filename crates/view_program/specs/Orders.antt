@@ -1,5 +1,5 @@
 -- The text of the outcomes of a plan's schedules.
-use Rattle.std.specs.Prelude.{◌≡◌, ℕ, List}
+use Rattle.std.specs.Prelude.{◌≡◌, ℕ, true, List}
 use Rattle.rand_core.specs.Steps.{stream_of, steps_u64_high}
 use Rattle.rand_core.specs.Stream.{Stream}
 use Rattle.rand_xoshiro.specs.SplitMix64.{splitmix_seed}
@@ -14,6 +14,8 @@ use Rattle.plan_states.specs.StatesText.{IsStatesText}
 use Rattle.view_program.specs.declared.schedules.totals.Totals.{Totals}
 use Rattle.view_program.specs.Lines.{drawn_text}
 use Rattle.view_program.specs.ToRefusal.{IsRefusalText}
+use Rattle.command_line.specs.declared.realmview.AfterRefusal.{AfterRefusal}
+use Rattle.command_line.specs.declared.realmview.AfterRefusal.TheVariants.{GoOn, GiveUp}
 use Rattle.command_line.specs.declared.realmview.Schedules.{Schedules}
 use Rattle.command_line.specs.declared.realmview.Schedules.TheVariants.{All, Drawn, ToRefusal}
 
@@ -38,3 +40,16 @@ IsWithoutSchedules (All most) plan fault = HasNoGraph fault
 IsWithoutSchedules (ToRefusal most place) plan fault = HasNoGraph fault
 IsWithoutSchedules (Drawn count seed) plan Memory = Unit {0}
 IsWithoutSchedules (Drawn count seed) plan fault = ⊥
+
+-- ---- after a refusal
+
+-- the plan, whose builds do this after a refusal
+abbrev pub plan_after : AfterRefusal → Plan → Plan
+plan_after GoOn plan = plan
+plan_after GiveUp plan = record plan { gives_up = true }
+
+abbrev pub IsExploredText : Schedules → AfterRefusal → Plan → List ℕ → Type 0
+IsExploredText orders after plan text = IsSchedulesText orders (plan_after after plan) text
+
+abbrev pub IsWithoutExplored : Schedules → AfterRefusal → Plan → Fault → Type 0
+IsWithoutExplored orders after plan fault = IsWithoutSchedules orders (plan_after after plan) fault

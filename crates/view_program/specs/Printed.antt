@@ -16,7 +16,7 @@ use Rattle.view_program.specs.Json.{IsJsonText}
 use Rattle.view_program.specs.PageData.{IsPageText}
 use Rattle.view_program.specs.Checked.{AreErrorsOf, IsCheckEnd}
 use Rattle.view_program.specs.Why.{IsWhyText}
-use Rattle.view_program.specs.Orders.{IsSchedulesText, IsWithoutSchedules}
+use Rattle.view_program.specs.Orders.{IsExploredText, IsWithoutExplored}
 use Rattle.view_program.specs.Reordered.{IsReorderEnd}
 use Rattle.view_program.specs.declared.checking.ViewOutcome.{ViewOutcome}
 use Rattle.view_program.specs.declared.checking.ViewOutcome.TheVariants.{Done, HasErrors}
@@ -91,6 +91,6 @@ IsRunEnd Json source unread input old new result = EndsAs (IsPlanEnd IsJsonText 
 IsRunEnd Page source unread input old new result = EndsAs (IsPlanEnd IsPageText (IsWithoutText None) source unread input old new) result
 IsRunEnd (Why all) source unread input old new result = EndsAs (IsPlanEnd IsWhyText (IsWithoutText None) source unread input old new) result
 IsRunEnd (Calls base form) source unread input old new result = EndsAs (IsPlanEnd IsCallsText (IsWithoutText None) source unread input old new) result
-IsRunEnd (Explore orders) source unread input old new result = EndsAs (IsPlanEnd (IsSchedulesText orders) (IsWithoutSchedules orders) source unread input old new) result
+IsRunEnd (Explore orders after) source unread input old new result = EndsAs (IsPlanEnd (IsExploredText orders after) (IsWithoutExplored orders after) source unread input old new) result
 IsRunEnd (Order turns) source unread input old new result = EndsAs (IsReorderEnd turns source unread input old new) result
 IsRunEnd Check source unread input old new result = IsCheckEnd source unread input old new result

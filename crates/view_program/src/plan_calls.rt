@@ -195,8 +195,8 @@ impl ViewText for Calls {
 
     ghost is_without = { λ asked. IsWithoutText None };
 
-    fn text_of(&self, alloc: Global, plan: &Plan, _source: &[u8]) -> Result<Vec<u8>, Fault> {
+    fn text_of(&self, alloc: Global, plan: Plan, _source: &[u8]) -> Result<Vec<u8>, Fault> {
         let frame = Frame::new(self.base.address(), plan.pages);
-        Ok(calls_text(alloc, plan, self.form, frame)?.into_bytes())
+        Ok(calls_text(alloc, &plan, self.form, frame)?.into_bytes())
     }
 }

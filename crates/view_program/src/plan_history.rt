@@ -82,8 +82,8 @@ impl ViewText for Histories {
 
     ghost is_without = { λ asked. IsWithoutText asked.erase };
 
-    fn text_of(&self, alloc: Global, plan: &Plan, _source: &[u8]) -> Result<Vec<u8>, Fault> {
-        let erase = checked_erase(plan, self.erase)?;
-        Ok(run_text(alloc, plan, erase)?.into_bytes())
+    fn text_of(&self, alloc: Global, plan: Plan, _source: &[u8]) -> Result<Vec<u8>, Fault> {
+        let erase = checked_erase(&plan, self.erase)?;
+        Ok(run_text(alloc, &plan, erase)?.into_bytes())
     }
 }

@@ -31,8 +31,8 @@ impl ViewText for Documents {
 
     ghost is_without = { λ asked. IsWithoutText None };
 
-    fn text_of(&self, alloc: Global, plan: &Plan, _source: &[u8]) -> Result<Vec<u8>, Fault> {
-        let (document, _ledger) = run_of(alloc, plan)?;
+    fn text_of(&self, alloc: Global, plan: Plan, _source: &[u8]) -> Result<Vec<u8>, Fault> {
+        let (document, _ledger) = run_of(alloc, &plan)?;
         let mut text = json_text(alloc, &document)?;
         text.push_str("\n")?;
         Ok(text.into_bytes())

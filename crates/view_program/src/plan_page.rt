@@ -106,8 +106,8 @@ impl ViewText for Pages {
 
     ghost is_without = { λ asked. IsWithoutText None };
 
-    fn text_of(&self, alloc: Global, plan: &Plan, source: &[u8]) -> Result<Vec<u8>, Fault> {
-        let data = page_data(alloc, plan, source)?;
+    fn text_of(&self, alloc: Global, plan: Plan, source: &[u8]) -> Result<Vec<u8>, Fault> {
+        let data = page_data(alloc, &plan, source)?;
         let json = json_text(alloc, &data)?;
         Ok(page_of(alloc, json.as_bytes())?)
     }

@@ -85,8 +85,8 @@ impl ViewText for Reasons {
 
     ghost is_without = { λ asked. IsWithoutText None };
 
-    fn text_of(&self, alloc: Global, plan: &Plan, _source: &[u8]) -> Result<Vec<u8>, Fault> {
-        let text = why_text(alloc, plan, self.all)?;
+    fn text_of(&self, alloc: Global, plan: Plan, _source: &[u8]) -> Result<Vec<u8>, Fault> {
+        let text = why_text(alloc, &plan, self.all)?;
         Ok(text.into_bytes())
     }
 }

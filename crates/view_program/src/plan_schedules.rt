@@ -2,12 +2,12 @@
 ghost use Rattle.std.specs.Prelude.{◌≡◌, IfOk, IfErr, string_bytes};
 ghost use Rattle.realm_plan.specs.PlanView.{plan_view};
 ghost use Rattle.view_program.specs.Lines.{drawn_text};
-ghost use Rattle.view_program.specs.Orders.{IsDrawnText, IsSchedulesText, IsWithoutSchedules};
+ghost use Rattle.view_program.specs.Orders.{plan_after, IsDrawnText, IsExploredText, IsSchedulesText, IsWithoutExplored, IsWithoutSchedules};
 
 use crate::plan_refusal::refusal_text;
 use crate::plan_text::ViewText;
 use crate::schedules::{Progress, Totals, push_drawn, sample};
-use command_line::realmview::Schedules;
+use command_line::realmview::{AfterRefusal, Schedules};
 use plan_states::states_text;
 use rand_core::SeedableRng;
 use rand_xoshiro::Xoshiro256PlusPlus;
@@ -59,6 +59,16 @@ fn orders_text_of<P: Progress>(
     }
 }
 
+// The plan, whose builds do this after a refusal.
+fn plan_after(after: AfterRefusal, plan: Plan) -> Plan
+    ensures { plan_view result ≡ plan_after after (plan_view plan) }
+{
+    match after {
+        AfterRefusal::GoOn => plan,
+        AfterRefusal::GiveUp => plan.giving_up(),
+    }
+}
+
 /// The outcomes of other schedules of a plan's builds. They are their number, how each step of each build ended, how
 /// often each build was never refused, and the maps in the end. Each has the first schedule that shows it.
 ///
@@ -67,16 +77,19 @@ fn orders_text_of<P: Progress>(
 pub struct Exploring<'a, P> {
     /// The schedules whose outcomes are asked for.
     pub orders: Schedules,
+    /// What builds do in them after a refusal.
+    pub after: AfterRefusal,
     /// The receiver of the progress: each schedule that is drawn and run is reported to it.
     pub progress: &'a P,
 }
 
 impl<P: Progress> ViewText for Exploring<'_, P> {
-    ghost is_text = { λ asked. IsSchedulesText asked.orders };
+    ghost is_text = { λ asked. IsExploredText asked.orders asked.after };
 
-    ghost is_without = { λ asked. IsWithoutSchedules asked.orders };
+    ghost is_without = { λ asked. IsWithoutExplored asked.orders asked.after };
 
-    fn text_of(&self, alloc: Global, plan: &Plan, source: &[u8]) -> Result<Vec<u8>, Fault> {
-        orders_text_of(alloc, plan, source, self.orders, self.progress)
+    fn text_of(&self, alloc: Global, plan: Plan, source: &[u8]) -> Result<Vec<u8>, Fault> {
+        let plan = plan_after(self.after, plan);
+        orders_text_of(alloc, &plan, source, self.orders, self.progress)
     }
 }

@@ -17,8 +17,8 @@ pub trait ViewText {
 
     /// The text of a plan, complete in memory, or the reason why there is none. `source` has the bytes of the plan's
     /// input, with its comments.
-    fn text_of(&self, alloc: Global, plan: &Plan, source: &[u8]) -> Result<Vec<u8>, Fault>
-        ensures ok { IfOk result (λ text. is_text self.now (plan_view plan.now) text.items) }
-        ensures err { IfErr result (λ fault. is_without self.now (plan_view plan.now) fault) }
+    fn text_of(&self, alloc: Global, plan: Plan, source: &[u8]) -> Result<Vec<u8>, Fault>
+        ensures ok { IfOk result (λ text. is_text self.now (plan_view plan) text.items) }
+        ensures err { IfErr result (λ fault. is_without self.now (plan_view plan) fault) }
         ensures kind { IfErr result IsFaultOfText };
 }

@@ -50,7 +50,7 @@ pub fn print<T: ViewText, R: Read, W: Write>(
 {
     let bytes = read_whole(alloc, input)?;
     let plan = plan_from(alloc, source, &bytes)?;
-    let text = asked.text_of(alloc, &plan, &bytes)?;
+    let text = asked.text_of(alloc, plan, &bytes)?;
     output.write_whole(text.as_slice())?;
     Ok(())
 }

@@ -40,8 +40,12 @@ pub fn run<R: Read, W: Write, P: Progress>(
         ViewSubcommand::Json => print(&Documents, alloc, source, input, output)?,
         ViewSubcommand::Page => print(&Pages, alloc, source, input, output)?,
         ViewSubcommand::Check => return check(alloc, source, input, output),
-        ViewSubcommand::Explore(orders) => {
-            let exploring = Exploring { orders, progress };
+        ViewSubcommand::Explore(orders, after) => {
+            let exploring = Exploring {
+                orders,
+                after,
+                progress,
+            };
             print(&exploring, alloc, source, input, output)?;
         }
         ViewSubcommand::Order(turns) => reorder(alloc, source, input, output, turns)?,

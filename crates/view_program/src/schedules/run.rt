@@ -68,7 +68,7 @@ pub(crate) fn take_step<S: PageStore>(
     ensures step { OnOk result (IsStageTurn (plan_view plan.now) (stage_at host.old places.old ends.old.items)
         build (stage_at host.new places.new ends.new.items)) }
     ensures steady { AreSteady (plan_view plan.now) places.new }
-    ensures fewer { turns_left (plan_view plan.now).builds places.new < turns_left (plan_view plan.now).builds places.old }
+    ensures fewer { turns_left plan.now.gives_up (plan_view plan.now).builds places.new < turns_left plan.now.gives_up (plan_view plan.now).builds places.old }
 {
     let before = places[build].done;
     let Some((_step, answer)) = take_turn(host, plan, places, build) else {

@@ -13,4 +13,4 @@ invariant-loop-build g l =
     l.fn.choices.items l.choices.items (stage_at l.host l.places l.ends.items)
 
 abbrev pub decreases-loop-build : goal.decreases-loop-build
-decreases-loop-build g l = turns_left (plan_view l.plan).builds l.places
+decreases-loop-build g l = turns_left l.plan.gives_up (plan_view l.plan).builds l.places

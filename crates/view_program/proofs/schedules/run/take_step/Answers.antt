@@ -15,7 +15,7 @@ module _ (g : Over) (c : After-place_at-after g) where
       (record { build = c.args.build; told = option_map (λ told. (told.0.now, told.1)) c.take_turn.result })
       (record { host = c.take_turn.new.host; places = c.take_turn.new.places }) c.requires.steady c.requires.left.0 c.take_turn.ensures
 
-  fewer : turns_left (plan_view c.args.plan.now).builds c.take_turn.new.places < turns_left (plan_view c.args.plan.now).builds c.args.places.now
+  fewer : turns_left c.args.plan.now.gives_up (plan_view c.args.plan.now).builds c.take_turn.new.places < turns_left c.args.plan.now.gives_up (plan_view c.args.plan.now).builds c.args.places.now
   fewer =
       fewer_after (plan_view c.args.plan.now) (record { host = c.args.host.now; places = c.args.places.now })
       (record { build = c.args.build; told = option_map (λ told. (told.0.now, told.1)) c.take_turn.result })
