@@ -26,7 +26,7 @@ _realmview() {
         json:*) [[ $word == -* ]] && mapfile -t COMPREPLY < <(compgen -W '-h --help' -- "$word") ;;
         page:*) [[ $word == -* ]] && mapfile -t COMPREPLY < <(compgen -W '-h --help' -- "$word") ;;
         why:*) [[ $word == -* ]] && mapfile -t COMPREPLY < <(compgen -W '--all -h --help' -- "$word") ;;
-        explore:*) [[ $word == -* ]] && mapfile -t COMPREPLY < <(compgen -W '--most-states --sample --seed --refused -h --help' -- "$word") ;;
+        explore:*) [[ $word == -* ]] && mapfile -t COMPREPLY < <(compgen -W '--most-states --sample --seed --refused --give-up -h --help' -- "$word") ;;
         order:*) [[ $word == -* ]] && mapfile -t COMPREPLY < <(compgen -W '--one-by-one -h --help' -- "$word") ;;
         calls:*) [[ $word == -* ]] && mapfile -t COMPREPLY < <(compgen -W '--base --c -h --help' -- "$word") ;;
         check:*) [[ $word == -* ]] && mapfile -t COMPREPLY < <(compgen -W '-h --help' -- "$word") ;;

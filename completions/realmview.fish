@@ -29,6 +29,7 @@ complete -c realmview -n '__fish_seen_subcommand_from explore' -l most-states -x
 complete -c realmview -n '__fish_seen_subcommand_from explore' -l sample -x -d 'Draw K orders at random, K up to 1000000 [default: 1000, if a seed is given]'
 complete -c realmview -n '__fish_seen_subcommand_from explore' -l seed -x -d 'Draw orders by the random numbers of the seed S [default: 0]'
 complete -c realmview -n '__fish_seen_subcommand_from explore' -l refused -x -d 'Print the plan with the shortest order that ends with a refusal of step S of build B'
+complete -c realmview -n '__fish_seen_subcommand_from explore' -l give-up -d 'Let a build whose step is refused leave out its other steps, and abort'
 complete -c realmview -n '__fish_seen_subcommand_from explore' -s h -l help -d 'Print help'
 complete -c realmview -n '__fish_seen_subcommand_from explore' -F
 complete -c realmview -n '__fish_seen_subcommand_from order' -l one-by-one -d 'Give a build all its turns before the next build has one'

@@ -17,6 +17,8 @@ from second_machine import Entry
 Locals = tuple[int, ...]
 # A step's end: the build, the place of the step, and the answer.
 End = tuple[int, int, str]
+# The place of the abort of a build that gives up, behind those of all steps.
+GIVING_UP = 1 << 16
 
 
 def machine_of(plan: dict) -> Machine:
@@ -108,20 +110,21 @@ class Graph:
         if key not in self.turns:
             turn = Turn(self.machine, it, blocks, vmids)
             turn.step(step)
-            is_end = turn.build.done != it.done and not it.gives_up
+            is_end = turn.build.done != it.done
             after = self.after(build, it, turn)
             then = turn.blocks if word != "realm" and shared else None
-            self.turns[key] = self.builds.number(after), then, (build, it.done, turn.answer) if is_end else None
+            self.turns[key] = self.builds.number(after), then, (build, GIVING_UP if it.gives_up else it.done, turn.answer) if is_end else None
         after, then, end = self.turns[key]
         return after, blocks if then is None else then, end
 
     def after(self, build: int, it: Build, turn: Turn) -> Build:
-        """The build after a turn. Once it gives up, only what it has open is left to be undone, if it is not refused."""
-        if it.gives_up and not turn.build.left or turn.answer != "ok" and self.gives_up and not turn.build.open:
-            return replace(turn.build, done=len(self.steps[build]), gives_up=False)
-        if turn.answer != "ok" and self.gives_up:
+        """The build after a turn. If it gives up, a refusal leaves it an abort, and nothing once that is done or refused."""
+        if it.gives_up:
+            is_over = not turn.build.left
+            return replace(turn.build, done=len(self.steps[build]) if is_over else it.done, gives_up=not is_over)
+        if self.gives_up and turn.answer != "ok":
             return replace(turn.build, done=it.done, gives_up=True)
-        return replace(turn.build, done=it.done) if it.gives_up else turn.build
+        return turn.build
 
     def edges_of(self, state: State) -> Iterator[tuple[int, End | None, tuple[Locals, Blocks]]]:
         vmids = frozenset(self.builds.all[it].vmid for it in state.builds) - {None}
@@ -280,12 +283,18 @@ class Graph:
         for first, words, count in sorted(wholes):
             yield words + shown(count, first)
         for end in sorted(ends, key=lambda end: (end[0], end[1], ends[end][1])):
-            yield f"step {end[0]} {end[1]} {self.steps[end[0]][end[1]]} = {end[2]}" + shown(*ends[end])
+            yield self.words_of(end) + shown(*ends[end])
         for build in range(self.count):
             yield f"never refused {build}" + (shown(*it) if (it := self.smooth(build)) else " in 0\n")
         maps = self.maps()
         for text in sorted(maps, key=lambda text: maps[text][1]):
             yield "map" + shown(*maps[text]) + text
+
+    def words_of(self, end: End) -> str:
+        build, place, answer = end
+        if place == GIVING_UP:
+            return f"give up {build} = {answer}"
+        return f"step {build} {place} {self.steps[build][place]} = {answer}"
 
     def text(self) -> str:
         return "".join(self.lines())

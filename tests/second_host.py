@@ -77,7 +77,7 @@ class Build:
     pages: tuple[int, ...] = ()
     open: tuple[tuple, ...] = ()
     vmid: int | None = None
-    # It was refused, and undoes from there on all that it has open.
+    # A step of it was refused, and an abort is all that is left to do.
     gives_up: bool = False
     # The lines that the monitor got so far.
     lines: tuple[str, ...] = ()

@@ -5,6 +5,7 @@ lines of the replay tell how each step ended, and what the map is. From these th
 be the one that the program writes. Of a plan of more orders the first order of each line is replayed: it has to show what the
 line says. How many orders there are is known besides, where each step has one turn: the multinomial of the builds' numbers of
 steps.
+Where builds give up, the plan that is replayed has an abort behind a build's first refusal.
 Of orders that are drawn, the numbers of xoshiro256++ are made here too. What is told of the progress is read from a terminal.
 
 What `order` writes of a plan is replayed: no turn is idle, each build performs every step, and the builds take turns as they have
@@ -36,6 +37,8 @@ CLEARED = "\r\x1b[K"
 # The most bytes of a plan, and what is said where one would have more.
 MOST_BYTES = 1048576
 OUTSIDE = "with the turns that its builds need, the plan has more than 16384 turns or 1048576 bytes\n"
+# The place of a build's giving up, behind those of all steps.
+BEYOND = 1 << 16
 # How many lines of progress there are in a second at most.
 LINES_A_SECOND = 5
 
@@ -68,18 +71,60 @@ class Replay:
             yield int(build), place, text, answer if answer.startswith("no ") else "ok"
 
 
-def left_behind(plan, builds, prefix):
+class GivingUp(Replay):
+    """A replay of a plan in an order, in which a build gives up once a step of it is refused.
+
+    `realmhost` goes on after a refusal. So behind the first step of a build that is refused its steps are cut off, and an abort is put
+    in their place; and the plan is replayed again, the earliest refusal first, since the abort decides what others get from there on.
+    """
+
+    def __init__(self, plan, order):
+        self.cuts = {}
+        while True:
+            super().__init__(self.cut(plan), order)
+            refused = [end for end in super().ends() if end[3] != "ok" and end[0] not in self.cuts]
+            if not refused:
+                return
+            build, place, _, _ = refused[0]
+            self.cuts[build] = place + 1
+
+    def cut(self, plan):
+        """The plan with the builds' steps as they are cut so far."""
+        settings = tomllib.loads(plan)
+        settings.pop("order", None)
+        builds = [build["steps"] for build in settings.pop("build")]
+        for build, place in self.cuts.items():
+            builds[build] = [*builds[build][:place], "abort"]
+        return plan_of(builds, **{"vmids": 8, **settings})
+
+    def ends(self):
+        """Each step that is used up, and after those of a build its giving up."""
+        for build, place, text, answer in super().ends():
+            yield (build, BEYOND, None, answer) if place == self.cuts.get(build) else (build, place, text, answer)
+
+
+def words_of(end):
+    """The words on the end of a step, or of a build's giving up."""
+    build, place, text, answer = end
+    return f"give up {build} = {answer}" if text is None else f"step {build} {place} {text} = {answer}"
+
+
+def left_behind(plan, builds, prefix, replay):
     """Which builds have a step left behind these turns."""
-    return [build for build in range(builds) if not Replay(plan, [*prefix, build]).turns[-1].endswith(" - idle\n")]
+    return [build for build in range(builds) if not replay(plan, [*prefix, build]).turns[-1].endswith(" - idle\n")]
 
 
-def orders_of(plan, builds, prefix=()):
+def orders_of(plan, builds, replay, prefix=()):
     """Each order of the plan that begins so, the lowest first, with its replay."""
-    left = left_behind(plan, builds, prefix)
+    left = left_behind(plan, builds, prefix, replay)
     if not left:
-        yield list(prefix), Replay(plan, list(prefix))
+        yield list(prefix), replay(plan, list(prefix))
     for build in left:
-        yield from orders_of(plan, builds, (*prefix, build))
+        yield from orders_of(plan, builds, replay, (*prefix, build))
+
+
+# The options of `explore` for what builds do after a refusal, and the replays that do so.
+WAYS = (((), Replay), (("--give-up",), GivingUp))
 
 
 class Shown(dict):
@@ -118,20 +163,20 @@ class Totals:
             yield words + self.wholes.text(words, self.orders)
         # of one step the ends come in the order in which orders first show them
         for end in sorted(self.ends, key=lambda end: end[:2]):
-            yield "step {} {} {} = {}".format(*end) + self.ends.text(end, self.orders)
+            yield words_of(end) + self.ends.text(end, self.orders)
         for build in range(self.builds):
             yield f"never refused {build}" + (self.smooth.text(build, self.orders) if build in self.smooth else " in 0\n")
         for map_text in self.maps:
             yield "map" + self.maps.text(map_text, self.orders) + map_text
 
 
-def text_of(plan, builds, most):
+def text_of(plan, builds, most, replay):
     """What `explore` has to write; none if there are more orders."""
     totals = Totals(builds)
-    for order, replay in orders_of(plan, builds):
+    for order, replayed in orders_of(plan, builds, replay):
         if totals.orders == most:
             return None
-        totals.add(order, replay)
+        totals.add(order, replayed)
     return f"orders {totals.orders}\n" + "".join(totals.lines())
 
 
@@ -156,14 +201,14 @@ def numbers_of(seed):
         state[3] = rotated(state[3], 45)
 
 
-def text_of_sample(plan, builds, count, seed):
+def text_of_sample(plan, builds, count, seed, replay):
     """What `explore --sample --seed` has to write."""
     numbers, totals = numbers_of(seed), Totals(builds)
     for _ in range(count):
         order = []
-        while left := left_behind(plan, builds, order):
+        while left := left_behind(plan, builds, order, replay):
             order.append(left[next(numbers) % len(left)])
-        totals.add(order, Replay(plan, order))
+        totals.add(order, replay(plan, order))
     return f"orders drawn {count}\n" + "".join(totals.lines())
 
 
@@ -186,26 +231,29 @@ def shows(replay, words, rest):
             return bool(refused)
         case ["never", _, build]:
             return int(build) not in refused
-    return words in ["step {} {} {} = {}".format(*end) for end in ends]
+    return words in map(words_of, ends)
 
 
-def of_first_orders(name, plan):
+def of_first_orders(name, plan, words, replay):
     """The first order of each line, replayed: it shows what the line says."""
-    status, out, err = run(VIEW, ["explore"], plan)
+    status, out, err = run(VIEW, words, plan)
     yield f"{name}, status", (status, err), (0, "")
     for line in re.finditer(r"(?m)^(.*) in \d+, order = (\[.*\])\n", out):
-        yield f"{name}, {line[0]}", shows(Replay(plan, json.loads(line[2])), line[1], out[line.end() :]), True
+        yield f"{name}, {line[0]}", shows(replay(plan, json.loads(line[2])), line[1], out[line.end() :]), True
 
 
 def of_plan(name, plan, builds, most=MOST):
-    yield from of_first_orders(name, plan)
-    if wanted := text_of(plan, builds, most):
-        yield name, run(VIEW, ["explore"], plan), (0, wanted, "")
+    for words, replay in WAYS:
+        name, words = f"{name} {words}", ["explore", *words]
+        yield from of_first_orders(name, plan, words, replay)
+        if wanted := text_of(plan, builds, most, replay):
+            yield name, run(VIEW, words, plan), (0, wanted, "")
 
 
 def of_sample(name, plan, builds, count, seed):
-    words = ["explore", "--sample", str(count), "--seed", str(seed)]
-    yield f"{name}, drawn", run(VIEW, words, plan), (0, text_of_sample(plan, builds, count, seed), "")
+    for words, replay in WAYS:
+        words = ["explore", *words, "--sample", str(count), "--seed", str(seed)]
+        yield f"{name}, drawn", run(VIEW, words, plan), (0, text_of_sample(plan, builds, count, seed, replay), "")
 
 
 def of_counts():
@@ -255,6 +303,9 @@ def of_options():
     words = ["--sample", "1000001"]
     status, out, err = run(VIEW, ["explore", *words], plan)
     yield f"{words}", (status, out, err.split("\n", 1)[0]), (2, "", "error: --sample 1000001 is above 1000000")
+    status, out, err = run(VIEW, ["explore", "--give-up", "--refused", "0:0"], plan)
+    wanted = "error: --give-up is not for --refused: a replay of the plan that it prints does not give up"
+    yield "a printed plan that is to give up", (status, out, err.split("\n", 1)[0]), (2, "", wanted)
     alike = [run(VIEW, ["explore", *words], plan) for words in (["--sample", "20"], ["--sample", "20", "--seed", "0"])]
     yield "the seed 0 where none is given", *alike
 

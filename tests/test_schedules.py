@@ -24,28 +24,37 @@ RANDOM_PLANS, MOST_TURNS, PARTS = 300, 12, 10
 class Run:
     """A run of a plan from boot."""
 
-    def __init__(self, text: str, turns: list[int]) -> None:
+    def __init__(self, text: str, turns: list[int], gives_up: bool = False) -> None:
         plan = tomllib.loads(text)
         self.machine, self.steps = machine_of(plan), [build["steps"] for build in plan["build"]]
+        # Of each build how it stands: whether a step of it was refused, and whether the abort behind that is over.
+        self.gives_up, self.refused, self.over = gives_up, set(), set()
         self.builds, self.blocks, self.ends = [Build() for _ in self.steps], Blocks.of(self.machine.pages), []
         for build in turns:
             self.turn(build)
 
     def left(self) -> list[int]:
-        return [it for it, build in enumerate(self.builds) if build.done < len(self.steps[it])]
+        is_left = lambda it: it not in self.over if it in self.refused else self.builds[it].done < len(self.steps[it])
+        return list(filter(is_left, range(len(self.steps))))
 
     def turn(self, number: int) -> None:
         before = self.builds[number]
         turn = Turn(self.machine, before, self.blocks, frozenset(it.vmid for it in self.builds) - {None})
-        turn.step(self.steps[number][before.done])
+        aborts = number in self.refused
+        turn.step("abort" if aborts else self.steps[number][before.done])
         self.builds[number], self.blocks = turn.build, turn.blocks
         if turn.build.done != before.done:
-            self.ends.append((number, before.done, turn.answer))
+            self.ends.append((number, "give up" if aborts else before.done, turn.answer))
+            if aborts:
+                self.over.add(number)
+            elif self.gives_up and turn.answer != "ok":
+                self.refused.add(number)
 
     def then(self, number: int) -> "Run":
         """The run with one turn more. What a turn changes is made anew."""
         more = copy.copy(self)
         more.builds, more.ends = self.builds.copy(), self.ends.copy()
+        more.refused, more.over = self.refused.copy(), self.over.copy()
         more.turn(number)
         return more
 
@@ -71,11 +80,11 @@ class Shown(dict):
         self[thing] = (count + 1, first)
 
 
-def one_by_one(text: str) -> str | None:
+def one_by_one(text: str, gives_up: bool = False) -> str | None:
     """What is to be told of a plan, by a run of each schedule; none if there are too many."""
     steps = [build["steps"] for build in tomllib.loads(text)["build"]]
     orders, wholes, ends, smooth, maps = 0, Shown(), Shown(), Shown(), Shown()
-    for order, ended in each_schedule(Run(text, [])):
+    for order, ended in each_schedule(Run(text, [], gives_up)):
         orders += 1
         if orders > MOST:
             return None
@@ -94,7 +103,10 @@ def one_by_one(text: str) -> str | None:
     rows = [f"orders {orders}\n"]
     rows += [words + shown(wholes[words]) for words in wholes]
     # (a stable sort: of one step the ends stay in the sequence in which schedules first show them)
-    rows += [f"step {it[0]} {it[1]} {steps[it[0]][it[1]]} = {it[2]}" + shown(ends[it]) for it in sorted(ends, key=lambda it: it[:2])]
+    for build in range(len(steps)):
+        for place in [*range(len(steps[build])), "give up"]:
+            words = f"give up {build}" if place == "give up" else f"step {build} {place} {steps[build][place]}"
+            rows += [f"{words} = {it[2]}" + shown(ends[it]) for it in ends if it[:2] == (build, place)]
     rows += [f"never refused {it}" + (shown(smooth[it]) if it in smooth else " in 0\n") for it in range(len(steps))]
     return "".join(rows + ["map" + shown(maps[it]) + it for it in maps])
 
@@ -153,6 +165,13 @@ def of_plan(name: str, text: str):
     if wanted is not None:
         yield f"{name}, each schedule", graph.text(), wanted
         yield f"{name}, exactly", Graph(text, exact=True).text(), wanted
+    graph = Graph(text, gives_up=True)
+    yield f"{name}, giving up", run(VIEW, ["explore", "--give-up"], text), (0, graph.text(), "")
+    wanted = one_by_one(text, gives_up=True)
+    if wanted is not None:
+        yield f"{name}, giving up, each schedule", graph.text(), wanted
+        yield f"{name}, giving up, exactly", Graph(text, gives_up=True, exact=True).text(), wanted
+    graph = Graph(text)
     if graph.orders <= FEW:
         build, last = 0, len(graph.steps[0]) - 1
         yield f"{name}, a witness", graph.refused(build, last), shortest(text, refuses(build, last))
@@ -173,6 +192,22 @@ def of_refusals(name: str, text: str):
     others = ((build, step) for build, steps in enumerate(graph.steps) for step in range(len(steps) + 1))
     build, step = next(it for it in others if it not in refused)
     yield f"{name}, never", run(VIEW, ["explore", "--refused", f"{build}:{step}"], text), (0, f"step {build} {step} refused in 0\n", "")
+
+
+def of_running_rec():
+    """A build that is refused while its REC runs: the abort is refused too, so that the build keeps all that it has."""
+    steps = ["take 2", "delegate 0", "delegate 1", "delegate 2", "realm 0 1", "rec 2", "activate", "enter 0", "take 4", "fill 3 7"]
+    text = plan_of([steps, ["take 0"]])
+    yield from of_plan("a REC that runs", text)
+    told = run(VIEW, ["explore", "--give-up"], text)[1].splitlines()
+    # (ten turns of build 0, the last but one refused, and one of build 1 before, between or after them)
+    for line in ("orders 11", "step 0 8 take 4 = no 11 NoBlock 4 in all", "give up 0 = no 8 RecRunning in all", "0 page 2 REC", "free 11"):
+        yield f"a REC that runs, {line}", line in told, True
+    yield "a REC that runs, the step that is left out", [line for line in told if line.startswith("step 0 9")], []
+
+
+def test_running_rec(check):
+    check.all(of_running_rec())
 
 
 @over("path", *PLANS)
