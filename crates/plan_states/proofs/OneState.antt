@@ -1,23 +1,22 @@
 -- Positions with the same snapshot are one state.
-use Rattle.std.proofs.Common.{◌≡◌, ℕ, ◌<◌, ◌≤◌, inl, inr, zero, suc, false, List, [], ◌∷◌, map, length, get_or, Option, Some, None, refl, sym, ap, ◌∙◌, subst, arith}
+use Rattle.std.proofs.Common.{◌≡◌, ℕ, ◌<◌, ◌≤◌, inl, inr, zero, suc, false, List, [], ◌∷◌, map, length, get_or, Option, Some, None, refl, sym, ap, ◌∙◌, arith}
 use Rattle.std.specs.Prelude.{option_map, IsSome}
 use Rattle.std.proofs.lemmas.Bool.{cases_lt}
 use Rattle.std.proofs.lemmas.List.{ext_get_or, get_or_past, length-map}
 use Rattle.std.proofs.lemmas.Option.{same_Some, none-some}
-use Rattle.host_ledger.specs.View.{HostView, mark_of, is_aborting}
-use Rattle.host_ledger.specs.Kept.{AreOfEach}
+use Rattle.host_ledger.specs.View.{HostView, mark_of}
 use Rattle.host_ledger.specs.declared.mark.Mark.{Mark}
-use Rattle.realm_host.specs.Interleaving.{depths_of, DifferInInterleaving}
+use Rattle.realm_host.specs.Interleaving.{depths_of}
 use Rattle.realm_host.specs.Recorded.{fresh_like}
 use Rattle.realm_model.specs.Machine.{Limits}
 use Rattle.realm_model.proofs.TakenAlone.{none_there}
-use Rattle.realm_model.specs.History.{events_of, replay, IsLegal}
+use Rattle.realm_model.specs.History.{events_of, replay}
 use Rattle.realm_plan.specs.Plan.{Plan}
 use Rattle.plan_replay.specs.Place.{first_place}
 use Rattle.plan_replay.specs.Run.{Position, place_of}
 use Rattle.plan_replay.specs.declared.place.PlanCursor.{PlanCursor}
 use Rattle.schedule_graph.proofs.Kept.{goes}
-use Rattle.schedule_graph.specs.State.{Point, Progress, mark_point, progress_of, has_way_back, AreOneState}
+use Rattle.schedule_graph.specs.State.{mark_point, progress_of, has_way_back, AreOneState}
 use Rattle.plan_states.specs.Reached.{IsReached}
 use Rattle.plan_states.specs.Snapshots.{length_of, point_at, seen_at, SeenBuild, IsOfHost}
 use Rattle.plan_states.specs.declared.snapshot.BuildPoint.{BuildPoint}

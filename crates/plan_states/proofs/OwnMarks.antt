@@ -1,5 +1,5 @@
 -- The marks of cursors are those of their own builds.
-use Rattle.std.proofs.Common.{◌≡◌, ℕ, zero, suc, ◌==◌, ◌-◌, true, false, List, [], ◌∷◌, get_or, set, replicate, Option, Some, None, Result, Ok, Err, inl, inr, refl, sym, ap, ◌∙◌, subst}
+use Rattle.std.proofs.Common.{◌≡◌, ℕ, zero, suc, ◌==◌, ◌-◌, true, false, List, [], ◌∷◌, get_or, set, replicate, Option, Some, None, Result, Ok, Err, inl, inr, sym, ap, subst}
 use Rattle.std.specs.Bool.{OnTrue, OnFalse}
 use Rattle.std.proofs.lemmas.Bool.{cases_eq}
 use Rattle.std.proofs.lemmas.List.{get_or-set_other}

@@ -1,6 +1,6 @@
 -- Paths of a graph whose edges were run are runs.
-use Rattle.std.proofs.Common.{◌≡◌, ℕ, zero, suc, ◌+◌, ◌<◌, List, [], ◌∷◌, map, length, get_or, All, Option, Some, None, inl, inr, refl, sym, ap, ◌∙◌, subst, arith, add-one}
-use Rattle.std.specs.Prelude.{option_map, slice_get, string_bytes, is_some, Vec, vec_items}
+use Rattle.std.proofs.Common.{◌≡◌, ℕ, zero, suc, ◌+◌, ◌<◌, List, [], ◌∷◌, map, length, get_or, Option, Some, None, inl, inr, refl, sym, ap, ◌∙◌, subst, add-one}
+use Rattle.std.specs.Prelude.{slice_get, is_some, Vec, vec_items}
 use Rattle.std.specs.declared.alloc.Global.{Global}
 use Rattle.std.specs.declared.string.String.{String}
 use Rattle.std.proofs.lemmas.List.{length-map}
@@ -8,7 +8,7 @@ use Rattle.std.proofs.lemmas.List.Elements.{All-contains}
 use Rattle.std.proofs.lemmas.Option.{none-some, same_Some, slice_get_within, get_or_from_slice_get}
 use Rattle.realm_plan.specs.Plan.{Plan}
 use Rattle.realm_program.specs.Replay.{opening_host}
-use Rattle.plan_replay.specs.Run.{Position, start, place_of, map_text}
+use Rattle.plan_replay.specs.Run.{Position, start, place_of}
 use Rattle.schedule_graph.specs.First.{layers_in}
 use Rattle.schedule_graph.specs.Paths.{Layer, Path, paths_by_edges, paths}
 use Rattle.schedule_graph.specs.State.{Progress, AreOneState}
@@ -16,12 +16,10 @@ use Rattle.schedule_graph.specs.declared.graph.Edge.{Edge}
 use Rattle.schedule_graph.proofs.Graphs.{same_on}
 use Rattle.schedule_graph.proofs.Kept.{progress_at}
 use Rattle.schedule_graph.proofs.States.{turn_too, same_step, same_text}
-use Rattle.plan_states.specs.Reached.{AreOver}
 use Rattle.plan_states.specs.RunLog.{snapshot_at, AreEdgesLogged, IsComplete, IsEdgeLogged, IsLog, IsLogged, IsShown, IsShownBy}
 use Rattle.plan_states.specs.Runs.{IsLabelled, IsMapNamed, IsRunAlong, IsPathRun, ArePathsRuns}
-use Rattle.plan_states.specs.Snapshots.{seen_at, SeenBuild}
+use Rattle.plan_states.specs.Snapshots.{seen_at}
 use Rattle.plan_states.specs.Tallies.{layers_of, paths_of}
-use Rattle.plan_states.specs.Turned.{Taken}
 use Rattle.plan_states.specs.Whole.{layer_at}
 use Rattle.plan_states.specs.declared.edges.Label.{Label}
 use Rattle.plan_states.specs.declared.graph.Graph.{Graph}
@@ -31,7 +29,7 @@ use Rattle.plan_states.specs.declared.snapshot.Snapshot.{Snapshot}
 use Rattle.plan_states.specs.declared.step_end.EndOfStep.{EndOfStep}
 use Rattle.plan_states.proofs.Members.{IsIn, contains_in, all_in}
 use Rattle.plan_states.proofs.OneState.{one_state}
-use Rattle.plan_states.proofs.Paths.{GoesBy, of_by_edges}
+use Rattle.plan_states.proofs.Paths.{of_by_edges}
 
 -- ---- positions of one snapshot
 

@@ -1,5 +1,5 @@
 -- Runs along paths, as runs in the schedules of the paths.
-use Rattle.std.proofs.Common.{◌≡◌, ℕ, Bool, List, [], ◌∷◌, map, All, Option, None, refl, subst}
+use Rattle.std.proofs.Common.{ℕ, List, [], ◌∷◌, map, Option, None, refl}
 use Rattle.std.specs.Prelude.{Contains}
 use Rattle.std.specs.declared.alloc.Global.{Global}
 use Rattle.std.specs.declared.string.String.{String}

@@ -1,7 +1,5 @@
-use Rattle.std.proofs.Common.{◌≡◌, Option, ℕ, List, Some, sym, ap, ◌∙◌, subst}
-use Rattle.std.specs.Prelude.{option_map, slice_get, string_bytes}
-use Rattle.std.specs.declared.alloc.Global.{Global}
-use Rattle.std.specs.declared.string.String.{String}
+use Rattle.std.proofs.Common.{Option, ℕ, List, Some, sym, ap, ◌∙◌, subst}
+use Rattle.std.specs.Prelude.{option_map, string_bytes}
 use Rattle.std.proofs.lemmas.Bool.{OnTrue_from}
 use Rattle.std.proofs.lemmas.Slice.Eq.{bytes_eq-Decides}
 use Rattle.realm_plan.specs.PlanView.{plan_view}

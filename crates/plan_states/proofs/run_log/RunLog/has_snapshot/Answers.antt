@@ -1,8 +1,5 @@
-use Rattle.std.proofs.Common.{ℕ, ◌<◌, length, get_or, Some, sym, ap, ◌∙◌, subst}
 use Rattle.std.proofs.lemmas.Bool.{OnTrue_at, OnTrue_from}
-use Rattle.std.proofs.lemmas.Option.{slice_get_read}
 use Rattle.plan_states.specs.RunLog.{IsNumberOf}
-use Rattle.plan_states.specs.declared.snapshot.Snapshot.{Snapshot}
 use Rattle.plan_states.proofs.RunLogs.{seen_at_place}
 use Rattle.plan_states.proofs.run_log.RunLog.has_snapshot.Goals as goal
 
