@@ -16,8 +16,8 @@ use Rattle.schedule_graph.specs.declared.graph.Edge.{Edge}
 use Rattle.schedule_graph.proofs.Graphs.{same_on}
 use Rattle.schedule_graph.proofs.Kept.{progress_at}
 use Rattle.schedule_graph.proofs.States.{turn_too, same_step, same_text}
-use Rattle.plan_states.specs.RunLog.{snapshot_at, AreEdgesLogged, IsComplete, IsEdgeLogged, IsLog, IsLogged, IsShown, IsShownBy}
-use Rattle.plan_states.specs.Runs.{IsLabelled, IsMapNamed, IsRunAlong, IsPathRun, ArePathsRuns}
+use Rattle.plan_states.specs.RunLog.{snapshot_at, AreEdgesLogged, IsComplete, IsEdgeLogged, IsLog, IsLogged, IsSnapshotOfRun, IsShownBy}
+use Rattle.plan_states.specs.Runs.{IsLabelled, IsMapNamed, IsRunAlong, IsRunFromBoot, ArePathsRuns}
 use Rattle.plan_states.specs.Snapshots.{seen_at}
 use Rattle.plan_states.specs.Tallies.{layers_of, paths_of}
 use Rattle.plan_states.specs.Whole.{layer_at}
@@ -33,7 +33,7 @@ use Rattle.plan_states.proofs.Paths.{of_by_edges}
 
 -- ---- positions of one snapshot
 
-pub shown_alike : (plan : Plan) (it : Snapshot) (one other : Position) → IsShown plan it one → IsShown plan it other → AreOneState one other
+pub shown_alike : (plan : Plan) (it : Snapshot) (one other : Position) → IsSnapshotOfRun plan it one → IsSnapshotOfRun plan it other → AreOneState one other
 shown_alike plan it one other here there =
     one_state plan here.order there.order one other here.reached there.reached here.of_host there.of_host
     (λ build less. same_Some (seen_at one build) (seen_at other build) (sym (here.builds build less) ∙ there.builds build less))
@@ -42,7 +42,7 @@ shown_by_alike : (plan : Plan) (snapshots : List Snapshot) (number : ℕ) (one o
     → IsShownBy plan snapshots number one → IsShownBy plan snapshots number other → AreOneState one other
 shown_by_alike plan snapshots number one other here there =
     let same : here.it ≡ there.it = same_Some here.it there.it (sym here.is_there ∙ there.is_there) in
-    shown_alike plan there.it one other (subst (λ it. IsShown plan it one) same here.shown) there.shown
+    shown_alike plan there.it one other (subst (λ it. IsSnapshotOfRun plan it one) same here.shown) there.shown
 
 -- ---- a turn, from any position that is the same state
 
@@ -172,6 +172,6 @@ module _ (plan : Plan) (graph : Graph) (log : RunLog) (visits : List (Vec Visit 
   pub paths_run : ArePathsRuns plan graph
   paths_run =
       let boot = start (opening_host plan) in
-      all_in (IsPathRun plan graph) (paths_of graph)
+      all_in (IsRunFromBoot plan graph) (paths_of graph)
       (runs_along plan graph.ends.items graph.maps.items log.snapshots.items (layers_of graph) (snapshot_at visits) edges_run 0 boot boot
       (record { which = 0; is = complete.start; by = is_log.boot }) (shown_by_alike plan log.snapshots.items 0 boot boot is_log.boot is_log.boot))

@@ -10,7 +10,7 @@ use Rattle.realm_program.specs.Replay.{opening_host}
 use Rattle.plan_replay.specs.Run.{Position, Turn, start, AreTurns}
 use Rattle.plan_replay.proofs.Runs.{AreTurns-more}
 use Rattle.plan_states.specs.Reached.{IsReached, IsTurnAt}
-use Rattle.plan_states.specs.RunLog.{IsLog, IsLogged, IsNumberOf, IsShown, IsShownBy}
+use Rattle.plan_states.specs.RunLog.{IsLog, IsLogged, IsSnapshotNumber, IsSnapshotOfRun, IsShownBy}
 use Rattle.plan_states.specs.Runs.{IsLabelled}
 use Rattle.plan_states.specs.Snapshots.{AreBuildsAt, IsOfHost}
 use Rattle.plan_states.specs.Turned.{Taken, AreWith}
@@ -38,7 +38,7 @@ slice_get_with xs new y (inr more) k x there = subst (λ l. slice_get l k ≡ So
 -- ---- snapshots
 
 pub numbered : (plan : Plan) (snapshots : List Snapshot) (number : ℕ) (snapshot : Snapshot) (at : Position)
-    → IsNumberOf snapshots number snapshot → IsShown plan snapshot at → IsShownBy plan snapshots number at
+    → IsSnapshotNumber snapshots number snapshot → IsSnapshotOfRun plan snapshot at → IsShownBy plan snapshots number at
 numbered plan snapshots number snapshot at is shown = record {
   it = is.it;
   is_there = is.is_there;
@@ -73,7 +73,7 @@ module _ (plan : Plan) (ends : List EndOfStep) (maps : List (String Global)) (sn
     (boot : IsShownBy plan snapshots 0 (start (opening_host plan))) (logged : All (IsLogged plan ends maps snapshots) turns)
     (before : IsShownBy plan snapshots from at) (labelled : IsLabelled plan ends maps at label after)
     (of_host : IsOfHost after) (builds : AreBuildsAt after 8 snapshot.builds.items)
-    (with_it : AreWith snapshots (Some snapshot) more) (is_number : IsNumberOf more to snapshot) where
+    (with_it : AreWith snapshots (Some snapshot) more) (is_number : IsSnapshotNumber more to snapshot) where
   pub shown_after : IsShownBy plan more to after
   shown_after = numbered plan more to snapshot after is_number (record {
     order = before.shown.order ++ label.build ∷ [];
@@ -112,7 +112,7 @@ booted_log plan ends maps log snapshot at reached of_host builds only none = rec
   boot = record {
     it = snapshot;
     is_there = ap (λ l. slice_get l 0) only;
-    shown = subst (IsShown plan snapshot) (no_turn plan at reached.turns reached.are_turns)
+    shown = subst (IsSnapshotOfRun plan snapshot) (no_turn plan at reached.turns reached.are_turns)
         (record { order = []; reached = reached; of_host = of_host; builds = builds });
   };
   turns = subst (All (IsLogged plan ends maps log.snapshots.items)) (sym none) (All-nil (IsLogged plan ends maps log.snapshots.items));
@@ -126,7 +126,7 @@ read_at xs k x inside is = slice_get_read xs (length xs) k x refl inside is
 pub seen_at_place : {X : Type 0} (xs seen : List X) (k : ℕ) (x : X) → seen ≡ xs → k < length seen → x ≡ get_or seen k x → slice_get xs k ≡ Some x
 seen_at_place xs seen k x same inside is = subst (λ l. slice_get l k ≡ Some x) same (read_at seen k x inside is)
 
-pub last_number : (snapshots new : List Snapshot) (snapshot : Snapshot) (number : ℕ) → number ≡ length snapshots → new ≡ snapshots ++ snapshot ∷ [] → IsNumberOf new number snapshot
+pub last_number : (snapshots new : List Snapshot) (snapshot : Snapshot) (number : ℕ) → number ≡ length snapshots → new ≡ snapshots ++ snapshot ∷ [] → IsSnapshotNumber new number snapshot
 last_number snapshots new snapshot number is more = record {
   it = snapshot;
   is_there = (λ i. slice_get (more i) (is i)) ∙ slice_get_last snapshots snapshot;

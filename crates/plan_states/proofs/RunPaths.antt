@@ -8,7 +8,7 @@ use Rattle.realm_plan.specs.Plan.{Plan}
 use Rattle.realm_program.specs.Replay.{opening_host}
 use Rattle.plan_replay.specs.Run.{Position, Turn, start, AreTurns}
 use Rattle.schedule_graph.specs.Paths.{Path}
-use Rattle.plan_states.specs.Runs.{last_map, ArePathsRuns, IsMapNamed, IsPathRun, IsRunAlong, IsRunOf, IsRunOnPath}
+use Rattle.plan_states.specs.Runs.{last_map, ArePathsRuns, IsMapNamed, IsRunFromBoot, IsRunAlong, IsRunOf, IsRunOnPath}
 use Rattle.plan_states.specs.Tallies.{builds_of_path, paths_of}
 use Rattle.plan_states.specs.declared.edges.Label.{Label}
 use Rattle.plan_states.specs.declared.graph.Graph.{Graph}
@@ -34,7 +34,7 @@ turns_along plan ends maps before from (edge ∷ path) is_map (to, labelled, run
       is_map = rest.is_map;
     }
 
-pub run_of : (plan : Plan) (graph : Graph) (path : Path Label) → IsPathRun plan graph path → IsRunOf plan graph path
+pub run_of : (plan : Plan) (graph : Graph) (path : Path Label) → IsRunFromBoot plan graph path → IsRunOf plan graph path
 run_of plan graph path run =
     let it = turns_along plan graph.ends.items graph.maps.items None (start (opening_host plan)) path tt run in
     record { at = it.at; reached = record { turns = it.turns; are_turns = it.are_turns }; is_map = it.is_map }
@@ -48,5 +48,5 @@ run_on_path plan graph order runs there =
       path = it.one;
       is_path = is_path;
       schedule = it.made;
-      is_run = All-contains (IsPathRun plan graph) (paths_of graph) it.one runs is_path;
+      is_run = All-contains (IsRunFromBoot plan graph) (paths_of graph) it.one runs is_path;
     }

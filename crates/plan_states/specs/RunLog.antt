@@ -23,7 +23,7 @@ abbrev pub position_of : Running → Position
 position_of running = record { host = running.host; places = running.places }
 
 -- a run of the plan leads from boot to a position of which this is a snapshot
-pub record IsShown (plan : Plan) (it : Snapshot) (at : Position) : Type 0 where
+pub record IsSnapshotOfRun (plan : Plan) (it : Snapshot) (at : Position) : Type 0 where
   pub order : List ℕ
   pub reached : IsReached plan order at
   pub of_host : IsOfHost at
@@ -33,10 +33,10 @@ pub record IsShown (plan : Plan) (it : Snapshot) (at : Position) : Type 0 where
 pub record IsShownBy (plan : Plan) (snapshots : List Snapshot) (number : ℕ) (at : Position) : Type 0 where
   pub it : Snapshot
   pub is_there : slice_get snapshots number ≡ Some it
-  pub shown : IsShown plan it at
+  pub shown : IsSnapshotOfRun plan it at
 
 -- a snapshot with the same builds has this number
-pub record IsNumberOf (snapshots : List Snapshot) (number : ℕ) (snapshot : Snapshot) : Type 0 where
+pub record IsSnapshotNumber (snapshots : List Snapshot) (number : ℕ) (snapshot : Snapshot) : Type 0 where
   pub it : Snapshot
   pub is_there : slice_get snapshots number ≡ Some it
   pub same : AreSameBuilds 8 it.builds.items snapshot.builds.items

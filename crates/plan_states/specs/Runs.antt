@@ -38,12 +38,12 @@ IsRunAlong plan ends maps at (edge ∷ path) =
     (to : Position) × IsLabelled plan ends maps at edge.label to × IsRunAlong plan ends maps to path
 
 -- from boot
-abbrev pub IsPathRun : Plan → Graph → Path Label → Type 0
-IsPathRun plan graph path = IsRunAlong plan graph.ends.items graph.maps.items (start (opening_host plan)) path
+abbrev pub IsRunFromBoot : Plan → Graph → Path Label → Type 0
+IsRunFromBoot plan graph path = IsRunAlong plan graph.ends.items graph.maps.items (start (opening_host plan)) path
 
 -- Each path of the graph is a run of the plan from boot, with the path's own ends and its own map.
 abbrev pub ArePathsRuns : Plan → Graph → Type 0
-ArePathsRuns plan graph = All (IsPathRun plan graph) (paths_of graph)
+ArePathsRuns plan graph = All (IsRunFromBoot plan graph) (paths_of graph)
 
 -- ---- schedules
 
@@ -52,7 +52,7 @@ pub record IsRunOnPath (plan : Plan) (graph : Graph) (order : List ℕ) : Type 0
   pub path : Path Label
   pub is_path : Contains (paths_of graph) path
   pub schedule : builds_of_path path ≡ order
-  pub is_run : IsPathRun plan graph path
+  pub is_run : IsRunFromBoot plan graph path
 
 -- the map that the last turn of a path names, after turns of which the last has named that before
 abbrev pub last_map : Option ℕ → Path Label → Option ℕ

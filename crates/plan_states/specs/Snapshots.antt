@@ -16,8 +16,8 @@ abbrev pub length_of : Option Mark → Option ℕ
 length_of mark = option_map (λ (it : Mark). it.length) mark
 
 -- there is a mark, and it is the one that is kept
-abbrev pub is_kept : Option Mark → Option Mark → Bool
-is_kept kept mark =
+abbrev pub is_kept_mark : Option Mark → Option Mark → Bool
+is_kept_mark kept mark =
     elim mark [ Some one ↦ elim kept [ Some it ↦ is_same_mark it one | None ↦ false ] | None ↦ false ]
 
 -- the point at which a build is
@@ -36,20 +36,20 @@ pub record SeenBuild : Type 0 where
   pub point : BuildPoint
   pub events : List Event
 
-abbrev pub seen_in : BuildSnapshot → SeenBuild
-seen_in it = record { point = it.point; events = it.events.items }
+abbrev pub shown_build : BuildSnapshot → SeenBuild
+shown_build it = record { point = it.point; events = it.events.items }
 
 abbrev pub seen_at : Position → ℕ → SeenBuild
 seen_at at build = record { point = point_at at build; events = events_of build at.host.history }
 
 -- these are the builds below a number, as they are at a position
 abbrev pub AreBuildsAt : Position → ℕ → List BuildSnapshot → Type 0
-AreBuildsAt at count builds = (build : ℕ) → build < count → option_map seen_in (slice_get builds build) ≡ Some (seen_at at build)
+AreBuildsAt at count builds = (build : ℕ) → build < count → option_map shown_build (slice_get builds build) ≡ Some (seen_at at build)
 
 -- the builds below a number have the same points and the same events
 abbrev pub AreSameBuilds : ℕ → List BuildSnapshot → List BuildSnapshot → Type 0
 AreSameBuilds count ones others =
-    (build : ℕ) → build < count → option_map seen_in (slice_get ones build) ≡ option_map seen_in (slice_get others build)
+    (build : ℕ) → build < count → option_map shown_build (slice_get ones build) ≡ option_map shown_build (slice_get others build)
 
 -- The position has a cursor for each of eight builds, and a host with a legal history and at most eight builds.
 pub record IsOfHost (at : Position) : Type 0 where

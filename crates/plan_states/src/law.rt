@@ -4,7 +4,7 @@ ghost use Rattle.std.specs.List.{range_with_len};
 ghost use Rattle.realm_plan.specs.Plan.{Plan};
 ghost use Rattle.schedule_graph.specs.Paths.{Path};
 ghost use Rattle.plan_states.specs.Lines.{step_number};
-ghost use Rattle.plan_states.specs.Runs.{ArePathsRuns, IsPathRun, IsRunOf, IsRunOnPath};
+ghost use Rattle.plan_states.specs.Runs.{ArePathsRuns, IsRunFromBoot, IsRunOf, IsRunOnPath};
 ghost use Rattle.plan_states.specs.Schedules.{by_turns, own_rule, schedules_after, steps_ended, HasSingleTurns, IsRuleOf, IsSchedule};
 ghost use Rattle.plan_states.specs.Tallies.{builds_of_path, is_before, paths_of};
 ghost use Rattle.plan_states.specs.Whole.{IsWholeGraph};
@@ -65,5 +65,5 @@ pub fn every_schedule_is_run()
 /// A path along which the plan is run is a run of the plan in the path's schedule. If its last turn names a map, no build
 /// has a step left in the end, and the map is that one.
 pub fn runs_on_paths_are_runs()
-    ensures { (plan : Plan) (graph : Graph) (path : Path Label) → IsPathRun plan graph path → IsRunOf plan graph path }
+    ensures { (plan : Plan) (graph : Graph) (path : Path Label) → IsRunFromBoot plan graph path → IsRunOf plan graph path }
 {}

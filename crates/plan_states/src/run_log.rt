@@ -6,7 +6,7 @@ ghost use Rattle.std.specs.declared.string.String.{String};
 ghost use Rattle.realm_plan.specs.PlanView.{plan_view};
 ghost use Rattle.plan_states.specs.Exploration.{HasNoGraph};
 ghost use Rattle.plan_states.specs.Runs.{end_named, IsLabelled, IsMapNamed};
-ghost use Rattle.plan_states.specs.RunLog.{position_of, IsLog, IsNumberOf, IsShownBy};
+ghost use Rattle.plan_states.specs.RunLog.{position_of, IsLog, IsSnapshotNumber, IsShownBy};
 ghost use Rattle.plan_states.specs.Turned.{end_taken, AreWith};
 ghost use Rattle.plan_states.specs.declared.step_end.EndOfStep.{EndOfStep};
 
@@ -124,7 +124,7 @@ impl RunLog {
 
     // Whether the snapshot of a number is the same as another.
     fn has_snapshot(&self, number: usize, snapshot: &Snapshot) -> bool
-        ensures { OnTrue result (IsNumberOf self.now.snapshots.items number snapshot.now) }
+        ensures { OnTrue result (IsSnapshotNumber self.now.snapshots.items number snapshot.now) }
     {
         match self.snapshots.get(number) {
             Some(it) => is_same(it, snapshot),
@@ -136,7 +136,7 @@ impl RunLog {
     fn number_of(&mut self, snapshot: Snapshot, known: Option<usize>) -> Result<usize, Fault>
         ensures turns { self.new.turns ≡ self.old.turns }
         ensures more { OnOk result (AreWith self.old.snapshots.items (Some snapshot) self.new.snapshots.items) }
-        ensures number { IfOk result (λ number. IsNumberOf self.new.snapshots.items number snapshot) }
+        ensures number { IfOk result (λ number. IsSnapshotNumber self.new.snapshots.items number snapshot) }
         ensures err { IfErr result HasNoGraph }
     {
         let Some(number) = known else {

@@ -3,7 +3,7 @@ ghost use Rattle.std.specs.Prelude.{◌≡◌, ◌<◌, IfOk};
 ghost use Rattle.std.specs.Bool.{OnTrue};
 ghost use Rattle.host_ledger.specs.View.{mark_of, is_aborting};
 ghost use Rattle.realm_model.specs.History.{events_of};
-ghost use Rattle.plan_states.specs.Snapshots.{is_kept, length_of, point_at, seen_in, AreBuildsAt, AreSameBuilds, IsOfHost};
+ghost use Rattle.plan_states.specs.Snapshots.{is_kept_mark, length_of, point_at, shown_build, AreBuildsAt, AreSameBuilds, IsOfHost};
 
 use crate::graph::push;
 use granule_addr::BuildId;
@@ -50,8 +50,8 @@ fn length_of(mark: &Option<Mark>) -> Option<u16>
 }
 
 // Whether there is a mark, and it is the one that is kept.
-fn is_kept(kept: &Option<Mark>, mark: &Option<Mark>) -> bool
-    ensures { result ≡ is_kept kept.now mark.now }
+fn is_kept_mark(kept: &Option<Mark>, mark: &Option<Mark>) -> bool
+    ensures { result ≡ is_kept_mark kept.now mark.now }
 {
     let Some(mark) = mark else {
         return false;
@@ -101,7 +101,7 @@ fn point_of<S: PageStore>(host: &Host<S>, places: &[PlanCursor; 8], build: usize
         done: place.done,
         left: place.left,
         mark: length_of(&place.mark),
-        has_way_back: is_kept(&kept, &place.mark),
+        has_way_back: is_kept_mark(&kept, &place.mark),
         is_aborting: is_aborting(host, build),
         kept: length_of(&kept),
     }
@@ -185,7 +185,7 @@ fn are_same_events(one: &[Event], other: &[Event]) -> bool
 
 // Whether two snapshots of a build are the same.
 fn is_same_build(one: &BuildSnapshot, other: &BuildSnapshot) -> bool
-    ensures { OnTrue result (seen_in one.now ≡ seen_in other.now) }
+    ensures { OnTrue result (shown_build one.now ≡ shown_build other.now) }
 {
     is_same_point(&one.point, &other.point) && are_same_events(&one.events, &other.events)
 }
