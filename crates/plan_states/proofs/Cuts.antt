@@ -20,7 +20,7 @@ pub cut_is :
     (layers kept new : List (Vec Edges Global)) (depth : ℕ) (states : Vec Edges Global) → kept ≡ take (depth + 1) layers → new ≡ kept ++ states ∷ []
     → map vec_items states.items ≡ map (λ edges. []) (slice_index_or (map vec_items layers) (depth + 1) [])
     → layers_in new ≡ cut_after depth (layers_in layers)
-cut_is layers kept new depth states is_kept is_new bare =
+cut_is layers kept new depth states is_kept_mark is_new bare =
     let n = depth + 1 in
     let next : List Edges = get_or (map vec_items layers) n [] in
     let there : get_or (layers_in layers) n [] ≡ map vec_items next =
@@ -29,5 +29,5 @@ cut_is layers kept new depth states is_kept is_new bare =
     let f : List (Edge Label) → List (Edge Label) = λ edges. [] in
     let ends : layer_in states ≡ map f (get_or (layers_in layers) n []) =
     bare ∙ sym (map-map f vec_items next) ∙ ap (map f) (sym there) in
-    let front : map layer_in kept ≡ take n (layers_in layers) = ap (map layer_in) is_kept ∙ sym (take-map layer_in n layers) in
+    let front : map layer_in kept ≡ take n (layers_in layers) = ap (map layer_in) is_kept_mark ∙ sym (take-map layer_in n layers) in
     ap layers_in is_new ∙ map-append layer_in kept (states ∷ []) ∙ (λ j. front j ++ ends j ∷ [])

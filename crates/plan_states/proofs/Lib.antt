@@ -10,3 +10,8 @@ pub mod Members
 pub mod Paths
 pub mod StepEnds
 pub mod Schedules
+pub mod OwnMarks
+pub mod OneState
+pub mod PathRuns
+pub mod RunLogs
+pub mod RunPaths

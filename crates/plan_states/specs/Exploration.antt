@@ -4,6 +4,7 @@ use Rattle.std.specs.declared.alloc.Global.{Global}
 use Rattle.std.specs.declared.string.String.{String}
 use Rattle.realm_plan.specs.Plan.{Plan}
 use Rattle.plan_states.specs.Reached.{IsEndOfRun, IsMapOfRun}
+use Rattle.plan_states.specs.Runs.{ArePathsRuns}
 use Rattle.plan_states.specs.Whole.{IsWholeGraph}
 use Rattle.realm_program.specs.declared.fault.Fault.{Fault}
 use Rattle.realm_program.specs.declared.fault.Fault.TheVariants.{Memory, Mismatch}
@@ -25,6 +26,7 @@ pub record IsFound (plan : Plan) (most : ℕ) (graph : Graph) : Type 0 where
 pub record IsGraphWithin (plan : Plan) (most : ℕ) (graph : Graph) : Type 0 where
   pub found : IsFound plan most graph
   pub whole : IsWholeGraph plan graph
+  pub runs : ArePathsRuns plan graph
 
 abbrev pub IsExploration : Plan → ℕ → Exploration → Type 0
 IsExploration plan most (explored.All graph) = IsGraphWithin plan most graph

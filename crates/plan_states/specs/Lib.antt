@@ -11,3 +11,6 @@ pub mod Tallies
 pub mod StatesText
 pub mod Shortest
 pub mod Schedules
+pub mod Snapshots
+pub mod Runs
+pub mod RunLog

@@ -8,6 +8,7 @@ ghost use Rattle.plan_states.specs.Turned.{AreWith};
 use crate::edges::Label;
 use crate::leftovers::leave_nothing;
 use crate::running::{Running, has_more, run_to};
+use crate::runs::are_paths_runs;
 use crate::state::State;
 use crate::step_end::EndOfStep;
 use crate::turns::{After, Before, Turns, before_turn};
@@ -320,7 +321,7 @@ fn search(alloc: Global, plan: &Plan, most: usize) -> Result<Option<Graph>, Faul
     }))
 }
 
-/// A whole graph of a plan with at most `most` states, or `TooMany`.
+/// A whole graph of a plan with at most `most` states, each path of which is a run of the plan, or `TooMany`.
 ///
 /// Errors. `Memory`: allocation failed. `Mismatch`: a run does not go on as another run said, or a turn is missing in the
 /// graph. Neither happens on a host that gives the same answers to the same calls.
@@ -332,6 +333,9 @@ pub fn explore(alloc: Global, plan: &Plan, most: usize) -> Result<Exploration, F
         return Ok(Exploration::TooMany);
     };
     if !is_whole(plan, &graph) {
+        return Err(Fault::Mismatch);
+    }
+    if !are_paths_runs(alloc, plan, &graph)? {
         return Err(Fault::Mismatch);
     }
     Ok(Exploration::All(graph))

@@ -4,6 +4,7 @@ ghost use Rattle.std.specs.List.{range_with_len};
 ghost use Rattle.realm_plan.specs.Plan.{Plan};
 ghost use Rattle.schedule_graph.specs.Paths.{Path};
 ghost use Rattle.plan_states.specs.Lines.{step_number};
+ghost use Rattle.plan_states.specs.Runs.{ArePathsRuns, IsRunFromBoot, IsRunOf, IsRunOnPath};
 ghost use Rattle.plan_states.specs.Schedules.{by_turns, done_by, ends_of, own_rule, schedules_after, steps_ended, used_by, AreInSequence, HasSingleTurns, IsRuleOf, IsSchedule};
 ghost use Rattle.plan_states.specs.Tallies.{builds_of_path, is_before, paths_of};
 ghost use Rattle.plan_states.specs.Whole.{IsWholeGraph};
@@ -64,4 +65,17 @@ pub fn paths_end_each_step()
 pub fn paths_end_steps_in_sequence()
     ensures { (plan : Plan) (graph : Graph) → IsWholeGraph plan graph
         → All (λ (path : Path Label). (build : ℕ) → build < 8 → AreInSequence plan build 0 (ends_of graph.ends.items build path)) (paths_of graph) }
+{}
+
+/// Each schedule, by such a rule, is that of a path of the graph along which the plan is run from boot. Each turn ends its
+/// step as the path says, and the map in the end is the path's own.
+pub fn every_schedule_is_run()
+    ensures { (plan : Plan) (graph : Graph) (left : List ℕ → ℕ → Bool) → IsWholeGraph plan graph → ArePathsRuns plan graph → IsRuleOf plan graph left
+        → (order : List ℕ) → IsSchedule left [] order → IsRunOnPath plan graph order }
+{}
+
+/// A path along which the plan is run is a run of the plan in the path's schedule. If its last turn names a map, no build
+/// has a step left in the end, and the map is that one.
+pub fn runs_on_paths_are_runs()
+    ensures { (plan : Plan) (graph : Graph) (path : Path Label) → IsRunFromBoot plan graph path → IsRunOf plan graph path }
 {}

@@ -239,8 +239,8 @@ fn is_state_whole(
     all_lead_on(plan, ends, maps, done, next, edges)
 }
 
-// The edges of a state; none if there is no such state.
-fn edges_at(layer: &[Vec<Edge<Label>>], state: usize) -> &[Edge<Label>]
+/// The edges of a state; none if there is no such state.
+pub(crate) fn edges_at(layer: &[Vec<Edge<Label>>], state: usize) -> &[Edge<Label>]
     ensures { result.now ≡ slice_index_or (map vec_items layer.now) state [] }
 {
     match layer.get(state) {
@@ -282,8 +282,8 @@ fn states_at(graph: &Graph, depth: usize) -> &[StepsDone]
     }
 }
 
-// A layer; none if there is no such layer.
-fn layer_at(graph: &Graph, depth: usize) -> &[Vec<Edge<Label>>]
+/// A layer; none if there is no such layer.
+pub(crate) fn layer_at(graph: &Graph, depth: usize) -> &[Vec<Edge<Label>>]
     ensures { result.now ≡ layer_at graph.now depth }
 {
     match graph.layers.get(depth) {

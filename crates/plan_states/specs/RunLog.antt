@@ -1,0 +1,82 @@
+-- The log of runs along a graph, which covers its edges.
+use Rattle.std.specs.Prelude.{◌≡◌, ◌<◌, ◌+◌, ℕ, List, [], All, map, length, Option, Some, Vec, vec_items, option_and_then, slice_get, slice_index_or}
+use Rattle.std.specs.declared.alloc.Global.{Global}
+use Rattle.std.specs.declared.string.String.{String}
+use Rattle.realm_plan.specs.Plan.{Plan}
+use Rattle.plan_replay.specs.Run.{Position, start}
+use Rattle.realm_program.specs.Replay.{opening_host}
+use Rattle.schedule_graph.specs.declared.graph.Edge.{Edge}
+use Rattle.plan_states.specs.Reached.{IsReached}
+use Rattle.plan_states.specs.Runs.{IsLabelled}
+use Rattle.plan_states.specs.Snapshots.{AreBuildsAt, AreSameBuilds, IsOfHost}
+use Rattle.plan_states.specs.Whole.{layer_at}
+use Rattle.plan_states.specs.declared.edges.Label.{Label}
+use Rattle.plan_states.specs.declared.graph.Graph.{Graph}
+use Rattle.plan_states.specs.declared.run_log.LoggedTurn.{LoggedTurn}
+use Rattle.plan_states.specs.declared.run_log.RunLog.{RunLog}
+use Rattle.plan_states.specs.declared.running.Running.{Running}
+use Rattle.plan_states.specs.declared.runs.Visit.{Visit}
+use Rattle.plan_states.specs.declared.snapshot.Snapshot.{Snapshot}
+use Rattle.plan_states.specs.declared.step_end.EndOfStep.{EndOfStep}
+
+abbrev pub position_of : Running → Position
+position_of running = record { host = running.host; places = running.places }
+
+-- a run of the plan leads from boot to a position of which this is a snapshot
+pub record IsSnapshotOfRun (plan : Plan) (it : Snapshot) (at : Position) : Type 0 where
+  pub order : List ℕ
+  pub reached : IsReached plan order at
+  pub of_host : IsOfHost at
+  pub builds : AreBuildsAt at 8 it.builds.items
+
+-- the snapshot of this number is of the position
+pub record IsShownBy (plan : Plan) (snapshots : List Snapshot) (number : ℕ) (at : Position) : Type 0 where
+  pub it : Snapshot
+  pub is_there : slice_get snapshots number ≡ Some it
+  pub shown : IsSnapshotOfRun plan it at
+
+-- a snapshot with the same builds has this number
+pub record IsSnapshotNumber (snapshots : List Snapshot) (number : ℕ) (snapshot : Snapshot) : Type 0 where
+  pub it : Snapshot
+  pub is_there : slice_get snapshots number ≡ Some it
+  pub same : AreSameBuilds 8 it.builds.items snapshot.builds.items
+
+-- a turn like its label leads from a position of the one snapshot to one of the other
+pub record IsLogged (plan : Plan) (ends : List EndOfStep) (maps : List (String Global)) (snapshots : List Snapshot) (turn : LoggedTurn) : Type 0 where
+  pub at : Position
+  pub to : Position
+  pub before : IsShownBy plan snapshots turn.from at
+  pub labelled : IsLabelled plan ends maps at turn.label to
+  pub after : IsShownBy plan snapshots turn.to to
+
+-- The first snapshot is that of boot, and the turns are such turns.
+pub record IsLog (plan : Plan) (ends : List EndOfStep) (maps : List (String Global)) (log : RunLog) : Type 0 where
+  pub boot : IsShownBy plan log.snapshots.items 0 (start (opening_host plan))
+  pub turns : All (IsLogged plan ends maps log.snapshots.items) log.turns.items
+
+-- ---- the edges that were run
+
+-- the number of the snapshot of a state, if it has one
+abbrev pub snapshot_at : List (Vec Visit Global) → ℕ → ℕ → Option ℕ
+snapshot_at visits depth state =
+    option_and_then (λ (visit : Visit). visit.snapshot) (slice_get (slice_index_or (map vec_items visits) depth []) state)
+
+-- a logged turn has the label, and leads from the one snapshot to the other
+pub record IsEdgeLogged (turns : List LoggedTurn) (from to : Option ℕ) (label : Label) : Type 0 where
+  pub number : ℕ
+  pub turn : LoggedTurn
+  pub is_there : slice_get turns number ≡ Some turn
+  pub same : turn.label ≡ label
+  pub leaves : from ≡ Some turn.from
+  pub leads : to ≡ Some turn.to
+
+-- each edge of a state is such a turn
+abbrev pub AreEdgesLogged : List LoggedTurn → List (Vec Visit Global) → ℕ → ℕ → List (Edge Label) → Type 0
+AreEdgesLogged turns visits depth state edges =
+    All (λ edge. IsEdgeLogged turns (snapshot_at visits depth state) (snapshot_at visits (depth + 1) edge.to) edge.label) edges
+
+-- The first state has the first snapshot, and each edge of each state is such a turn.
+pub record IsComplete (graph : Graph) (turns : List LoggedTurn) (visits : List (Vec Visit Global)) : Type 0 where
+  pub start : snapshot_at visits 0 0 ≡ Some 0
+  pub edges : (depth : ℕ) → depth < length graph.layers.items → (state : ℕ) → state < length (layer_at graph depth)
+      → AreEdgesLogged turns visits depth state (slice_index_or (map vec_items (layer_at graph depth)) state [])

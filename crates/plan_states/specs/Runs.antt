@@ -1,0 +1,66 @@
+-- Paths of a graph that are runs of the plan.
+use Rattle.std.specs.Prelude.{◌≡◌, ℕ, List, [], ◌∷◌, All, Contains, Option, Some, None, option_map, slice_get, string_bytes}
+use Rattle.std.specs.declared.alloc.Global.{Global}
+use Rattle.std.specs.declared.string.String.{String}
+use Rattle.realm_plan.specs.Plan.{Plan}
+use Rattle.plan_replay.specs.Run.{Position, start, map_text}
+use Rattle.realm_program.specs.Replay.{opening_host}
+use Rattle.schedule_graph.specs.Paths.{Path}
+use Rattle.plan_states.specs.Reached.{IsReached, IsTurnAt, AreOver}
+use Rattle.plan_states.specs.Tallies.{builds_of_path, paths_of}
+use Rattle.plan_states.specs.Turned.{Taken, end_of}
+use Rattle.plan_states.specs.declared.edges.Label.{Label}
+use Rattle.plan_states.specs.declared.graph.Graph.{Graph}
+use Rattle.plan_states.specs.declared.step_end.EndOfStep.{EndOfStep}
+
+-- the end that a label names, if it names one
+abbrev pub end_named : List EndOfStep → Option ℕ → Option EndOfStep
+end_named ends None = None
+end_named ends (Some number) = slice_get ends number
+
+-- If a label names a map, no build has a step left, and the map is that of the host.
+abbrev pub IsMapNamed : Plan → List (String Global) → Option ℕ → Position → Type 0
+IsMapNamed plan maps None at = Unit {0}
+IsMapNamed plan maps (Some number) at = AreOver plan at.places × (option_map string_bytes (slice_get maps number) ≡ Some (map_text at.host))
+
+-- A turn of the label's build leads from one position to the other. It ends its step as the label names it, or leaves it
+-- under way. The label's map is that of the host after it.
+pub record IsLabelled (plan : Plan) (ends : List EndOfStep) (maps : List (String Global)) (at : Position) (label : Label) (to : Position) : Type 0 where
+  pub taken : Taken
+  pub is_taken : IsTurnAt plan at label.build taken to
+  pub is_end : end_of taken ≡ end_named ends label.end
+  pub is_map : IsMapNamed plan maps label.map to
+
+-- The plan can be run from a position along a path, one turn after the other, with the ends and the map of the path.
+abbrev pub IsRunAlong : Plan → List EndOfStep → List (String Global) → Position → Path Label → Type 0
+IsRunAlong plan ends maps at [] = Unit {0}
+IsRunAlong plan ends maps at (edge ∷ path) =
+    (to : Position) × IsLabelled plan ends maps at edge.label to × IsRunAlong plan ends maps to path
+
+-- from boot
+abbrev pub IsRunFromBoot : Plan → Graph → Path Label → Type 0
+IsRunFromBoot plan graph path = IsRunAlong plan graph.ends.items graph.maps.items (start (opening_host plan)) path
+
+-- Each path of the graph is a run of the plan from boot, with the path's own ends and its own map.
+abbrev pub ArePathsRuns : Plan → Graph → Type 0
+ArePathsRuns plan graph = All (IsRunFromBoot plan graph) (paths_of graph)
+
+-- ---- schedules
+
+-- a path has this schedule, and the plan is run along it
+pub record IsRunOnPath (plan : Plan) (graph : Graph) (order : List ℕ) : Type 0 where
+  pub path : Path Label
+  pub is_path : Contains (paths_of graph) path
+  pub schedule : builds_of_path path ≡ order
+  pub is_run : IsRunFromBoot plan graph path
+
+-- the map that the last turn of a path names, after turns of which the last has named that before
+abbrev pub last_map : Option ℕ → Path Label → Option ℕ
+last_map before [] = before
+last_map before (edge ∷ path) = last_map edge.label.map path
+
+-- A run of the plan from boot has the schedule of a path. It leads to the map that the last turn names.
+pub record IsRunOf (plan : Plan) (graph : Graph) (path : Path Label) : Type 0 where
+  pub at : Position
+  pub reached : IsReached plan (builds_of_path path) at
+  pub is_map : IsMapNamed plan graph.maps.items (last_map None path) at

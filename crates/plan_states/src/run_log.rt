@@ -1,0 +1,202 @@
+//! The log of runs: the turns that were run along a graph, each between two snapshots.
+ghost use Rattle.std.specs.Prelude.{◌≡◌, true, [], OnOk, IfOk, IfErr, List, Some};
+ghost use Rattle.std.specs.Bool.{OnTrue};
+ghost use Rattle.std.specs.declared.alloc.Global.{Global};
+ghost use Rattle.std.specs.declared.string.String.{String};
+ghost use Rattle.realm_plan.specs.PlanView.{plan_view};
+ghost use Rattle.plan_states.specs.Exploration.{HasNoGraph};
+ghost use Rattle.plan_states.specs.Runs.{end_named, IsLabelled, IsMapNamed};
+ghost use Rattle.plan_states.specs.RunLog.{position_of, IsLog, IsSnapshotNumber, IsShownBy};
+ghost use Rattle.plan_states.specs.Turned.{end_taken, AreWith};
+ghost use Rattle.plan_states.specs.declared.step_end.EndOfStep.{EndOfStep};
+
+use crate::edges::Label;
+use crate::graph::{Graph, push};
+use crate::running::{Running, TurnTaken, has_more, run_to, take};
+use crate::snapshot::{Snapshot, is_same, snapshot_of};
+use crate::step_end::EndOfStep;
+use plan_replay::map_text;
+use realm_plan::Plan;
+use realm_program::Fault;
+use std::alloc::{AllocError, Global};
+
+/// A turn that was run, by its label, and the numbers of the snapshots before and after it.
+#[derive(Clone, Copy)]
+pub(crate) struct LoggedTurn {
+    pub(crate) label: Label,
+    pub(crate) from: usize,
+    pub(crate) to: usize,
+}
+
+/// The turns that were run along a graph, and the snapshots before and after them. The first snapshot is that at boot.
+#[derive(Drop)]
+pub(crate) struct RunLog {
+    pub(crate) snapshots: Vec<Snapshot>,
+    pub(crate) turns: Vec<LoggedTurn>,
+}
+
+// Whether two ends are the same.
+fn is_same_end(one: &EndOfStep, other: &EndOfStep) -> bool
+    ensures { OnTrue result (one.now ≡ other.now) }
+{
+    one == other
+}
+
+// Whether a turn has the end that its label names.
+fn has_end(ends: &[EndOfStep], build: usize, taken: &TurnTaken, end: Option<usize>) -> bool
+    ensures { OnTrue result (end_taken build taken.now ≡ end_named ends.now end) }
+{
+    let Some(number) = end else {
+        return taken.before == taken.after;
+    };
+    let Some(named) = ends.get(number) else {
+        return false;
+    };
+    if taken.before == taken.after {
+        return false;
+    }
+    let end = EndOfStep {
+        build,
+        step: taken.before,
+        refusal: taken.refusal,
+    };
+    is_same_end(&end, named)
+}
+
+// Whether no build has a step left, and the map is the one that a label names, if it names one.
+fn has_map(
+    alloc: Global,
+    plan: &Plan,
+    maps: &[String],
+    running: &Running,
+    map: Option<usize>,
+) -> Result<bool, AllocError>
+    ensures { IfOk result (λ is. OnTrue is (IsMapNamed (plan_view plan.now) maps.now map (position_of running.now))) }
+{
+    let Some(number) = map else {
+        return Ok(true);
+    };
+    if has_more(plan, &running.places) {
+        return Ok(false);
+    }
+    let text = map_text(alloc, &running.host)?;
+    match maps.get(number) {
+        Some(named) => Ok(named.as_str() == text.as_str()),
+        None => Ok(false),
+    }
+}
+
+// Takes the turn of a label, and returns whether it is as the label says.
+fn take_labelled(
+    alloc: Global,
+    plan: &Plan,
+    graph: &Graph,
+    running: &mut Running,
+    label: Label,
+) -> Result<bool, AllocError>
+    ensures { IfOk result (λ is. OnTrue is
+        (IsLabelled (plan_view plan.now) graph.now.ends.items graph.now.maps.items (position_of running.old) label (position_of running.new))) }
+{
+    let Some(taken) = take(&mut running.host, plan, &mut running.places, label.build) else {
+        return Ok(false);
+    };
+    if !has_end(&graph.ends, label.build, &taken, label.end) {
+        return Ok(false);
+    }
+    has_map(alloc, plan, &graph.maps, running, label.map)
+}
+
+impl RunLog {
+    /// The log of no turn, with the snapshot at boot.
+    pub(crate) fn boot(alloc: Global, plan: &Plan) -> Result<RunLog, Fault>
+        ensures ok { IfOk result (λ log. (ends : List EndOfStep) (maps : List (String Global)) → IsLog (plan_view plan.now) ends maps log) }
+        ensures err { IfErr result HasNoGraph }
+    {
+        let running = run_to(alloc, plan, &[])?;
+        let first = snapshot_of(alloc, &running.host, &running.places)?;
+        let mut snapshots = Vec::new(alloc);
+        push(&mut snapshots, first)?;
+        Ok(RunLog {
+            snapshots,
+            turns: Vec::new(alloc),
+        })
+    }
+
+    // Whether the snapshot of a number is the same as another.
+    fn has_snapshot(&self, number: usize, snapshot: &Snapshot) -> bool
+        ensures { OnTrue result (IsSnapshotNumber self.now.snapshots.items number snapshot.now) }
+    {
+        match self.snapshots.get(number) {
+            Some(it) => is_same(it, snapshot),
+            None => false,
+        }
+    }
+
+    // The number of a snapshot: a new one if none is known of its state, else the known one, if the two are the same.
+    fn number_of(&mut self, snapshot: Snapshot, known: Option<usize>) -> Result<usize, Fault>
+        ensures turns { self.new.turns ≡ self.old.turns }
+        ensures more { OnOk result (AreWith self.old.snapshots.items (Some snapshot) self.new.snapshots.items) }
+        ensures number { IfOk result (λ number. IsSnapshotNumber self.new.snapshots.items number snapshot) }
+        ensures err { IfErr result HasNoGraph }
+    {
+        let Some(number) = known else {
+            let number = self.snapshots.len();
+            push(&mut self.snapshots, snapshot)?;
+            return Ok(number);
+        };
+        if !self.has_snapshot(number, &snapshot) {
+            return Err(Fault::Mismatch);
+        }
+        Ok(number)
+    }
+
+    /// Runs a plan in a schedule that has led to a snapshot.
+    ///
+    /// Errors. `Memory`: allocation failed. `Mismatch`: it leads to another one.
+    pub(crate) fn run_to(
+        &self,
+        alloc: Global,
+        plan: &Plan,
+        order: &[usize],
+        at: usize,
+    ) -> Result<Running, Fault>
+        ensures ok { IfOk result (λ running. IsShownBy (plan_view plan.now) self.now.snapshots.items at (position_of running)) }
+        ensures err { IfErr result HasNoGraph }
+    {
+        let running = run_to(alloc, plan, order)?;
+        let snapshot = snapshot_of(alloc, &running.host, &running.places)?;
+        if !self.has_snapshot(at, &snapshot) {
+            return Err(Fault::Mismatch);
+        }
+        Ok(running)
+    }
+
+    /// Takes the turn of a label after a snapshot, and logs it. Returns the number of the snapshot after it.
+    ///
+    /// Errors. `Memory`: allocation failed. `Mismatch`: the turn is not as the label says, or leads to another snapshot
+    /// than the known one.
+    pub(crate) fn turn(
+        &mut self,
+        alloc: Global,
+        plan: &Plan,
+        graph: &Graph,
+        running: &mut Running,
+        from: usize,
+        label: Label,
+        known: Option<usize>,
+    ) -> Result<usize, Fault>
+        requires log { IsLog (plan_view plan.now) graph.now.ends.items graph.now.maps.items self.old }
+        requires at { IsShownBy (plan_view plan.now) self.old.snapshots.items from (position_of running.old) }
+        ensures log { OnOk result (IsLog (plan_view plan.now) graph.now.ends.items graph.now.maps.items self.new) }
+        ensures at { IfOk result (λ to. IsShownBy (plan_view plan.now) self.new.snapshots.items to (position_of running.new)) }
+        ensures err { IfErr result HasNoGraph }
+    {
+        if !take_labelled(alloc, plan, graph, running, label)? {
+            return Err(Fault::Mismatch);
+        }
+        let snapshot = snapshot_of(alloc, &running.host, &running.places)?;
+        let to = self.number_of(snapshot, known)?;
+        push(&mut self.turns, LoggedTurn { label, from, to })?;
+        Ok(to)
+    }
+}

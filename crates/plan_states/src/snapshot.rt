@@ -1,0 +1,209 @@
+//! Snapshots of runs. A snapshot has what decides all further turns, and nothing of the schedule.
+ghost use Rattle.std.specs.Prelude.{◌≡◌, ◌<◌, IfOk};
+ghost use Rattle.std.specs.Bool.{OnTrue};
+ghost use Rattle.host_ledger.specs.View.{mark_of, is_aborting};
+ghost use Rattle.realm_model.specs.History.{events_of};
+ghost use Rattle.plan_states.specs.Snapshots.{is_kept_mark, length_of, point_at, shown_build, AreBuildsAt, AreSameBuilds, IsOfHost};
+
+use crate::graph::push;
+use granule_addr::BuildId;
+use host_commands::BuildsView;
+use page_arena::PageStore;
+use plan_replay::PlanCursor;
+use realm_host::{Host, Mark};
+use realm_model::Event;
+use std::alloc::{AllocError, Global};
+
+/// The point at which a build is: its cursor, and what the host keeps of it beside its events. A mark is the number of
+/// operations that were open at it.
+#[derive(Clone, Copy)]
+pub(crate) struct BuildPoint {
+    pub(crate) done: usize,
+    pub(crate) left: u16,
+    pub(crate) mark: Option<u16>,
+    pub(crate) has_way_back: bool,
+    pub(crate) is_aborting: bool,
+    pub(crate) kept: Option<u16>,
+}
+
+/// The point of a build, and its events.
+#[derive(Drop)]
+pub(crate) struct BuildSnapshot {
+    pub(crate) point: BuildPoint,
+    pub(crate) events: Vec<Event>,
+}
+
+/// The snapshots of the eight builds.
+#[derive(Drop)]
+pub(crate) struct Snapshot {
+    pub(crate) builds: Vec<BuildSnapshot>,
+}
+
+// The number of operations that were open at a mark, if there is one.
+fn length_of(mark: &Option<Mark>) -> Option<u16>
+    ensures { result ≡ length_of mark.now }
+{
+    match mark {
+        Some(mark) => Some(mark.length()),
+        None => None,
+    }
+}
+
+// Whether there is a mark, and it is the one that is kept.
+fn is_kept_mark(kept: &Option<Mark>, mark: &Option<Mark>) -> bool
+    ensures { result ≡ is_kept_mark kept.now mark.now }
+{
+    let Some(mark) = mark else {
+        return false;
+    };
+    match kept {
+        Some(kept) => kept.is(*mark),
+        None => false,
+    }
+}
+
+// The mark that a host keeps for a build.
+fn kept_mark<S: PageStore>(host: &Host<S>, build: usize) -> Option<Mark>
+    requires { build < 8 }
+    ensures { result ≡ mark_of host.now build }
+{
+    let id = BuildId::new(build as u8).unwrap();
+    let ledger = host.ledger();
+    if ledger.has_build(id) {
+        ledger.mark(id)
+    } else {
+        None
+    }
+}
+
+// Whether a build is in abort.
+fn is_aborting<S: PageStore>(host: &Host<S>, build: usize) -> bool
+    requires { build < 8 }
+    ensures { result ≡ is_aborting host.now build }
+{
+    let id = BuildId::new(build as u8).unwrap();
+    let ledger = host.ledger();
+    if ledger.has_build(id) {
+        BuildsView::is_aborting(ledger, id)
+    } else {
+        false
+    }
+}
+
+// The point at which a build is.
+fn point_of<S: PageStore>(host: &Host<S>, places: &[PlanCursor; 8], build: usize) -> BuildPoint
+    requires { build < 8 }
+    ensures { result ≡ point_at (record { host = host.now; places = places.now }) build }
+{
+    let place = &places[build];
+    let kept = kept_mark(host, build);
+    BuildPoint {
+        done: place.done,
+        left: place.left,
+        mark: length_of(&place.mark),
+        has_way_back: is_kept_mark(&kept, &place.mark),
+        is_aborting: is_aborting(host, build),
+        kept: length_of(&kept),
+    }
+}
+
+// The events of a build.
+fn events_of(alloc: Global, history: &[Event], build: usize) -> Result<Vec<Event>, AllocError>
+    ensures { IfOk result (λ events. events.items ≡ events_of build history.now) }
+{
+    let mut events = Vec::new(alloc);
+    for event in history {
+        if usize::from(event.build.number()) == build {
+            let copy = Event {
+                build: event.build,
+                act: event.act.clone(),
+            };
+            push(&mut events, copy)?;
+        }
+    }
+    Ok(events)
+}
+
+/// The snapshot of a run.
+pub(crate) fn snapshot_of<S: PageStore>(
+    alloc: Global,
+    host: &Host<S>,
+    places: &[PlanCursor; 8],
+) -> Result<Snapshot, AllocError>
+    ensures builds { IfOk result (λ it. AreBuildsAt (record { host = host.now; places = places.now }) 8 it.builds.items) }
+    ensures of_host { IfOk result (λ _. IsOfHost (record { host = host.now; places = places.now })) }
+{
+    let history = host.history();
+    let mut builds = Vec::new(alloc);
+    for build in 0..8 {
+        let point = point_of(host, places, build);
+        let events = events_of(alloc, history, build)?;
+        push(&mut builds, BuildSnapshot { point, events })?;
+    }
+    Ok(Snapshot { builds })
+}
+
+// Whether two numbers are the same, or there is neither.
+fn is_same_length(one: Option<u16>, other: Option<u16>) -> bool
+    ensures { OnTrue result (one ≡ other) }
+{
+    match one {
+        Some(one) => match other {
+            Some(other) => one == other,
+            None => false,
+        },
+        None => other.is_none(),
+    }
+}
+
+// Whether two points are the same.
+fn is_same_point(one: &BuildPoint, other: &BuildPoint) -> bool
+    ensures { OnTrue result (one.now ≡ other.now) }
+{
+    one.done == other.done
+        && one.left == other.left
+        && is_same_length(one.mark, other.mark)
+        && one.has_way_back == other.has_way_back
+        && one.is_aborting == other.is_aborting
+        && is_same_length(one.kept, other.kept)
+}
+
+// Whether two lists of events are the same.
+fn are_same_events(one: &[Event], other: &[Event]) -> bool
+    ensures { OnTrue result (one.now ≡ other.now) }
+{
+    if one.len() != other.len() {
+        return false;
+    }
+    for place in 0..one.len() {
+        if !one[place].is_same(&other[place]) {
+            return false;
+        }
+    }
+    true
+}
+
+// Whether two snapshots of a build are the same.
+fn is_same_build(one: &BuildSnapshot, other: &BuildSnapshot) -> bool
+    ensures { OnTrue result (shown_build one.now ≡ shown_build other.now) }
+{
+    is_same_point(&one.point, &other.point) && are_same_events(&one.events, &other.events)
+}
+
+/// Whether two snapshots are the same.
+pub(crate) fn is_same(one: &Snapshot, other: &Snapshot) -> bool
+    ensures { OnTrue result (AreSameBuilds 8 one.now.builds.items other.now.builds.items) }
+{
+    for build in 0..8 {
+        let Some(here) = one.builds.get(build) else {
+            return false;
+        };
+        let Some(there) = other.builds.get(build) else {
+            return false;
+        };
+        if !is_same_build(here, there) {
+            return false;
+        }
+    }
+    true
+}
