@@ -47,8 +47,9 @@ pub fn steps_are_counted()
     ensures { (plan : Plan) (graph : Graph) (path : Path Label) (build : ℕ) → plan.gives_up ≡ false → done_by plan graph path build ≡ used_by path build }
 {}
 
-/// If a plan has no abort and no way back, and does not give up, each step takes one turn. Then the rule needs no graph: a build has a step
-/// left if it had fewer turns than steps. So the paths of a whole graph are all interleavings of the builds' steps.
+/// If a plan has no abort and no way back, and does not give up, each step takes one turn. Then the rule needs no graph: a
+/// build has a step left if it had fewer turns than steps. So the paths of a whole graph are all interleavings of the
+/// builds' steps.
 pub fn single_turns_make_a_rule()
     ensures { (plan : Plan) (graph : Graph) → IsWholeGraph plan graph → HasSingleTurns plan → IsRuleOf plan graph (by_turns plan) }
 {}
