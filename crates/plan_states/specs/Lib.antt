@@ -9,5 +9,6 @@ pub mod OrderText
 pub mod Lines
 pub mod Tallies
 pub mod StatesText
+pub mod Questions
 pub mod Shortest
 pub mod Schedules
