@@ -20,13 +20,15 @@ _realmview() {
         explore:--sample) compopt +o default 2> /dev/null ;;
         explore:--seed) compopt +o default 2> /dev/null ;;
         explore:--refused) compopt +o default 2> /dev/null ;;
+        explore:--waiting) mapfile -t COMPREPLY < <(compgen -W '0 1 2 3 4 5 6 7' -- "$word") ;;
+        explore:--leased) compopt +o default 2> /dev/null ;;
         calls:--base) compopt +o default 2> /dev/null ;;
         history:*) [[ $word == -* ]] && mapfile -t COMPREPLY < <(compgen -W '--erase -h --help' -- "$word") ;;
         apply:*) [[ $word == -* ]] && mapfile -t COMPREPLY < <(compgen -W '--erase -h --help' -- "$word") ;;
         json:*) [[ $word == -* ]] && mapfile -t COMPREPLY < <(compgen -W '-h --help' -- "$word") ;;
         page:*) [[ $word == -* ]] && mapfile -t COMPREPLY < <(compgen -W '-h --help' -- "$word") ;;
         why:*) [[ $word == -* ]] && mapfile -t COMPREPLY < <(compgen -W '--all -h --help' -- "$word") ;;
-        explore:*) [[ $word == -* ]] && mapfile -t COMPREPLY < <(compgen -W '--most-states --sample --seed --refused --give-up -h --help' -- "$word") ;;
+        explore:*) [[ $word == -* ]] && mapfile -t COMPREPLY < <(compgen -W '--most-states --sample --seed --refused --waiting --leased --give-up -h --help' -- "$word") ;;
         order:*) [[ $word == -* ]] && mapfile -t COMPREPLY < <(compgen -W '--one-by-one -h --help' -- "$word") ;;
         calls:*) [[ $word == -* ]] && mapfile -t COMPREPLY < <(compgen -W '--base --c -h --help' -- "$word") ;;
         check:*) [[ $word == -* ]] && mapfile -t COMPREPLY < <(compgen -W '-h --help' -- "$word") ;;

@@ -29,6 +29,8 @@ complete -c realmview -n '__fish_seen_subcommand_from explore' -l most-states -x
 complete -c realmview -n '__fish_seen_subcommand_from explore' -l sample -x -d 'Draw K orders at random, K up to 1000000 [default: 1000, if a seed is given]'
 complete -c realmview -n '__fish_seen_subcommand_from explore' -l seed -x -d 'Draw orders by the random numbers of the seed S [default: 0]'
 complete -c realmview -n '__fish_seen_subcommand_from explore' -l refused -x -d 'Print the plan with the shortest order that ends with a refusal of step S of build B'
+complete -c realmview -n '__fish_seen_subcommand_from explore' -l waiting -x -a '0 1 2 3 4 5 6 7' -d 'Print the plan with the shortest order after which build B waits while another holds nothing'
+complete -c realmview -n '__fish_seen_subcommand_from explore' -l leased -x -d 'Print the plan with the shortest order after which N granules are leased, N from 1 to 4096'
 complete -c realmview -n '__fish_seen_subcommand_from explore' -l give-up -d 'Let a build whose step is refused leave out its other steps, and abort'
 complete -c realmview -n '__fish_seen_subcommand_from explore' -s h -l help -d 'Print help'
 complete -c realmview -n '__fish_seen_subcommand_from explore' -F

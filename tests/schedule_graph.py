@@ -206,18 +206,33 @@ class Graph:
 
     # ---- witnesses
 
-    def witness(self, shows: Callable[[State, Edge], bool]) -> list[int] | None:
-        """The turns up to one that shows it: as few as possible, and of these the least. None if there is no such turn."""
+    def witness(self, shows: Callable[[Edge, State], bool]) -> list[int] | None:
+        """The turns up to one that shows it, by its edge and the state after it: as few as possible, and of these the least. None
+        if there is no such turn."""
         for depth, layer in enumerate(self.layers):
             for place, state in enumerate(layer):
                 for edge in state.edges:
-                    if shows(state, edge):
+                    if shows(edge, self.layers[depth + 1][edge.to]):
                         return [*self.prefix(depth, place), edge.build]
         return None
 
     def refused(self, build: int, step: int) -> list[int] | None:
         """The shortest way to a refusal of a step."""
-        return self.witness(lambda _, edge: edge.end is not None and edge.end[:2] == (build, step) and edge.end[2] != "ok")
+        return self.witness(lambda edge, _: edge.end is not None and edge.end[:2] == (build, step) and edge.end[2] != "ok")
+
+    def waiting(self, build: int) -> list[int] | None:
+        """The shortest way to a turn at which a build gets no block or no VMID, while another has no page."""
+
+        def shows(edge: Edge, after: State) -> bool:
+            others = (it for other, it in enumerate(after.builds) if other != build)
+            is_short = edge.end is not None and edge.end[0] == build and edge.end[2].split()[:2] in (["no", "11"], ["no", "12"])
+            return is_short and any(not self.builds.all[it].pages for it in others)
+
+        return self.witness(shows)
+
+    def most_leased(self) -> int:
+        """The most granules that are leased at once."""
+        return max(self.machine.pages - state.blocks.free() for layer in self.layers for state in layer)
 
     def leased(self, granules: int) -> list[int] | None:
         """The shortest way to at least so many granules that are leased at once."""

@@ -304,7 +304,7 @@ def of_options():
     status, out, err = run(VIEW, ["explore", *words], plan)
     yield f"{words}", (status, out, err.split("\n", 1)[0]), (2, "", "error: --sample 1000001 is above 1000000")
     status, out, err = run(VIEW, ["explore", "--give-up", "--refused", "0:0"], plan)
-    wanted = "error: --give-up is not for --refused: a replay of the plan that it prints does not give up"
+    wanted = "error: --give-up is not for --refused, --waiting and --leased: a replay of the plan that they print does not give up"
     yield "a printed plan that is to give up", (status, out, err.split("\n", 1)[0]), (2, "", wanted)
     alike = [run(VIEW, ["explore", *words], plan) for words in (["--sample", "20"], ["--sample", "20", "--seed", "0"])]
     yield "the seed 0 where none is given", *alike

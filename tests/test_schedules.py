@@ -27,6 +27,7 @@ class Run:
     def __init__(self, text: str, turns: list[int], gives_up: bool = False) -> None:
         plan = tomllib.loads(text)
         self.machine, self.steps = machine_of(plan), [build["steps"] for build in plan["build"]]
+        self.last = None
         # Of each build how it stands: whether a step of it was refused, and whether the abort behind that is over.
         self.gives_up, self.refused, self.over = gives_up, set(), set()
         self.builds, self.blocks, self.ends = [Build() for _ in self.steps], Blocks.of(self.machine.pages), []
@@ -42,7 +43,7 @@ class Run:
         turn = Turn(self.machine, before, self.blocks, frozenset(it.vmid for it in self.builds) - {None})
         aborts = number in self.refused
         turn.step("abort" if aborts else self.steps[number][before.done])
-        self.builds[number], self.blocks = turn.build, turn.blocks
+        self.builds[number], self.blocks, self.last = turn.build, turn.blocks, number
         if turn.build.done != before.done:
             self.ends.append((number, "give up" if aborts else before.done, turn.answer))
             if aborts:
@@ -154,6 +155,14 @@ def refuses(build: int, step: int):
     return lambda run: any(end[:2] == (build, step) and end[2] != "ok" for end in run.ends)
 
 
+def waits(build: int):
+    def shows(run: Run) -> bool:
+        is_short = bool(run.ends) and run.ends[-1][0] == build and run.ends[-1][2].split()[1:2] in (["11"], ["12"])
+        return run.last == build and is_short and any(not it.pages for other, it in enumerate(run.builds) if other != build)
+
+    return shows
+
+
 def leases(granules: int):
     return lambda run: run.machine.pages - run.blocks.free() >= granules
 
@@ -175,6 +184,8 @@ def of_plan(name: str, text: str):
     if graph.orders <= FEW:
         build, last = 0, len(graph.steps[0]) - 1
         yield f"{name}, a witness", graph.refused(build, last), shortest(text, refuses(build, last))
+        for build in range(len(graph.steps)):
+            yield f"{name}, build {build} waits", graph.waiting(build), shortest(text, waits(build))
         for granules in (5, 8):
             yield f"{name}, {granules} granules", graph.leased(granules), shortest(text, leases(granules))
 
@@ -210,14 +221,94 @@ def test_running_rec(check):
     check.all(of_running_rec())
 
 
+def with_answer(text: str, words: list[str], order: list[int] | None, never: str):
+    """What is printed and wanted: the plan with this schedule, or the line that there is none. And the replay of it, in lines."""
+    status, out, err = run(VIEW, ["explore", *words], text)
+    if order is None:
+        return (status, out, err), (0, never, ""), []
+    wanted = (0, "", tomllib.loads(text) | {"order": order})
+    return (status, err, tomllib.loads(out)), wanted, run(HOST, ["replay"], out)[1].splitlines()
+
+
+def of_waits(name: str, text: str):
+    """The plan with the shortest schedule after which each build waits, and a build that the plan lacks."""
+    graph = Graph(text)
+    for build in range(len(graph.steps) + 1):
+        order = graph.waiting(build)
+        printed, wanted, lines = with_answer(text, ["--waiting", str(build)], order, f"build {build} waiting in 0\n")
+        yield f"{name}, build {build} waits", printed, wanted
+        if order is not None:
+            turn, after = lines[len(order) - 1], lines[len(order) :]
+            yield f"{name}, build {build} is refused", turn.split(" = ")[1].split()[:2] in (["no", "11"], ["no", "12"]), True
+            yield f"{name}, build {build} has the turn", turn.split()[0], str(build)
+            idle = [it for it in range(len(graph.steps)) if it != build and not any(row.startswith(f"{it} page ") for row in after)]
+            yield f"{name}, another build than {build} has no page", idle != [], True
+
+
+def of_leases(name: str, text: str):
+    """The plan with the shortest schedule after which one granule is leased, as many as ever, and one more."""
+    graph = Graph(text)
+    most = graph.most_leased()
+    for granules in sorted({1, max(1, most // 2), max(1, most), most + 1}):
+        order = graph.leased(granules)
+        printed, wanted, lines = with_answer(text, ["--leased", str(granules)], order, f"leased {granules} in 0\n")
+        yield f"{name}, {granules} leased", printed, wanted
+        if order is not None:
+            leased = sum(" page " in row for row in lines[len(order) :])
+            yield f"{name}, at least {granules} are leased", leased >= granules, True
+            free = int(lines[-1].removeprefix("free "))
+            yield f"{name}, {granules} leased, the others are free", leased + free, graph.machine.pages
+
+
+def of_questions(name: str, text: str):
+    yield from of_refusals(name, text)
+    yield from of_waits(name, text)
+    yield from of_leases(name, text)
+
+
 @over("path", *PLANS)
 def test_plan(check, path):
     check.all(of_plan(path.stem, path.read_text()))
-    check.all(of_refusals(path.stem, path.read_text()))
+    check.all(of_questions(path.stem, path.read_text()))
 
 
 @pytest.mark.parametrize("part", range(PARTS))
 def test_random_plans(check, part):
     for name, text in list(random_plans())[part::PARTS]:
         check.all(of_plan(name, text))
-        check.all(of_refusals(name, text))
+        check.all(of_questions(name, text))
+
+
+# Two builds make a realm on a machine of one VMID.
+REALM = ["take 2", "delegate 0", "delegate 1", "realm 0 1"]
+ONE_VMID = plan_of([REALM, REALM, ["take 0"]], vmids=1)
+
+
+def test_a_build_waits_for_a_vmid(check):
+    # By hand: four turns each of builds 0 and 1, so that the second realm finds no VMID. Build 2 holds nothing.
+    order = [0, 0, 0, 0, 1, 1, 1, 1]
+    plan = tomllib.loads(ONE_VMID) | {"order": order}
+    check("for a VMID", tomllib.loads(run(VIEW, ["explore", "--waiting", "1"], ONE_VMID)[1]), plan)
+    check("build 2 never", run(VIEW, ["explore", "--waiting", "2"], ONE_VMID), (0, "build 2 waiting in 0\n", ""))
+
+
+def test_questions_that_are_none(check):
+    two = "error: of --refused, --waiting and --leased only one may be given"
+    for words, line in (
+        (["--refused", "0:0", "--waiting", "0"], two),
+        (["--leased", "1", "--waiting", "0"], two),
+        (["--refused", "no step", "--leased", "0"], two),
+        (["--leased", "0"], "error: --leased 0 is not from 1 to 4096"),
+        (["--leased", "4097"], "error: --leased 4097 is not from 1 to 4096"),
+        (["--refused", "0"], "error: --refused is no step as 1:4: a build, and a place in its steps, both from 0"),
+    ):
+        status, out, err = run(VIEW, ["explore", *words], ONE_VMID)
+        check(" ".join(words), (status, out, err.split("\n", 1)[0]), (2, "", line))
+    # There are more states than three.
+    for words in (["--refused", "0:0"], ["--waiting", "0"], ["--leased", "4096"]):
+        ran = run(VIEW, ["explore", "--most-states", "3", *words], ONE_VMID)
+        check(f"few states, {words[0]}", ran, (0, "states more than 3\n", ""))
+    # A sample plays no part.
+    for words in (["--refused", "1:3"], ["--waiting", "1"], ["--leased", "9"]):
+        drawn = run(VIEW, ["explore", "--sample", "7", "--seed", "1", *words], ONE_VMID)
+        check(f"no sample, {words[0]}", drawn, run(VIEW, ["explore", *words], ONE_VMID))

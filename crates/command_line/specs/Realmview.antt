@@ -1,11 +1,14 @@
 -- The schedules that options of `realmview` ask for, and what builds do in them after a refusal.
-use Rattle.std.specs.Prelude.{ℕ, Bool, true, false, Option, Some, None, unwrap_or, nat_lt, if◌then◌else◌, Result, Ok, Err}
+use Rattle.std.specs.Prelude.{ℕ, ◌==◌, ◌||◌, Bool, true, false, Option, Some, None, unwrap_or, nat_lt, if◌then◌else◌, Result, Ok, Err}
 use Rattle.command_line.specs.declared.realmview.Schedules.{Schedules}
 use Rattle.command_line.specs.declared.realmview.Schedules.TheVariants.{All, Drawn}
 use Rattle.command_line.specs.declared.realmview.AfterRefusal.{AfterRefusal}
 use Rattle.command_line.specs.declared.realmview.AfterRefusal.TheVariants.{GoOn, GiveUp}
 use Rattle.command_line.specs.declared.realmview.BadOption.{BadOption}
-use Rattle.command_line.specs.declared.realmview.BadOption.TheVariants.{SampleAboveMost, GiveUpInPlan}
+use Rattle.command_line.specs.declared.realmview.BadOption.TheVariants.{SampleAboveMost, GiveUpInPlan, NoStep, NoGranules, TwoQuestions}
+use Rattle.command_line.specs.declared.realmview.ScheduleQuestion.{ScheduleQuestion}
+use Rattle.command_line.specs.declared.realmview.ScheduleQuestion.TheVariants.{Refused, Waiting, Leased}
+use Rattle.command_line.specs.declared.realmview.StepPlace.{StepPlace}
 
 -- `sample` schedules, drawn by the seed, if they are at most a million
 abbrev pub schedules_drawn : ℕ → ℕ → Result Schedules BadOption
@@ -25,3 +28,22 @@ after_refusal false orders = Ok GoOn
 after_refusal true (All most) = Ok GiveUp
 after_refusal true (Drawn count seed) = Ok GiveUp
 after_refusal true _ = Err GiveUpInPlan
+
+-- ---- questions
+
+-- from one granule to the most that a machine has
+abbrev pub question_of_leased : ℕ → Result ScheduleQuestion BadOption
+question_of_leased granules = if granules == 0 || nat_lt 4096 granules then Err (NoGranules granules) else Ok (Leased granules)
+
+abbrev pub asked_of_leased : ℕ → Result (Option ScheduleQuestion) BadOption
+asked_of_leased granules = if granules == 0 || nat_lt 4096 granules then Err (NoGranules granules) else Ok (Some (Leased granules))
+
+-- The one question that is asked, if any is: by the step of `--refused`, if its text is one, by the build of `--waiting`,
+-- or by the granules of `--leased`.
+abbrev pub question_asked : Option (Option StepPlace) → Option ℕ → Option ℕ → Result (Option ScheduleQuestion) BadOption
+question_asked None None None = Ok None
+question_asked (Some (Some place)) None None = Ok (Some (Refused place))
+question_asked (Some None) None None = Err NoStep
+question_asked None (Some build) None = Ok (Some (Waiting build))
+question_asked None None (Some granules) = asked_of_leased granules
+question_asked _ _ _ = Err TwoQuestions

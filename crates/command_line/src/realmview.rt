@@ -1,6 +1,6 @@
 //! The command line of `realmview`.
 ghost use Rattle.std.specs.Prelude.{◌≡◌};
-ghost use Rattle.command_line.specs.Realmview.{after_refusal, schedules_asked, schedules_drawn};
+ghost use Rattle.command_line.specs.Realmview.{after_refusal, question_asked, question_of_leased, schedules_asked, schedules_drawn};
 
 use crate::options::build_of;
 use crate::table::{Opt, Program, Subcommand, given_file};
@@ -49,8 +49,19 @@ pub enum Schedules {
     All(u32),
     /// That many schedules, drawn by the random numbers of the seed.
     Drawn(u32, u32),
-    /// The shortest schedule that ends with a refusal of a step, if the runs have at most that many states.
-    ToRefusal(u32, StepPlace),
+    /// The shortest schedule whose last turn answers a question, if the runs have at most that many states.
+    Shortest(u32, ScheduleQuestion),
+}
+
+/// What the last turn of a schedule is to show.
+#[derive(Clone, Copy, Drop)]
+pub enum ScheduleQuestion {
+    /// This step is refused.
+    Refused(StepPlace),
+    /// This build waits while another holds nothing.
+    Waiting(u32),
+    /// At least so many granules are leased.
+    Leased(u32),
 }
 
 /// What a build does in a schedule once one of its steps is refused.
@@ -80,6 +91,10 @@ pub enum BadOption {
     NoStep,
     /// Builds are to give up in a plan that is printed.
     GiveUpInPlan,
+    /// No machine has so many granules, or none is asked for.
+    NoGranules { granules: u32 },
+    /// More than one question is asked.
+    TwoQuestions,
 }
 
 /// How the builds of a plan take turns.
@@ -137,6 +152,38 @@ fn after_refusal(gives_up: bool, orders: &Schedules) -> Result<AfterRefusal, Bad
     }
 }
 
+// The most granules that a machine has.
+const MOST_GRANULES: u32 = 4096;
+
+// The question of how many granules are leased.
+fn question_of_leased(granules: u32) -> Result<ScheduleQuestion, BadOption>
+    ensures { result ≡ question_of_leased granules }
+{
+    if granules == 0 || granules > MOST_GRANULES {
+        Err(BadOption::NoGranules { granules })
+    } else {
+        Ok(ScheduleQuestion::Leased(granules))
+    }
+}
+
+// The question that options ask, if one does. `refused` has no step if its text is none.
+fn question_asked(
+    refused: Option<Option<StepPlace>>,
+    waiting: Option<u32>,
+    leased: Option<u32>,
+) -> Result<Option<ScheduleQuestion>, BadOption>
+    ensures { result ≡ question_asked refused waiting leased }
+{
+    match (refused, waiting, leased) {
+        (None, None, None) => Ok(None),
+        (Some(Some(place)), None, None) => Ok(Some(ScheduleQuestion::Refused(place))),
+        (Some(None), None, None) => Err(BadOption::NoStep),
+        (None, Some(build), None) => Ok(Some(ScheduleQuestion::Waiting(build))),
+        (None, None, Some(granules)) => Ok(Some(question_of_leased(granules)?)),
+        _ => Err(BadOption::TwoQuestions),
+    }
+}
+
 const ABOUT: &str =
     "Shows what plans of realmhost do: why a step is refused, what an undo leaves, what other orders come to.";
 
@@ -189,7 +236,8 @@ const EXPLORE_EXAMPLES: &str = "Examples:
   realmview explore plans/some-orders.toml
   realmview explore --sample 100 --seed 7 plans/failed-build.toml
   realmview explore --give-up plans/some-orders.toml
-  realmview explore --refused 1:4 plans/some-orders.toml | realmview why";
+  realmview explore --refused 1:4 plans/some-orders.toml | realmview why
+  realmview explore --leased 8 plans/some-orders.toml | realmhost replay";
 
 const MOST_STATES_HELP: &str =
     "Explore all orders if they have at most N states [default: 1000000]";
@@ -202,13 +250,21 @@ const SEED_HELP: &str = "Draw orders by the random numbers of the seed S [defaul
 const REFUSED_HELP: &str =
     "Print the plan with the shortest order that ends with a refusal of step S of build B";
 
+const WAITING_HELP: &str =
+    "Print the plan with the shortest order after which build B waits while another holds nothing";
+
+const LEASED_HELP: &str =
+    "Print the plan with the shortest order after which N granules are leased, N from 1 to 4096";
+
+const TWO_QUESTIONS: &str = "of --refused, --waiting and --leased only one may be given";
+
 const NO_STEP: &str = "--refused is no step as 1:4: a build, and a place in its steps, both from 0";
 
 const GIVE_UP_HELP: &str =
     "Let a build whose step is refused leave out its other steps, and abort";
 
 const GIVE_UP_IN_PLAN: &str =
-    "--give-up is not for --refused: a replay of the plan that it prints does not give up";
+    "--give-up is not for --refused, --waiting and --leased: a replay of the plan that they print does not give up";
 
 const ORDER: &str =
     "Print a plan with an order that gives each build all the turns that it needs, in rotation";
@@ -290,6 +346,8 @@ const REALMVIEW: Program = Program {
                 Opt::Number("sample", "K", SAMPLE_HELP),
                 Opt::Number("seed", "S", SEED_HELP),
                 Opt::Text("refused", "B:S", REFUSED_HELP),
+                Opt::Number("waiting", "B", WAITING_HELP),
+                Opt::Number("leased", "N", LEASED_HELP),
                 Opt::Flag("give-up", GIVE_UP_HELP),
             ],
         },
@@ -333,10 +391,14 @@ fn step_of(text: &str) -> Option<StepPlace> {
 // The schedules that are asked for by the words that were matched.
 fn schedules_by(explore: &ArgMatches) -> Result<Schedules, BadOption> {
     let most_states: Option<u32> = explore.get_one("most-states");
-    if let Some(text) = explore.get_str("refused") {
-        let place = step_of(text).ok_or(BadOption::NoStep)?;
+    let question = question_asked(
+        explore.get_str("refused").map(step_of),
+        explore.get_one("waiting"),
+        explore.get_one("leased"),
+    )?;
+    if let Some(question) = question {
         let most = most_states.unwrap_or(MOST_STATES);
-        return Ok(Schedules::ToRefusal(most, place));
+        return Ok(Schedules::Shortest(most, question));
     }
     schedules_asked(
         most_states,
@@ -404,6 +466,10 @@ fn bad_option(alloc: Global, reason: BadOption) -> Result<Error, AllocError> {
         BadOption::NoBase => String::from_str(alloc, NO_BASE)?,
         BadOption::NoStep => String::from_str(alloc, NO_STEP)?,
         BadOption::GiveUpInPlan => String::from_str(alloc, GIVE_UP_IN_PLAN)?,
+        BadOption::NoGranules { granules } => {
+            format!(in alloc; "--leased {granules} is not from 1 to {MOST_GRANULES}")?
+        }
+        BadOption::TwoQuestions => String::from_str(alloc, TWO_QUESTIONS)?,
     };
     REALMVIEW
         .command(alloc)?

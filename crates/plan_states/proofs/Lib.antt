@@ -4,7 +4,7 @@ pub mod Tallies
 pub mod Reached
 pub mod Unseen
 pub mod Cuts
-pub mod Refused
+pub mod Answered
 pub mod BuildsLeft
 pub mod Members
 pub mod Paths

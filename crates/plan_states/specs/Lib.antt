@@ -9,6 +9,7 @@ pub mod OrderText
 pub mod Lines
 pub mod Tallies
 pub mod StatesText
+pub mod Questions
 pub mod Shortest
 pub mod Schedules
 pub mod Snapshots

@@ -1,35 +1,65 @@
--- The shortest schedules in which a step is refused.
-use Rattle.std.specs.Prelude.{◌≡◌, ℕ, ◌+◌, Bool, List, [], ◌∷◌, ◌++◌, map, take, Vec, vec_items, option_map, Option, Some, None, slice_index_or}
-use Rattle.std.specs.List.{list_any, position}
+-- The shortest schedules that answer a question.
+use Rattle.std.specs.Prelude.{◌≡◌, ◌≢◌, ◌≤◌, ◌<◌, ℕ, ◌+◌, Bool, true, List, [], ◌∷◌, ◌++◌, length, map, sum, take, Vec, vec_items, option_map, Option, Some, None, slice_index_or}
+use Rattle.std.specs.List.{list_any, position, range_with_len}
 use Rattle.std.specs.declared.alloc.Global.{Global}
 use Rattle.host_commands.specs.declared.refusal.Refusal.{Refusal}
+use Rattle.host_ledger.specs.View.{HostView, pages_of_build}
 use Rattle.realm_plan.specs.Plan.{Plan}
 use Rattle.plan_replay.specs.Run.{Position}
 use Rattle.schedule_graph.specs.Paths.{Layer, paths, shows}
 use Rattle.schedule_graph.specs.declared.graph.Edge.{Edge}
 use Rattle.plan_states.specs.Exploration.{IsGraphWithin}
+use Rattle.plan_states.specs.Questions.{is_answer_at, is_of_shared}
 use Rattle.plan_states.specs.Reached.{IsReached, IsTurnAt}
-use Rattle.plan_states.specs.Signs.{is_refusal_of_step}
 use Rattle.plan_states.specs.Tallies.{PathCount, layers_of, tally_of}
 use Rattle.plan_states.specs.Turned.{Taken, end_of}
 use Rattle.plan_states.specs.declared.edges.Label.{Label}
 use Rattle.plan_states.specs.declared.graph.Graph.{Graph}
+use Rattle.plan_states.specs.declared.question.TurnQuestion.{TurnQuestion}
+use Rattle.plan_states.specs.declared.question.TurnQuestion.TheVariants.{Refused, Waiting, Leased}
 use Rattle.plan_states.specs.declared.shortest.Witness.{Witness}
 use Rattle.plan_states.specs.declared.shortest.Witness.TheVariants.{Found, Never, TooMany}
+use Rattle.plan_states.specs.declared.step_end.EndOfStep.{EndOfStep}
 
 -- ---- runs
 
--- The last turn of the schedule is the build's. It uses up that step of the build, and is refused.
-pub record EndsRefused (plan : Plan) (build step : ℕ) (order : List ℕ) : Type 0 where
+-- how many pages each build holds
+abbrev pub pages_of_builds : HostView → List ℕ
+pages_of_builds host = map (λ build. length (pages_of_build host build)) (range_with_len 0 8)
+
+-- The step of the build is used up, and refused.
+pub record IsRefusal (build step : ℕ) (end : Option EndOfStep) : Type 0 where
+  pub refusal : Refusal
+  pub is_end : end ≡ Some (record { build = build; step = step; refusal = Some refusal })
+
+-- The build waits while another holds nothing: a step of it is refused for want of what builds share, and another build
+-- of the plan has no page leased.
+pub record IsWait (plan : Plan) (build : ℕ) (end : Option EndOfStep) (host : HostView) : Type 0 where
+  pub step : ℕ
+  pub refused : IsRefusal build step end
+  pub shared : is_of_shared (Some refused.refusal) ≡ true
+  pub other : ℕ
+  pub of_plan : other < length plan.builds
+  pub differs : other ≢ build
+  pub at_rest : pages_of_build host other ≡ []
+
+-- A turn with this end of its step, after which the host is like that, answers the question.
+abbrev pub Shows : Plan → TurnQuestion → Option EndOfStep → HostView → Type 0
+Shows plan (Refused build step) end host = IsRefusal build step end
+Shows plan (Waiting build) end host = IsWait plan build end host
+Shows plan (Leased granules) end host = granules ≤ sum (pages_of_builds host)
+
+-- The last turn of the schedule answers the question.
+pub record EndsWithAnswer (plan : Plan) (question : TurnQuestion) (order : List ℕ) : Type 0 where
   pub before : List ℕ
-  pub is_order : order ≡ before ++ build ∷ []
+  pub last : ℕ
+  pub is_order : order ≡ before ++ last ∷ []
   pub at : Position
   pub reached : IsReached plan before at
   pub taken : Taken
   pub to : Position
-  pub is_taken : IsTurnAt plan at build taken to
-  pub refusal : Refusal
-  pub is_end : end_of taken ≡ Some (record { build = build; step = step; refusal = Some refusal })
+  pub is_taken : IsTurnAt plan at last taken to
+  pub shown : Shows plan question (end_of taken) to.host
 
 -- ---- the graph
 
@@ -46,32 +76,36 @@ abbrev pub cut_after : ℕ → List (Layer Label) → List (Layer Label)
 cut_after depth layers = take (depth + 1) layers ++ map (λ edges. []) (slice_index_or layers (depth + 1) []) ∷ []
 
 -- the paths that show it with the last of their edges, in the first layer that does: their number, and the first of them
-abbrev pub tally_in : (Label → Bool) → ℕ → List (Layer Label) → Option ℕ → Option (PathCount ℕ)
-tally_in is thing layers None = None
-tally_in is thing layers (Some depth) = tally_of (shows is) thing (paths (cut_after depth layers) 0)
+abbrev pub tally_in : (Label → Bool) → TurnQuestion → List (Layer Label) → Option ℕ → Option (PathCount TurnQuestion)
+tally_in is question layers None = None
+tally_in is question layers (Some depth) = tally_of (shows is) question (paths (cut_after depth layers) 0)
 
--- the shortest paths that refuse the step
-abbrev pub shortest_tally : Graph → ℕ → ℕ → Option (PathCount ℕ)
-shortest_tally graph build step =
-    let is = is_refusal_of_step graph.ends.items build step in
-    tally_in is step (layers_of graph) (first_layer is graph.layers.items)
+-- the turn of the label answers the question, of a plan of so many builds
+abbrev pub is_answer_in : Graph → ℕ → TurnQuestion → Label → Bool
+is_answer_in graph builds question label = is_answer_at graph.ends.items graph.held.items builds question label
+
+-- the shortest paths that answer the question
+abbrev pub shortest_tally : Graph → ℕ → TurnQuestion → Option (PathCount TurnQuestion)
+shortest_tally graph builds question =
+    let is = is_answer_in graph builds question in
+    tally_in is question (layers_of graph) (first_layer is graph.layers.items)
 
 -- ---- the witness
 
--- a schedule that ends with the refusal, the first of the shortest of the graph
-pub record IsShortest (plan : Plan) (most build step : ℕ) (order : List ℕ) : Type 0 where
-  pub ends : EndsRefused plan build step order
+-- a schedule that answers the question, the first of the shortest of the graph
+pub record IsShortest (plan : Plan) (most : ℕ) (question : TurnQuestion) (order : List ℕ) : Type 0 where
+  pub answers : EndsWithAnswer plan question order
   pub graph : Graph
   pub within : IsGraphWithin plan most graph
-  pub is_first : option_map (λ (tally : PathCount ℕ). tally.first) (shortest_tally graph build step) ≡ Some order
+  pub is_first : option_map (λ (tally : PathCount TurnQuestion). tally.first) (shortest_tally graph (length plan.builds) question) ≡ Some order
 
--- the graph has no schedule that refuses the step
-pub record IsNeverRefused (plan : Plan) (most build step : ℕ) : Type 0 where
+-- the graph has no schedule that answers the question
+pub record IsNever (plan : Plan) (most : ℕ) (question : TurnQuestion) : Type 0 where
   pub graph : Graph
   pub within : IsGraphWithin plan most graph
-  pub none : shortest_tally graph build step ≡ None
+  pub none : shortest_tally graph (length plan.builds) question ≡ None
 
-abbrev pub IsWitness : Plan → ℕ → ℕ → ℕ → Witness → Type 0
-IsWitness plan most build step (Found order) = IsShortest plan most build step order.items
-IsWitness plan most build step Never = IsNeverRefused plan most build step
-IsWitness plan most build step TooMany = Unit {0}
+abbrev pub IsWitness : Plan → ℕ → TurnQuestion → Witness → Type 0
+IsWitness plan most question (Found order) = IsShortest plan most question order.items
+IsWitness plan most question Never = IsNever plan most question
+IsWitness plan most question TooMany = Unit {0}

@@ -30,11 +30,3 @@ is_refusal_of ends asked label = end_is_refused ends asked label.end
 abbrev pub refuses_step : ℕ → ℕ → Option EndOfStep → Bool
 refuses_step build step None = false
 refuses_step build step (Some end) = is_some end.refusal && end.build == build && end.step == step
-
--- the turn uses up that step, and is refused
-abbrev pub end_refuses_step : List EndOfStep → ℕ → ℕ → Option ℕ → Bool
-end_refuses_step ends build step None = false
-end_refuses_step ends build step (Some number) = refuses_step build step (slice_get ends number)
-
-abbrev pub is_refusal_of_step : List EndOfStep → ℕ → ℕ → Label → Bool
-is_refusal_of_step ends build step label = end_refuses_step ends build step label.end

@@ -8,7 +8,7 @@ use Rattle.plan_states.specs.declared.state.State.{State}
 
 -- a build that did nothing: the number of that is the build's own
 abbrev pub at_rest : ℕ → BuildState
-at_rest build = record { did = build; done = 0; vmid = None }
+at_rest build = record { did = build; done = 0; vmid = None; pages = 0 }
 
 -- no build did anything
 abbrev pub first_state : State

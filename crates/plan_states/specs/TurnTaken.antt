@@ -1,6 +1,6 @@
 -- One turn of a run, by the code's record of it.
 use Rattle.std.specs.Prelude.{◌≡◌, ℕ, Option, option_map, length}
-use Rattle.host_ledger.specs.View.{world_of}
+use Rattle.host_ledger.specs.View.{world_of, pages_of_build}
 use Rattle.realm_host.specs.Readings.{realm_at}
 use Rattle.realm_plan.specs.Plan.{Plan}
 use Rattle.realm_plan.specs.declared.step.PlanStep.{PlanStep}
@@ -10,11 +10,12 @@ use Rattle.plan_states.specs.Reached.{IsTurnAt}
 use Rattle.plan_states.specs.Turned.{turn_refusal, moved_after}
 use Rattle.plan_states.specs.declared.running.TurnTaken.{TurnTaken}
 
--- The turn leads from one position to the other. Its refusal, the block that it moved and the VMID of the build's realm
--- are as they are there.
+-- The turn leads from one position to the other. Its refusal, the block that it moved, the VMID of the build's realm and
+-- the number of the build's pages are as they are there.
 pub record IsTurnTaken (plan : Plan) (at : Position) (build : ℕ) (it : TurnTaken) (to : Position) : Type 0 where
   pub told : Option (PlanStep × TurnAnswer)
   pub is_taken : IsTurnAt plan at build (record { turn = record { build = build; told = told }; before = it.before; after = it.after }) to
   pub refusal : it.refusal ≡ turn_refusal told
   pub moved : it.moved ≡ moved_after (length at.host.history) to.host.history
   pub vmid : it.vmid ≡ option_map (λ realm. realm.1) (realm_at (world_of to.host) build)
+  pub pages : it.pages ≡ length (pages_of_build to.host build)

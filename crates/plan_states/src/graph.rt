@@ -6,7 +6,9 @@ ghost use Rattle.plan_states.specs.Reached.{IsMapOfRun};
 ghost use Rattle.plan_states.specs.Turned.{AreWith};
 
 use crate::edges::Label;
+use crate::holdings::Holdings;
 use crate::leftovers::leave_nothing;
+use crate::question::PagesHeld;
 use crate::running::{Running, has_more, run_to};
 use crate::runs::are_paths_runs;
 use crate::state::State;
@@ -31,6 +33,8 @@ pub struct Graph {
     pub progress: Vec<Vec<StepsDone>>,
     /// The ends of steps.
     pub ends: Vec<EndOfStep>,
+    /// What builds hold after turns.
+    pub held: Vec<PagesHeld>,
     /// The maps in the end.
     pub maps: Vec<String>,
 }
@@ -50,10 +54,11 @@ struct Came {
     build: usize,
 }
 
-// The place of a state in its layer, and the number of its map, if schedules end in it.
+// The place of a state in its layer, and the numbers of what builds hold in it, and of its map, if schedules end in it.
 #[derive(Clone, Copy)]
 struct Target {
     to: usize,
+    held: usize,
     map: Option<usize>,
 }
 
@@ -70,6 +75,7 @@ struct Front {
 struct Explorer {
     turns: Turns,
     came: Vec<Vec<Came>>,
+    held: Holdings,
     maps: Vec<String>,
 }
 
@@ -93,11 +99,17 @@ impl Front {
     }
 
     // Adds a state, and returns its place.
-    fn add(&mut self, state: State, came: Came, map: Option<usize>) -> Result<Target, AllocError>
+    fn add(
+        &mut self,
+        state: State,
+        came: Came,
+        held: usize,
+        map: Option<usize>,
+    ) -> Result<Target, AllocError>
         ensures { OnOk result (self.new.states.items ≡ self.old.states.items ++ state ∷ []) }
     {
         let to = self.states.len();
-        let target = Target { to, map };
+        let target = Target { to, held, map };
         self.targets.insert(state, target)?;
         self.came.push(came)?;
         self.states.push(state)?;
@@ -206,13 +218,14 @@ impl Explorer {
         if let Some(target) = next.targets.get(&state).copied() {
             return Ok(target);
         }
+        let held = self.held.number_of(state.held())?;
         if state.has_more(plan) {
-            return Ok(next.add(state, came, None)?);
+            return Ok(next.add(state, came, held, None)?);
         }
         let mut order = order_to(alloc, &self.came, came.from)?;
         push(&mut order, came.build)?;
         let map = self.map_of(alloc, plan, &order)?;
-        Ok(next.add(state, came, Some(map))?)
+        Ok(next.add(state, came, held, Some(map))?)
     }
 
     // The edges of the state at a place of the last layer.
@@ -236,9 +249,13 @@ impl Explorer {
             let after = self.turn(alloc, plan, place, build, before)?;
             let then = self.turns.state_after(state, build, after)?;
             let came = Came { from: place, build };
-            let Target { to, map } = self.target(alloc, plan, next, then, came)?;
-            let end = after.end;
-            let label = Label { build, end, map };
+            let Target { to, held, map } = self.target(alloc, plan, next, then, came)?;
+            let label = Label {
+                build,
+                end: after.end,
+                held,
+                map,
+            };
             push(&mut edges, Edge { label, to })?;
         }
         Ok(edges)
@@ -278,14 +295,16 @@ fn search(alloc: Global, plan: &Plan, most: usize) -> Result<Option<Graph>, Faul
     let mut it = Explorer {
         turns: Turns::new(alloc),
         came: Vec::new(alloc),
+        held: Holdings::new(alloc),
         maps: Vec::new(alloc),
     };
     let first = State::first();
     if !first.has_more(plan) {
         it.map_of(alloc, plan, &[])?;
     }
+    let held = it.held.number_of(first.held())?;
     let mut front = Front::new(alloc);
-    front.add(first, Came { from: 0, build: 0 }, None)?;
+    front.add(first, Came { from: 0, build: 0 }, held, None)?;
     let mut layers = Vec::new(alloc);
     let mut progress = Vec::new(alloc);
     let mut room = most;
@@ -310,13 +329,16 @@ fn search(alloc: Global, plan: &Plan, most: usize) -> Result<Option<Graph>, Faul
     let Explorer {
         turns,
         came: _,
+        held,
         maps,
     } = it;
     let ends = turns.into_ends();
+    let held = held.into_all();
     Ok(Some(Graph {
         layers,
         progress,
         ends,
+        held,
         maps,
     }))
 }

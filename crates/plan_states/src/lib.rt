@@ -9,10 +9,12 @@
 
 mod edges;
 mod graph;
+mod holdings;
 pub mod law;
 mod leftovers;
 mod lines;
 mod outcomes;
+mod question;
 mod run_log;
 mod running;
 mod runs;
@@ -32,7 +34,8 @@ pub use graph::{Exploration, Graph, explore};
 pub use leftovers::leave_nothing;
 pub use lines::push_map;
 pub use outcomes::outcomes_of;
-pub use shortest::{Witness, ends_refused, shortest_refusal};
+pub use question::{PagesHeld, TurnQuestion};
+pub use shortest::{Witness, answers, shortest_answer};
 pub use step_end::EndOfStep;
 pub use tally::{Outcomes, PathTally, StepOutcomes};
 pub use text::{push_outcomes, push_step_outcomes, states_text, too_many_text};

@@ -1,7 +1,7 @@
 //! The run of a plan in a schedule from boot, and one turn more.
-ghost use Rattle.std.specs.Prelude.{◌≡◌, ◌<◌, IfOk, IfErr, IfSome, option_map};
+ghost use Rattle.std.specs.Prelude.{◌≡◌, ◌<◌, IfOk, IfErr, IfSome, length, option_map};
 ghost use Rattle.std.specs.Bool.{OnFalse};
-ghost use Rattle.host_ledger.specs.View.{world_of};
+ghost use Rattle.host_ledger.specs.View.{world_of, pages_of_build};
 ghost use Rattle.realm_host.specs.Readings.{realm_at};
 ghost use Rattle.realm_plan.specs.PlanView.{plan_view};
 ghost use Rattle.plan_states.specs.Exploration.{HasNoGraph};
@@ -27,8 +27,8 @@ pub(crate) struct Running {
     pub(crate) places: [PlanCursor; 8],
 }
 
-/// One turn: how many steps its build had done before and after it, its refusal, the block that it moved, and the VMID
-/// of the build's realm after it.
+/// One turn: how many steps its build had done before and after it, its refusal, and the block that it moved. After it
+/// the build's realm has this VMID, and the build has so many pages.
 #[derive(Clone, Copy)]
 pub(crate) struct TurnTaken {
     pub(crate) before: usize,
@@ -36,6 +36,7 @@ pub(crate) struct TurnTaken {
     pub(crate) refusal: Option<Refusal>,
     pub(crate) moved: Option<Moved>,
     pub(crate) vmid: Option<u8>,
+    pub(crate) pages: u16,
 }
 
 // The block that an operation leases or gives back.
@@ -86,6 +87,14 @@ fn vmid_of<S: PageStore>(host: &Host<S>, build: usize) -> Option<u8>
         Some((_state, vmid)) => Some(vmid.number()),
         None => None,
     }
+}
+
+/// How many pages a build holds.
+pub(crate) fn pages_of<S: PageStore>(host: &Host<S>, build: usize) -> u16
+    requires { build < 8 }
+    ensures { result ≡ length (pages_of_build host.now build) }
+{
+    host.page_count(BuildId::new(build as u8).unwrap())
 }
 
 /// Runs a plan on a fresh host, in the schedule of these builds.
@@ -142,11 +151,13 @@ pub(crate) fn take<S: PageStore>(
     let refusal = told_refusal(answer);
     let moved = moved_after(host, events);
     let vmid = vmid_of(host, build);
+    let pages = pages_of(host, build);
     Some(TurnTaken {
         before,
         after,
         refusal,
         moved,
         vmid,
+        pages,
     })
 }

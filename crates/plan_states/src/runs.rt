@@ -52,6 +52,7 @@ fn is_same_label(one: &Label, other: &Label) -> bool
 {
     one.build == other.build
         && is_same_number(one.end, other.end)
+        && one.held == other.held
         && is_same_number(one.map, other.map)
 }
 

@@ -1,53 +1,54 @@
-//! The shortest schedules in which a step is refused.
+//! The shortest schedules that answer a question.
 ghost use Rattle.std.specs.Prelude.{◌≡◌, ◌<◌, true, [], map, length, option_map, slice_index_or, vec_items, IfOk, IfErr};
 ghost use Rattle.realm_plan.specs.PlanView.{plan_view};
 ghost use Rattle.schedule_graph.specs.First.{layers_in};
 ghost use Rattle.plan_states.specs.Exploration.{HasNoGraph};
 ghost use Rattle.schedule_graph.specs.Paths.{shows};
-ghost use Rattle.plan_states.specs.Shortest.{cut_after, first_layer, layer_shows, shortest_tally, EndsRefused, IsWitness};
-ghost use Rattle.plan_states.specs.Signs.{is_refusal_of_step, refuses_step};
+ghost use Rattle.plan_states.specs.Questions.{is_answer_at};
+ghost use Rattle.plan_states.specs.Shortest.{cut_after, first_layer, layer_shows, shortest_tally, EndsWithAnswer, IsWitness};
 ghost use Rattle.plan_states.specs.Tallies.{count_of_tally};
 ghost use Rattle.plan_states.specs.Turned.{end_taken};
 
 use crate::edges::Label;
 use crate::graph::{Exploration, Graph, Layer, explore, push};
 use crate::outcomes::tally_with;
+use crate::question::{AnswerSign, TurnQuestion, pages_of_builds};
 use crate::running::{TurnTaken, run_to, take};
-use crate::signs::StepRefusedSign;
+use crate::step_end::EndOfStep;
 use crate::tally::PathTally;
 use realm_plan::Plan;
 use realm_program::Fault;
 use schedule_graph::{Edge, Sign, count_all};
 use std::alloc::{AllocError, Global};
 
-/// The result of a search for a schedule in which a step is refused.
+/// The result of a search for a schedule that answers a question.
 #[derive(Drop)]
 pub enum Witness {
-    /// The builds of the turns up to the refusal.
+    /// The builds of the turns up to the answer.
     Found(Vec<usize>),
-    /// The step is refused in no schedule.
+    /// No schedule answers it.
     Never,
     /// There are more states than were allowed.
     TooMany,
 }
 
 // Whether an edge shows the sign.
-fn edges_show(edges: &[Edge<Label>], sign: &StepRefusedSign) -> bool
-    ensures { result ≡ shows (is_refusal_of_step sign.now.ends.now sign.now.build sign.now.step) edges.now }
+fn edges_show(edges: &[Edge<Label>], sign: &AnswerSign) -> bool
+    ensures { result ≡ shows (is_answer_at sign.now.ends.now sign.now.held.now sign.now.builds sign.now.question) edges.now }
 {
     edges.iter().any(|edge| sign.is_on(&edge.label))
 }
 
 // Whether an edge of a layer shows the sign.
-fn layer_shows(layer: &[Vec<Edge<Label>>], sign: &StepRefusedSign) -> bool
-    ensures { result ≡ layer_shows (is_refusal_of_step sign.now.ends.now sign.now.build sign.now.step) layer.now }
+fn layer_shows(layer: &[Vec<Edge<Label>>], sign: &AnswerSign) -> bool
+    ensures { result ≡ layer_shows (is_answer_at sign.now.ends.now sign.now.held.now sign.now.builds sign.now.question) layer.now }
 {
     layer.iter().any(|edges| edges_show(edges, sign))
 }
 
 // The first layer with an edge that shows the sign.
-fn first_layer(layers: &[Layer], sign: &StepRefusedSign) -> Option<usize>
-    ensures { result ≡ first_layer (is_refusal_of_step sign.now.ends.now sign.now.build sign.now.step) layers.now }
+fn first_layer(layers: &[Layer], sign: &AnswerSign) -> Option<usize>
+    ensures { result ≡ first_layer (is_answer_at sign.now.ends.now sign.now.held.now sign.now.builds sign.now.question) layers.now }
 {
     layers.iter().position(|layer| layer_shows(layer, sign))
 }
@@ -85,55 +86,60 @@ fn cut_after(alloc: Global, layers: Vec<Layer>, depth: usize) -> Result<Vec<Laye
     Ok(layers)
 }
 
-// The tally of the shortest paths that refuse a step, if any does.
+// The tally of the shortest paths that answer a question, of a plan of `builds` builds, if any does.
 fn shortest_tally(
     alloc: Global,
     graph: Graph,
-    build: usize,
-    step: usize,
-) -> Result<Option<PathTally<usize>>, AllocError>
-    ensures { IfOk result (λ tally. option_map count_of_tally tally ≡ shortest_tally graph build step) }
+    builds: usize,
+    question: TurnQuestion,
+) -> Result<Option<PathTally<TurnQuestion>>, AllocError>
+    ensures { IfOk result (λ tally. option_map count_of_tally tally ≡ shortest_tally graph builds question) }
 {
     let Graph {
         layers,
         progress: _,
         ends,
+        held,
         maps: _,
     } = graph;
-    let sign = StepRefusedSign {
+    let sign = AnswerSign {
         ends: &ends,
-        build,
-        step,
+        held: &held,
+        builds,
+        question,
     };
     let Some(depth) = first_layer(&layers, &sign) else {
         return Ok(None);
     };
     let layers = cut_after(alloc, layers, depth)?;
     let all = count_all(alloc, &layers)?;
-    tally_with(alloc, &layers, &all, &sign, step)
+    tally_with(alloc, &layers, &all, &sign, question)
 }
 
-// Whether a turn of `last` uses up this step of this build, and is refused.
-fn refuses(taken: &TurnTaken, last: usize, build: usize, step: usize) -> bool
-    ensures { result ≡ refuses_step build step (end_taken last taken.now) }
+// The end of the step that a turn of `build` used up, if it did.
+fn end_of(taken: &TurnTaken, build: usize) -> Option<EndOfStep>
+    ensures { result ≡ end_taken build taken.now }
 {
     if taken.before == taken.after {
-        return false;
+        return None;
     }
-    taken.refusal.is_some() && last == build && taken.before == step
+    Some(EndOfStep {
+        build,
+        step: taken.before,
+        refusal: taken.refusal,
+    })
 }
 
-/// Whether the last turn of a schedule is of this build, uses up this step of it, and is refused.
+/// Whether the last turn of a schedule answers a question.
 ///
 /// Errors. `Memory`: allocation failed. `Mismatch`: a turn before the last has no step left.
-pub fn ends_refused(
+pub fn answers(
     alloc: Global,
     plan: &Plan,
     order: &[usize],
-    build: usize,
-    step: usize,
+    question: TurnQuestion,
 ) -> Result<bool, Fault>
-    ensures ok { IfOk result (λ ends. ends ≡ true → EndsRefused (plan_view plan.now) build step order.now) }
+    ensures ok { IfOk result (λ does. does ≡ true → EndsWithAnswer (plan_view plan.now) question order.now) }
     ensures err { IfErr result HasNoGraph }
 {
     let Some((last, before)) = order.split_last() else {
@@ -143,32 +149,33 @@ pub fn ends_refused(
     let Some(taken) = take(&mut running.host, plan, &mut running.places, *last) else {
         return Ok(false);
     };
-    Ok(refuses(&taken, *last, build, step))
+    let end = end_of(&taken, *last);
+    let held = pages_of_builds(&running.host);
+    Ok(question.is_answer(plan.builds.len(), end, &held))
 }
 
-/// The shortest schedule that ends with a refusal of a step, and of these the first, if the plan's graph has at most
-/// `most` states.
+/// The shortest schedule that answers a question with its last turn, and of these the first, if the plan's graph has at
+/// most `most` states.
 ///
 /// Errors. `Memory`: allocation failed. `Mismatch`: a run does not go on as another run said, which never happens on a
 /// host that gives the same answers to the same calls.
-pub fn shortest_refusal(
+pub fn shortest_answer(
     alloc: Global,
     plan: &Plan,
     most: usize,
-    build: usize,
-    step: usize,
+    question: TurnQuestion,
 ) -> Result<Witness, Fault>
-    ensures ok { IfOk result (IsWitness (plan_view plan.now) most build step) }
+    ensures ok { IfOk result (IsWitness (plan_view plan.now) most question) }
     ensures err { IfErr result HasNoGraph }
 {
     let Exploration::All(graph) = explore(alloc, plan, most)? else {
         return Ok(Witness::TooMany);
     };
-    let Some(tally) = shortest_tally(alloc, graph, build, step)? else {
+    let Some(tally) = shortest_tally(alloc, graph, plan.builds.len(), question)? else {
         return Ok(Witness::Never);
     };
     let PathTally { first, .. } = tally;
-    if !ends_refused(alloc, plan, &first, build, step)? {
+    if !answers(alloc, plan, &first, question)? {
         return Err(Fault::Mismatch);
     }
     Ok(Witness::Found(first))

@@ -76,29 +76,3 @@ impl Sign<Label> for RefusalSign<'_> {
         }
     }
 }
-
-/// A refusal of one step of a build.
-#[derive(Clone, Copy)]
-pub(crate) struct StepRefusedSign<'a> {
-    pub(crate) ends: &'a [EndOfStep],
-    pub(crate) build: usize,
-    pub(crate) step: usize,
-}
-
-impl Sign<Label> for StepRefusedSign<'_> {
-    ghost use Rattle.plan_states.specs.Signs.{is_refusal_of_step};
-
-    ghost is_on = { λ sign label. is_refusal_of_step sign.ends.now sign.build sign.step label };
-
-    fn is_on(&self, label: &Label) -> bool {
-        let Some(number) = label.end else {
-            return false;
-        };
-        match self.ends.get(number) {
-            Some(end) => {
-                end.refusal.is_some() && end.build == self.build && end.step == self.step
-            }
-            None => false,
-        }
-    }
-}

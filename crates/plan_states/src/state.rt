@@ -4,16 +4,19 @@ ghost use Rattle.std.specs.Bool.{OnFalse};
 ghost use Rattle.realm_plan.specs.PlanView.{plan_view};
 ghost use Rattle.plan_states.specs.States.{at_rest, first_state, AreAllDone};
 
+use crate::question::PagesHeld;
 use crate::whole::StepsDone;
 use plan_replay::step_after;
 use realm_plan::Plan;
 
-/// The state of a build: what it did, as a number; the number of its steps done; and the VMID of its realm.
+/// The state of a build: what it did, as a number; the number of its steps done; the VMID of its realm; and the
+/// number of its pages.
 #[derive(Clone, Copy, PartialEq, Eq, Hash)]
 pub(crate) struct BuildState {
     pub(crate) did: usize,
     pub(crate) done: usize,
     pub(crate) vmid: Option<u8>,
+    pub(crate) pages: u16,
 }
 
 /// The state of a run: that of each build, and the blocks that were leased and given back, as a number.
@@ -32,6 +35,7 @@ impl BuildState {
             did: build,
             done: 0,
             vmid: None,
+            pages: 0,
         }
     }
 }
@@ -82,6 +86,21 @@ impl State {
             self.done_by(5),
             self.done_by(6),
             self.done_by(7),
+        ]
+    }
+
+    /// How many pages each build holds.
+    pub(crate) fn held(&self) -> PagesHeld {
+        let [one, two, three, four, five, six, seven, eight] = self.builds;
+        [
+            one.pages,
+            two.pages,
+            three.pages,
+            four.pages,
+            five.pages,
+            six.pages,
+            seven.pages,
+            eight.pages,
         ]
     }
 

@@ -235,6 +235,7 @@ impl Turns {
                 did,
                 done: taken.after,
                 vmid,
+                pages: taken.pages,
             },
             moved: taken.moved,
             end,

@@ -19,7 +19,7 @@ pub mod Taking
 pub mod Calls
 pub mod Checked
 pub mod Why
-pub mod ToRefusal
+pub mod ToAnswer
 pub mod Orders
 pub mod Reordered
 pub mod Printed

@@ -13,11 +13,11 @@ use Rattle.plan_states.specs.Exploration.{HasNoGraph}
 use Rattle.plan_states.specs.StatesText.{IsStatesText}
 use Rattle.view_program.specs.declared.schedules.totals.Totals.{Totals}
 use Rattle.view_program.specs.Lines.{drawn_text}
-use Rattle.view_program.specs.ToRefusal.{IsRefusalText}
+use Rattle.view_program.specs.ToAnswer.{IsAnswerText}
 use Rattle.command_line.specs.declared.realmview.AfterRefusal.{AfterRefusal}
 use Rattle.command_line.specs.declared.realmview.AfterRefusal.TheVariants.{GoOn, GiveUp}
 use Rattle.command_line.specs.declared.realmview.Schedules.{Schedules}
-use Rattle.command_line.specs.declared.realmview.Schedules.TheVariants.{All, Drawn, ToRefusal}
+use Rattle.command_line.specs.declared.realmview.Schedules.TheVariants.{All, Drawn, Shortest}
 
 -- the numbers of xoshiro256++ from this seed on
 abbrev pub random_numbers : ℕ → Stream
@@ -32,12 +32,12 @@ pub record IsDrawnText (count seed : ℕ) (plan : Plan) (text : List ℕ) : Type
 abbrev pub IsSchedulesText : Schedules → Plan → List ℕ → Type 0
 IsSchedulesText (All most) plan text = IsStatesText most plan text
 IsSchedulesText (Drawn count seed) plan text = IsDrawnText count seed plan text
-IsSchedulesText (ToRefusal most place) plan text = IsRefusalText most place plan text
+IsSchedulesText (Shortest most question) plan text = IsAnswerText most question plan text
 
 -- the reason why there is no such text: allocation failed, or a run does not go on as another one said
 abbrev pub IsWithoutSchedules : Schedules → Plan → Fault → Type 0
 IsWithoutSchedules (All most) plan fault = HasNoGraph fault
-IsWithoutSchedules (ToRefusal most place) plan fault = HasNoGraph fault
+IsWithoutSchedules (Shortest most question) plan fault = HasNoGraph fault
 IsWithoutSchedules (Drawn count seed) plan Memory = Unit {0}
 IsWithoutSchedules (Drawn count seed) plan fault = ⊥
 

@@ -20,13 +20,13 @@ mod machine;
 mod order_place;
 mod order_text;
 mod page_words;
+mod plan_answer;
 mod plan_calls;
 mod plan_history;
 mod plan_json;
 mod plan_order;
 mod plan_page;
 mod plan_reasons;
-mod plan_refusal;
 mod plan_schedules;
 mod plan_text;
 mod plan_title;
@@ -38,7 +38,7 @@ pub mod schedules;
 pub use applying::apply;
 pub use checking::{ViewOutcome, check};
 pub use command_line::realmview::{
-    AfterRefusal, CallsForm, Schedules, SchedulingPolicy, StepPlace, ViewSubcommand,
+    AfterRefusal, CallsForm, ScheduleQuestion, Schedules, SchedulingPolicy, StepPlace, ViewSubcommand,
 };
 pub use fault::ViewError;
 pub use law::{histories_do_not_stop, what_is_applied_is_legal};

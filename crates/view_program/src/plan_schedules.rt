@@ -4,7 +4,7 @@ ghost use Rattle.realm_plan.specs.PlanView.{plan_view};
 ghost use Rattle.view_program.specs.Lines.{drawn_text};
 ghost use Rattle.view_program.specs.Orders.{plan_after, IsDrawnText, IsExploredText, IsSchedulesText, IsWithoutExplored, IsWithoutSchedules};
 
-use crate::plan_refusal::refusal_text;
+use crate::plan_answer::answer_text;
 use crate::plan_text::ViewText;
 use crate::schedules::{Progress, Totals, push_drawn, sample};
 use command_line::realmview::{AfterRefusal, Schedules};
@@ -55,7 +55,7 @@ fn orders_text_of<P: Progress>(
         Schedules::Drawn(count, seed) => {
             Ok(run_drawn_of(alloc, plan, count, seed, progress)?.into_bytes())
         }
-        Schedules::ToRefusal(most, place) => refusal_text(alloc, plan, source, most, place),
+        Schedules::Shortest(most, question) => answer_text(alloc, plan, source, most, question),
     }
 }
 

@@ -14,7 +14,7 @@ layers-init c = record {
         subst (λ (it : Explorer). AreOfRuns (plan_view c.args.plan.now) it.turns.ends.items it.maps.items) (sym w.it-is) w.in_ok-map_of.ensures.ok
     | else-not-has_more w ↦
         subst (λ (it : Explorer). AreOfRuns (plan_view c.args.plan.now) it.turns.ends.items it.maps.items) (sym w.it-is)
-        (of_runs-none (plan_view c.args.plan.now) c.new.result.ends.items c.new-3.result.items c.new.ensures c.new-3.ensures.items)
+        (of_runs-none (plan_view c.args.plan.now) c.new.result.ends.items c.new-4.result.items c.new.ensures c.new-4.ensures.items)
   ];
   room = ap (λ layers. sum_by vec_len layers + c.args.most) c.new-layers.ensures.items ∙ zero-add c.args.most;
 }

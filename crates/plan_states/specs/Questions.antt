@@ -1,0 +1,56 @@
+-- The questions for a schedule, and the turns that answer them.
+use Rattle.std.specs.Prelude.{ℕ, ◌==◌, nat_le, Bool, true, false, not, ◌&&◌, List, sum, Option, Some, None, slice_get}
+use Rattle.std.specs.List.{list_any, range_with_len}
+use Rattle.host_commands.specs.declared.refusal.Refusal.{Refusal}
+use Rattle.host_commands.specs.declared.refusal.Refusal.TheVariants.{NoBlock, NoVmid}
+use Rattle.plan_states.specs.Signs.{refuses_step}
+use Rattle.plan_states.specs.declared.edges.Label.{Label}
+use Rattle.plan_states.specs.declared.question.TurnQuestion.{TurnQuestion}
+use Rattle.plan_states.specs.declared.question.TurnQuestion.TheVariants.{Refused, Waiting, Leased}
+use Rattle.plan_states.specs.declared.step_end.EndOfStep.{EndOfStep}
+
+-- ---- by the end of a turn's step, and the number of pages that each build holds after it
+
+-- refused for want of what builds share: no block of the order is free, or no VMID
+abbrev pub is_of_shared : Option Refusal → Bool
+is_of_shared (Some (NoBlock order)) = true
+is_of_shared (Some NoVmid) = true
+is_of_shared _ = false
+
+-- a step of the build is refused so
+abbrev pub waits : ℕ → Option EndOfStep → Bool
+waits build None = false
+waits build (Some end) = end.build == build && is_of_shared end.refusal
+
+abbrev pub is_other_with : ℕ → ℕ → Option ℕ → Bool
+is_other_with build other None = false
+is_other_with build other (Some pages) = not (other == build) && pages == 0
+
+-- the build is another one, and holds nothing
+abbrev pub is_at_rest : ℕ → List ℕ → ℕ → Bool
+is_at_rest build held other = is_other_with build other (slice_get held other)
+
+abbrev pub has_other_at_rest : ℕ → ℕ → List ℕ → Bool
+has_other_at_rest builds build held = list_any (is_at_rest build held) (range_with_len 0 builds)
+
+-- the turn answers the question, on a machine of so many builds
+abbrev pub is_answer : ℕ → TurnQuestion → Option EndOfStep → List ℕ → Bool
+is_answer builds (Refused build step) end held = refuses_step build step end
+is_answer builds (Waiting build) end held = waits build end && has_other_at_rest builds build held
+is_answer builds (Leased granules) end held = nat_le granules (sum held)
+
+-- ---- by a label
+
+-- the end of that number, if there is one
+abbrev pub end_numbered : List EndOfStep → Option ℕ → Option EndOfStep
+end_numbered ends None = None
+end_numbered ends (Some number) = slice_get ends number
+
+abbrev pub is_answer_with : ℕ → TurnQuestion → Option EndOfStep → Option (List ℕ) → Bool
+is_answer_with builds question end None = false
+is_answer_with builds question end (Some held) = is_answer builds question end held
+
+-- the turn of the label answers the question
+abbrev pub is_answer_at : List EndOfStep → List (List ℕ) → ℕ → TurnQuestion → Label → Bool
+is_answer_at ends held builds question label =
+    is_answer_with builds question (end_numbered ends label.end) (slice_get held label.held)

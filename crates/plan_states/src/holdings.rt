@@ -1,0 +1,57 @@
+//! The numbers of what builds hold.
+ghost use Rattle.std.specs.Prelude.{◌≡◌, IfOk, IfSome, OnOk, Some, slice_get};
+ghost use Rattle.plan_states.specs.Turned.{AreWith};
+
+use crate::question::PagesHeld;
+use std::alloc::{AllocError, Global};
+use std::collections::HashMap;
+
+/// What builds hold after turns, each with its number.
+#[derive(Drop)]
+pub(crate) struct Holdings {
+    numbers: HashMap<PagesHeld, usize>,
+    all: Vec<PagesHeld>,
+}
+
+impl Holdings {
+    /// None.
+    pub(crate) fn new(alloc: Global) -> Holdings {
+        Holdings {
+            numbers: HashMap::new(alloc),
+            all: Vec::new(alloc),
+        }
+    }
+
+    // The number of what builds hold, if it is known.
+    fn known(&self, held: &PagesHeld) -> Option<usize>
+        ensures { IfSome result (λ number. slice_get self.now.all.items number ≡ Some held.now) }
+    {
+        let number = self.numbers.get(held).copied()?;
+        match self.all.get(number) {
+            Some(known) if *known == *held => Some(number),
+            _ => None,
+        }
+    }
+
+    /// The number of what builds hold. It is added if it is new.
+    pub(crate) fn number_of(&mut self, held: PagesHeld) -> Result<usize, AllocError>
+        ensures number { IfOk result (λ number. slice_get self.new.all.items number ≡ Some held) }
+        ensures all { OnOk result (AreWith self.old.all.items (Some held) self.new.all.items) }
+    {
+        if let Some(number) = self.known(&held) {
+            return Ok(number);
+        }
+        let number = self.all.len();
+        self.numbers.insert(held, number)?;
+        self.all.push(held)?;
+        Ok(number)
+    }
+
+    /// What builds hold, by its numbers.
+    pub(crate) fn into_all(self) -> Vec<PagesHeld>
+        ensures { result ≡ self.all }
+    {
+        let Holdings { numbers: _, all } = self;
+        all
+    }
+}

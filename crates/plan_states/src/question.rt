@@ -1,0 +1,148 @@
+//! The questions for a schedule, and the turns that answer them.
+ghost use Rattle.std.specs.Prelude.{◌≡◌, sum};
+ghost use Rattle.plan_states.specs.Questions.{is_answer, is_at_rest, is_of_shared, has_other_at_rest, waits, end_numbered};
+ghost use Rattle.plan_states.specs.Shortest.{pages_of_builds};
+ghost use Rattle.plan_states.specs.Signs.{refuses_step};
+
+use crate::edges::Label;
+use crate::running::pages_of;
+use crate::step_end::EndOfStep;
+use host_commands::Refusal;
+use page_arena::PageStore;
+use realm_host::Host;
+use schedule_graph::Sign;
+
+/// How many pages each build holds.
+pub type PagesHeld = [u16; 8];
+
+/// What the last turn of a schedule is to show.
+#[derive(Clone, Copy, Drop)]
+pub enum TurnQuestion {
+    /// This step of a build is refused.
+    Refused { build: usize, step: usize },
+    /// A build waits while another holds nothing: a step of it is refused for want of what builds share, and some other
+    /// build has no page leased then.
+    Waiting { build: usize },
+    /// At least so many granules are leased then, by all builds together.
+    Leased { granules: usize },
+}
+
+// Whether a step was refused for want of what builds share: a block, or a VMID.
+fn is_of_shared(refusal: Option<Refusal>) -> bool
+    ensures { result ≡ is_of_shared refusal }
+{
+    match refusal {
+        Some(Refusal::NoBlock(_)) => true,
+        Some(Refusal::NoVmid) => true,
+        _ => false,
+    }
+}
+
+// Whether a turn uses up this step of this build, and is refused.
+fn refuses_step(end: Option<EndOfStep>, build: usize, step: usize) -> bool
+    ensures { result ≡ refuses_step build step end }
+{
+    match end {
+        Some(end) => end.refusal.is_some() && end.build == build && end.step == step,
+        None => false,
+    }
+}
+
+// Whether a turn uses up a step of this build, and is refused for want of what builds share.
+fn waits(end: Option<EndOfStep>, build: usize) -> bool
+    ensures { result ≡ waits build end }
+{
+    match end {
+        Some(end) => end.build == build && is_of_shared(end.refusal),
+        None => false,
+    }
+}
+
+// Whether a build is another one, and holds nothing.
+fn is_at_rest(held: &PagesHeld, build: usize, other: usize) -> bool
+    ensures { result ≡ is_at_rest build held.now other }
+{
+    match held.get(other) {
+        Some(pages) => other != build && *pages == 0,
+        None => false,
+    }
+}
+
+// Whether one of so many builds is another one, and holds nothing.
+fn has_other_at_rest(held: &PagesHeld, builds: usize, build: usize) -> bool
+    ensures { result ≡ has_other_at_rest builds build held.now }
+{
+    (0..builds).any(|other| is_at_rest(held, build, other))
+}
+
+// The number of pages that all builds hold together.
+fn all_held(held: &PagesHeld) -> usize
+    ensures { result ≡ sum held.now }
+{
+    let mut all: usize = 0;
+    for pages in held {
+        all += usize::from(*pages);
+    }
+    all
+}
+
+impl TurnQuestion {
+    /// Whether a turn answers it, by the end of its step and by what each of `builds` builds holds after it.
+    pub(crate) fn is_answer(&self, builds: usize, end: Option<EndOfStep>, held: &PagesHeld) -> bool
+        ensures { result ≡ is_answer builds self.now end held.now }
+    {
+        match *self {
+            TurnQuestion::Refused { build, step } => refuses_step(end, build, step),
+            TurnQuestion::Waiting { build } => {
+                waits(end, build) && has_other_at_rest(held, builds, build)
+            }
+            TurnQuestion::Leased { granules } => granules <= all_held(held),
+        }
+    }
+}
+
+// The end of that number, if there is one.
+fn end_numbered(ends: &[EndOfStep], number: Option<usize>) -> Option<EndOfStep>
+    ensures { result ≡ end_numbered ends.now number }
+{
+    ends.get(number?).copied()
+}
+
+/// An answer to a question, by the ends of steps and by what builds hold, of which labels have the numbers.
+#[derive(Clone, Copy)]
+pub(crate) struct AnswerSign<'a> {
+    pub(crate) ends: &'a [EndOfStep],
+    pub(crate) held: &'a [PagesHeld],
+    pub(crate) builds: usize,
+    pub(crate) question: TurnQuestion,
+}
+
+impl Sign<Label> for AnswerSign<'_> {
+    ghost use Rattle.plan_states.specs.Questions.{is_answer_at};
+
+    ghost is_on = { λ sign label. is_answer_at sign.ends.now sign.held.now sign.builds sign.question label };
+
+    fn is_on(&self, label: &Label) -> bool {
+        let end = end_numbered(self.ends, label.end);
+        match self.held.get(label.held) {
+            Some(held) => self.question.is_answer(self.builds, end, held),
+            None => false,
+        }
+    }
+}
+
+/// How many pages each build of a host holds.
+pub(crate) fn pages_of_builds<S: PageStore>(host: &Host<S>) -> PagesHeld
+    ensures { result ≡ pages_of_builds host.now }
+{
+    [
+        pages_of(host, 0),
+        pages_of(host, 1),
+        pages_of(host, 2),
+        pages_of(host, 3),
+        pages_of(host, 4),
+        pages_of(host, 5),
+        pages_of(host, 6),
+        pages_of(host, 7),
+    ]
+}

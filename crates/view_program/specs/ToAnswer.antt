@@ -1,0 +1,54 @@
+-- The text of a plan with the shortest schedule that answers a question.
+use Rattle.std.specs.Prelude.{◌≡◌, ◌⊎◌, ℕ, List, [], ◌∷◌, ◌++◌, codes, Ok}
+use Rattle.std.specs.Fmt.{decimal}
+use Rattle.realm_plan.specs.Plan.{Plan, plan_of}
+use Rattle.plan_states.specs.Shortest.{EndsWithAnswer, IsNever, IsShortest}
+use Rattle.plan_states.specs.StatesText.{too_many_line}
+use Rattle.plan_states.specs.declared.question.TurnQuestion.{TurnQuestion}
+use Rattle.plan_states.specs.declared.question.TurnQuestion.TheVariants as search
+use Rattle.command_line.specs.declared.realmview.ScheduleQuestion.{ScheduleQuestion}
+use Rattle.command_line.specs.declared.realmview.ScheduleQuestion.TheVariants.{Refused, Waiting, Leased}
+
+-- the question of the search
+abbrev pub question_of_options : ScheduleQuestion → TurnQuestion
+question_of_options (Refused place) = search.Refused place.build place.step
+question_of_options (Waiting build) = search.Waiting build
+question_of_options (Leased granules) = search.Leased granules
+
+-- ---- the line that says that no schedule answers the question
+
+abbrev pub never_refused_step_line : ℕ → ℕ → List ℕ
+never_refused_step_line build step = codes "step " ++ (decimal build ++ (32 ∷ decimal step ++ codes " refused in 0\n"))
+
+abbrev pub never_waiting_line : ℕ → List ℕ
+never_waiting_line build = codes "build " ++ (decimal build ++ codes " waiting in 0\n")
+
+abbrev pub never_leased_line : ℕ → List ℕ
+never_leased_line granules = codes "leased " ++ (decimal granules ++ codes " in 0\n")
+
+abbrev pub never_line : ScheduleQuestion → List ℕ
+never_line (Refused place) = never_refused_step_line place.build place.step
+never_line (Waiting build) = never_waiting_line build
+never_line (Leased granules) = never_leased_line granules
+
+-- ---- texts
+
+-- The text is a plan with this schedule, whose last turn answers the question.
+pub record IsPlanTo (question : TurnQuestion) (order text : List ℕ) : Type 0 where
+  pub read : Plan
+  pub is_plan : plan_of text ≡ Ok read
+  pub has_order : read.order ≡ order
+  pub answers : EndsWithAnswer read question order
+
+-- such a plan with the shortest schedule of the given one
+pub record IsShortestPlan (most : ℕ) (question : TurnQuestion) (plan : Plan) (text : List ℕ) : Type 0 where
+  pub order : List ℕ
+  pub shortest : IsShortest plan most question order
+  pub is_plan : IsPlanTo question order text
+
+-- such a plan, or the line that there is none, or that there are more states
+abbrev pub IsAnswerText : ℕ → ScheduleQuestion → Plan → List ℕ → Type 0
+IsAnswerText most asked plan text =
+    IsShortestPlan most (question_of_options asked) plan text
+    ⊎ ((IsNever plan most (question_of_options asked) × (text ≡ never_line asked))
+    ⊎ (text ≡ too_many_line most))

@@ -1,0 +1,142 @@
+//! The plan with the shortest schedule that answers a question.
+ghost use Rattle.std.specs.Prelude.{◌≡◌, true, IfOk, IfErr, string_bytes};
+ghost use Rattle.realm_plan.specs.PlanView.{plan_view};
+ghost use Rattle.plan_states.specs.Exploration.{HasNoGraph};
+ghost use Rattle.plan_states.specs.Shortest.{EndsWithAnswer};
+ghost use Rattle.view_program.specs.ToAnswer.{
+  never_leased_line,
+  never_line,
+  never_refused_step_line,
+  never_waiting_line,
+  question_of_options,
+  IsAnswerText,
+  IsPlanTo,
+};
+
+use crate::plan_order::with_order;
+use command_line::realmview::{ScheduleQuestion, StepPlace};
+use plan_states::{TurnQuestion, Witness, answers, shortest_answer, too_many_text};
+use realm_plan::{Plan, PlanError};
+use realm_program::Fault;
+use std::alloc::{AllocError, Global};
+
+// The question of the search, by that of the command line.
+fn question_of_options(asked: ScheduleQuestion) -> TurnQuestion
+    ensures { result ≡ question_of_options asked }
+{
+    match asked {
+        ScheduleQuestion::Refused(place) => TurnQuestion::Refused {
+            build: place.build as usize,
+            step: place.step as usize,
+        },
+        ScheduleQuestion::Waiting(build) => TurnQuestion::Waiting {
+            build: build as usize,
+        },
+        ScheduleQuestion::Leased(granules) => TurnQuestion::Leased {
+            granules: granules as usize,
+        },
+    }
+}
+
+// Whether a plan has this schedule, and its last turn answers the question.
+fn goes_to(
+    alloc: Global,
+    plan: &Plan,
+    order: &[usize],
+    question: TurnQuestion,
+) -> Result<bool, Fault>
+    ensures ok { IfOk result (λ goes. goes ≡ true
+        → ((plan_view plan.now).order ≡ order.now) × EndsWithAnswer (plan_view plan.now) question order.now) }
+    ensures err { IfErr result HasNoGraph }
+{
+    let own: Vec<usize> = plan
+        .order
+        .iter()
+        .map(|build| build.number() as usize)
+        .collect(alloc)?;
+    if own.as_slice() != order {
+        return Ok(false);
+    }
+    answers(alloc, plan, order, question)
+}
+
+// The text of a plan with this schedule, read back: it has to be a plan whose last turn answers the question.
+fn plan_to(
+    alloc: Global,
+    source: &[u8],
+    order: &[usize],
+    question: TurnQuestion,
+) -> Result<Vec<u8>, Fault>
+    ensures ok { IfOk result (λ text. IsPlanTo question order.now text.items) }
+    ensures err { IfErr result HasNoGraph }
+{
+    let text = with_order(alloc, source, order)?;
+    match Plan::from_bytes(alloc, &text) {
+        Ok(plan) if goes_to(alloc, &plan, order, question)? => Ok(text),
+        Err(PlanError::Memory) => Err(Fault::Memory),
+        _ => Err(Fault::Mismatch),
+    }
+}
+
+// The line that says that a step is refused in no schedule.
+fn never_refused_text(alloc: Global, build: u32, step: u32) -> Result<String, AllocError>
+    ensures { IfOk result (λ text. string_bytes text ≡ never_refused_step_line build step) }
+{
+    let mut text = String::new(alloc);
+    writeln!(text, "step {build} {step} refused in 0")?;
+    Ok(text)
+}
+
+// The line that says that a build waits in no schedule while another holds nothing.
+fn never_waiting_text(alloc: Global, build: u32) -> Result<String, AllocError>
+    ensures { IfOk result (λ text. string_bytes text ≡ never_waiting_line build) }
+{
+    let mut text = String::new(alloc);
+    writeln!(text, "build {build} waiting in 0")?;
+    Ok(text)
+}
+
+// The line that says that in no schedule so many granules are leased.
+fn never_leased_text(alloc: Global, granules: u32) -> Result<String, AllocError>
+    ensures { IfOk result (λ text. string_bytes text ≡ never_leased_line granules) }
+{
+    let mut text = String::new(alloc);
+    writeln!(text, "leased {granules} in 0")?;
+    Ok(text)
+}
+
+// The line that says that no schedule answers the question.
+fn never_text(alloc: Global, asked: ScheduleQuestion) -> Result<String, AllocError>
+    ensures { IfOk result (λ text. string_bytes text ≡ never_line asked) }
+{
+    match asked {
+        ScheduleQuestion::Refused(StepPlace { build, step }) => {
+            never_refused_text(alloc, build, step)
+        }
+        ScheduleQuestion::Waiting(build) => never_waiting_text(alloc, build),
+        ScheduleQuestion::Leased(granules) => never_leased_text(alloc, granules),
+    }
+}
+
+/// The text of a plan with the shortest schedule whose last turn answers a question. If there is none, or if there are
+/// more than `most` states, the line that says so.
+///
+/// Errors. `Memory`: allocation failed. `Mismatch`: with its new schedule the plan has more than 1,048,576 bytes. Or a
+/// run does not go on as another one said, which never happens on a host that gives the same answers to the same calls.
+pub(crate) fn answer_text(
+    alloc: Global,
+    plan: &Plan,
+    source: &[u8],
+    most: u32,
+    asked: ScheduleQuestion,
+) -> Result<Vec<u8>, Fault>
+    ensures ok { IfOk result (λ text. IsAnswerText most asked (plan_view plan.now) text.items) }
+    ensures err { IfErr result HasNoGraph }
+{
+    let question = question_of_options(asked);
+    match shortest_answer(alloc, plan, most as usize, question)? {
+        Witness::Found(order) => plan_to(alloc, source, &order, question),
+        Witness::Never => Ok(never_text(alloc, asked)?.into_bytes()),
+        Witness::TooMany => Ok(too_many_text(alloc, most as usize)?.into_bytes()),
+    }
+}
