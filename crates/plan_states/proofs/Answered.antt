@@ -7,9 +7,9 @@ use Rattle.host_commands.specs.declared.refusal.Refusal.{Refusal}
 use Rattle.host_ledger.specs.View.{HostView, pages_of_build}
 use Rattle.realm_plan.specs.Plan.{Plan}
 use Rattle.plan_replay.specs.Run.{Position}
-use Rattle.plan_states.specs.Questions.{has_other_at_rest, is_answer, is_at_rest, is_of_shared, is_other_with, waits}
+use Rattle.plan_states.specs.Questions.{pages_of_builds, has_other_at_rest, is_answer, is_at_rest, is_of_shared, is_other_with, waits}
 use Rattle.plan_states.specs.Reached.{IsReached}
-use Rattle.plan_states.specs.Shortest.{pages_of_builds, EndsWithAnswer, IsRefusal, IsWait, Shows}
+use Rattle.plan_states.specs.Shortest.{EndsWithAnswer, IsRefusal, IsWait, Shows}
 use Rattle.plan_states.specs.Signs.{refuses_step}
 use Rattle.plan_states.specs.Turned.{end_taken}
 use Rattle.plan_states.specs.TurnTaken.{IsTurnTaken}

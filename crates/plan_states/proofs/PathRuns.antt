@@ -3,10 +3,12 @@ use Rattle.std.proofs.Common.{◌≡◌, ℕ, zero, suc, ◌+◌, ◌<◌, List,
 use Rattle.std.specs.Prelude.{slice_get, is_some, Vec, vec_items}
 use Rattle.std.specs.declared.alloc.Global.{Global}
 use Rattle.std.specs.declared.string.String.{String}
+use Rattle.std.specs.List.{range_with_len}
 use Rattle.std.proofs.lemmas.List.{length-map}
 use Rattle.std.proofs.lemmas.List.Elements.{All-contains}
 use Rattle.std.proofs.lemmas.Option.{none-some, same_Some, slice_get_within, get_or_from_slice_get}
 use Rattle.realm_plan.specs.Plan.{Plan}
+use Rattle.realm_host.proofs.Interleaved.{are_indistinguishable}
 use Rattle.realm_program.specs.Replay.{opening_host}
 use Rattle.plan_replay.specs.Run.{Position, start, place_of}
 use Rattle.schedule_graph.specs.First.{layers_in}
@@ -16,6 +18,7 @@ use Rattle.schedule_graph.specs.declared.graph.Edge.{Edge}
 use Rattle.schedule_graph.proofs.Graphs.{same_on}
 use Rattle.schedule_graph.proofs.Kept.{progress_at}
 use Rattle.schedule_graph.proofs.States.{turn_too, same_step, same_text}
+use Rattle.plan_states.specs.Questions.{pages_of_builds}
 use Rattle.plan_states.specs.RunLog.{snapshot_at, AreEdgesLogged, IsComplete, IsEdgeLogged, IsLog, IsLogged, IsSnapshotOfRun, IsShownBy}
 use Rattle.plan_states.specs.Runs.{IsLabelled, IsMapNamed, IsRunAlong, IsRunFromBoot, ArePathsRuns}
 use Rattle.plan_states.specs.Snapshots.{seen_at}
@@ -47,9 +50,9 @@ shown_by_alike plan snapshots number one other here there =
 -- ---- a turn, from any position that is the same state
 
 -- the turn of a label can be taken here too, and leads to the same state
-record IsAlsoLabelled (plan : Plan) (ends : List EndOfStep) (maps : List (String Global)) (other : Position) (label : Label) (to : Position) : Type 0 where
+record IsAlsoLabelled (plan : Plan) (ends : List EndOfStep) (held : List (List ℕ)) (maps : List (String Global)) (other : Position) (label : Label) (to : Position) : Type 0 where
   then : Position
-  labelled : IsLabelled plan ends maps other label then
+  labelled : IsLabelled plan ends held maps other label then
   same : AreOneState to then
 
 done_alike : (one other : Position) → AreOneState one other → (build : ℕ) → (place_of other.places build).done ≡ (place_of one.places build).done
@@ -62,9 +65,14 @@ map_too plan maps (Some number) one other same (over, text) = (
   text ∙ ap (λ (t : List ℕ). Some t) (sym (same_text one other same)),
 )
 
-module _ (plan : Plan) (ends : List EndOfStep) (maps : List (String Global)) where
-  also_labelled : (one other : Position) (label : Label) (to : Position) → AreOneState one other → IsLabelled plan ends maps one label to
-      → IsAlsoLabelled plan ends maps other label to
+same_pages : (one other : Position) → AreOneState one other → pages_of_builds other.host ≡ pages_of_builds one.host
+same_pages one other same =
+    let alike = are_indistinguishable one.host other.host same.hosts.same in
+    λ i. map (λ (build : ℕ). length (alike.pages build i)) (range_with_len 0 8)
+
+module _ (plan : Plan) (ends : List EndOfStep) (held : List (List ℕ)) (maps : List (String Global)) where
+  also_labelled : (one other : Position) (label : Label) (to : Position) → AreOneState one other → IsLabelled plan ends held maps one label to
+      → IsAlsoLabelled plan ends held maps other label to
   also_labelled one other label to same is =
       let too = turn_too one other same plan is.taken.turn to is.is_taken.is_turn in
       record {
@@ -78,6 +86,7 @@ module _ (plan : Plan) (ends : List EndOfStep) (maps : List (String Global)) whe
             after = is.is_taken.after ∙ sym (done_alike to too.then too.same label.build);
           };
           is_end = is.is_end;
+          is_held = is.is_held ∙ ap (λ (h : List ℕ). Some h) (sym (same_pages to too.then too.same));
           is_map = map_too plan maps label.map to too.then too.same is.is_map;
         };
         same = too.same;
@@ -95,7 +104,7 @@ module _ (plan : Plan) (ends : List EndOfStep) (maps : List (String Global)) whe
       at : Position
       after : Position
       before : IsShownAt from at
-      labelled : IsLabelled plan ends maps at label after
+      labelled : IsLabelled plan ends held maps at label after
       leads : IsShownAt to after
 
     shown_at_alike : (number : Option ℕ) (one other : Position) → IsShownAt number one → IsShownAt number other → AreOneState one other
@@ -110,18 +119,18 @@ module _ (plan : Plan) (ends : List EndOfStep) (maps : List (String Global)) whe
         → (edge : Edge Label) → IsIn edge edges → IsEdgeRun (number depth state) (number (suc depth) edge.to) edge.label
 
     runs_along : (layers : List (Layer Label)) (number : ℕ → ℕ → Option ℕ) → AreEdgesRun number layers → (state : ℕ) (at q : Position)
-        → IsShownAt (number zero state) at → AreOneState at q → (path : Path Label) → IsIn path (paths layers state) → IsRunAlong plan ends maps q path
+        → IsShownAt (number zero state) at → AreOneState at q → (path : Path Label) → IsIn path (paths layers state) → IsRunAlong plan ends held maps q path
     runs_along [] number run state at q shown same path is = absurd is
     runs_along (layer ∷ layers) number run state at q shown same path is =
         elim (slice_get layer state) as (λ o. slice_get layer state ≡ o
-        → IsIn path (elim o [ Some edges ↦ paths_by_edges (paths layers) edges | None ↦ [] ]) → IsRunAlong plan ends maps q path) [
-          | Some edges ↦ λ there inside. elim (of_by_edges (paths layers) edges path inside) as (λ _. IsRunAlong plan ends maps q path) [
-            | inl none ↦ subst (IsRunAlong plan ends maps q) (sym none.1) tt
+        → IsIn path (elim o [ Some edges ↦ paths_by_edges (paths layers) edges | None ↦ [] ]) → IsRunAlong plan ends held maps q path) [
+          | Some edges ↦ λ there inside. elim (of_by_edges (paths layers) edges path inside) as (λ _. IsRunAlong plan ends held maps q path) [
+            | inl none ↦ subst (IsRunAlong plan ends held maps q) (sym none.1) tt
             | inr by ↦
                 let edge = run zero state layer edges refl there by.edge by.is_in in
                 let here = same_on edge.at at q (shown_at_alike (number zero state) edge.at at edge.before shown) same in
                 let moved = also_labelled edge.at q by.edge.label edge.after here edge.labelled in
-                subst (IsRunAlong plan ends maps q) (sym by.is_path) (
+                subst (IsRunAlong plan ends held maps q) (sym by.is_path) (
                   moved.then,
                   moved.labelled,
                   runs_along layers (λ depth. number (suc depth)) (λ depth. run (suc depth)) by.edge.to edge.after moved.then edge.leads moved.same by.rest by.goes_on,
@@ -138,23 +147,23 @@ layer_is [] depth layer there = absurd (none-some layer there)
 layer_is (first ∷ layers) zero layer there = sym (same_Some (map vec_items (vec_items first)) layer there)
 layer_is (first ∷ layers) (suc depth) layer there = layer_is layers depth layer there
 
-module _ (plan : Plan) (graph : Graph) (log : RunLog) (visits : List (Vec Visit Global)) (is_log : IsLog plan graph.ends.items graph.maps.items log)
+module _ (plan : Plan) (graph : Graph) (log : RunLog) (visits : List (Vec Visit Global)) (is_log : IsLog plan graph.ends.items graph.held.items graph.maps.items log)
     (complete : IsComplete graph log.turns.items visits) where
   edge_run : (from to : Option ℕ) (label : Label) → IsEdgeLogged log.turns.items from to label
-      → IsEdgeRun plan graph.ends.items graph.maps.items log.snapshots.items from to label
+      → IsEdgeRun plan graph.ends.items graph.held.items graph.maps.items log.snapshots.items from to label
   edge_run from to label is =
       let inside = slice_get_within log.turns.items is.number is.turn is.is_there in
-      let it = subst (IsLogged plan graph.ends.items graph.maps.items log.snapshots.items)
+      let it = subst (IsLogged plan graph.ends.items graph.held.items graph.maps.items log.snapshots.items)
       (get_or_from_slice_get log.turns.items is.number is.turn is.turn is.is_there) (is_log.turns is.number is.turn inside) in
       record {
         at = it.at;
         after = it.to;
         before = record { which = is.turn.from; is = is.leaves; by = it.before };
-        labelled = subst (λ l. IsLabelled plan graph.ends.items graph.maps.items it.at l it.to) is.same it.labelled;
+        labelled = subst (λ l. IsLabelled plan graph.ends.items graph.held.items graph.maps.items it.at l it.to) is.same it.labelled;
         leads = record { which = is.turn.to; is = is.leads; by = it.after };
       }
 
-  edges_run : AreEdgesRun plan graph.ends.items graph.maps.items log.snapshots.items (snapshot_at visits) (layers_of graph)
+  edges_run : AreEdgesRun plan graph.ends.items graph.held.items graph.maps.items log.snapshots.items (snapshot_at visits) (layers_of graph)
   edges_run depth state layer edges at_depth at_state edge is =
       let layer_here : layer ≡ map vec_items (layer_at graph depth) = layer_is graph.layers.items depth layer at_depth in
       let within = slice_get_within (layers_of graph) depth layer at_depth in
@@ -173,5 +182,5 @@ module _ (plan : Plan) (graph : Graph) (log : RunLog) (visits : List (Vec Visit 
   paths_run =
       let boot = start (opening_host plan) in
       all_in (IsRunFromBoot plan graph) (paths_of graph)
-      (runs_along plan graph.ends.items graph.maps.items log.snapshots.items (layers_of graph) (snapshot_at visits) edges_run 0 boot boot
+      (runs_along plan graph.ends.items graph.held.items graph.maps.items log.snapshots.items (layers_of graph) (snapshot_at visits) edges_run 0 boot boot
       (record { which = 0; is = complete.start; by = is_log.boot }) (shown_by_alike plan log.snapshots.items 0 boot boot is_log.boot is_log.boot))

@@ -49,8 +49,8 @@ module _ (plan : Plan) (old new : List Snapshot) (snapshot : Snapshot) (more : A
   shown_more : (number : ℕ) (at : Position) → IsShownBy plan old number at → IsShownBy plan new number at
   shown_more number at is = record { it = is.it; is_there = slice_get_with old new snapshot more number is.it is.is_there; shown = is.shown }
 
-  logged_more : (ends : List EndOfStep) (maps : List (String Global)) (turn : LoggedTurn) → IsLogged plan ends maps old turn → IsLogged plan ends maps new turn
-  logged_more ends maps turn is = record {
+  logged_more : (ends : List EndOfStep) (held : List (List ℕ)) (maps : List (String Global)) (turn : LoggedTurn) → IsLogged plan ends held maps old turn → IsLogged plan ends held maps new turn
+  logged_more ends held maps turn is = record {
     at = is.at;
     to = is.to;
     before = shown_more turn.from is.at is.before;
@@ -68,10 +68,10 @@ reached_by plan order at to build taken reached is = record {
   are_turns = AreTurns-more plan order (start (opening_host plan)) reached.turns at build taken.turn to reached.are_turns is.of_build is.is_turn;
 }
 
-module _ (plan : Plan) (ends : List EndOfStep) (maps : List (String Global)) (snapshots more : List Snapshot) (turns : List LoggedTurn) (snapshot : Snapshot)
+module _ (plan : Plan) (ends : List EndOfStep) (held : List (List ℕ)) (maps : List (String Global)) (snapshots more : List Snapshot) (turns : List LoggedTurn) (snapshot : Snapshot)
     (label : Label) (from to : ℕ) (at after : Position)
-    (boot : IsShownBy plan snapshots 0 (start (opening_host plan))) (logged : All (IsLogged plan ends maps snapshots) turns)
-    (before : IsShownBy plan snapshots from at) (labelled : IsLabelled plan ends maps at label after)
+    (boot : IsShownBy plan snapshots 0 (start (opening_host plan))) (logged : All (IsLogged plan ends held maps snapshots) turns)
+    (before : IsShownBy plan snapshots from at) (labelled : IsLabelled plan ends held maps at label after)
     (of_host : IsOfHost after) (builds : AreBuildsAt after 8 snapshot.builds.items)
     (with_it : AreWith snapshots (Some snapshot) more) (is_number : IsSnapshotNumber more to snapshot) where
   pub shown_after : IsShownBy plan more to after
@@ -82,15 +82,15 @@ module _ (plan : Plan) (ends : List EndOfStep) (maps : List (String Global)) (sn
     builds = builds;
   })
 
-  pub log_more : (log : RunLog) → log.snapshots.items ≡ more → log.turns.items ≡ turns ++ record { label = label; from = from; to = to } ∷ [] → IsLog plan ends maps log
+  pub log_more : (log : RunLog) → log.snapshots.items ≡ more → log.turns.items ≡ turns ++ record { label = label; from = from; to = to } ∷ [] → IsLog plan ends held maps log
   log_more log same longer =
       let turn : LoggedTurn = record { label = label; from = from; to = to } in
       record {
         boot = subst (λ l. IsShownBy plan l 0 (start (opening_host plan))) (sym same) (shown_more plan snapshots more snapshot with_it 0 (start (opening_host plan)) boot);
-        turns = subst (λ l. All (IsLogged plan ends maps l) log.turns.items) (sym same)
-            (subst (All (IsLogged plan ends maps more)) (sym longer)
-            (All-push (IsLogged plan ends maps more) turns turn
-            (λ k d less. logged_more plan snapshots more snapshot with_it ends maps (get_or turns k d) (logged k d less))
+        turns = subst (λ l. All (IsLogged plan ends held maps l) log.turns.items) (sym same)
+            (subst (All (IsLogged plan ends held maps more)) (sym longer)
+            (All-push (IsLogged plan ends held maps more) turns turn
+            (λ k d less. logged_more plan snapshots more snapshot with_it ends held maps (get_or turns k d) (logged k d less))
             (record {
               at = at;
               to = after;
@@ -106,16 +106,16 @@ no_turn : (plan : Plan) (at : Position) (turns : List Turn) → AreTurns plan []
 no_turn plan at [] are = are
 no_turn plan at (turn ∷ turns) are = absurd are
 
-pub booted_log : (plan : Plan) (ends : List EndOfStep) (maps : List (String Global)) (log : RunLog) (snapshot : Snapshot) (at : Position)
-    → IsReached plan [] at → IsOfHost at → AreBuildsAt at 8 snapshot.builds.items → log.snapshots.items ≡ snapshot ∷ [] → log.turns.items ≡ [] → IsLog plan ends maps log
-booted_log plan ends maps log snapshot at reached of_host builds only none = record {
+pub booted_log : (plan : Plan) (ends : List EndOfStep) (held : List (List ℕ)) (maps : List (String Global)) (log : RunLog) (snapshot : Snapshot) (at : Position)
+    → IsReached plan [] at → IsOfHost at → AreBuildsAt at 8 snapshot.builds.items → log.snapshots.items ≡ snapshot ∷ [] → log.turns.items ≡ [] → IsLog plan ends held maps log
+booted_log plan ends held maps log snapshot at reached of_host builds only none = record {
   boot = record {
     it = snapshot;
     is_there = ap (λ l. slice_get l 0) only;
     shown = subst (IsSnapshotOfRun plan snapshot) (no_turn plan at reached.turns reached.are_turns)
         (record { order = []; reached = reached; of_host = of_host; builds = builds });
   };
-  turns = subst (All (IsLogged plan ends maps log.snapshots.items)) (sym none) (All-nil (IsLogged plan ends maps log.snapshots.items));
+  turns = subst (All (IsLogged plan ends held maps log.snapshots.items)) (sym none) (All-nil (IsLogged plan ends held maps log.snapshots.items));
 }
 
 -- ---- numbers

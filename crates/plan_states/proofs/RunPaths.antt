@@ -21,11 +21,11 @@ record TurnsAlong (plan : Plan) (maps : List (String Global)) (before : Option �
   are_turns : AreTurns plan (builds_of_path path) from turns at
   is_map : IsMapNamed plan maps (last_map before path) at
 
-turns_along : (plan : Plan) (ends : List EndOfStep) (maps : List (String Global)) (before : Option ℕ) (from : Position) (path : Path Label)
-    → IsMapNamed plan maps before from → IsRunAlong plan ends maps from path → TurnsAlong plan maps before from path
-turns_along plan ends maps before from [] is_map run = record { at = from; turns = []; are_turns = refl; is_map = is_map }
-turns_along plan ends maps before from (edge ∷ path) is_map (to, labelled, run) =
-    let rest = turns_along plan ends maps edge.label.map to path labelled.is_map run in
+turns_along : (plan : Plan) (ends : List EndOfStep) (held : List (List ℕ)) (maps : List (String Global)) (before : Option ℕ) (from : Position) (path : Path Label)
+    → IsMapNamed plan maps before from → IsRunAlong plan ends held maps from path → TurnsAlong plan maps before from path
+turns_along plan ends held maps before from [] is_map run = record { at = from; turns = []; are_turns = refl; is_map = is_map }
+turns_along plan ends held maps before from (edge ∷ path) is_map (to, labelled, run) =
+    let rest = turns_along plan ends held maps edge.label.map to path labelled.is_map run in
     let is = labelled.is_taken in
     record {
       at = rest.at;
@@ -36,7 +36,7 @@ turns_along plan ends maps before from (edge ∷ path) is_map (to, labelled, run
 
 pub run_of : (plan : Plan) (graph : Graph) (path : Path Label) → IsRunFromBoot plan graph path → IsRunOf plan graph path
 run_of plan graph path run =
-    let it = turns_along plan graph.ends.items graph.maps.items None (start (opening_host plan)) path tt run in
+    let it = turns_along plan graph.ends.items graph.held.items graph.maps.items None (start (opening_host plan)) path tt run in
     record { at = it.at; reached = record { turns = it.turns; are_turns = it.are_turns }; is_map = it.is_map }
 
 pub run_on_path : (plan : Plan) (graph : Graph) (order : List ℕ) → ArePathsRuns plan graph → Contains (map builds_of_path (paths_of graph)) order

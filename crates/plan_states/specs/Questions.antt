@@ -1,13 +1,18 @@
 -- The questions for a schedule, and the turns that answer them.
-use Rattle.std.specs.Prelude.{ℕ, ◌==◌, nat_le, Bool, true, false, not, ◌&&◌, List, sum, Option, Some, None, slice_get}
+use Rattle.std.specs.Prelude.{ℕ, ◌==◌, nat_le, Bool, true, false, not, ◌&&◌, List, length, map, sum, Option, Some, None, slice_get}
 use Rattle.std.specs.List.{list_any, range_with_len}
 use Rattle.host_commands.specs.declared.refusal.Refusal.{Refusal}
 use Rattle.host_commands.specs.declared.refusal.Refusal.TheVariants.{NoBlock, NoVmid}
+use Rattle.host_ledger.specs.View.{HostView, pages_of_build}
 use Rattle.plan_states.specs.Signs.{refuses_step}
 use Rattle.plan_states.specs.declared.edges.Label.{Label}
 use Rattle.plan_states.specs.declared.question.TurnQuestion.{TurnQuestion}
 use Rattle.plan_states.specs.declared.question.TurnQuestion.TheVariants.{Refused, Waiting, Leased}
 use Rattle.plan_states.specs.declared.step_end.EndOfStep.{EndOfStep}
+
+-- how many pages each build of a host holds
+abbrev pub pages_of_builds : HostView → List ℕ
+pages_of_builds host = map (λ build. length (pages_of_build host build)) (range_with_len 0 8)
 
 -- ---- by the end of a turn's step, and the number of pages that each build holds after it
 

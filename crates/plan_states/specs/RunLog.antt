@@ -42,17 +42,17 @@ pub record IsSnapshotNumber (snapshots : List Snapshot) (number : ℕ) (snapshot
   pub same : AreSameBuilds 8 it.builds.items snapshot.builds.items
 
 -- a turn like its label leads from a position of the one snapshot to one of the other
-pub record IsLogged (plan : Plan) (ends : List EndOfStep) (maps : List (String Global)) (snapshots : List Snapshot) (turn : LoggedTurn) : Type 0 where
+pub record IsLogged (plan : Plan) (ends : List EndOfStep) (held : List (List ℕ)) (maps : List (String Global)) (snapshots : List Snapshot) (turn : LoggedTurn) : Type 0 where
   pub at : Position
   pub to : Position
   pub before : IsShownBy plan snapshots turn.from at
-  pub labelled : IsLabelled plan ends maps at turn.label to
+  pub labelled : IsLabelled plan ends held maps at turn.label to
   pub after : IsShownBy plan snapshots turn.to to
 
 -- The first snapshot is that of boot, and the turns are such turns.
-pub record IsLog (plan : Plan) (ends : List EndOfStep) (maps : List (String Global)) (log : RunLog) : Type 0 where
+pub record IsLog (plan : Plan) (ends : List EndOfStep) (held : List (List ℕ)) (maps : List (String Global)) (log : RunLog) : Type 0 where
   pub boot : IsShownBy plan log.snapshots.items 0 (start (opening_host plan))
-  pub turns : All (IsLogged plan ends maps log.snapshots.items) log.turns.items
+  pub turns : All (IsLogged plan ends held maps log.snapshots.items) log.turns.items
 
 -- ---- the edges that were run
 

@@ -6,6 +6,7 @@ use Rattle.realm_plan.specs.Plan.{Plan}
 use Rattle.plan_replay.specs.Run.{Position, start, map_text}
 use Rattle.realm_program.specs.Replay.{opening_host}
 use Rattle.schedule_graph.specs.Paths.{Path}
+use Rattle.plan_states.specs.Questions.{pages_of_builds}
 use Rattle.plan_states.specs.Reached.{IsReached, IsTurnAt, AreOver}
 use Rattle.plan_states.specs.Tallies.{builds_of_path, paths_of}
 use Rattle.plan_states.specs.Turned.{Taken, end_of}
@@ -24,22 +25,23 @@ IsMapNamed plan maps None at = Unit {0}
 IsMapNamed plan maps (Some number) at = AreOver plan at.places × (option_map string_bytes (slice_get maps number) ≡ Some (map_text at.host))
 
 -- A turn of the label's build leads from one position to the other. It ends its step as the label names it, or leaves it
--- under way. The label's map is that of the host after it.
-pub record IsLabelled (plan : Plan) (ends : List EndOfStep) (maps : List (String Global)) (at : Position) (label : Label) (to : Position) : Type 0 where
+-- under way. Builds hold what the label names after it, and the label's map is that of the host then.
+pub record IsLabelled (plan : Plan) (ends : List EndOfStep) (held : List (List ℕ)) (maps : List (String Global)) (at : Position) (label : Label) (to : Position) : Type 0 where
   pub taken : Taken
   pub is_taken : IsTurnAt plan at label.build taken to
   pub is_end : end_of taken ≡ end_named ends label.end
+  pub is_held : slice_get held label.held ≡ Some (pages_of_builds to.host)
   pub is_map : IsMapNamed plan maps label.map to
 
 -- The plan can be run from a position along a path, one turn after the other, with the ends and the map of the path.
 abbrev pub IsRunAlong : Plan → List EndOfStep → List (String Global) → Position → Path Label → Type 0
-IsRunAlong plan ends maps at [] = Unit {0}
-IsRunAlong plan ends maps at (edge ∷ path) =
-    (to : Position) × IsLabelled plan ends maps at edge.label to × IsRunAlong plan ends maps to path
+IsRunAlong plan ends held maps at [] = Unit {0}
+IsRunAlong plan ends held maps at (edge ∷ path) =
+    (to : Position) × IsLabelled plan ends held maps at edge.label to × IsRunAlong plan ends held maps to path
 
 -- from boot
 abbrev pub IsRunFromBoot : Plan → Graph → Path Label → Type 0
-IsRunFromBoot plan graph path = IsRunAlong plan graph.ends.items graph.maps.items (start (opening_host plan)) path
+IsRunFromBoot plan graph path = IsRunAlong plan graph.ends.items graph.held.items graph.maps.items (start (opening_host plan)) path
 
 -- Each path of the graph is a run of the plan from boot, with the path's own ends and its own map.
 abbrev pub ArePathsRuns : Plan → Graph → Type 0

@@ -1,6 +1,6 @@
 -- The shortest schedules that answer a question.
 use Rattle.std.specs.Prelude.{◌≡◌, ◌≢◌, ◌≤◌, ◌<◌, ℕ, ◌+◌, Bool, true, List, [], ◌∷◌, ◌++◌, length, map, sum, take, Vec, vec_items, option_map, Option, Some, None, slice_index_or}
-use Rattle.std.specs.List.{list_any, position, range_with_len}
+use Rattle.std.specs.List.{list_any, position}
 use Rattle.std.specs.declared.alloc.Global.{Global}
 use Rattle.host_commands.specs.declared.refusal.Refusal.{Refusal}
 use Rattle.host_ledger.specs.View.{HostView, pages_of_build}
@@ -9,7 +9,7 @@ use Rattle.plan_replay.specs.Run.{Position}
 use Rattle.schedule_graph.specs.Paths.{Layer, paths, shows}
 use Rattle.schedule_graph.specs.declared.graph.Edge.{Edge}
 use Rattle.plan_states.specs.Exploration.{IsGraphWithin}
-use Rattle.plan_states.specs.Questions.{is_answer_at, is_of_shared}
+use Rattle.plan_states.specs.Questions.{is_answer_at, is_of_shared, pages_of_builds}
 use Rattle.plan_states.specs.Reached.{IsReached, IsTurnAt}
 use Rattle.plan_states.specs.Tallies.{PathCount, layers_of, tally_of}
 use Rattle.plan_states.specs.Turned.{Taken, end_of}
@@ -22,10 +22,6 @@ use Rattle.plan_states.specs.declared.shortest.Witness.TheVariants.{Found, Never
 use Rattle.plan_states.specs.declared.step_end.EndOfStep.{EndOfStep}
 
 -- ---- runs
-
--- how many pages each build holds
-abbrev pub pages_of_builds : HostView → List ℕ
-pages_of_builds host = map (λ build. length (pages_of_build host build)) (range_with_len 0 8)
 
 -- The step of the build is used up, and refused.
 pub record IsRefusal (build step : ℕ) (end : Option EndOfStep) : Type 0 where

@@ -1,7 +1,6 @@
 //! The questions for a schedule, and the turns that answer them.
 ghost use Rattle.std.specs.Prelude.{◌≡◌, sum};
-ghost use Rattle.plan_states.specs.Questions.{is_answer, is_at_rest, is_of_shared, has_other_at_rest, waits, end_numbered};
-ghost use Rattle.plan_states.specs.Shortest.{pages_of_builds};
+ghost use Rattle.plan_states.specs.Questions.{is_answer, is_at_rest, is_of_shared, has_other_at_rest, pages_of_builds, waits, end_numbered};
 ghost use Rattle.plan_states.specs.Signs.{refuses_step};
 
 use crate::edges::Label;

@@ -1,10 +1,11 @@
 //! The log of runs: the turns that were run along a graph, each between two snapshots.
-ghost use Rattle.std.specs.Prelude.{◌≡◌, true, [], OnOk, IfOk, IfErr, List, Some};
+ghost use Rattle.std.specs.Prelude.{◌≡◌, true, [], ℕ, OnOk, IfOk, IfErr, List, Some, slice_get};
 ghost use Rattle.std.specs.Bool.{OnTrue};
 ghost use Rattle.std.specs.declared.alloc.Global.{Global};
 ghost use Rattle.std.specs.declared.string.String.{String};
 ghost use Rattle.realm_plan.specs.PlanView.{plan_view};
 ghost use Rattle.plan_states.specs.Exploration.{HasNoGraph};
+ghost use Rattle.plan_states.specs.Questions.{pages_of_builds};
 ghost use Rattle.plan_states.specs.Runs.{end_named, IsLabelled, IsMapNamed};
 ghost use Rattle.plan_states.specs.RunLog.{position_of, IsLog, IsSnapshotNumber, IsShownBy};
 ghost use Rattle.plan_states.specs.Turned.{end_taken, AreWith};
@@ -12,6 +13,7 @@ ghost use Rattle.plan_states.specs.declared.step_end.EndOfStep.{EndOfStep};
 
 use crate::edges::Label;
 use crate::graph::{Graph, push};
+use crate::question::{PagesHeld, pages_of_builds};
 use crate::running::{Running, TurnTaken, has_more, run_to, take};
 use crate::snapshot::{Snapshot, is_same, snapshot_of};
 use crate::step_end::EndOfStep;
@@ -63,6 +65,23 @@ fn has_end(ends: &[EndOfStep], build: usize, taken: &TurnTaken, end: Option<usiz
     is_same_end(&end, named)
 }
 
+// Whether builds hold the same.
+fn is_same_held(one: &PagesHeld, other: &PagesHeld) -> bool
+    ensures { OnTrue result (one.now ≡ other.now) }
+{
+    one == other
+}
+
+// Whether builds hold what a label names.
+fn has_held(all: &[PagesHeld], running: &Running, held: usize) -> bool
+    ensures { OnTrue result (slice_get all.now held ≡ Some (pages_of_builds running.now.host)) }
+{
+    match all.get(held) {
+        Some(named) => is_same_held(named, &pages_of_builds(&running.host)),
+        None => false,
+    }
+}
+
 // Whether no build has a step left, and the map is the one that a label names, if it names one.
 fn has_map(
     alloc: Global,
@@ -95,12 +114,15 @@ fn take_labelled(
     label: Label,
 ) -> Result<bool, AllocError>
     ensures { IfOk result (λ is. OnTrue is
-        (IsLabelled (plan_view plan.now) graph.now.ends.items graph.now.maps.items (position_of running.old) label (position_of running.new))) }
+        (IsLabelled (plan_view plan.now) graph.now.ends.items graph.now.held.items graph.now.maps.items (position_of running.old) label (position_of running.new))) }
 {
     let Some(taken) = take(&mut running.host, plan, &mut running.places, label.build) else {
         return Ok(false);
     };
     if !has_end(&graph.ends, label.build, &taken, label.end) {
+        return Ok(false);
+    }
+    if !has_held(&graph.held, running, label.held) {
         return Ok(false);
     }
     has_map(alloc, plan, &graph.maps, running, label.map)
@@ -109,7 +131,7 @@ fn take_labelled(
 impl RunLog {
     /// The log of no turn, with the snapshot at boot.
     pub(crate) fn boot(alloc: Global, plan: &Plan) -> Result<RunLog, Fault>
-        ensures ok { IfOk result (λ log. (ends : List EndOfStep) (maps : List (String Global)) → IsLog (plan_view plan.now) ends maps log) }
+        ensures ok { IfOk result (λ log. (ends : List EndOfStep) (held : List (List ℕ)) (maps : List (String Global)) → IsLog (plan_view plan.now) ends held maps log) }
         ensures err { IfErr result HasNoGraph }
     {
         let running = run_to(alloc, plan, &[])?;
@@ -185,9 +207,9 @@ impl RunLog {
         label: Label,
         known: Option<usize>,
     ) -> Result<usize, Fault>
-        requires log { IsLog (plan_view plan.now) graph.now.ends.items graph.now.maps.items self.old }
+        requires log { IsLog (plan_view plan.now) graph.now.ends.items graph.now.held.items graph.now.maps.items self.old }
         requires at { IsShownBy (plan_view plan.now) self.old.snapshots.items from (position_of running.old) }
-        ensures log { OnOk result (IsLog (plan_view plan.now) graph.now.ends.items graph.now.maps.items self.new) }
+        ensures log { OnOk result (IsLog (plan_view plan.now) graph.now.ends.items graph.now.held.items graph.now.maps.items self.new) }
         ensures at { IfOk result (λ to. IsShownBy (plan_view plan.now) self.new.snapshots.items to (position_of running.new)) }
         ensures err { IfErr result HasNoGraph }
     {

@@ -95,7 +95,7 @@ fn unvisited(alloc: Global, count: usize) -> Result<Vec<Visit>, AllocError> {
 impl Walk {
     // No run: the first state has the snapshot at boot.
     fn new(alloc: Global, plan: &Plan, graph: &Graph) -> Result<Walk, Fault>
-        ensures ok { IfOk result (λ walk. IsLog (plan_view plan.now) graph.now.ends.items graph.now.maps.items walk.log) }
+        ensures ok { IfOk result (λ walk. IsLog (plan_view plan.now) graph.now.ends.items graph.now.held.items graph.now.maps.items walk.log) }
         ensures err { IfErr result HasNoGraph }
     {
         let log = RunLog::boot(alloc, plan)?;
@@ -193,9 +193,9 @@ impl Walk {
         start: usize,
         snapshot: usize,
     ) -> Result<(), Fault>
-        requires log { IsLog (plan_view plan.now) graph.now.ends.items graph.now.maps.items self.old.log }
+        requires log { IsLog (plan_view plan.now) graph.now.ends.items graph.now.held.items graph.now.maps.items self.old.log }
         requires at { IsShownBy (plan_view plan.now) self.old.log.snapshots.items snapshot (position_of running.old) }
-        ensures ok { OnOk result (IsLog (plan_view plan.now) graph.now.ends.items graph.now.maps.items self.new.log) }
+        ensures ok { OnOk result (IsLog (plan_view plan.now) graph.now.ends.items graph.now.held.items graph.now.maps.items self.new.log) }
         ensures err { IfErr result HasNoGraph }
     {
         let mut at = snapshot;
@@ -226,8 +226,8 @@ impl Walk {
         depth: usize,
         state: usize,
     ) -> Result<(), Fault>
-        requires { IsLog (plan_view plan.now) graph.now.ends.items graph.now.maps.items self.old.log }
-        ensures ok { OnOk result (IsLog (plan_view plan.now) graph.now.ends.items graph.now.maps.items self.new.log) }
+        requires { IsLog (plan_view plan.now) graph.now.ends.items graph.now.held.items graph.now.maps.items self.old.log }
+        ensures ok { OnOk result (IsLog (plan_view plan.now) graph.now.ends.items graph.now.held.items graph.now.maps.items self.new.log) }
         ensures err { IfErr result HasNoGraph }
     {
         let Some(at) = self.snapshot_at(depth, state) else {
@@ -240,8 +240,8 @@ impl Walk {
 
     // Runs along all edges, layer by layer.
     fn run_all(&mut self, alloc: Global, plan: &Plan, graph: &Graph) -> Result<(), Fault>
-        requires { IsLog (plan_view plan.now) graph.now.ends.items graph.now.maps.items self.old.log }
-        ensures ok { OnOk result (IsLog (plan_view plan.now) graph.now.ends.items graph.now.maps.items self.new.log) }
+        requires { IsLog (plan_view plan.now) graph.now.ends.items graph.now.held.items graph.now.maps.items self.old.log }
+        ensures ok { OnOk result (IsLog (plan_view plan.now) graph.now.ends.items graph.now.held.items graph.now.maps.items self.new.log) }
         ensures err { IfErr result HasNoGraph }
     {
         for depth in 0..graph.layers.len() {

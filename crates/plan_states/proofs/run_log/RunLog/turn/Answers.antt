@@ -8,7 +8,7 @@ use Rattle.plan_states.proofs.run_log.RunLog.turn.Goals as goal
 
 pub returns-clause-log : goal.returns-clause-log
 returns-clause-log c =
-    log_more (plan_view c.args.plan.now) c.args.graph.now.ends.items c.args.graph.now.maps.items c.args.self.now.snapshots.items
+    log_more (plan_view c.args.plan.now) c.args.graph.now.ends.items c.args.graph.now.held.items c.args.graph.now.maps.items c.args.self.now.snapshots.items
     c.number_of.new.self.snapshots.items c.args.self.now.turns.items c.in_ok-snapshot.snapshot c.args.label c.args.from c.in_ok-to.to
     (position_of c.args.running.now) (position_of c.take_labelled.new.running) c.requires.log.boot c.requires.log.turns c.requires.at
     (OnTrue_at c.if-not-branch.false c.in_ok-take_labelled.ensures) c.in_ok-snapshot.ensures.of_host c.in_ok-snapshot.ensures.builds
@@ -19,7 +19,7 @@ returns-clause-log c =
 
 pub returns-clause-at : goal.returns-clause-at
 returns-clause-at c =
-    shown_after (plan_view c.args.plan.now) c.args.graph.now.ends.items c.args.graph.now.maps.items c.args.self.now.snapshots.items
+    shown_after (plan_view c.args.plan.now) c.args.graph.now.ends.items c.args.graph.now.held.items c.args.graph.now.maps.items c.args.self.now.snapshots.items
     c.number_of.new.self.snapshots.items c.args.self.now.turns.items c.in_ok-snapshot.snapshot c.args.label c.args.from c.in_ok-to.to
     (position_of c.args.running.now) (position_of c.take_labelled.new.running) c.requires.log.boot c.requires.log.turns c.requires.at
     (OnTrue_at c.if-not-branch.false c.in_ok-take_labelled.ensures) c.in_ok-snapshot.ensures.of_host c.in_ok-snapshot.ensures.builds
