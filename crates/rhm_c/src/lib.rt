@@ -19,7 +19,6 @@ mod held;
 mod history;
 mod marks;
 mod open;
-mod parts;
 mod placed_host;
 mod prepare;
 mod reading;
