@@ -12,6 +12,7 @@ mod abort;
 mod action;
 mod answer;
 mod asking;
+mod build_call;
 mod command;
 mod commit;
 mod handle;
