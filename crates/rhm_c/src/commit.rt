@@ -93,7 +93,7 @@ fn check_performed(actions: &[HostAction], answer: &FirmwareAnswer) -> Result<()
     Ok(())
 }
 
-// What the X0 of a call is said to be that the model refuses.
+// The answer to the X0 of a call that the model refuses.
 fn check_refused(refusal: &Refusal, x0: u64) -> CallAnswer
     ensures { result ≡ commits.check_refused x0 refusal.now }
 {
