@@ -312,9 +312,9 @@ def variants(path, name):
     return len(re.findall(r"^    [A-Z]\w*", inside, re.M))
 
 
-def unsafe_lines():
-    """How many lines the files with a block of unsafe code have."""
-    return sum(len(text.splitlines()) for path in BELOW_CRATES.glob("*/src/**/*.rt") if "unsafe {" in (text := path.read_text()))
+def unsafe_files():
+    """The texts of the files with a block of unsafe code."""
+    return [text for path in BELOW_CRATES.glob("*/src/**/*.rt") if "unsafe {" in (text := path.read_text())]
 
 
 ROW = BELOW_CRATES / "page_arena/src/row.rt"
@@ -324,7 +324,8 @@ COUNTS = {
     r"tries ([\d,]+) mutants": edits,
     r"definitions \(([\d,]+) lines": lambda: written("specs"),
     r"\b([\d,]+) lines of proofs": lambda: written("proofs"),
-    r"`unsafe` blocks are in three files of ([\d,]+) lines": unsafe_lines,
+    r"`unsafe` blocks are in (\w+) files": lambda: len(unsafe_files()),
+    r"`unsafe` blocks are in \w+ files of ([\d,]+) lines": lambda: sum(len(text.splitlines()) for text in unsafe_files()),
     r"`page_arena/src/row.rt`, a file of ([\d,]+) lines": lambda: len(ROW.read_text().splitlines()),
     r"and (\w+) `unsafe impl`": lambda: ROW.read_text().count("\nunsafe impl"),
     r"each of the (\w+) commands and an undo": lambda: variants("host_commands/src/cmd.rt", "Cmd"),

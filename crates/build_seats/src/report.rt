@@ -2,7 +2,7 @@
 use granule_addr::{BuildId, RecNo};
 use host_commands::{Refusal, Reply, Undone};
 
-/// The question of a line of a report.
+/// The question of a worker, in a line of its report.
 #[derive(Clone, Copy, PartialEq, Eq)]
 pub enum Asked {
     /// The step at that index of the plan, from 0.
@@ -13,7 +13,7 @@ pub enum Asked {
     Undo,
 }
 
-/// The answer of a line of a report.
+/// The answer to a worker, in a line of its report.
 #[derive(Clone, Copy, PartialEq, Eq)]
 pub enum Answer {
     /// The command was accepted.

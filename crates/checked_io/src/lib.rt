@@ -7,5 +7,5 @@
 mod lines;
 mod told;
 
-pub use lines::{LineError, Lines, Next};
-pub use told::{DeviceFailed, Told};
+pub use lines::{Lines, Next};
+pub use told::{DeviceFailed, ReadError, Told};

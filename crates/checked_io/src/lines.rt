@@ -2,28 +2,11 @@
 ghost use Rattle.std.specs.Prelude.{◌≡◌, ◌<◌, [], ◌∷◌, length, true, false, is_err, ◌↔◌, Err, IfOk, OnOk};
 ghost use Rattle.std.specs.Io.KnownBytes.{Consumes, IsAtEnd, prepend_known};
 ghost use Rattle.checked_io.specs.Lines.{IsNext};
-ghost use Rattle.checked_io.specs.declared.lines.LineError.TheVariants.{Device};
+ghost use Rattle.checked_io.specs.declared.told.ReadError.TheVariants.{Device};
 
-use crate::{DeviceFailed, Told};
+use crate::{DeviceFailed, ReadError, Told};
 use std::io::Read;
 use std::marker::Model;
-
-/// The reason why there is no next line.
-#[derive(Clone, Copy)]
-pub enum LineError {
-    /// Allocation failed.
-    Memory,
-    /// A read failed.
-    Device,
-}
-
-impl From<DeviceFailed> for LineError {
-    ghost from_gives = { λ _ error. error ≡ Device };
-
-    fn from(_error: DeviceFailed) -> LineError {
-        LineError::Device
-    }
-}
 
 /// The next item of an input: a line, or its end.
 #[derive(Clone, Copy)]
@@ -101,7 +84,7 @@ impl Lines {
         input: &mut Told<R>,
         most: u16,
         line: &mut Vec<u8>,
-    ) -> Result<Next, LineError>
+    ) -> Result<Next, ReadError>
         requires { input.old.failed ≡ false }
         ensures told { (input.new.failed ≡ true) ↔ (result ≡ Err Device) }
         ensures next { IfOk result (λ next. IsNext most (prepend_known self.old (R.remaining input.old.device)) next line.new.items
@@ -124,7 +107,7 @@ impl Lines {
                 return Ok(Next::TooLong);
             }
             let Ok(()) = line.push(byte) else {
-                return Err(LineError::Memory);
+                return Err(ReadError::Memory);
             };
         }
         unreachable!()

@@ -13,6 +13,26 @@ use std::marker::Model;
 #[derive(Clone, Copy)]
 pub struct DeviceFailed;
 
+/// The reason why an input, or a part of it, is not returned.
+#[derive(Clone, Copy)]
+pub enum ReadError {
+    /// Allocation failed.
+    Memory,
+    /// A read failed.
+    Device,
+}
+
+impl From<DeviceFailed> for ReadError {
+    ghost use Rattle.std.specs.Prelude.{◌≡◌};
+    ghost use Rattle.checked_io.specs.declared.told.ReadError.TheVariants.{Device};
+
+    ghost from_gives = { λ _ error. error ≡ Device };
+
+    fn from(_error: DeviceFailed) -> ReadError {
+        ReadError::Device
+    }
+}
+
 /// A device, a reader or a writer, with a flag for its failure.
 #[derive(Drop)]
 pub struct Told<D> {

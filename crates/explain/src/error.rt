@@ -35,7 +35,7 @@ pub(crate) fn push_error(
     text.push_str(")")
 }
 
-/// What must be, and what is, for a check of a step that fails.
+/// The error of a check of a step that fails: the fact that is required, and the one that is found.
 pub(crate) fn error_of<S: PageStore>(
     host: &Host<S>,
     build: BuildId,
@@ -193,7 +193,7 @@ fn of_undo<S: PageStore>(host: &Host<S>, build: BuildId, fact: UndoFact) -> Phra
 
 // ---- what the RMM checks
 
-// How a step accesses a page, if it is no RMI command.
+// The access of a step to a page, as a participle, if the step is no RMI command.
 fn access_of(step: &Step) -> Option<&'static str> {
     match step {
         Step::Ask(Cmd::Fill { .. }) => Some("written"),

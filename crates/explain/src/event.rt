@@ -308,7 +308,7 @@ fn block_error<S: PageStore>(host: &Host<S>, order: Order, first: Gran) -> Optio
     None
 }
 
-// What an event records that no check of a command is about: the block, the VMID, the number of a REC, a byte.
+// The mismatch of an event that no check of a command finds: of a block, a VMID, the number of a REC, or a byte.
 fn recorded_error<S: PageStore>(host: &Host<S>, build: BuildId, act: &Act) -> Option<Phrase> {
     match act {
         Act::Take { order, first } => block_error(host, *order, *first),

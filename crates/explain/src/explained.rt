@@ -2,7 +2,7 @@
 use crate::check::Check;
 use host_commands::Step;
 
-/// Why a turn is refused.
+/// The reason why a turn is refused.
 #[derive(Drop)]
 pub struct Explanation {
     /// The step that the build asked for.
@@ -20,6 +20,6 @@ pub struct Explanation {
 pub struct ExplainedTurn {
     /// The line of the turn, as a replay prints it.
     pub line: String,
-    /// Why the turn is refused, if it is.
+    /// The reason why the turn is refused, if it is.
     pub reason: Option<Explanation>,
 }

@@ -38,7 +38,7 @@ fn up_to_failing(alloc: Global, checks: &[Check]) -> Result<Vec<Check>, AllocErr
     Ok(front)
 }
 
-// Why a step is refused, if it is. A refusal changes nothing, so that its words may be found on the host after it.
+// The reason why a step is refused, if it is. A refusal changes nothing, so the host has all that it names.
 fn reason_for<S: PageStore>(
     alloc: Global,
     host: &Host<S>,

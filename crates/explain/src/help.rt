@@ -12,7 +12,7 @@ use page_arena::PageStore;
 use realm_host::{GranuleState, Host};
 use std::alloc::AllocError;
 
-/// What helps where a check fails.
+/// The help for a check that fails.
 #[derive(Clone, Copy)]
 pub(crate) enum Help {
     Nothing,

@@ -70,7 +70,7 @@ fn realm_first<S: PageStore>(host: &Host<S>, build: BuildId, step: &Step) -> Phr
     }
 }
 
-/// What helps where a check of a build fails.
+/// The help for a check of a build that fails.
 pub(crate) fn build_help<S: PageStore>(
     host: &Host<S>,
     build: BuildId,
@@ -126,7 +126,7 @@ fn other_block<S: PageStore>(host: &Host<S>, order: u8) -> Phrase {
     }
 }
 
-/// What helps where a check of room fails.
+/// The help for a check of room that fails.
 pub(crate) fn room_help<S: PageStore>(host: &Host<S>, fact: RoomFact) -> Help {
     Help::Say(match fact {
         RoomFact::Journal(_) => plain(
@@ -143,7 +143,7 @@ pub(crate) fn room_help<S: PageStore>(host: &Host<S>, fact: RoomFact) -> Help {
     })
 }
 
-/// What helps where a check of an undo fails.
+/// The help for a check of an undo that fails.
 pub(crate) fn undo_help<S: PageStore>(host: &Host<S>, build: BuildId, fact: UndoFact) -> Help {
     match fact {
         UndoFact::Open(_) => Help::Nothing,

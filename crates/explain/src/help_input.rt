@@ -144,7 +144,7 @@ fn covering_table(step: &Step, ipa: u32, level: u8) -> Phrase {
     )
 }
 
-/// What helps where a page or a number is not as a step requires.
+/// The help for a page or a number that is not as a step requires.
 pub(crate) fn input_help<S: PageStore>(
     host: &Host<S>,
     build: BuildId,

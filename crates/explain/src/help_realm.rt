@@ -63,7 +63,7 @@ fn other_width(rd: u16, root: u16, width: u8) -> Phrase {
     two(words, Number(rd as u64), Number(root as u64))
 }
 
-/// What helps where a realm, or what it is to be created of, is not as a step requires.
+/// The help for a realm that is not as a step requires, or that cannot be created of its operands.
 pub(crate) fn realm_help<S: PageStore>(
     host: &Host<S>,
     build: BuildId,
@@ -101,7 +101,7 @@ fn missing_rec<S: PageStore>(host: &Host<S>, build: BuildId, number: u16) -> Hel
     Help::Rec("create it first: ")
 }
 
-/// What helps where a REC, or what it is to be created of, is not as a step requires.
+/// The help for a REC that is not as a step requires, or that cannot be created of its operands.
 pub(crate) fn rec_help<S: PageStore>(
     host: &Host<S>,
     build: BuildId,
@@ -240,7 +240,7 @@ fn other_entry<S: PageStore>(host: &Host<S>, build: BuildId, step: &Step, ipa: u
     }
 }
 
-/// What helps where a walk ends elsewhere, or at another entry, than a step requires.
+/// The help for a walk that ends elsewhere, or at another entry, than a step requires.
 pub(crate) fn walk_help<S: PageStore>(
     host: &Host<S>,
     build: BuildId,

@@ -122,7 +122,7 @@ fn journal_check<S: PageStore>(host: &Host<S>, build: BuildId, paired: bool) -> 
     })
 }
 
-// How much of its room a build has left; 0 where there is no such build.
+// The room of the history that a build has left; 0 if there is no such build.
 fn room_left<S: PageStore>(host: &Host<S>, build: BuildId) -> u16
     ensures { result ≡ room_left host.now build }
 {

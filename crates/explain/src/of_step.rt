@@ -33,7 +33,7 @@ fn undo<S: PageStore>(host: &Host<S>, build: BuildId) -> [Check; 3]
     ]
 }
 
-// How many RECs of a build run; none where there is no such build.
+// The number of RECs of a build that run; 0 if there is no such build.
 fn running_of<S: PageStore>(host: &Host<S>, build: BuildId) -> u16
     ensures { result ≡ running_of host.now build }
 {

@@ -92,7 +92,7 @@ pub(crate) fn first_of_tables<S: PageStore>(
     None
 }
 
-/// The page of a build that is a granule.
+/// The number that a build has for a granule, if the granule is one of its pages.
 pub(crate) fn page_of<S: PageStore>(host: &Host<S>, build: BuildId, granule: Gran) -> Option<u16> {
     for page in 0..host.page_count(build) {
         if host.page_granule(build, page) == Some(granule) {

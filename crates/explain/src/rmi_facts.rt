@@ -13,9 +13,9 @@ pub enum InputFact {
     Level(u8),
     /// A table of the level may begin at the IPA granule.
     Start(u32, u8),
-    /// That many pages may become RAM at once.
+    /// A number of pages that may become RAM at once.
     Count(u16),
-    /// That many pages from the IPA granule on lie in one table.
+    /// An IPA granule, and a number of pages from there on that are in one table.
     OneTable(u32, u16),
 }
 

@@ -6,7 +6,7 @@ use crate::outline::{Build, Content, Outline, Value};
 use crate::step_text::{InvalidStep, of_step};
 use realm_plan::{MOST_BUILDS, MOST_STEPS, PlanFault, step_from_text};
 
-/// How many builds a plan has, if it says.
+/// The number of builds of a plan, if the plan says it.
 pub(crate) fn count_of_builds(outline: &Outline) -> Option<usize> {
     match outline.value("build") {
         Some(value) if !value.is_array() => None,

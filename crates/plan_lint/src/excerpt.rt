@@ -4,7 +4,7 @@ use std::alloc::{AllocError, Global};
 /// The most bytes that are shown before the first caret, and from it on.
 const MOST: usize = 80;
 
-/// How many are shown where some are left out.
+/// The number of bytes that are shown there of a line that is cut.
 const LESS: usize = 78;
 
 /// A place of a text, with its line and its column, both from 1.
@@ -85,7 +85,7 @@ pub(crate) fn first_of(bytes: &[u8], len: usize) -> &[u8] {
     &bytes[..len.min(bytes.len())]
 }
 
-// How many characters a text has.
+// The number of characters of a text.
 fn char_count(text: &str) -> usize {
     let mut count: usize = 0;
     for byte in text.as_bytes() {

@@ -38,7 +38,7 @@ pub struct Finding {
     pub notes: Vec<String>,
 }
 
-/// The findings so far. It remembers that an allocation failed: code that adds a finding need not ask.
+/// The findings so far, and whether an allocation failed. Code that adds a finding need not ask.
 #[derive(Drop)]
 pub struct Findings {
     pub alloc: Global,

@@ -1,6 +1,6 @@
 //! The forms of steps, for findings on a text that is no step.
 
-/// The kind of a number of a step.
+/// The kind of a numeric operand of a step.
 #[derive(Clone, Copy)]
 pub enum OperandKind {
     Order,
@@ -15,7 +15,7 @@ pub enum OperandKind {
 }
 
 impl OperandKind {
-    /// Such a number in words, and the greatest one of a step.
+    /// The name of the operand, and the greatest number that a step may have there.
     pub(crate) fn limits(self) -> (&'static str, u64) {
         match self {
             OperandKind::Order => ("the order of a block", 255),
@@ -35,13 +35,13 @@ impl OperandKind {
 #[derive(Clone, Copy)]
 pub struct Form {
     pub word: &'static str,
-    /// How many arguments it takes, and which.
+    /// The number of arguments, and their names, in words.
     pub takes: &'static str,
-    /// The kinds of its arguments. Further ones, where there may be any, are pages.
+    /// The kinds of the arguments. Further ones, if there may be any, are pages.
     pub kinds: &'static [OperandKind],
-    /// The most arguments that it takes.
+    /// The greatest number of arguments.
     pub most: usize,
-    /// Its names in the RMI, in traces and in histories, with a space between two.
+    /// The names of the step in the RMI, in traces and in histories, with a space between two.
     other_names: &'static str,
 }
 
@@ -51,7 +51,7 @@ pub const WORDS: [&str; 18] = [
     "rec", "enter", "exit", "poke", "undo", "abort", "mark", "back",
 ];
 
-/// The same words in a line of help.
+/// The words of all steps, as a line of help.
 pub const ALL_STEPS: &str =
     "the steps are `take`, `fill`, `peek`, `delegate`, `realm`, `activate`, \
     `rtt`, `ripas`, `data`, `unknown`, `rec`, `enter`, `exit`, `poke`, `undo`, `abort`, `mark` and `back`";

@@ -111,7 +111,7 @@ impl PlannedBuild<'_> {
         Ok(())
     }
 
-    // How many turns the build has, and the place of the one that follows `most` of them.
+    // The number of turns of the build, and the place of the one that follows `most` of them.
     fn own_turns(&self, most: usize) -> (usize, Option<usize>) {
         let (mut count, mut further) = (0usize, None);
         for (place, turn) in self.plan.order.iter().enumerate() {

@@ -18,7 +18,7 @@ pub(crate) fn block_len(order: u8) -> usize {
     1 << order.min(12)
 }
 
-/// What a build surely has after the steps so far.
+/// The state that a build surely has after the steps so far.
 #[derive(Drop)]
 pub struct KnownState {
     /// The operations that are surely open, and those of them since the mark.

@@ -94,7 +94,7 @@ fn unclosed_string(at: usize, before: &str, found: &mut Findings) {
     found.help("close it by the quote that it began with", &[]);
 }
 
-// What is no item of an array: a step without quotes, the end of the text, or something else.
+// Reports what is no item of an array: a step without quotes, the end of the text, or something else.
 fn in_array(span: Span, message: &str, after: &str, found: &mut Findings) {
     let item = match after.split_once([',', ']', '#', '"']) {
         Some((item, _)) => item.trim_end(),

@@ -1,11 +1,11 @@
 -- Faults, and the exit status of each.
 use Rattle.std.specs.Prelude.{ℕ}
+use Rattle.checked_io.specs.declared.told.ReadError.{ReadError}
+use Rattle.checked_io.specs.declared.told.ReadError.TheVariants as read_error
 use Rattle.realm_plan.specs.declared.fault.PlanError.{PlanError}
 use Rattle.realm_plan.specs.declared.fault.PlanError.TheVariants as plan_error
 use Rattle.realm_program.specs.declared.fault.Fault.{Fault}
 use Rattle.realm_program.specs.declared.fault.Fault.TheVariants.{Plan, EraseNamesNoBuild, Memory, Stuck, Mismatch, Device}
-use Rattle.realm_program.specs.declared.input.ReadError.{ReadError}
-use Rattle.realm_program.specs.declared.input.ReadError.TheVariants as read_error
 
 abbrev pub status_of : Fault → ℕ
 status_of (Plan fault) = 1

@@ -2,8 +2,7 @@
 ghost use Rattle.std.specs.Prelude.{◌≡◌};
 ghost use Rattle.realm_program.specs.declared.fault.Fault.TheVariants.{Memory, Device};
 
-use crate::input::ReadError;
-use checked_io::DeviceFailed;
+use checked_io::{DeviceFailed, ReadError};
 use command_line::Reason;
 use granule_addr::BuildId;
 use realm_plan::{PlanError, PlanFault};

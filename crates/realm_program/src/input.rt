@@ -1,9 +1,9 @@
 //! The whole of an input, up to the greatest length of a plan.
 ghost use Rattle.std.specs.Prelude.{◌≡◌, ◌+◌, ◌≤◌, ◌↔◌, [], false, true, IfOk, IfSome, Err};
 ghost use Rattle.realm_program.specs.Whole.{kept_of};
-ghost use Rattle.realm_program.specs.declared.input.ReadError.TheVariants.{Device};
+ghost use Rattle.checked_io.specs.declared.told.ReadError.TheVariants.{Device};
 
-use checked_io::Told;
+use checked_io::{ReadError, Told};
 use std::alloc::Global;
 use std::io::Read;
 
@@ -12,15 +12,6 @@ pub const KEPT: usize = 1_048_577;
 
 /// The most reads of one input.
 pub const MOST_READS: usize = 1_048_578;
-
-/// The reason why an input is not returned.
-#[derive(Clone, Copy)]
-pub enum ReadError {
-    /// Allocation failed.
-    Memory,
-    /// A read failed.
-    Device,
-}
 
 // An empty list of bytes with capacity for all that is kept, if there is memory for it. A list that grows is copied,
 // and takes the memory of both meanwhile.
@@ -48,9 +39,7 @@ pub fn read_whole<R: Read>(alloc: Global, input: &mut Told<R>) -> Result<Vec<u8>
     for _ in 0..MOST_READS {
         let room = (KEPT - bytes.len()).min(buf.len());
         let part = &mut buf[..room];
-        let Ok(n) = input.read(part) else {
-            return Err(ReadError::Device);
-        };
+        let n = input.read(part)?;
         if n == 0 {
             return Ok(bytes);
         }

@@ -32,7 +32,7 @@ pub use audit::{fit_all, fits};
 pub use boot_host::{BuildableStore, boot, boot_by};
 pub use command_line::realmhost::Line;
 pub use fault::Fault;
-pub use input::{ReadError, read_whole};
+pub use input::read_whole;
 pub use printing::{PlanText, print};
 pub use run_fault::RunFault;
 pub use running::run;

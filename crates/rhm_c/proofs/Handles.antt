@@ -1,5 +1,5 @@
 -- Calls on a handle, by what the handle has before and after.
-use Rattle.std.proofs.Common.{◌≡◌, Option, Some, None, refl, sym, subst}
+use Rattle.std.proofs.Common.{◌≡◌, Option, Some, None, sym, subst}
 use Rattle.history_calls.specs.Frame.{Place}
 use Rattle.host_ledger.specs.View.{HostView}
 use Rattle.rhm_c.specs.Answer.{closed, IsOnHandle}

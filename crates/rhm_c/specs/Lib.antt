@@ -1,5 +1,4 @@
 pub mod Codes
-pub mod Owned
 pub mod Settings
 pub mod Command
 pub mod Answer

@@ -12,6 +12,8 @@ use Rattle.realm_host.specs.Marked.{IsMarked, IsBackAnswer}
 use Rattle.rhm_c.specs.Answer.{only, done, refused_as, counted_as, answered_as, IsAnsweredAs, IsOnly}
 use Rattle.rhm_c.specs.Command.{no_such_build}
 use Rattle.rhm_c.specs.declared.answer.CallAnswer.{CallAnswer}
+use Rattle.rhm_c.specs.declared.build_call.BuildCall.{BuildCall}
+use Rattle.rhm_c.specs.declared.build_call.BuildCall.TheVariants as calls
 
 -- what holds of a build before and after a call; nothing changes if there is no such build
 abbrev pub IsOfBuild : (HostView → ℕ → CallAnswer → HostView → Type 0) → Option ℕ → HostView → CallAnswer → HostView → Type 0
@@ -59,3 +61,12 @@ IsBackTo None old build given new = IsOnly old (refused_as (refusal_without_mark
 
 abbrev pub IsBackHere : HostView → ℕ → CallAnswer → HostView → Type 0
 IsBackHere old build given new = IsBackTo (mark_of old build) old build given new
+
+-- ---- all of these
+
+abbrev pub IsCalledHere : BuildCall → HostView → ℕ → CallAnswer → HostView → Type 0
+IsCalledHere calls.Undo = IsUndoneHere
+IsCalledHere calls.BeginAbort = IsBegunHere
+IsCalledHere calls.Abort = IsAbortedHere
+IsCalledHere calls.Mark = IsMarkedHere
+IsCalledHere calls.RollBack = IsBackHere

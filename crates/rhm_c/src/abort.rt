@@ -5,48 +5,24 @@ ghost use Rattle.rhm_c.specs.Answer.{IsOnHandle};
 ghost use Rattle.rhm_c.specs.Undoing.{IsOfBuild, IsBegunHere, IsAbortedHere};
 
 use crate::HostHandle;
-use crate::answer::{CallAnswer, closed, counted, only};
-use crate::asking::given;
-use crate::command::build_of;
+use crate::answer::{CallAnswer, counted};
+use crate::build_call::{BuildCall, call_build};
 use crate::placed_host::PlainHost;
 use granule_addr::BuildId;
 use std::alloc::Global;
 
-// The status of a build that there is not.
-const NO_BUILD: u64 = 1;
-
-// Begins the abort of a build.
-fn begin(host: &mut PlainHost, build: BuildId) -> CallAnswer
+/// Begins the abort of a build.
+pub(crate) fn begin(host: &mut PlainHost, build: BuildId) -> CallAnswer
     ensures { IsBegunHere host.old build result host.new }
 {
     counted(&host.begin_abort(build))
 }
 
-// Undoes all that a build has open.
-fn abort(host: &mut PlainHost, build: BuildId) -> CallAnswer
+/// Undoes all that a build has open.
+pub(crate) fn abort(host: &mut PlainHost, build: BuildId) -> CallAnswer
     ensures { IsAbortedHere host.old build result host.new }
 {
     counted(&host.abort(build))
-}
-
-// Begins the abort of a build that is named by its number.
-fn begin_of(host: &mut PlainHost, build: u64) -> CallAnswer
-    ensures { IsOfBuild IsBegunHere (build_in build) host.old result host.new }
-{
-    match build_of(build) {
-        Some(build) => begin(host, build),
-        None => only(NO_BUILD),
-    }
-}
-
-// Undoes all that a build that is named by its number has open.
-fn abort_of(host: &mut PlainHost, build: u64) -> CallAnswer
-    ensures { IsOfBuild IsAbortedHere (build_in build) host.old result host.new }
-{
-    match build_of(build) {
-        Some(build) => abort(host, build),
-        None => only(NO_BUILD),
-    }
 }
 
 /// Begins the abort of a build. Returns 0, with the number of operations that it has open in `value`. Until it has none,
@@ -63,12 +39,7 @@ pub extern "C" fn rhm_begin_abort(
     ensures { IsOnHandle (λ place. IsOfBuild IsBegunHere (build_in build)) handle.old.held.host
         (record { status = result; value = value.new }) handle.new.held.host }
 {
-    let Some(mut placed) = handle.take(alloc) else {
-        return given(closed(), value);
-    };
-    let answer = begin_of(&mut placed.host, build);
-    handle.give(placed);
-    given(answer, value)
+    call_build(alloc, handle, build, BuildCall::BeginAbort, value)
 }
 
 /// Undoes all that a build has open at once, the newest first. Returns 0, with the number of operations in `value`.
@@ -84,10 +55,5 @@ pub extern "C" fn rhm_abort(
     ensures { IsOnHandle (λ place. IsOfBuild IsAbortedHere (build_in build)) handle.old.held.host
         (record { status = result; value = value.new }) handle.new.held.host }
 {
-    let Some(mut placed) = handle.take(alloc) else {
-        return given(closed(), value);
-    };
-    let answer = abort_of(&mut placed.host, build);
-    handle.give(placed);
-    given(answer, value)
+    call_build(alloc, handle, build, BuildCall::Abort, value)
 }

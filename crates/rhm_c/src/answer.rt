@@ -11,8 +11,11 @@ pub(crate) struct CallAnswer {
     pub(crate) value: u64,
 }
 
-// The status of a call on a closed handle.
-const CLOSED: u64 = 14;
+/// The status of a build that there is not.
+pub(crate) const NO_BUILD: u64 = 1;
+
+/// The status of a call on a closed handle.
+pub(crate) const CLOSED: u64 = 14;
 
 /// The answer of a closed handle.
 pub(crate) fn closed() -> CallAnswer

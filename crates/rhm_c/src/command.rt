@@ -2,6 +2,7 @@
 ghost use Rattle.std.specs.Prelude.{◌≡◌, ◌≤◌, true, take};
 ghost use Rattle.rhm_c.specs.Command as commands;
 
+use crate::answer::NO_BUILD;
 use arrayvec::ArrayVec;
 use granule_addr::{BuildId, PageOff, RecNo};
 use host_commands::Cmd;
@@ -189,9 +190,7 @@ pub(crate) fn build_of(number: u64) -> Option<BuildId>
     }
 }
 
-// The statuses of a build that there is not, and of what is no command.
-const NO_BUILD: u64 = 1;
-
+// The status of what is no command.
 const NO_COMMAND: u64 = 15;
 
 // The build and its command; or the status that says why there is none.

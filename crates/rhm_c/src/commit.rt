@@ -6,7 +6,7 @@ ghost use Rattle.rhm_c.specs.Command as commands;
 ghost use Rattle.rhm_c.specs.Answer.{IsOnHandle};
 ghost use Rattle.rhm_c.specs.Commit as commits;
 
-use crate::answer::{CallAnswer, closed, only, refused};
+use crate::answer::{CallAnswer, NO_BUILD, closed, only, refused};
 use crate::asking::{ask, given};
 use crate::command::{asked, build_of};
 use crate::placed_host::PlainHost;
@@ -27,12 +27,10 @@ pub struct FirmwareAnswer {
 // The X0 after an entry of a REC that runs on, as the RMM by registers of this repository has it.
 const RUNNING: u64 = 0xFFFF_FFFF_FFFF_FFFE;
 
-// The statuses of an X0 that is not the model's, of another output, and of a build that there is not.
+// The statuses of an X0 that is not the model's, and of another output.
 const DIVERGED: u64 = 16;
 
 const OTHER_OUTPUT: u64 = 17;
-
-const NO_BUILD: u64 = 1;
 
 // An X0 that is not the model's, which is `word`.
 fn diverged(word: u64) -> CallAnswer
@@ -95,7 +93,7 @@ fn check_performed(actions: &[HostAction], answer: &FirmwareAnswer) -> Result<()
     Ok(())
 }
 
-// What the X0 of a call is said to be that the model refuses.
+// The answer to the X0 of a call that the model refuses.
 fn check_refused(refusal: &Refusal, x0: u64) -> CallAnswer
     ensures { result ≡ commits.check_refused x0 refusal.now }
 {

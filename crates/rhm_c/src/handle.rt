@@ -1,8 +1,8 @@
 //! Handles: what C keeps of a host.
 ghost use Rattle.std.specs.Prelude.{◌≡◌, Some, None, IfSome, IfNone, is_some};
 
-use crate::parts::OwnedParts;
 use crate::{HeldHost, PlacedHost};
+use box_parts::BoxParts;
 use std::alloc::Global;
 use std::mem::replace;
 
@@ -40,7 +40,7 @@ impl HostHandle {
     {
         *self = HostHandle {
             is_open: true,
-            held: HeldHost::of(OwnedParts::of(placed)),
+            held: HeldHost::of(BoxParts::of(placed)),
         };
     }
 

@@ -3,10 +3,11 @@ ghost use Rattle.std.specs.Prelude.{◌≡◌, true, Option, Some, None, is_some
 ghost use Rattle.std.specs.Coded.{coded_option};
 ghost use Rattle.rhm_c.specs.Codes.{placed_host_code};
 ghost use Rattle.rhm_c.specs.declared.placed_host.PlacedHost as declared;
-ghost use Rattle.rhm_c.specs.Owned.{held_host_owns};
+ghost use Rattle.box_parts.specs.Owned.{held_owns};
+ghost use Rattle.rhm_c.specs.contracts.placed_host.PlacedHost.{the_row as host_row};
 
 use crate::PlacedHost;
-use crate::parts::OwnedParts;
+use box_parts::BoxParts;
 use std::alloc::Global;
 use std::marker::Model;
 
@@ -19,7 +20,7 @@ pub struct HeldHost {
 }
 
 impl Model for HeldHost {
-    ghost also_owns = { λ h. held_host_owns h.at h.host };
+    ghost also_owns = { λ h. held_owns host_row h.at h.host };
 }
 
 impl HeldHost {
@@ -31,19 +32,19 @@ impl HeldHost {
         }
     }
 
-    pub(crate) fn of(parts: OwnedParts<PlacedHost, Global>) -> HeldHost
+    pub(crate) fn of(parts: BoxParts<PlacedHost, Global>) -> HeldHost
         ensures { result.host ≡ Some parts.value }
     {
-        let OwnedParts { ptr, alloc: _ } = parts;
+        let BoxParts { ptr, alloc: _ } = parts;
         HeldHost { at: ptr as *mut u8 }
     }
 
-    pub(crate) fn into_parts(self, alloc: Global) -> OwnedParts<PlacedHost, Global>
+    pub(crate) fn into_parts(self, alloc: Global) -> BoxParts<PlacedHost, Global>
         requires { is_some self.host ≡ true }
         ensures { self.host ≡ Some result.value }
     {
         let HeldHost { at } = self;
-        OwnedParts {
+        BoxParts {
             ptr: at as *mut PlacedHost,
             alloc,
         }

@@ -5,19 +5,15 @@ ghost use Rattle.rhm_c.specs.Answer.{IsOnHandle};
 ghost use Rattle.rhm_c.specs.Undoing.{IsOfBuild, IsMarkedHere, IsBackHere, refusal_without_mark};
 
 use crate::HostHandle;
-use crate::answer::{CallAnswer, closed, counted, done, only, refused};
-use crate::asking::given;
-use crate::command::build_of;
+use crate::answer::{CallAnswer, counted, done, refused};
+use crate::build_call::{BuildCall, call_build};
 use crate::placed_host::PlainHost;
 use granule_addr::BuildId;
 use host_commands::{Refusal, check_build};
 use std::alloc::Global;
 
-// The status of a build that there is not.
-const NO_BUILD: u64 = 1;
-
-// Keeps the point of a build as a mark.
-fn mark(host: &mut PlainHost, build: BuildId) -> CallAnswer
+/// Keeps the point of a build as a mark.
+pub(crate) fn mark(host: &mut PlainHost, build: BuildId) -> CallAnswer
     ensures { IsMarkedHere host.old build result host.new }
 {
     match host.mark(build) {
@@ -36,33 +32,13 @@ fn refusal_without_mark(host: &PlainHost, build: BuildId) -> Refusal
     }
 }
 
-// Undoes what a build has opened above its mark.
-fn roll_back(host: &mut PlainHost, build: BuildId) -> CallAnswer
+/// Undoes what a build has opened above its mark.
+pub(crate) fn roll_back(host: &mut PlainHost, build: BuildId) -> CallAnswer
     ensures { IsBackHere host.old build result host.new }
 {
     match host.kept_mark(build) {
         Some(mark) => counted(&host.rollback_to(build, mark)),
         None => refused(&refusal_without_mark(host, build)),
-    }
-}
-
-// Keeps the point of a build that is named by its number.
-fn mark_of(host: &mut PlainHost, build: u64) -> CallAnswer
-    ensures { IsOfBuild IsMarkedHere (build_in build) host.old result host.new }
-{
-    match build_of(build) {
-        Some(build) => mark(host, build),
-        None => only(NO_BUILD),
-    }
-}
-
-// Undoes what a build that is named by its number has opened above its mark.
-fn roll_back_of(host: &mut PlainHost, build: u64) -> CallAnswer
-    ensures { IsOfBuild IsBackHere (build_in build) host.old result host.new }
-{
-    match build_of(build) {
-        Some(build) => roll_back(host, build),
-        None => only(NO_BUILD),
     }
 }
 
@@ -80,12 +56,7 @@ pub extern "C" fn rhm_mark(
     ensures { IsOnHandle (λ place. IsOfBuild IsMarkedHere (build_in build)) handle.old.held.host
         (record { status = result; value = value.new }) handle.new.held.host }
 {
-    let Some(mut placed) = handle.take(alloc) else {
-        return given(closed(), value);
-    };
-    let answer = mark_of(&mut placed.host, build);
-    handle.give(placed);
-    given(answer, value)
+    call_build(alloc, handle, build, BuildCall::Mark, value)
 }
 
 /// Undoes at once what a build has opened above its mark, the newest first. Returns 0, with the number of operations in
@@ -103,10 +74,5 @@ pub extern "C" fn rhm_roll_back(
     ensures { IsOnHandle (λ place. IsOfBuild IsBackHere (build_in build)) handle.old.held.host
         (record { status = result; value = value.new }) handle.new.held.host }
 {
-    let Some(mut placed) = handle.take(alloc) else {
-        return given(closed(), value);
-    };
-    let answer = roll_back_of(&mut placed.host, build);
-    handle.give(placed);
-    given(answer, value)
+    call_build(alloc, handle, build, BuildCall::RollBack, value)
 }

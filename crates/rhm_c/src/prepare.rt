@@ -3,18 +3,13 @@ ghost use Rattle.std.specs.Prelude.{◌≡◌};
 ghost use Rattle.rhm_c.specs.Preparing as preparing;
 
 use crate::action::raw_actions;
-use crate::answer::{refusal_status, refusal_value};
+use crate::answer::{CLOSED, NO_BUILD, refusal_status, refusal_value};
 use crate::command::{asked, build_of};
 use crate::placed_host::PlainHost;
 use crate::{HostHandle, RawActions, RawCommand};
 use history_calls::{Actions, Frame, actions_asked, actions_back, refusal_asked};
 use host_commands::Refusal;
 use std::alloc::Global;
-
-// The status of a call on a closed handle, and of a build that there is not.
-const CLOSED: u64 = 14;
-
-const NO_BUILD: u64 = 1;
 
 // X0 of the model, by its refusal.
 fn word_of(refusal: &Option<Refusal>) -> u64

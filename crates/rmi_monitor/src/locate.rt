@@ -23,7 +23,7 @@ pub(crate) fn located(rd: Gran, realm: &RealmDesc, ipa: u32) -> Option<(Tables, 
     Some((tables_of(rd, realm), ipa))
 }
 
-// The same for the first of `count` IPA granules, if `count` is 1 to 512 and one table of level 3 serves all of them.
+// The tables of the realm of an RD, and the first of `count` protected IPA granules, if they are 1 to 512 of one table.
 pub(crate) fn located_run(
     rd: Gran,
     realm: &RealmDesc,

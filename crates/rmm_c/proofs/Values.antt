@@ -1,34 +1,25 @@
--- The machine values of `BoxParts` and of `HeldRmm`, and what is owned with them. Assumes `Logic`.
+-- The machine value of `HeldRmm`, and what is owned with it. Assumes `Logic`.
 use Rattle.std.proofs.Common.{◌≡◌, ℕ, List, [], ◌∷◌, ◌++◌, refl, subst, w64}
-use mathlib.Core.Bool.{Bool, true, not, ◌&&◌}
+use mathlib.Core.Bool.{Bool, true, not}
 use lib.Dec.{T}
 use seplogic.Ra.Ura.{Ura}
-use mir.Syntax.{impl, tnil, dnil}
 use mir.Raw.{raw as bare}
-use mir.Val.{Val, vint, vptr, vstruct, vcons, vnil, of_list, has_ty, WT}
+use mir.Val.{Val, vint, vptr, vstruct, vcons, vnil, of_list}
 use base.Logic.{never, fst∗}
 use types.Logic.{Logic, sem}
-use types.Kit.{Item, Goal, Seq, Step, step, ‵, ◌$◌, move, drop, fsplit, fjoin, fpick, fpack, rewrite, feq_i, feq_l}
+use types.Kit.{Item, Goal, Seq, Step, step, ‵, ◌$◌, drop, fsplit, fjoin, fpick, fpack, rewrite, feq_i, feq_l}
 use denote.RattleType.{RattleType, Valss}
 use denote.Builtin.{RawPtr}
 use denote.Memory.{lone}
 use denote.RawPtr.{Ptr, block_ptr, null_ptr, ptr_val, in_a_block}
 use denote.Steps.{nothing}
-use denote.Param.{layout}
 use denote.Struct.Struct.{within}
 use denote.Struct.Owning.{shape}
 use Rattle.std.specs.Prelude.{Option, Some, None, is_some}
-use Rattle.core.proofs.alloc.Calls.{Al, handle_tells}
-use Rattle.core.proofs.cell.Inside.{Good}
 use Rattle.std_alloc.specs.Box.Ownership.{box_owns}
-use Rattle.std_alloc.proofs.ResultValues.{and_tt}
-use Rattle.std.specs.contracts.alloc.Global as heap
-use Rattle.std.proofs.alloc.Global.TheLaws as heap_laws
-use Rattle.std_heap.specs.contracts.GlobalAllocator.TheImpl.{ghosts}
+use Rattle.box_parts.specs.Owned.{right, held_owns}
 use Rattle.rmm_model.specs.Machine.{Machine}
 use Rattle.rmm_c.specs.contracts.plain_rmm.PlainRmm.{the_row as rmm_row}
-use Rattle.rmm_c.specs.Owned.{right, held_owns}
-use Rattle.rmm_c.specs.contracts.parts.BoxParts as parts
 use Rattle.rmm_c.specs.contracts.held.HeldRmm as held
 
 pub record Full {A : Type 0} (o : Option A) : Type 0 where
@@ -39,51 +30,19 @@ pub full : {A : Type 0} (o : Option A) → is_some o ≡ true → Full o
 full (Some x) e = record { value = x; is = refl }
 full None e = absurd (subst (λ (b : Bool). T (not b)) e tt)
 
-abbrev pub both : Val → Val → Val
-both v w = vstruct (vcons v (vcons w vnil))
-
 abbrev pub one : Val → Val
 one v = vstruct (vcons v vnil)
-
-abbrev pub Z : RattleType
-Z = heap.the_row
-
-abbrev pub BoxParts : RattleType
-BoxParts = parts.the_row rmm_row Z ghosts
 
 abbrev pub HeldRmm : RattleType
 HeldRmm = held.the_row
 
-abbrev pub al : Al
-al = record { row = Z; laws = heap_laws.the_row_laws; g = ghosts; d = impl [] tnil dnil; drops = impl [] tnil dnil }
-
-pub parts_good : (b o : ℕ) (h : Val) → Good (layout Z) h → T (has_ty (layout Z) h && true) × WT (both (vptr b o) h)
-parts_good b o h fits = (and_tt (has_ty (layout Z) h) fits.0, (tt, (fits.1, tt)))
-
 module _ {M : Type 1} {𝓤 : Ura M} {𝓛 : Logic 𝓤} {K : Type 0} {Γ : List (Item 𝓤)} {G : Goal 𝓤 𝓛.H} where
-  pub parts_out : K → (d : BoxParts.Denot) (vs : List Val)
-      → ((b o : ℕ) (h : Val) → d.ptr ≡ block_ptr b o → vs ≡ both (vptr b o) h ∷ [] → Good (layout Z) h
-      → Seq K 𝓛 (‵ (box_owns right rmm_row (block_ptr b o) d.value) ∷ ‵ (Z.own_val d.alloc (h ∷ [])) ∷ Γ) G)
-      → Seq K 𝓛 (‵ (BoxParts.own_val d vs) ∷ Γ) G
-  parts_out t d vs k =
-      fsplit t $ fpick t (λ vss. fsplit t $ feq_l t (λ ev. fsplit t $ feq_l t (λ ep. fsplit t $ handle_tells al t d.alloc vss.1.0 (λ h ea fits. move t (1 ∷ []) $ drop t $ move t (1 ∷ []) $
-      in_a_block t d.ptr (λ p. box_owns right rmm_row p d.value) (fst∗ 𝓤 (never 𝓤) (sem 𝓛 (right (bare (lone rmm_row.mir)) null_ptr))) (λ b o e. k b o h e
-      (subst (λ (p : Ptr). vs ≡ vstruct (of_list (ptr_val p ∷ h ∷ [])) ∷ []) e
-      (subst (λ (ws : List Val). vs ≡ vstruct (of_list (ptr_val d.ptr ∷ (ws ++ []))) ∷ []) ea (subst (λ (ps : List Val). vs ≡ vstruct (of_list (ps ++ (vss.1.0 ++ []))) ∷ []) ep ev))) fits)))))
-
-  pub parts_in : K → (b o : ℕ) (h : Val) (a : Z.Denot) (x : Machine)
-      → Step K 𝓛 (‵ (BoxParts.own_val (record { ptr = block_ptr b o; alloc = a; value = x }) (both (vptr b o) h ∷ [])) ∷ Γ) G
-      (‵ (box_owns right rmm_row (block_ptr b o) x) ∷ ‵ (Z.own_val a (h ∷ [])) ∷ Γ) G
-  parts_in t b o h a x = step (λ s. let v : Val = both (vptr b o) h in
-      nothing t $ move t (2 ∷ 0 ∷ []) $ fjoin t $ feq_i t (List Val) (vptr b o ∷ []) (vptr b o ∷ []) refl $ fjoin t $ feq_i t (List Val) (v ∷ []) (v ∷ []) refl $ fjoin t $
-      fpack t (Valss (RawPtr ∷ Z ∷ [])) (within (shape (parts.the_type rmm_row Z ghosts)) (block_ptr b o, (a, tt)) (v ∷ [])) (vptr b o ∷ [], (h ∷ [], tt)) $ fjoin t $ s)
-
   pub held_out : K → (d : HeldRmm.Denot) (vs : List Val) → is_some d.machine ≡ true
       → ((b o : ℕ) (x : Machine) → d.at ≡ block_ptr b o → d.machine ≡ Some x → vs ≡ one (vptr b o) ∷ [] → Seq K 𝓛 (‵ (box_owns right rmm_row (block_ptr b o) x) ∷ Γ) G)
       → Seq K 𝓛 (‵ (HeldRmm.own_val d vs) ∷ Γ) G
   held_out t d vs some k = let it = full d.machine some in
       fsplit t $ fpick t (λ vss. fsplit t $ feq_l t (λ ev. fsplit t $ feq_l t (λ ep. drop t $
-      rewrite t 0 (λ (o : Option Machine). ‵ (held_owns d.at o)) it.is refl $
+      rewrite t 0 (λ (o : Option Machine). ‵ (held_owns rmm_row d.at o)) it.is refl $
       in_a_block t d.at (λ p. box_owns right rmm_row p it.value) (fst∗ 𝓤 (never 𝓤) (sem 𝓛 (right (bare (lone rmm_row.mir)) null_ptr))) (λ b o e. k b o it.value e it.is
       (subst (λ (p : Ptr). vs ≡ vstruct (of_list (ptr_val p ∷ [])) ∷ []) e
       (subst (λ (ps : List Val). vs ≡ vstruct (of_list (ps ++ [])) ∷ []) ep ev))))))

@@ -2,7 +2,6 @@ pub mod Guest
 pub mod Judging
 pub mod Lines
 pub mod Memory
-pub mod Owned
 pub mod Reading
 pub mod Settings
 pub mod Smc

@@ -1,8 +1,8 @@
 //! Handles: what C keeps of an RMM.
 ghost use Rattle.std.specs.Prelude.{◌≡◌, Some, None, IfSome, IfNone, is_some};
 
-use crate::parts::BoxParts;
 use crate::{HeldRmm, PlainRmm};
+use box_parts::BoxParts;
 use std::alloc::Global;
 use std::mem::replace;
 

@@ -3,10 +3,11 @@ ghost use Rattle.std.specs.Prelude.{◌≡◌, true, Option, Some, None, is_some
 ghost use Rattle.std.specs.Coded.{coded_option};
 ghost use Rattle.rmm_model.specs.Codes.{machine_code};
 ghost use Rattle.rmm_model.specs.Machine.{Machine};
-ghost use Rattle.rmm_c.specs.Owned.{held_owns};
+ghost use Rattle.box_parts.specs.Owned.{held_owns};
+ghost use Rattle.rmm_c.specs.contracts.plain_rmm.PlainRmm.{the_row as rmm_row};
 
 use crate::PlainRmm;
-use crate::parts::BoxParts;
+use box_parts::BoxParts;
 use std::alloc::Global;
 use std::marker::Model;
 
@@ -19,7 +20,7 @@ pub struct HeldRmm {
 }
 
 impl Model for HeldRmm {
-    ghost also_owns = { λ h. held_owns h.at h.machine };
+    ghost also_owns = { λ h. held_owns rmm_row h.at h.machine };
 }
 
 impl HeldRmm {

@@ -12,7 +12,6 @@ mod judging;
 mod line;
 mod memory;
 mod open;
-mod parts;
 mod plain_rmm;
 mod reading;
 mod settings;

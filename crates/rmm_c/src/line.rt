@@ -9,7 +9,7 @@ use rmm_answers::{TraceReply, answer_on, is_platform, open_platform};
 use rmm_trace::{LineKind, RmmTraceLine, SentenceText, TraceWord};
 use std::alloc::{AllocError, Global};
 
-// What comes back for a line that is not answered.
+// The result of a line that is not answered.
 const NOT_ANSWERED: u64 = 0xFFFF_FFFF_FFFF_FFFF;
 
 // ---- questions

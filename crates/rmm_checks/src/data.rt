@@ -1,4 +1,4 @@
-//! RMI_DATA_CREATE, RMI_DATA_CREATE_UNKNOWN and RMI_DATA_DESTROY.
+//! The checks of RMI_DATA_CREATE, RMI_DATA_CREATE_UNKNOWN and RMI_DATA_DESTROY.
 ghost use Rattle.std.specs.Prelude.{◌≡◌, ◌+◌, ◌≤◌, length};
 ghost use Rattle.rmm_model.specs.Command.DataCreate as creating;
 ghost use Rattle.rmm_model.specs.Command.DataCreateUnknown.{data_create_unknown as making};
@@ -15,7 +15,7 @@ use rmi_abi::{RmmSettings, SmcResult, Word};
 use rmm_granules::{Granules, OperandConditions, memory_below};
 use rmm_model::{Condition, RmmRttEntry};
 
-// RMI_DATA_CREATE_UNKNOWN
+// The checks of RMI_DATA_CREATE_UNKNOWN.
 pub fn data_create_unknown<S: PageStore>(
     granules: &Granules<S>,
     rd: u64,
@@ -42,7 +42,7 @@ pub fn data_create_unknown<S: PageStore>(
     checks
 }
 
-// RMI_DATA_DESTROY
+// The checks of RMI_DATA_DESTROY.
 pub fn data_destroy<S: PageStore>(granules: &Granules<S>, rd: u64, ipa: u64) -> EvaluatedChecks
     ensures { result ≡ evaluated (destroying rd ipa granules.now).checks }
 {
@@ -98,7 +98,7 @@ fn add_source<S: PageStore>(
     add_delegated(checks, granules, OperandConditions::DATA, page);
 }
 
-// RMI_DATA_CREATE
+// The checks of RMI_DATA_CREATE.
 pub fn data_create<S: PageStore>(
     granules: &Granules<S>,
     rd: u64,

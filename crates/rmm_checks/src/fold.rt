@@ -1,4 +1,4 @@
-//! RMI_RTT_FOLD.
+//! The checks of RMI_RTT_FOLD.
 ghost use Rattle.std.specs.Prelude.{◌≡◌, ◌≤◌, nat_le, true, is_some};
 ghost use Rattle.rmm_model.specs.Walk as walks;
 ghost use Rattle.rmm_model.specs.Command.RttFold as command;
@@ -49,7 +49,7 @@ fn is_too_high_below<S: PageStore>(granules: &Granules<S>, entry: RmmRttEntry, l
     }
 }
 
-// RMI_RTT_FOLD
+// The checks of RMI_RTT_FOLD.
 pub fn rtt_fold<S: PageStore>(
     granules: &Granules<S>,
     rd: u64,

@@ -1,4 +1,4 @@
-//! RMI_GRANULE_DELEGATE and RMI_GRANULE_UNDELEGATE.
+//! The checks of RMI_GRANULE_DELEGATE and RMI_GRANULE_UNDELEGATE.
 ghost use Rattle.std.specs.Prelude.{◌≡◌};
 ghost use Rattle.rmm_model.specs.Command.GranuleDelegate.{granule_delegate as delegating};
 ghost use Rattle.rmm_model.specs.Command.GranuleUndelegate.{granule_undelegate as undelegating};
@@ -10,7 +10,7 @@ use page_arena::PageStore;
 use rmm_granules::{Granules, OperandConditions};
 use rmm_model::Condition;
 
-// RMI_GRANULE_DELEGATE
+// The checks of RMI_GRANULE_DELEGATE.
 pub fn granule_delegate<S: PageStore>(granules: &Granules<S>, address: u64) -> EvaluatedChecks
     ensures { result ≡ evaluated (delegating address granules.now).checks }
 {
@@ -36,7 +36,7 @@ pub fn granule_delegate<S: PageStore>(granules: &Granules<S>, address: u64) -> E
     checks
 }
 
-// RMI_GRANULE_UNDELEGATE
+// The checks of RMI_GRANULE_UNDELEGATE.
 pub fn granule_undelegate<S: PageStore>(granules: &Granules<S>, address: u64) -> EvaluatedChecks
     ensures { result ≡ evaluated (undelegating address granules.now).checks }
 {

@@ -1,4 +1,4 @@
-//! RMI_VERSION, RMI_FEATURES and RMI_REC_AUX_COUNT.
+//! The checks of RMI_VERSION, RMI_FEATURES and RMI_REC_AUX_COUNT.
 ghost use Rattle.std.specs.Prelude.{◌≡◌, ◌==◌};
 ghost use Rattle.rmi_abi.specs.declared.word.Word.TheVariants.{ErrorInput};
 ghost use Rattle.rmm_model.specs.Command.Features as asking;
@@ -34,7 +34,7 @@ fn refused_versions() -> SmcResult
     }
 }
 
-// RMI_VERSION
+// The checks of RMI_VERSION.
 #[tactic(auto, unfolding(rmm_model::specs::Command::Version::version))]
 pub fn version<S: PageStore>(granules: &Granules<S>, requested: u64) -> EvaluatedChecks
     ensures { result ≡ evaluated (versions.version requested granules.now).checks }
@@ -50,7 +50,7 @@ pub fn version<S: PageStore>(granules: &Granules<S>, requested: u64) -> Evaluate
     checks
 }
 
-// RMI_FEATURES
+// The checks of RMI_FEATURES.
 #[tactic(auto, unfolding(rmm_model::specs::Command::Features::features, crate::specs::Evaluated::evaluated_after))]
 pub fn features<S: PageStore>(granules: &Granules<S>, index: u64) -> EvaluatedChecks
     ensures { result ≡ evaluated (asking.features index granules.now).checks }
@@ -59,7 +59,7 @@ pub fn features<S: PageStore>(granules: &Granules<S>, index: u64) -> EvaluatedCh
     EvaluatedChecks::new()
 }
 
-// RMI_REC_AUX_COUNT
+// The checks of RMI_REC_AUX_COUNT.
 #[tactic(auto, unfolding(rmm_model::specs::Command::RecAuxCount::rec_aux_count))]
 pub fn rec_aux_count<S: PageStore>(granules: &Granules<S>, rd: u64) -> EvaluatedChecks
     ensures { result ≡ evaluated (counting.rec_aux_count rd granules.now).checks }

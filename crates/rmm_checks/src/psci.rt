@@ -1,4 +1,4 @@
-//! RMI_PSCI_COMPLETE.
+//! The checks of RMI_PSCI_COMPLETE.
 ghost use Rattle.std.specs.Prelude.{◌≡◌, ◌==◌, ◌+◌, ◌≤◌, length};
 ghost use Rattle.rmm_model.specs.Machine.{number_of};
 ghost use Rattle.rmm_model.specs.Command.Operand.{rec_at};
@@ -61,7 +61,7 @@ fn add_request<S: PageStore>(
     );
 }
 
-// RMI_PSCI_COMPLETE
+// The checks of RMI_PSCI_COMPLETE.
 pub fn psci_complete<S: PageStore>(
     granules: &Granules<S>,
     calling: u64,

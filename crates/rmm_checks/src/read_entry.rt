@@ -1,4 +1,4 @@
-//! RMI_RTT_READ_ENTRY.
+//! The checks of RMI_RTT_READ_ENTRY.
 ghost use Rattle.std.specs.Prelude.{◌≡◌};
 ghost use Rattle.rmm_model.specs.Command.RttReadEntry.{rtt_read_entry as reading};
 ghost use Rattle.rmm_checks.specs.Evaluated.{evaluated};
@@ -8,7 +8,7 @@ use crate::realm::{add_ipa, add_rd, start_level_at};
 use page_arena::PageStore;
 use rmm_granules::Granules;
 
-// RMI_RTT_READ_ENTRY
+// The checks of RMI_RTT_READ_ENTRY.
 pub fn rtt_read_entry<S: PageStore>(
     granules: &Granules<S>,
     rd: u64,

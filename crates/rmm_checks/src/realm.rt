@@ -233,7 +233,7 @@ pub fn add_unprotected<S: PageStore>(
     );
 }
 
-// RMI_REALM_ACTIVATE
+// The checks of RMI_REALM_ACTIVATE.
 #[tactic(auto, unfolding(rmm_model::specs::Command::RealmActivate::realm_activate))]
 pub fn realm_activate<S: PageStore>(granules: &Granules<S>, rd: u64) -> EvaluatedChecks
     ensures { result ≡ evaluated (activating rd granules.now).checks }

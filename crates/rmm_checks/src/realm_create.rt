@@ -1,4 +1,4 @@
-//! RMI_REALM_CREATE.
+//! The checks of RMI_REALM_CREATE.
 ghost use Rattle.std.specs.Prelude.{◌≡◌, ◌+◌, ◌*◌, ◌%◌, ◌<◌, ◌≤◌, ◌==◌, nat_le, true, false, [], ◌∷◌, length};
 ghost use Rattle.rmi_abi.specs.declared.realm_params.RealmParams.{RealmParams as Params};
 ghost use Rattle.rmm_model.specs.declared.condition.Condition.TheVariants.{ParamsPas, ParamsSupp, RttNumLevel};
@@ -110,7 +110,7 @@ fn add_free<S: PageStore>(checks: &mut EvaluatedChecks, granules: &Granules<S>, 
     checks.input(Condition::VmidValid, &[Condition::ParamsPas], !valid);
 }
 
-// RMI_REALM_CREATE
+// The checks of RMI_REALM_CREATE.
 pub fn realm_create<S: PageStore>(granules: &Granules<S>, rd: u64, params: u64) -> EvaluatedChecks
     ensures { result ≡ evaluated (command.realm_create rd params granules.now).checks }
 {

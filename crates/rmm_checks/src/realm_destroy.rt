@@ -1,4 +1,4 @@
-//! RMI_REALM_DESTROY.
+//! The checks of RMI_REALM_DESTROY.
 ghost use Rattle.std.specs.Prelude.{◌≡◌};
 ghost use Rattle.rmm_model.specs.Command.Operand.{realm_at};
 ghost use Rattle.rmm_model.specs.Command.RealmDestroy as command;
@@ -21,7 +21,7 @@ fn is_live_at<S: PageStore>(granules: &Granules<S>, rd: u64) -> bool
     }
 }
 
-// RMI_REALM_DESTROY
+// The checks of RMI_REALM_DESTROY.
 pub fn realm_destroy<S: PageStore>(granules: &Granules<S>, rd: u64) -> EvaluatedChecks
     ensures { result ≡ evaluated (command.realm_destroy rd granules.now).checks }
 {

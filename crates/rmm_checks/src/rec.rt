@@ -1,4 +1,4 @@
-//! RECs as operands, and RMI_REC_DESTROY.
+//! RECs as operands, and the checks of RMI_REC_DESTROY.
 ghost use Rattle.std.specs.Prelude.{◌≡◌, ◌+◌, ◌≤◌, length};
 ghost use Rattle.rmm_model.specs.Granule.{rec_of as rec_in};
 ghost use Rattle.rmm_model.specs.Machine as machine;
@@ -52,7 +52,7 @@ pub fn add_rec<S: PageStore>(
     checks.input(conditions.state, &[conditions.bound], rec.is_none());
 }
 
-// RMI_REC_DESTROY
+// The checks of RMI_REC_DESTROY.
 pub fn rec_destroy<S: PageStore>(granules: &Granules<S>, rec: u64) -> EvaluatedChecks
     ensures { result ≡ evaluated (destroying rec granules.now).checks }
 {

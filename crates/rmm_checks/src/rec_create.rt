@@ -1,4 +1,4 @@
-//! RMI_REC_CREATE.
+//! The checks of RMI_REC_CREATE.
 ghost use Rattle.std.specs.Prelude.{◌≡◌, ◌^◌, ◌+◌, ◌≤◌, nat_eq, nat_lt, true, false, [], ◌∷◌, length};
 ghost use Rattle.rmm_model.specs.declared.condition.Condition.TheVariants.{ParamsPas, ParamsValid, NumAux};
 ghost use Rattle.rmm_model.specs.declared.condition.Condition.TheVariants.{AuxAlign, AuxBound};
@@ -167,7 +167,7 @@ fn add_number<S: PageStore>(
     checks.realm(Condition::NumRecs, &[Condition::RdState], !more);
 }
 
-// RMI_REC_CREATE
+// The checks of RMI_REC_CREATE.
 pub fn rec_create<S: PageStore>(
     granules: &Granules<S>,
     rd: u64,

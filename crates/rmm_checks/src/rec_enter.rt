@@ -1,4 +1,4 @@
-//! RMI_REC_ENTER.
+//! The checks of RMI_REC_ENTER.
 ghost use Rattle.std.specs.Prelude.{◌≡◌, ◌+◌, ◌≤◌, true, length};
 ghost use Rattle.rmi_abi.specs.RecRun.{flags_in};
 ghost use Rattle.rmm_model.specs.Realm as realms;
@@ -105,7 +105,7 @@ fn add_ready(checks: &mut EvaluatedChecks, state: RmmRealmState, rec: &RmmRec)
     );
 }
 
-// RMI_REC_ENTER
+// The checks of RMI_REC_ENTER.
 pub fn rec_enter<S: PageStore>(granules: &Granules<S>, rec: u64, address: u64) -> EvaluatedChecks
     ensures { result ≡ evaluated (command.rec_enter rec address granules.now).checks }
 {

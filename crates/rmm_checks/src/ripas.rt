@@ -1,4 +1,4 @@
-//! RMI_RTT_INIT_RIPAS and RMI_RTT_SET_RIPAS.
+//! The checks of RMI_RTT_INIT_RIPAS and RMI_RTT_SET_RIPAS.
 ghost use Rattle.std.specs.Prelude.{◌≡◌, ℕ, ◌+◌, ◌≤◌, ◌==◌, Bool, not, nat_le, true, false, [], ◌∷◌, length};
 ghost use Rattle.rmm_model.specs.declared.condition.Condition.TheVariants.{BaseAlign, NoProgress, RtteState};
 ghost use Rattle.rmm_model.specs.Check.{check, error_rtt};
@@ -100,7 +100,7 @@ fn add_range<S: PageStore>(
     add_new(checks, granules, rd);
 }
 
-// RMI_RTT_INIT_RIPAS
+// The checks of RMI_RTT_INIT_RIPAS.
 pub fn rtt_init_ripas<S: PageStore>(
     granules: &Granules<S>,
     rd: u64,
@@ -199,7 +199,7 @@ fn add_request<S: PageStore>(
     checks.input(Condition::TopBound, &[Condition::RecState], !within);
 }
 
-// RMI_RTT_SET_RIPAS
+// The checks of RMI_RTT_SET_RIPAS.
 pub fn rtt_set_ripas<S: PageStore>(
     granules: &Granules<S>,
     rd: u64,

@@ -1,4 +1,4 @@
-//! RMI_RTT_CREATE and RMI_RTT_DESTROY.
+//! The checks of RMI_RTT_CREATE and RMI_RTT_DESTROY.
 ghost use Rattle.std.specs.Prelude.{◌≡◌};
 ghost use Rattle.rmm_model.specs.Command.RttCreate.{rtt_create as creating};
 ghost use Rattle.rmm_model.specs.Command.RttDestroy.{rtt_destroy as destroying};
@@ -14,7 +14,7 @@ use rmi_abi::{SmcResult, Word};
 use rmm_granules::{Granules, OperandConditions, table_below};
 use rmm_model::Condition;
 
-// RMI_RTT_CREATE
+// The checks of RMI_RTT_CREATE.
 pub fn rtt_create<S: PageStore>(
     granules: &Granules<S>,
     rd: u64,
@@ -44,7 +44,7 @@ pub fn rtt_create<S: PageStore>(
     checks
 }
 
-// RMI_RTT_DESTROY
+// The checks of RMI_RTT_DESTROY.
 pub fn rtt_destroy<S: PageStore>(
     granules: &Granules<S>,
     rd: u64,

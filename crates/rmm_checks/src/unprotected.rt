@@ -1,4 +1,4 @@
-//! RMI_RTT_MAP_UNPROTECTED and RMI_RTT_UNMAP_UNPROTECTED.
+//! The checks of RMI_RTT_MAP_UNPROTECTED and RMI_RTT_UNMAP_UNPROTECTED.
 ghost use Rattle.std.specs.Prelude.{◌≡◌};
 ghost use Rattle.rmm_model.specs.Command.RttMapUnprotected as mapping;
 ghost use Rattle.rmm_model.specs.Command.RttUnmapUnprotected as unmapping;
@@ -21,7 +21,7 @@ fn is_descriptor(settings: &RmmSettings, level: u64, desc: u64) -> bool
     has_attributes(settings, desc) && is_multiple(desc / 4096 * 4096, size_of(level))
 }
 
-// RMI_RTT_MAP_UNPROTECTED
+// The checks of RMI_RTT_MAP_UNPROTECTED.
 pub fn rtt_map_unprotected<S: PageStore>(
     granules: &Granules<S>,
     rd: u64,
@@ -51,7 +51,7 @@ pub fn rtt_map_unprotected<S: PageStore>(
     checks
 }
 
-// RMI_RTT_UNMAP_UNPROTECTED
+// The checks of RMI_RTT_UNMAP_UNPROTECTED.
 pub fn rtt_unmap_unprotected<S: PageStore>(
     granules: &Granules<S>,
     rd: u64,

@@ -135,6 +135,21 @@ macro_rules! group {
     };
 }
 
+// A group whose values may be any numbers. A question may end with it, and no group follows.
+macro_rules! plain {
+    ($contexts:expr, $name:expr, $least:expr, $most:expr) => {
+        group!(
+            $contexts,
+            $name,
+            $least,
+            $most,
+            [ANY, ANY, ANY, ANY],
+            0,
+            true
+        )
+    };
+}
+
 // A setting has so many values, and comes once.
 macro_rules! setting {
     ($name:expr, $place:expr, $count:expr, [$first:expr, $second:expr]) => {
@@ -186,116 +201,28 @@ pub const START: Place = Place {
 /// The groups of questions.
 pub const GROUPS: [Group; 95] = [
     // calls, which can be repeated
-    group!(CALLS, RMI_VERSION, 1, 1, [ANY, ANY, ANY, ANY], 0, true),
-    group!(CALLS, RMI_FEATURES, 1, 1, [ANY, ANY, ANY, ANY], 0, true),
-    group!(
-        CALLS,
-        RMI_GRANULE_DELEGATE,
-        1,
-        1,
-        [ANY, ANY, ANY, ANY],
-        0,
-        true
-    ),
-    group!(
-        CALLS,
-        RMI_GRANULE_UNDELEGATE,
-        1,
-        1,
-        [ANY, ANY, ANY, ANY],
-        0,
-        true
-    ),
-    group!(CALLS, RMI_REALM_CREATE, 2, 2, [ANY, ANY, ANY, ANY], 0, true),
-    group!(
-        CALLS,
-        RMI_REALM_ACTIVATE,
-        1,
-        1,
-        [ANY, ANY, ANY, ANY],
-        0,
-        true
-    ),
-    group!(
-        CALLS,
-        RMI_REALM_DESTROY,
-        1,
-        1,
-        [ANY, ANY, ANY, ANY],
-        0,
-        true
-    ),
-    group!(CALLS, RMI_REC_CREATE, 3, 3, [ANY, ANY, ANY, ANY], 0, true),
-    group!(CALLS, RMI_REC_DESTROY, 1, 1, [ANY, ANY, ANY, ANY], 0, true),
-    group!(CALLS, RMI_REC_ENTER, 2, 2, [ANY, ANY, ANY, ANY], 0, true),
-    group!(
-        CALLS,
-        RMI_REC_AUX_COUNT,
-        1,
-        1,
-        [ANY, ANY, ANY, ANY],
-        0,
-        true
-    ),
-    group!(CALLS, RMI_RTT_CREATE, 4, 4, [ANY, ANY, ANY, ANY], 0, true),
-    group!(CALLS, RMI_RTT_DESTROY, 3, 3, [ANY, ANY, ANY, ANY], 0, true),
-    group!(CALLS, RMI_RTT_FOLD, 3, 3, [ANY, ANY, ANY, ANY], 0, true),
-    group!(
-        CALLS,
-        RMI_RTT_INIT_RIPAS,
-        3,
-        3,
-        [ANY, ANY, ANY, ANY],
-        0,
-        true
-    ),
-    group!(
-        CALLS,
-        RMI_RTT_SET_RIPAS,
-        4,
-        4,
-        [ANY, ANY, ANY, ANY],
-        0,
-        true
-    ),
-    group!(
-        CALLS,
-        RMI_RTT_READ_ENTRY,
-        3,
-        3,
-        [ANY, ANY, ANY, ANY],
-        0,
-        true
-    ),
-    group!(
-        CALLS,
-        RMI_RTT_MAP_UNPROTECTED,
-        4,
-        4,
-        [ANY, ANY, ANY, ANY],
-        0,
-        true
-    ),
-    group!(
-        CALLS,
-        RMI_RTT_UNMAP_UNPROTECTED,
-        3,
-        3,
-        [ANY, ANY, ANY, ANY],
-        0,
-        true
-    ),
-    group!(CALLS, RMI_DATA_CREATE, 5, 5, [ANY, ANY, ANY, ANY], 0, true),
-    group!(
-        CALLS,
-        RMI_DATA_CREATE_UNKNOWN,
-        3,
-        3,
-        [ANY, ANY, ANY, ANY],
-        0,
-        true
-    ),
-    group!(CALLS, RMI_DATA_DESTROY, 2, 2, [ANY, ANY, ANY, ANY], 0, true),
+    plain!(CALLS, RMI_VERSION, 1, 1),
+    plain!(CALLS, RMI_FEATURES, 1, 1),
+    plain!(CALLS, RMI_GRANULE_DELEGATE, 1, 1),
+    plain!(CALLS, RMI_GRANULE_UNDELEGATE, 1, 1),
+    plain!(CALLS, RMI_REALM_CREATE, 2, 2),
+    plain!(CALLS, RMI_REALM_ACTIVATE, 1, 1),
+    plain!(CALLS, RMI_REALM_DESTROY, 1, 1),
+    plain!(CALLS, RMI_REC_CREATE, 3, 3),
+    plain!(CALLS, RMI_REC_DESTROY, 1, 1),
+    plain!(CALLS, RMI_REC_ENTER, 2, 2),
+    plain!(CALLS, RMI_REC_AUX_COUNT, 1, 1),
+    plain!(CALLS, RMI_RTT_CREATE, 4, 4),
+    plain!(CALLS, RMI_RTT_DESTROY, 3, 3),
+    plain!(CALLS, RMI_RTT_FOLD, 3, 3),
+    plain!(CALLS, RMI_RTT_INIT_RIPAS, 3, 3),
+    plain!(CALLS, RMI_RTT_SET_RIPAS, 4, 4),
+    plain!(CALLS, RMI_RTT_READ_ENTRY, 3, 3),
+    plain!(CALLS, RMI_RTT_MAP_UNPROTECTED, 4, 4),
+    plain!(CALLS, RMI_RTT_UNMAP_UNPROTECTED, 3, 3),
+    plain!(CALLS, RMI_DATA_CREATE, 5, 5),
+    plain!(CALLS, RMI_DATA_CREATE_UNKNOWN, 3, 3),
+    plain!(CALLS, RMI_DATA_DESTROY, 2, 2),
     group!(
         CALLS,
         RMI_PSCI_COMPLETE,
@@ -317,7 +244,7 @@ pub const GROUPS: [Group; 95] = [
         true
     ),
     group!(LINE, REPEAT, 1, 1, [TIMES, ANY, ANY, ANY], REPEATED, false),
-    group!(LINE, SMC, 1, 7, [ANY, ANY, ANY, ANY], 0, true),
+    plain!(LINE, SMC, 1, 7),
     group!(LINE, STORE, 2, 2, [ALIGNED, ANY, ANY, ANY], 0, true),
     group!(LINE, LOAD, 1, 1, [ALIGNED, ANY, ANY, ANY], 0, true),
     group!(
@@ -340,13 +267,13 @@ pub const GROUPS: [Group; 95] = [
     ),
     group!(LINE, REC_RUN, 1, 1, [PAGE, ANY, ANY, ANY], RUN_FIELDS, true),
     group!(LINE, GUEST, 1, 1, [ANY, ANY, ANY, ANY], STEPS, false),
-    group!(LINE, INTERRUPT, 1, 1, [ANY, ANY, ANY, ANY], 0, true),
-    group!(LINE, STATE, 1, 1, [ANY, ANY, ANY, ANY], 0, true),
-    group!(LINE, SUM, 1, 1, [ANY, ANY, ANY, ANY], 0, true),
-    group!(LINE, REALM, 1, 1, [ANY, ANY, ANY, ANY], 0, true),
-    group!(LINE, RIM, 1, 1, [ANY, ANY, ANY, ANY], 0, true),
-    group!(LINE, REC, 1, 1, [ANY, ANY, ANY, ANY], 0, true),
-    group!(LINE, SAW, 1, 1, [ANY, ANY, ANY, ANY], 0, true),
+    plain!(LINE, INTERRUPT, 1, 1),
+    plain!(LINE, STATE, 1, 1),
+    plain!(LINE, SUM, 1, 1),
+    plain!(LINE, REALM, 1, 1),
+    plain!(LINE, RIM, 1, 1),
+    plain!(LINE, REC, 1, 1),
+    plain!(LINE, SAW, 1, 1),
     // settings of a platform, each once
     setting!(AUX, 0, 1, [number!(0, 16), ANY]),
     setting!(VMID_BITS, 1, 1, [EIGHT_OR_SIXTEEN, ANY]),
@@ -400,7 +327,7 @@ pub const GROUPS: [Group; 95] = [
     // steps of a guest
     group!(STEPS, WRITE, 2, 3, [ANY, ANY, WIDTH, ANY], 0, true),
     group!(STEPS, READ, 1, 2, [ANY, WIDTH, ANY, ANY], 0, true),
-    group!(STEPS, FETCH, 1, 1, [ANY, ANY, ANY, ANY], 0, true),
+    plain!(STEPS, FETCH, 1, 1),
     group!(
         STEPS,
         HOST_CALL,
@@ -419,14 +346,14 @@ pub const GROUPS: [Group; 95] = [
         0,
         true
     ),
-    group!(STEPS, CPU_ON, 3, 3, [ANY, ANY, ANY, ANY], 0, true),
-    group!(STEPS, AFFINITY_INFO, 2, 2, [ANY, ANY, ANY, ANY], 0, true),
-    group!(STEPS, CPU_OFF, 0, 0, [ANY, ANY, ANY, ANY], 0, true),
-    group!(STEPS, CPU_SUSPEND, 0, 0, [ANY, ANY, ANY, ANY], 0, true),
-    group!(STEPS, SYSTEM_OFF, 0, 0, [ANY, ANY, ANY, ANY], 0, true),
-    group!(STEPS, SYSTEM_RESET, 0, 0, [ANY, ANY, ANY, ANY], 0, true),
-    group!(STEPS, WFI, 0, 0, [ANY, ANY, ANY, ANY], 0, true),
-    group!(STEPS, WFE, 0, 0, [ANY, ANY, ANY, ANY], 0, true),
+    plain!(STEPS, CPU_ON, 3, 3),
+    plain!(STEPS, AFFINITY_INFO, 2, 2),
+    plain!(STEPS, CPU_OFF, 0, 0),
+    plain!(STEPS, CPU_SUSPEND, 0, 0),
+    plain!(STEPS, SYSTEM_OFF, 0, 0),
+    plain!(STEPS, SYSTEM_RESET, 0, 0),
+    plain!(STEPS, WFI, 0, 0),
+    plain!(STEPS, WFE, 0, 0),
     group!(
         STEPS,
         SYSREG,
@@ -436,5 +363,5 @@ pub const GROUPS: [Group; 95] = [
         0,
         true
     ),
-    group!(STEPS, SPIN, 0, 0, [ANY, ANY, ANY, ANY], 0, true),
+    plain!(STEPS, SPIN, 0, 0),
 ];

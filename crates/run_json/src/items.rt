@@ -79,7 +79,7 @@ pub fn row_item<S: PageStore>(
     Some(RowItem { row, count })
 }
 
-/// What the host says of a REC.
+/// The REC of a build, as the host shows it.
 #[derive(Drop)]
 pub struct RecView {
     pub granule: Gran,

@@ -8,7 +8,7 @@ use page_arena::PageStore;
 use realm_host::Host;
 use serde::Serializer;
 
-/// How many operations a build had open at its mark, and whether it is in abort.
+/// The number of operations that a build had open at its mark, and whether the build is in abort.
 #[derive(Clone, Copy)]
 pub struct BuildKept {
     pub mark: Option<u16>,

@@ -81,7 +81,7 @@ fn goes_on<S: PageStore>(host: &Host<S>, build: BuildId, row: &RowView, ipa: u32
     }
 }
 
-// How many rows, from one on and one after another in a table, say the same, and where the next begins.
+// The number of rows of a table that say the same, from one row on, and the begin of the next.
 fn count_same<S: PageStore>(host: &Host<S>, build: BuildId, row: &RowView) -> (u32, u32)
     requires { first_covered row.now.level row.now.first ≡ row.now.first }
     ensures run { IsRowRun (world_of host.now) build row.now result.0 }

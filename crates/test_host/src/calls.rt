@@ -25,7 +25,7 @@ pub(crate) enum Command {
     Rec,
 }
 
-/// What a command is answered.
+/// The answer to a command.
 pub(crate) enum Said {
     Done,
     FirstPage(u16),
@@ -33,7 +33,7 @@ pub(crate) enum Said {
     Number(u16),
 }
 
-/// Why a call is refused.
+/// The reason why a call is refused.
 pub(crate) enum No {
     Build,
     Aborting,
@@ -61,7 +61,7 @@ pub(crate) enum Call {
     CheckBack(Which, Result<u16, No>),
     /// A way back, first checked and then gone, with one answer.
     GoBack(Which, Result<u16, No>),
-    /// How many pages are free, how many there are, and how many the build has.
+    /// The number of free pages, of all pages, and of the build's.
     Pages(u16, u16, u16),
     /// The state of a page, and the sum of its bytes.
     Page(u16, GranuleState, u32),

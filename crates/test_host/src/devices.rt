@@ -165,7 +165,7 @@ impl<'a> Devices<'a> {
     }
 }
 
-/// What has come of a program: how it ended, how much of the input it left, and what it wrote, in how many calls.
+/// The outcome of a program: its end, the bytes of the input that are left, and its output, with the number of writes.
 #[derive(Clone, Copy)]
 pub(crate) struct Outcome<'a> {
     pub end: Result<(), Fault>,

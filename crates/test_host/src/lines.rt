@@ -5,7 +5,7 @@ use granule_addr::RecNo;
 use realm_host::{Kind, Refusal, Reply, Rmi, Undone};
 use std::process::Abort;
 
-/// Why a step is refused.
+/// The reason why a step is refused.
 #[derive(Drop)]
 pub(crate) enum No {
     HistoryFull,
@@ -51,7 +51,7 @@ impl No {
 }
 
 impl Line {
-    // What the line is about.
+    // The question that the line answers.
     fn asked(&self) -> Asked {
         match *self {
             Line::Done(step)

@@ -26,7 +26,7 @@ pub(crate) const IS_REFUSED: Words = &["take 1", "delegate 0", "delegate 0", "fi
 /// The build reads the last byte of what it filled.
 pub(crate) const READS: Words = &["take 0", "fill 0 2", "peek 0 4095"];
 
-/// How many steps a guest has.
+/// The number of steps of a guest.
 pub(crate) const STEPS: usize = 18;
 
 /// The step that enters the REC, which runs from then on.

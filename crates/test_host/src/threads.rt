@@ -20,7 +20,7 @@ use std::process::Abort;
 use std::sync::Wait;
 use std::thread::Threads;
 
-// What came of builds that worked side by side: the build that has not ended, the reports by build, and the map.
+// The outcome of builds that worked side by side: the build that has not ended, the reports by build, and the map.
 #[derive(Drop)]
 struct Outcome {
     ends: Result<(), BuildId>,

@@ -43,7 +43,7 @@ impl<'a, C: Clock> Turns<'a, C> {
         }
     }
 
-    // How many turns a build has passed.
+    // The number of turns that a build has passed.
     fn passed(&self, number: u8) -> &AtomicU64 {
         match number {
             0 => &self.first,

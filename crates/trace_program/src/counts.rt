@@ -6,7 +6,7 @@ ghost use Rattle.trace_program.specs.Counting.{with_line_counted, trace_verdict}
 use crate::TraceError;
 use std::fmt;
 
-/// How a line counts.
+/// The verdict on a line, by which it is counted.
 #[derive(Clone, Copy)]
 pub enum LineVerdict {
     /// A remark, a line with no answer, or one that is not asked for.

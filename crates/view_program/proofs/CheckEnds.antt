@@ -4,8 +4,8 @@ use Rattle.std.specs.Prelude.{IfSome, is_ok}
 use Rattle.realm_plan.specs.Plan.{plan_of}
 use Rattle.realm_program.specs.Whole.{kept_of}
 use Rattle.realm_program.proofs.KeptPlan.{plan_of-kept_of}
-use Rattle.realm_program.specs.declared.input.ReadError.{ReadError}
-use Rattle.realm_program.specs.declared.input.ReadError.TheVariants as read_error
+use Rattle.checked_io.specs.declared.told.ReadError.{ReadError}
+use Rattle.checked_io.specs.declared.told.ReadError.TheVariants as read_error
 use Rattle.checked_io.specs.Whole.{AppendsFront}
 use Rattle.checked_io.proofs.Read.{keeps_same}
 use Rattle.plan_lint.specs.Texts.{IsReport}

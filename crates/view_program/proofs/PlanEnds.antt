@@ -6,8 +6,8 @@ use Rattle.realm_program.specs.Whole.{kept_of}
 use Rattle.realm_program.specs.Printed.{IsPlanOf}
 use Rattle.realm_program.proofs.KeptPlan.{plan_from_kept}
 use Rattle.realm_program.specs.declared.fault.Fault as plan_fault
-use Rattle.realm_program.specs.declared.input.ReadError.{ReadError}
-use Rattle.realm_program.specs.declared.input.ReadError.TheVariants as read_error
+use Rattle.checked_io.specs.declared.told.ReadError.{ReadError}
+use Rattle.checked_io.specs.declared.told.ReadError.TheVariants as read_error
 use Rattle.checked_io.specs.Whole.{AppendsFront}
 use Rattle.checked_io.proofs.Read.{keeps_same}
 use Rattle.view_program.specs.Stop.{view_fault_of_read}

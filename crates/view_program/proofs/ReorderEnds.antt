@@ -7,8 +7,8 @@ use Rattle.realm_plan.specs.Plan.{Plan}
 use Rattle.realm_program.specs.Whole.{kept_of}
 use Rattle.realm_program.specs.Printed.{IsPlanOf}
 use Rattle.realm_program.specs.declared.fault.Fault.TheVariants as run_fault
-use Rattle.realm_program.specs.declared.input.ReadError.{ReadError}
-use Rattle.realm_program.specs.declared.input.ReadError.TheVariants as read_error
+use Rattle.checked_io.specs.declared.told.ReadError.{ReadError}
+use Rattle.checked_io.specs.declared.told.ReadError.TheVariants as read_error
 use Rattle.command_line.specs.declared.realmview.SchedulingPolicy.{SchedulingPolicy}
 use Rattle.view_program.specs.Stop.{view_fault_of_read}
 use Rattle.view_program.specs.Checked.{GivesNoPlan}

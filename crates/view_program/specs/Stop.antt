@@ -3,11 +3,9 @@ use Rattle.std.specs.Prelude.{ℕ, Result}
 use Rattle.command_line.specs.Ended.{status_of_end}
 use Rattle.command_line.specs.declared.ended.Ended.{Ended}
 use Rattle.command_line.specs.declared.stop.Stop.{Stop}
-use Rattle.checked_io.specs.declared.lines.LineError.{LineError}
-use Rattle.checked_io.specs.declared.lines.LineError.TheVariants as line_error
+use Rattle.checked_io.specs.declared.told.ReadError.{ReadError}
+use Rattle.checked_io.specs.declared.told.ReadError.TheVariants as read_error
 use Rattle.realm_program.specs.Fault as plan
-use Rattle.realm_program.specs.declared.input.ReadError.{ReadError}
-use Rattle.realm_program.specs.declared.input.ReadError.TheVariants as read_error
 use Rattle.view_program.specs.declared.checking.ViewOutcome.{ViewOutcome}
 use Rattle.view_program.specs.declared.checking.ViewOutcome.TheVariants.{Done, HasErrors}
 use Rattle.view_program.specs.declared.fault.ViewError.{ViewError}
@@ -23,10 +21,6 @@ view_status_of EraseNamesNoBuild = 2
 view_status_of OrderOutsideLimits = 1
 view_status_of Memory = 3
 view_status_of Device = 5
-
-abbrev pub fault_of_line : LineError → ViewError
-fault_of_line line_error.Memory = Memory
-fault_of_line line_error.Device = Device
 
 abbrev pub view_fault_of_read : ReadError → ViewError
 view_fault_of_read read_error.Memory = Memory

@@ -2,10 +2,9 @@
 ghost use Rattle.std.specs.Prelude.{◌≡◌};
 ghost use Rattle.view_program.specs.declared.fault.ViewError.TheVariants.{Plan, Memory, Device};
 
-use checked_io::{DeviceFailed, LineError};
+use checked_io::{DeviceFailed, ReadError};
 use command_line::Reason;
 use realm_host::WhyNot;
-use realm_program::ReadError;
 use std::alloc::AllocError;
 use thiserror::Error;
 
@@ -71,20 +70,6 @@ impl From<realm_program::Fault> for ViewError {
 
     fn from(error: realm_program::Fault) -> ViewError {
         ViewError::Plan(error)
-    }
-}
-
-impl From<LineError> for ViewError {
-    ghost use Rattle.std.specs.Prelude.{◌≡◌};
-    ghost use Rattle.view_program.specs.Stop.{fault_of_line};
-
-    ghost from_gives = { λ error fault. fault ≡ fault_of_line error };
-
-    fn from(error: LineError) -> ViewError {
-        match error {
-            LineError::Memory => ViewError::Memory,
-            LineError::Device => ViewError::Device,
-        }
     }
 }
 

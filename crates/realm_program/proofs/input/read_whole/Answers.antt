@@ -5,32 +5,32 @@ use Rattle.checked_io.proofs.Read.{consumes_more}
 
 pub returns-then-len-ge-KEPT-clause-bytes : goal.returns-then-len-ge-KEPT-clause-bytes
 returns-then-len-ge-KEPT-clause-bytes g c =
-    let more = c.in-Ok-extend_from_slice.ensures.items in
-    let len = c.in-Ok-extend_from_slice.ensures.len in
-    let bound = c.in-Ok.ensures.bound in
+    let more = c.in-Ok.ensures.items in
+    let len = c.in-Ok.ensures.len in
+    let bound = c.in_ok-n.ensures.bound in
     let room = c.min-room.ensures in
     let few = c.loop.invariant.few in
     let was = c.len.ensures in
     let part : length c.read.new.buf ≤ c.min-room.result = omega (arith, c.read.auto.buf, length-take-le c.min-room.result c.loop.buf) in
     let full : length c.extend_from_slice.new.self.items ≡ 1048577 = omega (arith, len, bound, room, part, few, was) in
-    rw more (kept_at_limit _ _ _ (consumes_more _ _ _ _ _ c.loop.invariant.taken c.in-Ok.ensures.bytes.0) (rw more at full))
+    rw more (kept_at_limit _ _ _ (consumes_more _ _ _ _ _ c.loop.invariant.taken c.in_ok-n.ensures.bytes.0) (rw more at full))
 
 pub returns-then-n-eq0-clause-bytes : goal.returns-then-n-eq0-clause-bytes
 returns-then-n-eq0-clause-bytes g c =
     let room = c.min-room.ensures in
     let few = c.loop.invariant.few in
     let some : 0 < length c.read.new.buf = grind (arith, room, few) in
-    let none : take c.in-Ok.n c.read.new.buf ≡ [] = rw c.if-n-eq0.true in
-    kept_at_end _ _ _ _ _ c.loop.invariant.taken c.in-Ok.ensures.bytes.0 none (c.in-Ok.ensures.bytes.1 c.if-n-eq0.true some) (omega arith)
+    let none : take c.in_ok-n.n c.read.new.buf ≡ [] = rw c.if-n-eq0.true in
+    kept_at_end _ _ _ _ _ c.loop.invariant.taken c.in_ok-n.ensures.bytes.0 none (c.in_ok-n.ensures.bytes.1 c.if-n-eq0.true some) (omega arith)
 
 pub loop-preserved : goal.loop-preserved
 loop-preserved g c =
-    let more = c.in-Ok-extend_from_slice.ensures.items in
+    let more = c.in-Ok.ensures.items in
     record {
-      fine = c.in-Ok.ensures.told;
-      not_lowered = omega (arith, c.in-Ok.ensures.not_lowered, c.loop.invariant.not_lowered);
-      asked = omega (arith, c.in-Ok.ensures.counted, c.loop.invariant.asked);
-      some = let l = c.in-Ok-extend_from_slice.ensures.len in let b = c.in-Ok.ensures.bound in let m = c.min-room.ensures in grind (arith, l, b, m);
+      fine = c.in_ok-n.ensures.told;
+      not_lowered = omega (arith, c.in_ok-n.ensures.not_lowered, c.loop.invariant.not_lowered);
+      asked = omega (arith, c.in_ok-n.ensures.counted, c.loop.invariant.asked);
+      some = let l = c.in-Ok.ensures.len in let b = c.in_ok-n.ensures.bound in let m = c.min-room.ensures in grind (arith, l, b, m);
       few = grind arith;
-      taken = rw more (consumes_more _ _ _ _ _ c.loop.invariant.taken c.in-Ok.ensures.bytes.0);
+      taken = rw more (consumes_more _ _ _ _ _ c.loop.invariant.taken c.in_ok-n.ensures.bytes.0);
     }

@@ -1,4 +1,4 @@
-use Rattle.std.proofs.Common.{Option, Some, None, refl, ap, sym, subst, ◌∙◌}
+use Rattle.std.proofs.Common.{Option, refl, ap, subst, ◌∙◌}
 use Rattle.host_ledger.specs.declared.mark.Mark.{Mark}
 use Rattle.rhm_c.specs.Answer.{refused_as}
 use Rattle.rhm_c.specs.Undoing.{IsBackTo}

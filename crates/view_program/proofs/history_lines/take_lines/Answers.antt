@@ -3,7 +3,7 @@ use Rattle.std.specs.Io.KnownBytes.{prepend_known}
 use Rattle.std.proofs.lemmas.Result.{err_from_is_err_and}
 use Rattle.view_program.specs.Applied.{IsLineTaken}
 use Rattle.view_program.specs.Taking.{IsUntaken, AreNotTaken}
-use Rattle.checked_io.specs.declared.lines.LineError.TheVariants.{Device}
+use Rattle.checked_io.specs.declared.told.ReadError.TheVariants.{Device}
 use Rattle.view_program.proofs.Takings.{length-taken_one, so_far_more, not_taken, too_long, unfailed}
 use Rattle.view_program.proofs.history_lines.take_lines.Goals as goal
 

@@ -19,7 +19,9 @@ use denote.Triple.Walked.{Stays, stay_dropped, walk_of, Goes-dropped}
 use Rattle.core.proofs.alloc.Calls.{Goes-blank, handle_tells}
 use Rattle.std.proofs.raw_atomic.Walks.{proved_at, leaves}
 use Rattle.std.specs.Prelude.{true, Some, is_some}
-use Rattle.rmm_c.proofs.Values.{one, both, Z, al, HeldRmm, parts_good, parts_in, held_out}
+use Rattle.box_parts.proofs.Values.{both, Z, al, parts_good, parts_in}
+use Rattle.rmm_c.specs.contracts.plain_rmm.PlainRmm.{the_row as rmm_row}
+use Rattle.rmm_c.proofs.Values.{one, HeldRmm, held_out}
 use Rattle.rmm_c.specs.contracts.held.HeldRmm.into_parts.{ended, clauses}
 use Rattle.rmm_c.specs.contracts.held.HeldRmm.into_parts.Key.{name as #self}
 use Rattle.rmm_c.proofs.held.HeldRmm.into_parts.Statement.{statement}
@@ -39,6 +41,6 @@ into_parts_spec 𝓤 𝓛 𝓜 𝓡 wired =
     sets ! (of_opd ! (get_in ! (fld ! refl (stop !)) (sub ! 0 refl (whole !)))) refl (tt, tt) $ sets ! (of_opd ! (get ! refl)) refl (tt, tt) $
     sets ! (agg ! (and_then ! (get ! refl) (and_then ! (get ! refl) (no_more !)))) refl (parts_good b o h fits) $
     -- [what the box owns; the handle; nothing; the tokens]
-    parts_in ! b o h a x $ use0 𝓛 (raw (fact 𝓤 (v.machine ≡ Some x))) (fact_i 𝓤 (v.machine ≡ Some x) (emp 𝓤) ex) $ nothing ! $ nothing ! $ fjoin ! $ nothing ! $ fjoin ! $
+    parts_in rmm_row ! b o h a x $ use0 𝓛 (raw (fact 𝓤 (v.machine ≡ Some x))) (fact_i 𝓤 (v.machine ≡ Some x) (emp 𝓤) ex) $ nothing ! $ nothing ! $ fjoin ! $ nothing ! $ fjoin ! $
     returns ! (look_at ! 0 refl) $ free_all ! refl $ keep ! (4 ∷ 0 ∷ 2 ∷ 1 ∷ []) $
     by ! (leaves 𝓛 ended hs c z (both (vptr b o) h) (record { ptr = block_ptr b o; alloc = a; value = x }) (tt, (tt, tt)) (tt, (tt, tt))))))))

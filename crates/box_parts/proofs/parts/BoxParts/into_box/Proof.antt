@@ -35,14 +35,14 @@ use Rattle.core.proofs.alloc.Calls.{token, Goes-blank}
 use Rattle.std_alloc.specs.Box.Ownership.{box_owns}
 use Rattle.std_alloc.proofs.BoxSteps.Form.{Bx, D, R, P, B, args, box_ty, word, box_typed}
 use Rattle.std_alloc.proofs.BoxSteps.Steps.{box_out, box_in}
-use Rattle.rmm_c.specs.contracts.parts.BoxParts as parts
+use Rattle.box_parts.specs.contracts.parts.BoxParts as parts
 use Rattle.std_alloc.specs.contracts.boxed.Box.from_raw as Fr
 use Rattle.std_alloc.proofs.boxed.Box.from_raw.Symbol as raw_sym
 use Rattle.std_alloc.proofs.boxed.Box.from_raw.Met as raw_met
-use Rattle.rmm_c.specs.contracts.parts.BoxParts.into_box as F
-use Rattle.rmm_c.specs.contracts.parts.BoxParts.into_box.Key.{name as #self}
-use Rattle.rmm_c.proofs.parts.BoxParts.into_box.Statement as stated
-use Rattle.rmm_c.proofs.parts.BoxParts.into_box.Code as code
+use Rattle.box_parts.specs.contracts.parts.BoxParts.into_box as F
+use Rattle.box_parts.specs.contracts.parts.BoxParts.into_box.Key.{name as #self}
+use Rattle.box_parts.proofs.parts.BoxParts.into_box.Statement as stated
+use Rattle.box_parts.proofs.parts.BoxParts.into_box.Code as code
 
 abbrev rest : Body
 rest = seq (assign (place 0 []) (rv_opd (copy (place 4 [])))) return

@@ -37,14 +37,14 @@ use Rattle.core.proofs.alloc.Calls.{token, handle_tells, Goes-blank}
 use Rattle.std_alloc.specs.Box.Ownership.{box_owns}
 use Rattle.std_alloc.proofs.BoxSteps.Form.{Bx, D, τ, R, P, B, word, box_typed}
 use Rattle.std_alloc.proofs.BoxSteps.Steps.{box_out, box_in}
-use Rattle.rmm_c.specs.contracts.parts.BoxParts as parts
+use Rattle.box_parts.specs.contracts.parts.BoxParts as parts
 use Rattle.std_alloc.specs.contracts.boxed.Box.into_raw_with_allocator as Ra
 use Rattle.std_alloc.proofs.boxed.Box.into_raw_with_allocator.Symbol as raw_sym
 use Rattle.std_alloc.proofs.boxed.Box.into_raw_with_allocator.Met as raw_met
-use Rattle.rmm_c.specs.contracts.parts.BoxParts.of as F
-use Rattle.rmm_c.specs.contracts.parts.BoxParts.of.Key.{name as #self}
-use Rattle.rmm_c.proofs.parts.BoxParts.of.Statement as stated
-use Rattle.rmm_c.proofs.parts.BoxParts.of.Code as code
+use Rattle.box_parts.specs.contracts.parts.BoxParts.of as F
+use Rattle.box_parts.specs.contracts.parts.BoxParts.of.Key.{name as #self}
+use Rattle.box_parts.proofs.parts.BoxParts.of.Statement as stated
+use Rattle.box_parts.proofs.parts.BoxParts.of.Code as code
 
 module _ (E : Bx) (dx : Dict) where
   abbrev args : Args

@@ -1,14 +1,14 @@
-//! A box with its fields in sight.
+//! A box taken apart, and put together again.
 ghost use Rattle.std.specs.Prelude.{◌≡◌};
 ghost use Rattle.std_alloc.specs.Box.Ownership.{box_owns};
 
 use std::alloc::Allocator;
 use std::marker::Model;
 
-// The pointer of a box and its allocator. They own what the box owned.
+/// The pointer of a box and its allocator. They own what the box owned.
 pub struct BoxParts<T, A: Allocator> {
-    pub(super) ptr: *mut T,
-    pub(super) alloc: A,
+    pub ptr: *mut T,
+    pub alloc: A,
     pub ghost value: { T },
 }
 
@@ -17,6 +17,7 @@ impl<T, A: Allocator> Model for BoxParts<T, A> {
 }
 
 impl<T, A: Allocator> BoxParts<T, A> {
+    /// Takes a box apart.
     pub fn of(b: Box<T, A>) -> BoxParts<T, A>
     where
         T: Drop,
@@ -26,6 +27,7 @@ impl<T, A: Allocator> BoxParts<T, A> {
         BoxParts { ptr, alloc }
     }
 
+    /// The box of the parts.
     pub fn into_box(self) -> Box<T, A>
         ensures { result.value ≡ self.value }
     {

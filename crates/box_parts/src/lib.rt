@@ -1,0 +1,6 @@
+//! Boxes with their fields in sight, for code that keeps the pointer of a box, as the handles of C do.
+#![tactic(auto)]
+
+mod parts;
+
+pub use parts::BoxParts;
