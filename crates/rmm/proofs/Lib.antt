@@ -8,5 +8,6 @@ pub mod RequestedRanges
 pub mod Runs
 pub mod SideBySide
 pub mod StatesDiffer
+pub mod TwoRecs
 pub mod Walks
 pub mod WordEdits

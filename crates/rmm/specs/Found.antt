@@ -3,6 +3,7 @@ use Rattle.std.specs.Prelude.{◌≡◌, ◌≢◌, ℕ, ◌-◌, ◌^◌, ◌<�
 use Rattle.rmm_model.specs.Entry.{descriptor_of}
 use Rattle.rmm_model.specs.Machine.{Machine, granule_count, number_of}
 use Rattle.rmm_model.specs.Realm.{IsServed}
+use Rattle.rmm_model.specs.Rec.{is_on}
 use Rattle.rmm_model.specs.declared.realm.RttWalk.{RttWalk}
 use Rattle.rmm_model.specs.Walk.{entry_at, table_below, memory_below, walk}
 use Rattle.rmm_model.specs.Command.Operand.{realm_at, rec_at}
@@ -154,7 +155,8 @@ pub record IsCompletion (m : Machine) (calling target : ℕ) (found : Completion
   pub request : found.request ≡ (rec_at m calling).psci
   pub target_place : found.target ≡ number_of m target
   pub target_inside : found.target < granule_count m
-  pub named : found.named ≡ rec_at m target
+  pub apart : found.calling ≢ found.target
+  pub on : found.on ≡ is_on (rec_at m target)
 
 -- a REC that can be entered
 pub record IsEntry (m : Machine) (rec address : ℕ) (found : Entering) : Type 0 where

@@ -4,10 +4,11 @@ ghost use Rattle.rmm_model.specs.declared.condition.Condition.TheVariants.{Alias
 ghost use Rattle.rmm_model.specs.Check.{check, outcome, first_failing, refusal_in, error_input};
 ghost use Rattle.rmm_model.specs.Machine.{granule_count, number_of};
 ghost use Rattle.rmm_model.specs.Command.Operand.{rec_at, rec_checks};
+ghost use Rattle.rmm_model.specs.Guest.{rec_in};
 ghost use Rattle.rmm_model.specs.Command.PsciComplete as command;
 ghost use Rattle.rmm.specs.Found.{IsCompletion};
 
-use crate::rec::{NamedRec, rec_of, set_rec};
+use crate::rec::{NamedRec, rec_of};
 use granule_addr::Gran;
 use page_arena::PageStore;
 use rmi_abi::{SmcResult, Word};
@@ -15,20 +16,20 @@ use rmm_granules::{
     Granules, OperandConditions, PSCI_SUCCESS, RecEdit, is_pending, is_same_owner, is_status,
     target_of,
 };
-use rmm_model::{Condition, FailedCondition, PsciRequest, RmmRec, error_input};
+use rmm_model::{Condition, FailedCondition, PsciRequest, error_input};
 
 const PSCI_ALREADY_ON: u64 = 0xFFFF_FFFF_FFFF_FFFC;
 
 // The state of a processor that AFFINITY_INFO gives.
 const PSCI_OFF: u64 = 1;
 
-// A request that can be complete: the REC that made it, the request, and the REC that it names.
+// A request that can be complete: the REC that made it, the request, the REC that it names, and whether that one is on.
 #[derive(Clone, Copy)]
 pub struct Completion {
     pub calling: Gran,
     pub request: PsciRequest,
     pub target: Gran,
-    pub named: RmmRec,
+    pub on: bool,
 }
 
 // ---- requests
@@ -78,14 +79,10 @@ fn check_request<S: PageStore>(
 // ---- the effect
 
 // The target of a CPU_ON that succeeds begins.
-fn begin_target<S: PageStore>(
-    granules: &mut Granules<S>,
-    granule: Gran,
-    rec: &RmmRec,
-    request: PsciRequest,
-)
+fn begin_target<S: PageStore>(granules: &mut Granules<S>, granule: Gran, request: PsciRequest)
     requires { granule < granule_count granules.old }
-    ensures { granules.new ≡ command.with_target granules.old granule rec.now request true }
+    ensures { granules.new
+        ≡ command.with_target granules.old granule (rec_in granules.old granule) request true }
 {
     if let PsciRequest::CpuOn {
         entry_point,
@@ -93,11 +90,7 @@ fn begin_target<S: PageStore>(
         ..
     } = request
     {
-        let begun = RmmRec {
-            is_runnable: true,
-            ..*rec
-        };
-        set_rec(granules, granule, begun);
+        granules.edit_rec(granule, RecEdit::Runnable(true));
         granules.set_word(granule, 31, entry_point);
         granules.set_word(granule, 0, context);
     }
@@ -141,7 +134,7 @@ fn find_request<S: PageStore>(
         calling: caller.granule,
         request: caller.rec.psci,
         target: named.granule,
-        named: named.rec,
+        on: named.rec.is_on(),
     })
 }
 
@@ -160,12 +153,12 @@ pub fn psci_complete<S: PageStore>(
 {
     match find_request(granules, calling, target, status) {
         Ok(found) => {
-            let on = found.named.is_on();
+            let on = found.on;
             let request = found.request;
             let answered = PsciRequest::Complete(psci_result(request, on, status));
             granules.edit_rec(found.calling, RecEdit::Psci(answered));
             if !on && status == PSCI_SUCCESS {
-                begin_target(granules, found.target, &found.named, request);
+                begin_target(granules, found.target, request);
             }
             SmcResult::only(Word::Success)
         }

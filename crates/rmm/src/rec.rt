@@ -3,14 +3,13 @@ ghost use Rattle.std.specs.Prelude.{◌≡◌, ◌<◌, IfOk};
 ghost use Rattle.rmm_model.specs.Check.{first_failing, refusal_in, error_rec};
 ghost use Rattle.rmm_model.specs.Machine.{granule_count, number_of};
 ghost use Rattle.rmm_model.specs.Command.Operand as operands;
-ghost use Rattle.rmm_model.specs.Command.PsciComplete.{with_rec};
 
 use crate::operand::named;
 use granule_addr::Gran;
 use page_arena::PageStore;
 use rmi_abi::{SmcResult, Word};
 use rmm_granules::{Granules, OperandConditions};
-use rmm_model::{Condition, FailedCondition, RmmGranule, RmmGranuleState, RmmRec, error_input};
+use rmm_model::{Condition, FailedCondition, RmmRec, error_input};
 
 // A REC and its granule.
 #[derive(Clone, Copy)]
@@ -46,17 +45,4 @@ pub fn rec_of<S: PageStore>(
         Some(rec) => Ok(NamedRec { granule, rec }),
         None => Err(error_input(conditions.state)),
     }
-}
-
-// Sets the attributes of a REC.
-pub fn set_rec<S: PageStore>(granules: &mut Granules<S>, granule: Gran, rec: RmmRec)
-    requires { granule < granule_count granules.old }
-    ensures machine { granules.new ≡ with_rec granules.old granule rec }
-    ensures count { granule_count granules.new ≡ granule_count granules.old }
-{
-    let kept = RmmGranule {
-        state: RmmGranuleState::Rec(rec),
-        owner: granules.owner(granule),
-    };
-    granules.set(granule, kept);
 }

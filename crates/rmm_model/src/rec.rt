@@ -61,13 +61,13 @@ pub enum LastExit {
 /// address of its run page. The steps that its guest has yet to perform are a ring in its page.
 #[derive(Clone, Copy)]
 pub struct RmmRec {
-    pub state: RmmRecState,
-    pub is_runnable: bool,
     pub mpidr: u64,
+    pub run: u64,
     pub ripas: RipasRequest,
     pub psci: PsciRequest,
+    pub state: RmmRecState,
+    pub is_runnable: bool,
     pub exit: LastExit,
-    pub run: u64,
     pub first_step: u8,
     pub step_count: u8,
     pub result_count: u8,

@@ -25,7 +25,8 @@ pub fn first_live(page: &[u8], from: u16) -> u16
     512
 }
 
-// Whether eight entries of a table, from one on, have words below those of live entries. They are compared at once.
+// Whether eight entries of a table, from one on, have words below those of live entries. All bits of their words are
+// compared at once: a number is at most its bitwise or with another.
 fn are_low(page: &[u8], first: u16) -> bool
     requires page { length page.now ≡ 4096 }
     requires first { first + 8 ≤ 512 }
@@ -41,14 +42,7 @@ fn are_low(page: &[u8], first: u16) -> bool
     let f = word_in(page, at + 5);
     let g = word_in(page, at + 6);
     let h = word_in(page, at + 7);
-    a < LEAST_LIVE
-        && b < LEAST_LIVE
-        && c < LEAST_LIVE
-        && d < LEAST_LIVE
-        && e < LEAST_LIVE
-        && f < LEAST_LIVE
-        && g < LEAST_LIVE
-        && h < LEAST_LIVE
+    (a | b | c | d | e | f | g | h) < LEAST_LIVE
 }
 
 /// Whether an entry of a table is live.

@@ -1,11 +1,13 @@
-use Rattle.std.proofs.Common.{◌≡◌, ℕ, ◌==◌, ◌++◌, [], ◌∷◌, List, Some, ◌∙◌, rules}
+use Rattle.std.proofs.Common.{◌≡◌, ℕ, ◌==◌, ◌++◌, [], ◌∷◌, List, Some, sym, ap, ◌∙◌, rules}
 use Rattle.rmm_model.specs.declared.condition.Condition.TheVariants.{Alias, CallingAlign, CallingBound, CallingState, TargetAlign, TargetBound, TargetState}
 use Rattle.rmm_model.specs.Check.{Check, check, first_failing, error_input}
 use Rattle.rmm_model.specs.declared.rec.RmmRec.{RmmRec}
 use Rattle.rmm_model.specs.Machine.{Machine, number_of}
+use Rattle.rmm_model.specs.Rec.{is_on}
 use Rattle.rmm_model.specs.Command.Operand.{rec_checks, rec_at}
 use Rattle.rmm_model.specs.Command.PsciComplete.{psci_complete, request_checks}
 use Rattle.rmm.proofs.Checks.{passed, failed}
+use Rattle.rmm.proofs.TwoRecs.{two_recs}
 use Rattle.rmm.proofs.psci.find_request.Goals as goal
 
 -- the checks of the two RECs that are named
@@ -60,3 +62,18 @@ returns-clause-refusal g c =
     ∙ request_refusal m c.in_ok-caller.caller.granule (number_of m c.args.calling) c.in_ok-named.named.granule (number_of m c.args.target) c.in_ok-caller.caller.rec (rec_at m c.args.calling) c.in_ok-named.named.rec (rec_at m c.args.target) c.args.status
     c.in_ok-caller.ensures.number c.in_ok-named.ensures.number c.in_ok-caller.ensures.rec c.in_ok-named.ensures.rec
     ∙ passed (first ++ second) third (c.in_ok-named.ensures.refusal ∙ passed first second c.in_ok-caller.ensures.refusal)
+
+pub returns-clause-found : goal.returns-clause-found
+returns-clause-found g c =
+    let caller = c.in_ok-caller.ensures in
+    let named = c.in_ok-named.ensures in
+    record {
+      place = caller.number;
+      inside = caller.inside;
+      request = ap (λ (r : RmmRec). r.psci) caller.rec;
+      target_place = named.number;
+      target_inside = named.inside;
+      apart = λ same. two_recs c.args.granules.now c.args.calling c.args.target TargetAlign TargetBound TargetState
+          caller.refusal named.refusal (sym caller.number ∙ same ∙ named.number);
+      on = c.is_on.ensures ∙ ap is_on named.rec;
+    }
