@@ -260,8 +260,7 @@ const TWO_QUESTIONS: &str = "of --refused, --waiting and --leased only one may b
 
 const NO_STEP: &str = "--refused is no step as 1:4: a build, and a place in its steps, both from 0";
 
-const GIVE_UP_HELP: &str =
-    "Let a build whose step is refused leave out its other steps, and abort";
+const GIVE_UP_HELP: &str = "Let a build whose step is refused leave out its other steps, and abort";
 
 const GIVE_UP_IN_PLAN: &str =
     "--give-up is not for --refused, --waiting and --leased: a replay of the plan that they print does not give up";

@@ -38,7 +38,8 @@ pub mod schedules;
 pub use applying::apply;
 pub use checking::{ViewOutcome, check};
 pub use command_line::realmview::{
-    AfterRefusal, CallsForm, ScheduleQuestion, Schedules, SchedulingPolicy, StepPlace, ViewSubcommand,
+    AfterRefusal, CallsForm, ScheduleQuestion, Schedules, SchedulingPolicy, StepPlace,
+    ViewSubcommand,
 };
 pub use fault::ViewError;
 pub use law::{histories_do_not_stop, what_is_applied_is_legal};
