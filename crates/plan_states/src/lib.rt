@@ -8,6 +8,7 @@
 //! first path.
 #![tactic(auto)]
 
+mod distinct;
 mod edges;
 mod graph;
 mod holdings;
