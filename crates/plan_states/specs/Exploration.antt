@@ -3,6 +3,7 @@ use Rattle.std.specs.Prelude.{ℕ, ◌≤◌, List, All, sum_by, vec_len, string
 use Rattle.std.specs.declared.alloc.Global.{Global}
 use Rattle.std.specs.declared.string.String.{String}
 use Rattle.realm_plan.specs.Plan.{Plan}
+use Rattle.plan_states.specs.Distinct.{IsGraphDistinct}
 use Rattle.plan_states.specs.Reached.{IsEndOfRun, IsMapOfRun}
 use Rattle.plan_states.specs.Runs.{ArePathsRuns}
 use Rattle.plan_states.specs.Whole.{IsWholeGraph}
@@ -26,6 +27,7 @@ pub record IsFound (plan : Plan) (most : ℕ) (graph : Graph) : Type 0 where
 pub record IsGraphWithin (plan : Plan) (most : ℕ) (graph : Graph) : Type 0 where
   pub found : IsFound plan most graph
   pub whole : IsWholeGraph plan graph
+  pub distinct : IsGraphDistinct graph
   pub runs : ArePathsRuns plan graph
 
 abbrev pub IsExploration : Plan → ℕ → Exploration → Type 0

@@ -2,6 +2,7 @@ pub mod States
 pub mod Turned
 pub mod Reached
 pub mod Whole
+pub mod Distinct
 pub mod TurnTaken
 pub mod Exploration
 pub mod Signs

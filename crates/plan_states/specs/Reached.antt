@@ -12,7 +12,7 @@ pub record IsReached (plan : Plan) (order : List ℕ) (at : Position) : Type 0 w
   pub turns : List Turn
   pub are_turns : AreTurns plan order (start (opening_host plan)) turns at
 
--- a turn of a build's next step leads from one position to the other
+-- a turn of a build, of its next step if one is left, leads from one position to the other
 pub record IsTurnAt (plan : Plan) (at : Position) (build : ℕ) (taken : Taken) (to : Position) : Type 0 where
   pub of_build : taken.turn.build ≡ build
   pub is_turn : IsTurn plan at taken.turn to

@@ -25,7 +25,7 @@ IsMapNamed plan maps None at = Unit {0}
 IsMapNamed plan maps (Some number) at = AreOver plan at.places × (option_map string_bytes (slice_get maps number) ≡ Some (map_text at.host))
 
 -- A turn of the label's build leads from one position to the other. It ends its step as the label names it, or leaves it
--- under way. Builds hold what the label names after it, and the label's map is that of the host then.
+-- under way. Builds hold what the label names after it. If the label names a map, it is that of the host then.
 pub record IsLabelled (plan : Plan) (ends : List EndOfStep) (held : List (List ℕ)) (maps : List (String Global)) (at : Position) (label : Label) (to : Position) : Type 0 where
   pub taken : Taken
   pub is_taken : IsTurnAt plan at label.build taken to
@@ -34,7 +34,7 @@ pub record IsLabelled (plan : Plan) (ends : List EndOfStep) (held : List (List �
   pub is_map : IsMapNamed plan maps label.map to
 
 -- The plan can be run from a position along a path, one turn after the other, with the ends and the map of the path.
-abbrev pub IsRunAlong : Plan → List EndOfStep → List (String Global) → Position → Path Label → Type 0
+abbrev pub IsRunAlong : Plan → List EndOfStep → List (List ℕ) → List (String Global) → Position → Path Label → Type 0
 IsRunAlong plan ends held maps at [] = Unit {0}
 IsRunAlong plan ends held maps at (edge ∷ path) =
     (to : Position) × IsLabelled plan ends held maps at edge.label to × IsRunAlong plan ends held maps to path

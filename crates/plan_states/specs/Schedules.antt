@@ -59,7 +59,7 @@ own_rule plan graph before build = is_some (step_after plan build (done_by plan 
 
 -- ---- plans in which each step takes one turn
 
--- no step is an abort or a way back
+-- no step is an abort or a way back, and no build gives up
 abbrev pub HasSingleTurns : Plan → Type 0
 HasSingleTurns plan = (build done : ℕ) → takes_many (step_after plan build done) ≡ false
 

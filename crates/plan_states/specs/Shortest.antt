@@ -1,5 +1,5 @@
 -- The shortest schedules that answer a question.
-use Rattle.std.specs.Prelude.{◌≡◌, ◌≢◌, ◌≤◌, ◌<◌, ℕ, ◌+◌, Bool, true, List, [], ◌∷◌, ◌++◌, length, map, sum, take, Vec, vec_items, option_map, Option, Some, None, slice_index_or}
+use Rattle.std.specs.Prelude.{◌≡◌, ◌≢◌, ◌≤◌, ◌<◌, ℕ, ◌+◌, Bool, true, false, List, [], ◌∷◌, ◌++◌, length, map, sum, take, Vec, vec_items, option_map, Option, Some, None, slice_index_or}
 use Rattle.std.specs.List.{list_any, position}
 use Rattle.std.specs.declared.alloc.Global.{Global}
 use Rattle.host_commands.specs.declared.refusal.Refusal.{Refusal}
@@ -67,6 +67,10 @@ layer_shows is layer = list_any (λ edges. shows is (vec_items edges)) layer
 abbrev pub first_layer : (Label → Bool) → List (Vec (Vec (Edge Label) Global) Global) → Option ℕ
 first_layer is layers = position (λ layer. layer_shows is (vec_items layer)) layers
 
+-- an edge of some layer has such a label
+abbrev pub any_layer_shows : (Label → Bool) → List (Vec (Vec (Edge Label) Global) Global) → Bool
+any_layer_shows is layers = list_any (λ layer. layer_shows is (vec_items layer)) layers
+
 -- the layers up to that one, and the states of the next, at which paths end
 abbrev pub cut_after : ℕ → List (Layer Label) → List (Layer Label)
 cut_after depth layers = take (depth + 1) layers ++ map (λ edges. []) (slice_index_or layers (depth + 1) []) ∷ []
@@ -79,6 +83,10 @@ tally_in is question layers (Some depth) = tally_of (shows is) question (paths (
 -- the turn of the label answers the question, of a plan of so many builds
 abbrev pub is_answer_in : Graph → ℕ → TurnQuestion → Label → Bool
 is_answer_in graph builds question label = is_answer_at graph.ends.items graph.held.items builds question label
+
+-- some turn of the graph answers the question
+abbrev pub is_answered : Graph → ℕ → TurnQuestion → Bool
+is_answered graph builds question = any_layer_shows (is_answer_in graph builds question) graph.layers.items
 
 -- the shortest paths that answer the question
 abbrev pub shortest_tally : Graph → ℕ → TurnQuestion → Option (PathCount TurnQuestion)
@@ -95,11 +103,11 @@ pub record IsShortest (plan : Plan) (most : ℕ) (question : TurnQuestion) (orde
   pub within : IsGraphWithin plan most graph
   pub is_first : option_map (λ (tally : PathCount TurnQuestion). tally.first) (shortest_tally graph (length plan.builds) question) ≡ Some order
 
--- the graph has no schedule that answers the question
+-- no turn of the graph answers the question
 pub record IsNever (plan : Plan) (most : ℕ) (question : TurnQuestion) : Type 0 where
   pub graph : Graph
   pub within : IsGraphWithin plan most graph
-  pub none : shortest_tally graph (length plan.builds) question ≡ None
+  pub none : is_answered graph (length plan.builds) question ≡ false
 
 abbrev pub IsWitness : Plan → ℕ → TurnQuestion → Witness → Type 0
 IsWitness plan most question (Found order) = IsShortest plan most question order.items

@@ -39,7 +39,7 @@ is_before [] others = false
 is_before (one ∷ ones) [] = false
 is_before (one ∷ ones) (other ∷ others) = if one == other then is_before ones others else nat_lt one other
 
--- the place after those that do not come after it
+-- the place of a schedule among tallies that are sorted by their first schedules
 abbrev pub place_for : {K : Type 0} → List ℕ → List (PathCount K) → ℕ
 place_for first [] = 0
 place_for first (t ∷ tallies) = if is_before first t.first then 0 else suc (place_for first tallies)
@@ -49,7 +49,7 @@ abbrev pub with_tally : {K : Type 0} → Option (PathCount K) → List (PathCoun
 with_tally None tallies = tallies
 with_tally (Some tally) tallies = insert tallies (place_for tally.first tallies) tally
 
--- those of the numbers below another
+-- the tallies of all numbers below another
 abbrev pub all_added : {K : Type 0} → (ℕ → Option (PathCount K)) → ℕ → List (PathCount K)
 all_added tally_at zero = []
 all_added tally_at (suc n) = with_tally (tally_at n) (all_added tally_at n)

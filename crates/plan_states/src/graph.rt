@@ -5,6 +5,7 @@ ghost use Rattle.plan_states.specs.Exploration.{AreOfRuns, IsExploration, IsFoun
 ghost use Rattle.plan_states.specs.Reached.{IsMapOfRun};
 ghost use Rattle.plan_states.specs.Turned.{AreWith};
 
+use crate::distinct::is_distinct;
 use crate::edges::Label;
 use crate::holdings::Holdings;
 use crate::leftovers::leave_nothing;
@@ -345,8 +346,8 @@ fn search(alloc: Global, plan: &Plan, most: usize) -> Result<Option<Graph>, Faul
 
 /// A whole graph of a plan with at most `most` states, each path of which is a run of the plan, or `TooMany`.
 ///
-/// Errors. `Memory`: allocation failed. `Mismatch`: a run does not go on as another run said, or a turn is missing in the
-/// graph. Neither happens on a host that gives the same answers to the same calls.
+/// Errors. `Memory`: allocation failed. `Mismatch`: a run does not go on as another run said, a turn is missing in the
+/// graph, or an end or a map is there twice. None happens on a host that gives the same answers to the same calls.
 pub fn explore(alloc: Global, plan: &Plan, most: usize) -> Result<Exploration, Fault>
     ensures ok { IfOk result (IsExploration (plan_view plan.now) most) }
     ensures err { IfErr result HasNoGraph }
@@ -354,7 +355,7 @@ pub fn explore(alloc: Global, plan: &Plan, most: usize) -> Result<Exploration, F
     let Some(graph) = search(alloc, plan, most)? else {
         return Ok(Exploration::TooMany);
     };
-    if !is_whole(plan, &graph) {
+    if !is_whole(plan, &graph) || !is_distinct(&graph) {
         return Err(Fault::Mismatch);
     }
     if !are_paths_runs(alloc, plan, &graph)? {

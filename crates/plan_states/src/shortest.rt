@@ -5,7 +5,7 @@ ghost use Rattle.schedule_graph.specs.First.{layers_in};
 ghost use Rattle.plan_states.specs.Exploration.{HasNoGraph};
 ghost use Rattle.schedule_graph.specs.Paths.{shows};
 ghost use Rattle.plan_states.specs.Questions.{is_answer_at};
-ghost use Rattle.plan_states.specs.Shortest.{cut_after, first_layer, layer_shows, shortest_tally, EndsWithAnswer, IsWitness};
+ghost use Rattle.plan_states.specs.Shortest.{any_layer_shows, cut_after, first_layer, is_answered, layer_shows, shortest_tally, EndsWithAnswer, IsWitness};
 ghost use Rattle.plan_states.specs.Tallies.{count_of_tally};
 ghost use Rattle.plan_states.specs.Turned.{end_taken};
 
@@ -26,7 +26,7 @@ use std::alloc::{AllocError, Global};
 pub enum Witness {
     /// The builds of the turns up to the answer.
     Found(Vec<usize>),
-    /// No schedule answers it.
+    /// No turn of any schedule answers it.
     Never,
     /// There are more states than were allowed.
     TooMany,
@@ -51,6 +51,26 @@ fn first_layer(layers: &[Layer], sign: &AnswerSign) -> Option<usize>
     ensures { result ≡ first_layer (is_answer_at sign.now.ends.now sign.now.held.now sign.now.builds sign.now.question) layers.now }
 {
     layers.iter().position(|layer| layer_shows(layer, sign))
+}
+
+// Whether an edge of some layer shows the sign.
+fn any_layer_shows(layers: &[Layer], sign: &AnswerSign) -> bool
+    ensures { result ≡ any_layer_shows (is_answer_at sign.now.ends.now sign.now.held.now sign.now.builds sign.now.question) layers.now }
+{
+    layers.iter().any(|layer| layer_shows(layer, sign))
+}
+
+// Whether some turn of a graph answers a question, of a plan of `builds` builds.
+fn is_answered(graph: &Graph, builds: usize, question: TurnQuestion) -> bool
+    ensures { result ≡ is_answered graph.now builds question }
+{
+    let sign = AnswerSign {
+        ends: &graph.ends,
+        held: &graph.held,
+        builds,
+        question,
+    };
+    any_layer_shows(&graph.layers, &sign)
 }
 
 // The states of a layer; none if there is no such layer.
@@ -171,8 +191,12 @@ pub fn shortest_answer(
     let Exploration::All(graph) = explore(alloc, plan, most)? else {
         return Ok(Witness::TooMany);
     };
-    let Some(tally) = shortest_tally(alloc, graph, plan.builds.len(), question)? else {
+    let builds = plan.builds.len();
+    if !is_answered(&graph, builds, question) {
         return Ok(Witness::Never);
+    }
+    let Some(tally) = shortest_tally(alloc, graph, builds, question)? else {
+        return Err(Fault::Mismatch);
     };
     let PathTally { first, .. } = tally;
     if !answers(alloc, plan, &first, question)? {

@@ -19,7 +19,7 @@ ghost use Rattle.plan_states.specs.declared.step_end.EndOfStep.{EndOfStep};
 
 /// The number of schedules that `explore` prints is that of all schedules, by any rule that agrees with the paths of the
 /// plan's graph. The rule says which of eight builds have a step left after which turns. If a plan has no abort and no
-/// way back, a build has a step left if it had fewer turns than steps.
+/// way back, and does not give up, a build has a step left if it had fewer turns than steps.
 pub fn all_schedules_are_counted()
     ensures by_rule { (plan : Plan) (most : ℕ) (graph : Graph) (outcomes : Outcomes) (left : List ℕ → ℕ → Bool)
         → IsGraphWithin plan most graph → AreOutcomes (length plan.builds) graph outcomes → IsRuleOf plan graph left

@@ -1,0 +1,78 @@
+//! The test that each end and each map of a graph has one number.
+ghost use Rattle.std.specs.Prelude.{◌≢◌, ◌<◌, length};
+ghost use Rattle.std.specs.Bool.{OnTrue, OnFalse};
+ghost use Rattle.plan_states.specs.Distinct.{AreEndsDistinct, AreMapsDistinct, IsGraphDistinct, IsNewEnd, IsNewMap};
+
+use crate::graph::Graph;
+use crate::step_end::EndOfStep;
+
+// Whether two ends are the same.
+fn is_same_end(one: &EndOfStep, other: &EndOfStep) -> bool
+    ensures { OnFalse result (one.now ≢ other.now) }
+{
+    one == other
+}
+
+// Whether two maps are the same.
+fn is_same_map(one: &str, other: &str) -> bool
+    ensures { OnFalse result (one.now ≢ other.now) }
+{
+    one == other
+}
+
+// Whether no end before a place is the one there.
+fn is_new_end(ends: &[EndOfStep], place: usize) -> bool
+    requires { place < length ends.now }
+    ensures { OnTrue result (IsNewEnd ends.now place) }
+{
+    for before in 0..place {
+        if is_same_end(&ends[before], &ends[place]) {
+            return false;
+        }
+    }
+    true
+}
+
+// Whether no map before a place is the one there.
+fn is_new_map(maps: &[String], place: usize) -> bool
+    requires { place < length maps.now }
+    ensures { OnTrue result (IsNewMap maps.now place) }
+{
+    for before in 0..place {
+        if is_same_map(&maps[before], &maps[place]) {
+            return false;
+        }
+    }
+    true
+}
+
+// Whether no two ends are the same.
+fn are_ends_distinct(ends: &[EndOfStep]) -> bool
+    ensures { OnTrue result (AreEndsDistinct ends.now) }
+{
+    for place in 0..ends.len() {
+        if !is_new_end(ends, place) {
+            return false;
+        }
+    }
+    true
+}
+
+// Whether no two maps are the same.
+fn are_maps_distinct(maps: &[String]) -> bool
+    ensures { OnTrue result (AreMapsDistinct maps.now) }
+{
+    for place in 0..maps.len() {
+        if !is_new_map(maps, place) {
+            return false;
+        }
+    }
+    true
+}
+
+/// Whether no two ends and no two maps of a graph are the same.
+pub(crate) fn is_distinct(graph: &Graph) -> bool
+    ensures { OnTrue result (IsGraphDistinct graph.now) }
+{
+    are_ends_distinct(&graph.ends) && are_maps_distinct(&graph.maps)
+}
