@@ -62,6 +62,8 @@ class Replay:
         """Each step that is used up: its build, its place, its text, and the refusal or `ok`."""
         places = {}
         for line in self.turns:
+            if line.endswith(" - idle\n"):
+                continue
             build, rest = line.rstrip("\n").split(" ", 1)
             text, answer = rest.rsplit(" = ", 1)
             if text in ("abort", "back") and answer.startswith("ok"):
