@@ -355,7 +355,10 @@ pub fn explore(alloc: Global, plan: &Plan, most: usize) -> Result<Exploration, F
     let Some(graph) = search(alloc, plan, most)? else {
         return Ok(Exploration::TooMany);
     };
-    if !is_whole(plan, &graph) || !is_distinct(&graph) {
+    if !is_whole(plan, &graph) {
+        return Err(Fault::Mismatch);
+    }
+    if !is_distinct(&graph) {
         return Err(Fault::Mismatch);
     }
     if !are_paths_runs(alloc, plan, &graph)? {
