@@ -1,5 +1,5 @@
 -- The marks of cursors are those of their own builds.
-use Rattle.std.proofs.Common.{◌≡◌, ℕ, zero, suc, ◌==◌, ◌-◌, true, false, List, [], ◌∷◌, get_or, set, replicate, Option, Some, None, Result, Ok, Err, inl, inr, sym, ap, subst}
+use Rattle.std.proofs.Common.{◌≡◌, ℕ, zero, suc, ◌==◌, ◌-◌, Bool, true, false, List, [], ◌∷◌, get_or, set, replicate, Option, Some, None, Result, Ok, Err, inl, inr, sym, ap, subst}
 use Rattle.std.specs.Bool.{OnTrue, OnFalse}
 use Rattle.std.proofs.lemmas.Bool.{cases_eq}
 use Rattle.std.proofs.lemmas.List.{get_or-set_other}
@@ -65,16 +65,16 @@ at_set build [] k place own = tt
 at_set build (p ∷ places) zero place own = own
 at_set build (p ∷ places) (suc k) place own = at_set build places k place own
 
-turn_own : (step : Option PlanStep) (from : Position) (turn : Turn) (to : Position) → IsTurnOf step from turn to → OwnMarks from.places → OwnMarks to.places
-turn_own None from turn to is own build = subst (λ (p : Position). IsOwn build (place_of p.places build).mark) (sym is.1) (own build)
-turn_own (Some step) from turn to (answer, after, told, is_step, places) own build =
+turn_own : (gives_up : Bool) (step : Option PlanStep) (from : Position) (turn : Turn) (to : Position) → IsTurnOf gives_up step from turn to → OwnMarks from.places → OwnMarks to.places
+turn_own gives_up None from turn to is own build = subst (λ (p : Position). IsOwn build (place_of p.places build).mark) (sym is.1) (own build)
+turn_own gives_up (Some step) from turn to (answer, after, told, is_step, places) own build =
     let b = turn.build in
-    let moved : IsOwn b (moved_on after).mark =
-    subst (IsOwn b) (sym (mark-moved_on after)) (step_own from.host b (place_of from.places b) (asked step) answer to.host after is_step (own b)) in
+    let moved : IsOwn b (moved_on gives_up answer after).mark =
+    subst (IsOwn b) (sym (mark-moved_on gives_up answer after)) (step_own from.host b (place_of from.places b) (asked step) answer to.host after is_step (own b)) in
     subst (λ ps. IsOwn build (get_or ps build first_place).mark) (sym places)
-    (elim (cases_eq build b) as (λ _. IsOwn build (get_or (set from.places b (moved_on after)) build first_place).mark) [
-      | inl same ↦ subst (λ k. IsOwn k (get_or (set from.places b (moved_on after)) k first_place).mark) (sym same) (at_set b from.places b (moved_on after) moved)
-      | inr other ↦ subst (λ (p : PlanCursor). IsOwn build p.mark) (sym (get_or-set_other from.places b build (moved_on after) first_place other)) (own build)
+    (elim (cases_eq build b) as (λ _. IsOwn build (get_or (set from.places b (moved_on gives_up answer after)) build first_place).mark) [
+      | inl same ↦ subst (λ k. IsOwn k (get_or (set from.places b (moved_on gives_up answer after)) k first_place).mark) (sym same) (at_set b from.places b (moved_on gives_up answer after) moved)
+      | inr other ↦ subst (λ (p : PlanCursor). IsOwn build p.mark) (sym (get_or-set_other from.places b build (moved_on gives_up answer after) first_place other)) (own build)
     ])
 
 turns_own : (plan : Plan) (order : List ℕ) (from : Position) (turns : List Turn) (to : Position) → AreTurns plan order from turns to → OwnMarks from.places → OwnMarks to.places
@@ -83,7 +83,7 @@ turns_own plan [] from (turn ∷ turns) to is own = absurd is
 turns_own plan (build ∷ order) from [] to is own = absurd is
 turns_own plan (build ∷ order) from (turn ∷ turns) to (of_build, between, is_turn, more) own =
     turns_own plan order between turns to more
-    (turn_own (step_after plan turn.build (place_of from.places turn.build).done) from turn between is_turn own)
+    (turn_own plan.gives_up (step_after plan turn.build (place_of from.places turn.build).done) from turn between is_turn own)
 
 at_start : (build n k : ℕ) → IsOwn build (get_or (replicate n first_place) k first_place).mark
 at_start build zero k = tt
