@@ -1,8 +1,7 @@
 //! RMI_REC_DESTROY.
 ghost use Rattle.std.specs.Prelude.{◌≡◌, ◌<◌, IfOk};
 ghost use Rattle.rmm_model.specs.Check.{outcome, first_failing, refusal_in};
-ghost use Rattle.rmm_model.specs.Granule.{realm_of};
-ghost use Rattle.rmm_model.specs.Machine.{granule_count, granule_at, number_of};
+ghost use Rattle.rmm_model.specs.Machine.{granule_count, number_of};
 ghost use Rattle.rmm_model.specs.Command.RecDestroy as command;
 
 use crate::auxiliary::set_aux;
@@ -11,27 +10,8 @@ use crate::rec::{error_rec, rec_of};
 use granule_addr::Gran;
 use page_arena::PageStore;
 use rmi_abi::{SmcResult, Word};
-use rmm_granules::{Granules, OperandConditions, realm_in};
-use rmm_model::{Condition, FailedCondition, RmmGranule, RmmGranuleState, RmmRealm};
-
-// The realm of an RD has one REC less.
-fn remove_rec<S: PageStore>(granules: &mut Granules<S>, rd: Gran)
-    ensures machine { granules.new
-        ≡ command.without_rec_of granules.old rd (realm_of (granule_at granules.old rd).state) }
-    ensures count { granule_count granules.new ≡ granule_count granules.old }
-{
-    if let Some(found) = realm_in(granules, rd) {
-        let realm = RmmRealm {
-            rec_count: found.rec_count.saturating_sub(1),
-            ..found
-        };
-        let kept = RmmGranule {
-            state: RmmGranuleState::Rd(realm),
-            owner: None,
-        };
-        granules.set(rd, kept);
-    }
-}
+use rmm_granules::{Granules, OperandConditions, RealmEdit};
+use rmm_model::{Condition, FailedCondition, RmmGranule, RmmGranuleState};
 
 // The realm that owns a REC has one REC less.
 fn leave_realm<S: PageStore>(granules: &mut Granules<S>, owner: Option<Gran>)
@@ -39,7 +19,7 @@ fn leave_realm<S: PageStore>(granules: &mut Granules<S>, owner: Option<Gran>)
     ensures count { granule_count granules.new ≡ granule_count granules.old }
 {
     if let Some(rd) = owner {
-        remove_rec(granules, rd);
+        granules.edit_realm(rd, RealmEdit::RemoveRec);
     }
 }
 

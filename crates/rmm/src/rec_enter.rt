@@ -1,7 +1,6 @@
 //! RMI_REC_ENTER.
 ghost use Rattle.std.specs.Prelude.{◌≡◌, ◌<◌, ◌≤◌, ◌&&◌, not, IfOk};
 ghost use Rattle.rmm_model.specs.declared.rec.LastExit.TheVariants.{RipasChange, HostCall, EmulatableAbort};
-ghost use Rattle.rmm_model.specs.Granule.{realm_of};
 ghost use Rattle.rmm_model.specs.Guest as guests;
 ghost use Rattle.rmm_model.specs.Check.{outcome, first_failing, refusal_in};
 ghost use Rattle.rmm_model.specs.Machine.{granule_count, granule_at, number_of};
@@ -22,11 +21,11 @@ use granule_addr::Gran;
 use page_arena::PageStore;
 use rmi_abi::{EnterFlags, ExitReason, RecExit, SmcResult, Word, entry_gpr};
 use rmm_granules::{
-    Granules, OperandConditions, RecEdit, is_no_mmio, is_pending, realm_in, state_of,
+    Granules, OperandConditions, RealmEdit, RecEdit, is_no_mmio, is_pending, state_of,
 };
 use rmm_model::{
-    Condition, FailedCondition, GuestStep, LastExit, PsciRequest, RipasRequest, RmmGranule,
-    RmmGranuleState, RmmRealm, RmmRealmState, RmmRec, StepOutcome, StepResult,
+    Condition, FailedCondition, GuestStep, LastExit, PsciRequest, RipasRequest, RmmRealm,
+    RmmRealmState, RmmRec, StepOutcome, StepResult,
 };
 
 // A REC that can be entered, and its run page.
@@ -182,25 +181,6 @@ fn enter<S: PageStore>(granules: &mut Granules<S>, g: Gran, address: u64, run: G
 
 // ---- steps
 
-// The realm of an RD is off.
-fn switch_off<S: PageStore>(granules: &mut Granules<S>, rd: Gran)
-    ensures machine { granules.new
-        ≡ command.with_realm_off granules.old rd (realm_of (granule_at granules.old rd).state) }
-    ensures count { granule_count granules.new ≡ granule_count granules.old }
-{
-    if let Some(found) = realm_in(granules, rd) {
-        let realm = RmmRealm {
-            state: RmmRealmState::SystemOff,
-            ..found
-        };
-        let kept = RmmGranule {
-            state: RmmGranuleState::Rd(realm),
-            owner: None,
-        };
-        granules.set(rd, kept);
-    }
-}
-
 // The realm that owns a REC is off.
 fn system_off<S: PageStore>(granules: &mut Granules<S>, g: Gran)
     requires { g < granule_count granules.old }
@@ -208,7 +188,7 @@ fn system_off<S: PageStore>(granules: &mut Granules<S>, g: Gran)
     ensures count { granule_count granules.new ≡ granule_count granules.old }
 {
     if let Some(rd) = granules.owner(g) {
-        switch_off(granules, rd);
+        granules.edit_realm(rd, RealmEdit::SwitchOff);
     }
 }
 

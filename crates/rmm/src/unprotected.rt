@@ -150,8 +150,11 @@ pub fn rtt_unmap_unprotected<S: PageStore>(
         Ok(found) => {
             write(granules, &found, ipa, RmmRttEntry::UnassignedNs);
             SmcResult {
+                word: Word::Success,
                 x1: top(granules, &found, ipa),
-                ..SmcResult::only(Word::Success)
+                x2: 0,
+                x3: 0,
+                x4: 0,
             }
         }
         Err(refusal) => refusal.into_answer(),

@@ -11,8 +11,10 @@ ghost use Rattle.rmm_model.specs.Realm.{IsServed};
 ghost use Rattle.rmm_model.specs.Guest.{rec_in};
 ghost use Rattle.rmm_model.specs.Command.PsciComplete.{with_rec};
 ghost use Rattle.rmm_granules.specs.Inside.{platform_machine};
+ghost use Rattle.rmm_granules.specs.RealmEdits.{with_edited_realm};
 ghost use Rattle.rmm_granules.specs.RecEdits.{edited};
 
+use crate::realm_edit::{RealmEdit, edit_rd};
 use crate::rec_edit::{RecEdit, edit_granule};
 use crate::taking::take_all;
 use granule_addr::{Gran, MOST_PAGES, PageOff};
@@ -212,6 +214,20 @@ impl<S: PageStore> Granules<S> {
         ensures { self.new ≡ machine.with_granule self.old granule kept }
     {
         self.granules[granule.number() as usize] = kept;
+    }
+
+    /// Edits the realm of an RD in place. A granule that is none stays as it is.
+    #[inline(always)]
+    pub fn edit_realm(&mut self, rd: Gran, edit: RealmEdit)
+        ensures machine { self.new
+            ≡ with_edited_realm self.old rd edit (realm_of (granule_at self.old rd).state) }
+        ensures count { granule_count self.new ≡ granule_count self.old }
+    {
+        let place = rd.number() as usize;
+        if place < self.granules.len() {
+            let kept = &mut self.granules[place];
+            edit_rd(kept, edit);
+        }
     }
 
     /// Edits the attributes of a REC in place. A granule that is none becomes one, with the attributes of a new REC.

@@ -1,24 +1,8 @@
 //! Levels of translation tables, and the entry of a level that covers an address.
 //!
-//! The size of an entry is a power of two, and a remainder by a known one needs no division. So each size has an arm of
-//! its own.
+//! The size of an entry is written as a power of two, so that no division by it is left in the program.
 ghost use Rattle.std.specs.Prelude.{◌≡◌, ◌<◌, ◌≤◌, ◌/◌, ◌%◌, ◌^◌};
 ghost use Rattle.rmm_model.specs.Level as levels;
-
-/// The bytes that an entry of a level covers: 4 KiB, 2 MiB, 1 GiB or 512 GiB. RMM 1.0, RTT level.
-#[tactic(auto, unfolding(crate::specs::Level::entry_size))]
-pub fn entry_size(level: u8) -> u64
-    ensures value { result ≡ levels.entry_size level }
-    ensures at_least { 4096 ≤ result }
-    ensures at_most { result ≤ 2 ^ 39 }
-{
-    match level {
-        3 => 4096,
-        2 => 0x20_0000,
-        1 => 0x4000_0000,
-        _ => 0x80_0000_0000,
-    }
-}
 
 // The logarithm of the bytes that an entry of a level covers.
 #[tactic(auto, unfolding(crate::specs::Level::entry_size))]
@@ -34,6 +18,16 @@ fn entry_shift(level: u8) -> u8
     }
 }
 
+/// The bytes that an entry of a level covers: 4 KiB, 2 MiB, 1 GiB or 512 GiB. RMM 1.0, RTT level.
+#[tactic(auto, unfolding(crate::specs::Level::entry_size))]
+pub fn entry_size(level: u8) -> u64
+    ensures value { result ≡ levels.entry_size level }
+    ensures at_least { 4096 ≤ result }
+    ensures at_most { result ≤ 2 ^ 39 }
+{
+    1 << entry_shift(level)
+}
+
 /// The number of the entry of a level that covers an address. The entry of address 0 has number 0.
 pub fn entry_number(level: u8, address: u64) -> u64
     ensures { result ≡ address / levels.entry_size level }
@@ -47,12 +41,7 @@ pub fn entry_offset(level: u8, address: u64) -> u64
     ensures value { result ≡ address % levels.entry_size level }
     ensures below { result < 2 ^ 39 }
 {
-    match level {
-        3 => address % 4096,
-        2 => address % 0x20_0000,
-        1 => address % 0x4000_0000,
-        _ => address % 0x80_0000_0000,
-    }
+    address % entry_size(level)
 }
 
 /// The index of the entry that covers an address, among the 512 of a table.
