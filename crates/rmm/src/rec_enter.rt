@@ -1,5 +1,5 @@
 //! RMI_REC_ENTER.
-ghost use Rattle.std.specs.Prelude.{◌≡◌, ◌<◌, ◌≤◌, ◌&&◌, not, IfOk};
+ghost use Rattle.std.specs.Prelude.{◌≡◌, ◌<◌, ◌≤◌, ◌==◌, ◌&&◌, false, not, IfOk};
 ghost use Rattle.rmm_model.specs.declared.rec.LastExit.TheVariants.{RipasChange, HostCall, EmulatableAbort};
 ghost use Rattle.rmm_model.specs.Guest as guests;
 ghost use Rattle.rmm_model.specs.Check.{outcome, first_failing, refusal_in};
@@ -294,17 +294,23 @@ fn no_step() -> StepOutcome
     StepOutcome::Exit(RecExit::only(ExitReason::Irq), LastExit::Other)
 }
 
-// A guest performs its first step.
+// Whether a guest has no step to perform.
+fn is_idle<S: PageStore>(granules: &Granules<S>, g: Gran) -> bool
+    requires { g < granule_count granules.now }
+    ensures { result ≡ (guests.rec_in granules.now g).step_count == 0 }
+{
+    rec_in(granules, g).step_count == 0
+}
+
+// Performs the first step of a guest that has one.
 #[tactic(auto, unfolding(rmm_model::specs::Command::RecEnter::first_step_outcome, rmm_model::specs::Command::RecEnter::after_first_step))]
 fn perform_first<S: PageStore>(granules: &mut Granules<S>, g: Gran, flags: u64) -> StepOutcome
-    requires { g < granule_count granules.old }
+    requires inside { g < granule_count granules.old }
+    requires busy { (guests.rec_in granules.old g).step_count == 0 ≡ false }
     ensures outcome { result ≡ command.first_step_outcome granules.old g flags }
     ensures machine { granules.new ≡ command.after_first_step granules.old g flags }
     ensures count { granule_count granules.new ≡ granule_count granules.old }
 {
-    if rec_in(granules, g).step_count == 0 {
-        return no_step();
-    }
     match owner_realm(granules, g) {
         Some(realm) => {
             let step = first_step(granules, g);
@@ -322,6 +328,9 @@ fn perform_steps<S: PageStore>(granules: &mut Granules<S>, g: Gran, flags: u64) 
     ensures { (result, granules.new) ≡ command.after_steps granules.old g flags 16 }
 {
     for i in 0..16u8 {
+        if is_idle(granules, g) {
+            break;
+        }
         match perform_first(granules, g, flags) {
             StepOutcome::Result(_) => {}
             StepOutcome::Exit(exit, last) => {
