@@ -14,7 +14,7 @@ use rmi_abi::{SmcResult, Word};
 use rmm_granules::{Granules, OperandConditions, realm_in};
 use rmm_model::{Condition, FailedCondition, RmmGranule, RmmGranuleState, RmmRealm};
 
-// The realm of an RD has one REC less.
+// Takes one REC from the count of the realm of an RD.
 fn remove_rec<S: PageStore>(granules: &mut Granules<S>, rd: Gran)
     ensures machine { granules.new
         ≡ command.without_rec_of granules.old rd (realm_of (granule_at granules.old rd).state) }
@@ -33,7 +33,7 @@ fn remove_rec<S: PageStore>(granules: &mut Granules<S>, rd: Gran)
     }
 }
 
-// The realm that owns a REC has one REC less.
+// Takes one REC from the count of the realm that owns a REC.
 fn leave_realm<S: PageStore>(granules: &mut Granules<S>, owner: Option<Gran>)
     ensures machine { granules.new ≡ command.without_rec granules.old owner }
     ensures count { granule_count granules.new ≡ granule_count granules.old }
