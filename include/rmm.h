@@ -115,7 +115,7 @@ typedef struct rmm_registers {
 
 RMM_STATIC_ASSERT(sizeof(rmm_registers) == 56, "rmm_registers has 56 bytes");
 
-/* An SMC: X0 to X6 before the call; after it X0 is the result word, X1 to X4 are the outputs, 0 where there is none.
+/* An SMC: X0 to X6 before the call; after it X0 is the result word, X1 to X4 are the outputs, 0 if there is none.
  *
  * X0 is RMM_NOT_SUPPORTED, and no other register changes, for a function that is no command, and on a closed handle.
  * X0 is RMM_RUNNING if the guest that was entered spins: RMI_REC_ENTER would not have come back. The REC is RUNNING,
@@ -201,7 +201,7 @@ uint64_t rmm_guest(rmm_handle *handle, uint64_t rec, const rmm_step *step) RMM_N
  * Required: handle; `word` is not NULL, and may be written to. */
 bool rmm_interrupt(rmm_handle *handle, uint64_t rec, uint64_t *word) RMM_NO_NULL;
 
-/* The result of a step, as its guest sees it, and its value, 0 where there is none. */
+/* The result of a step, as its guest sees it, and its value, 0 if there is none. */
 enum {
     RMM_RESULT_DONE = 0,
     RMM_RESULT_READ = 1,     /* what was read */

@@ -1,4 +1,4 @@
-//! Boxes with their fields in sight, for code that keeps the pointer of a box, as the handles of C do.
+//! Boxes as structs with public fields, for code that keeps the pointer of a box, as the handles of C do.
 #![tactic(auto)]
 
 mod parts;

@@ -75,8 +75,8 @@ impl PageStore for BuddyArena {
         self.index.count()
     }
 
-    /// Takes the first block of the first list that has one, from the list of the order up. The visits are one for each
-    /// order up to that of the list. If no order has a block, there are no visits.
+    /// Takes a block out of the first block of the first nonempty list, from the list of its order up. The visits are
+    /// one for each order up to that of the list. If no order has a block, there are no visits.
     fn take(&mut self, order: Order) -> Option<Gran>
         ensures first { result ≡ first_block self.old.index.lists order }
         ensures block { IfSome result (IsFreeBlock self.old.index.flags order) }

@@ -3,7 +3,7 @@ ghost use Rattle.std.specs.Prelude.{◌≡◌, ◌<◌, ◌∷◌, ◌++◌, [],
 
 use realm_model::Event;
 
-/// Appends an event to a history that has capacity for it. No event before it goes.
+/// Appends an event to a history that has capacity for it. All earlier events stay.
 pub fn append_event(history: &mut Vec<Event>, event: Event)
     requires { vec_len history.old < vec_capacity history.old }
     ensures items { history.new.items ≡ history.old.items ++ event ∷ [] }

@@ -8,7 +8,7 @@ use realm_model::{Act, JOURNAL_ROOM};
 use std::alloc::{AllocError, Global};
 use std::marker::Model;
 
-/// The operations that a build has open, the newest last. All its memory is taken when it is built.
+/// The operations that a build has open, the newest last. All memory of a journal is taken when the journal is built.
 #[derive(Drop)]
 pub struct Journal {
     entries: Vec<Act>,
@@ -49,8 +49,8 @@ impl Journal {
         count <= self.entries.len() as u16
     }
 
-    /// Follows an operation of the build: one that has a reverse is put on top, a reverse takes the top off, and no
-    /// other operation changes anything.
+    /// Follows an operation of the build. One that has a reverse is pushed, a reverse pops the newest, and any other
+    /// operation changes nothing.
     pub fn follow(&mut self, act: &Act)
         requires { length (pushed self.old act.now) ≤ 512 }
         ensures { self.new ≡ pushed self.old act.now }

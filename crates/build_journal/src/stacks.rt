@@ -89,7 +89,7 @@ pub fn push_run(stack: &mut Vec<Gran>, first: Gran, order: Order)
     let start = stack.len();
     stack.resize(start + order.size() as usize, first).unwrap();
     let number = first.number();
-    // (written at their indexes, and not pushed: so no page waits for the length that the one before it left)
+    // (written by index and not pushed, so that no write depends on the length that the write before it stored)
     for k in 0..order.size() {
         stack[start + k as usize] = Gran::new(number + k, MOST_PAGES).unwrap();
     }

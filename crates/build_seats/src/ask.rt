@@ -22,11 +22,11 @@ pub enum Question {
 /// The end of a list of questions.
 #[derive(Clone, Copy)]
 pub enum Ending {
-    /// All were accepted.
+    /// The end of a list whose questions were all accepted.
     Done,
-    /// The last one was refused.
+    /// The end at a question that was refused.
     Refused,
-    /// The gate gave no turn, and nothing was asked.
+    /// The end at a turn that the gate did not give. Its question was not asked.
     Cut,
 }
 

@@ -87,7 +87,7 @@ fn clear<T: Teller, G: Gate>(
     }
 }
 
-// Takes the steps. After the first refusal it clears the build.
+// Takes the steps, and clears the build after the first refusal.
 fn take_steps<T: Teller, G: Gate>(
     report: &mut Report,
     standing: &mut Standing,

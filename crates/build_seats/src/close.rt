@@ -12,13 +12,13 @@ use realm_model::Event;
 /// The reason why a shared host is not closed.
 #[derive(Clone, Copy, PartialEq, Eq)]
 pub enum CloseFault {
-    /// The build does not have exactly one seat.
+    /// A build that does not have exactly one seat.
     SeatMissing(BuildId),
-    /// The trail of the build's seat is not the build's part of the history.
+    /// A build whose seat has a trail that is not the build's part of the history.
     RecordMismatch(BuildId),
 }
 
-/// Shows that each seat counts the same as its build's count behind the lock. Nothing changes.
+/// Shows that the count of each seat equals its build's count behind the lock. Nothing changes.
 pub fn audit<L: Ledgers>(books: &mut Books<L>, seats: &mut [Seat<L>])
     ensures books { books.new ≡ books.old }
     ensures seats { seats.new ≡ seats.old }

@@ -75,8 +75,8 @@ impl<S: PageStore, L: Ledgers> Kept<S, L> {
         Ok((Kept { host, books }, seats))
     }
 
-    /// Asks for a command of the seat's build. The answer is the host's. An accepted command is one event of the build,
-    /// which ends the history and the trail. A refusal leaves both as they are. No memory is taken.
+    /// Asks for a command of the seat's build. The answer is the host's. An accepted command appends one event of the
+    /// build to the history and to the trail. A refusal leaves both as they are. No memory is taken.
     pub fn call(&mut self, seat: &mut Seat<L>, cmd: Cmd) -> Result<Reply, Refusal>
         ensures answer { IsAnswer self.old.host seat.old.build (Ask cmd) (replied result) self.new.host }
         ensures noted { IfOk result (λ _. IsNoted self.old seat.old self.new seat.new) }
@@ -91,8 +91,8 @@ impl<S: PageStore, L: Ledgers> Kept<S, L> {
         Ok(reply)
     }
 
-    /// Undoes the newest operation that the seat's build has open. The answer is the host's. An accepted undo is one
-    /// event of the build, which ends the history and the trail. A refusal leaves both as they are. No memory is taken.
+    /// Undoes the newest operation that the seat's build has open. The answer is the host's. An accepted undo appends
+    /// one event of the build to the history and to the trail. A refusal leaves both as they are. No memory is taken.
     pub fn undo(&mut self, seat: &mut Seat<L>) -> Result<Undone, Refusal>
         ensures answer { IsAnswer self.old.host seat.old.build Undo (undone result) self.new.host }
         ensures noted { IfOk result (λ _. IsNoted self.old seat.old self.new seat.new) }
@@ -155,7 +155,7 @@ impl<S: PageStore, L: Ledgers> Kept<S, L> {
     }
 }
 
-// Notes the event that ends the history of a host. It ends the trail, and both counts of its build rise by one.
+// Appends the last event of a host's history to the trail, and adds one to both counts of the event's build.
 fn note<S: PageStore, L: Ledgers>(host: &Host<S>, books: &mut Books<L>, seat: &mut Seat<L>)
     requires some { 0 < length host.now.history }
     requires counted { length (events_of seat.old.build host.now.history) ≡ seat.old.count + 1 }

@@ -34,7 +34,7 @@ impl<L: Ledgers, const BUILD: u8> Ledger for LedgerOf<L, BUILD> {
     ghost parts = { 1 };
 }
 
-/// The counts of all builds that are behind the lock, seen as their totals.
+/// The counts behind the lock, one for each build, seen as their totals.
 #[derive(Drop)]
 pub struct Books<L: Ledgers> {
     book0: Book<LedgerOf<L, 0>>,
@@ -56,7 +56,7 @@ impl<L: Ledgers> Model for Books<L> {
 }
 
 impl<L: Ledgers> Books<L> {
-    /// Shows that a pass counts the same as its build's count behind the lock. Nothing changes.
+    /// Shows that the count of a pass equals its build's count behind the lock. Nothing changes.
     pub fn audit(&mut self, pass: &mut Pass<L>)
         ensures same { (self.new ≡ self.old) × (pass.new ≡ pass.old) }
         ensures build { pass.old.build < 8 }

@@ -16,13 +16,13 @@ pub enum Asked {
 /// The answer to a worker, in a line of its report.
 #[derive(Clone, Copy, PartialEq, Eq)]
 pub enum Answer {
-    /// The command was accepted.
+    /// The reply to an accepted command.
     Replied(Reply),
-    /// An operation was undone.
+    /// The result of an undo.
     Undone(Undone),
-    /// The build's point is kept as a mark, with that many operations open.
+    /// A mark of the build's point, with that many operations open.
     Marked(u16),
-    /// An abort or a way back had nothing to undo.
+    /// An abort or a way back with nothing to undo.
     Nothing,
     Refused(Refusal),
 }

@@ -73,8 +73,8 @@ pub(crate) fn new_trails<L: Ledgers>(
     Ok(trails)
 }
 
-/// The session handle of one thread on a shared host: its build's pass, which counts the build's events in the history,
-/// and the list of these events.
+/// The session handle of one thread on a shared host. It has its build's pass, which counts the build's events in the
+/// history, and the list of these events.
 #[derive(Drop)]
 pub struct Seat<L: Ledgers> {
     pub(crate) pass: Pass<L>,
@@ -93,7 +93,7 @@ impl<L: Ledgers> Model for Seat<L> {
 }
 
 impl<L: Ledgers> Seat<L> {
-    /// The build whose seat it is.
+    /// The build that the seat belongs to.
     pub fn build(&self) -> BuildId
         ensures build { result ≡ self.now.build }
         ensures range { self.now.build < 8 }
@@ -101,7 +101,7 @@ impl<L: Ledgers> Seat<L> {
         self.pass.build()
     }
 
-    /// The number of its build's events that the seat counts: as many as its trail has.
+    /// The number of the build's events that the seat counts: as many as the trail has.
     pub fn count(&self) -> usize
         ensures count { result ≡ self.now.count }
         ensures trail { result ≡ length self.now.trail }
@@ -109,7 +109,7 @@ impl<L: Ledgers> Seat<L> {
         self.trail.events().len()
     }
 
-    /// The accepted events of its build, in sequence.
+    /// The accepted events of the seat's build, in sequence.
     pub fn trail(&self) -> &[Event]
         ensures { result.now ≡ self.now.trail }
     {

@@ -7,7 +7,7 @@ use host_commands::Cmd;
 use host_ledger::Mark;
 use std::marker::Model;
 
-/// The most RECs of a build that can run: no more than a plan has steps.
+/// The largest number of RECs of a build that can run: that of the steps of a plan.
 pub const MOST: usize = 1024;
 
 /// The state of a build as its worker knows it from its own replies.

@@ -7,7 +7,7 @@ use granule_addr::BuildId;
 use host_commands::{Cmd, Refusal, Reply, Undone};
 use host_ledger::Mark;
 
-/// The client side of a host for the worker of one build, as a seat is one.
+/// The client side of a host for the worker of one build, such as a seat.
 pub trait Teller {
     /// Whether these are the questions that the teller was asked, in sequence, each with its answer.
     ghost tells: { Self → List Exchange → Type 0 };

@@ -34,8 +34,8 @@ impl<L: Ledgers> Model for Worker<L> {
 }
 
 impl<L: Ledgers> Worker<L> {
-    /// The worker of a seat's build, which has asked nothing. If there is no memory for its report, seat and steps come
-    /// back.
+    /// A worker that has asked nothing yet, for a seat's build. If there is no memory for its report, seat and steps
+    /// come back.
     pub fn build(
         alloc: Global,
         seat: Seat<L>,
@@ -61,7 +61,7 @@ impl<L: Ledgers> Worker<L> {
         })
     }
 
-    /// The build whose worker it is.
+    /// The build of the worker.
     pub fn number(&self) -> BuildId
         ensures { result ≡ self.now.seat.build }
     {

@@ -11,7 +11,7 @@ use std::marker::Model;
 /// The next item of an input: a line, or its end.
 #[derive(Clone, Copy)]
 pub enum Next {
-    /// A line, which was read.
+    /// A line that was read whole.
     Line,
     /// A line that is longer than it may be.
     TooLong,

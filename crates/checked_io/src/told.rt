@@ -9,16 +9,16 @@ use std::alloc::Global;
 use std::io::{ErrorKind, Read, Write};
 use std::marker::Model;
 
-/// A call of the device failed.
+/// The failure of a call of the device.
 #[derive(Clone, Copy)]
 pub struct DeviceFailed;
 
 /// The reason why an input, or a part of it, is not returned.
 #[derive(Clone, Copy)]
 pub enum ReadError {
-    /// Allocation failed.
+    /// A failed allocation.
     Memory,
-    /// A read failed.
+    /// A failed read.
     Device,
 }
 

@@ -1,4 +1,4 @@
-//! The end of a program that has not stopped.
+//! The end of a program without an error.
 ghost use Rattle.std.specs.Prelude.{◌≡◌, false, true, Err, IfErr, IfOk};
 ghost use Rattle.clap.specs.Values.{kind_of};
 ghost use Rattle.command_line.specs.Ended.{end_of_run, is_request, IsShown, IsUnshown};
@@ -10,14 +10,14 @@ use clap::Error;
 use std::alloc::Global;
 use std::io::Write;
 
-/// The end of a program that has not stopped.
+/// The end of a program without an error.
 #[derive(Clone, Copy)]
 pub enum Ended<V> {
     /// The program has done what it was asked for, with this verdict.
     Done(V),
     /// The program has printed its help or its version.
     Shown,
-    /// Nobody reads the output any more, and nothing is left to say.
+    /// The program's output is closed: nobody reads it any more.
     Closed,
 }
 
@@ -36,7 +36,7 @@ impl<V> Ended<V> {
         }
     }
 
-    /// Prints the help or the version, where the words ask for that. Any other error is why the program stops.
+    /// Prints the help or the version, if the words ask for it. Any other error is why the program stops.
     pub fn shown<F: Reason + From<DeviceFailed>, W: Write>(
         alloc: Global,
         error: Error,

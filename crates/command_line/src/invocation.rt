@@ -1,10 +1,10 @@
-//! The words of a command line, once they are taken.
+//! The parsed words of a command line.
 
-/// A command line that is taken: what is asked, and of which file.
+/// A parsed command line: the request, and the file to read.
 #[derive(Clone, Copy)]
 pub struct Invocation<'a, A> {
-    /// What the program is asked to do.
+    /// The request to the program.
     pub asked: A,
-    /// The file that it reads. Without one it reads standard input.
+    /// The file that the program reads, or none for standard input.
     pub file: Option<&'a str>,
 }

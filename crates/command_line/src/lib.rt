@@ -1,5 +1,4 @@
-//! The common part of programs with a command line: their words, the reasons why they stop, and how they end; and the
-//! command line of each.
+//! The command lines of the programs, and their common part: words, reasons to stop, and ends.
 //!
 //! A program has its own faults, each a `Reason` with its exit status and its line; `Stop` adds that the words are
 //! refused. The command line of `realmhost` is proved to be what `clap`'s definition says of it. Those of `realmview`

@@ -1,4 +1,4 @@
-//! The parts of a command line of which the definition is proved: a program, a subcommand, and the option `--erase`.
+//! The parts of a command line whose `clap` definition is proved: a program, a subcommand, and the option `--erase`.
 ghost use Rattle.std.specs.Prelude.{◌≡◌, IfOk, None, Some, codes, false, if◌then◌else◌, map, nat_lt, option_and_then, option_map, string_bytes, true};
 ghost use Rattle.clap.specs.Words.{FailsBy, app_of, fault_of, found_of, is_simple_and_free, new_app, one_of, rows_of, rule_of, subcommand_of, subcommand_rows_of};
 ghost use Rattle.clap.specs.declared.builder.command.Command.TheViews.{out-Command as fields_of};
@@ -37,7 +37,7 @@ pub(crate) fn erase<'a>(alloc: Global, help: &'a str) -> Arg<'a>
         .value_parser(value_parser!(u8).range(0..=7))
 }
 
-/// What the program finds in the words.
+/// The matches that the program finds in the words.
 pub(crate) fn matched<'a>(
     program: Command<'a>,
     words: &'a [String],
@@ -49,7 +49,7 @@ pub(crate) fn matched<'a>(
     program.try_get_matches_from(words)
 }
 
-/// The build of a number, if there may be one.
+/// The build of a number, if one is given and it is below 8.
 pub(crate) fn build_of(number: Option<u8>) -> Option<BuildId>
     ensures { result ≡ option_and_then (λ n. if nat_lt n 8 then Some n else None) number }
 {

@@ -9,7 +9,7 @@ use std::alloc::{AllocError, Global};
 pub enum Painting {
     /// Messages: `error:`, `warning:` and `help:`, the carets below a word, and the lines of refused turns.
     Messages,
-    /// The difference of a trace: its line as it stands, and as it has to be.
+    /// The lines of a difference in a trace: the heading with its verdict, and our answer.
     Difference,
 }
 
@@ -51,7 +51,7 @@ struct Label {
     colour: Colour,
 }
 
-// Whether a label may stand after this: after spaces, or after a place as `plan:4:28: `.
+// Whether a label may follow a text: spaces alone, or one that ends with a place as `plan:4:28: `.
 fn may_begin_label(before: &[u8]) -> bool {
     if let [.., digit, b':', b' '] = before {
         return digit.is_ascii_digit();
@@ -121,7 +121,7 @@ fn is_of_carets(line: &[u8]) -> bool {
     has_caret
 }
 
-// The colour of a line on one that differs: its heading has the verdict, and another line has our answer.
+// The colour of a line of a difference: the heading with the verdict, or the line with our answer.
 fn colour_of_difference(line: &[u8]) -> Option<Colour> {
     if line.ends_with(b": wrong") {
         return Some(Colour::Red);
@@ -175,7 +175,7 @@ fn push_line(out: &mut Vec<u8>, painting: Painting, line: &[u8]) -> Result<(), A
     push(out, None, after)
 }
 
-// How many bytes the first line has, its line feed left out.
+// The number of bytes of the first line, without its line feed.
 fn line_len(text: &[u8]) -> usize
     ensures { result ≤ length text.now }
 {
@@ -187,7 +187,7 @@ fn line_len(text: &[u8]) -> usize
     text.len()
 }
 
-/// The text as a terminal is given it: some pieces of it are between escape sequences.
+/// The text for a terminal, with escape sequences around its painted pieces.
 pub fn painted(alloc: Global, text: &[u8], painting: Painting) -> Result<Vec<u8>, AllocError>
     ensures { IfOk result (λ out. IsPainted text.now out.items) }
 {

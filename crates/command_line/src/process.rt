@@ -26,11 +26,11 @@ pub fn arguments<R: Env + AllocGlobal, F: Reason>(rt: &R) -> Result<Vec<String>,
 }
 
 impl<F: Reason> Stop<F> {
-    /// Tells standard error why the program stops, and gives its exit status.
+    /// Prints to standard error why the program stops, and returns the exit status.
     pub fn end<R: Eprint>(&self, rt: &R) -> ExitCode
         ensures { exit_status result ≡ status_of_stop F.status_of self.now }
     {
-        // If this write fails too, the status is what remains.
+        // The exit status is all that remains if this write fails too.
         let _told = eprint!(rt; "{self}");
         ExitCode::from(self.status())
     }

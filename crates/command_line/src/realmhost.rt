@@ -9,12 +9,12 @@ use clap::{Command, Error};
 use granule_addr::BuildId;
 use std::alloc::{AllocError, Global};
 
-/// What the program is asked to do.
+/// The request to the program.
 #[derive(Clone, Copy)]
 pub enum Line {
-    /// Replay the plan; a build may be left out.
+    /// Replays the plan; a build may be left out.
     Replay(Option<BuildId>),
-    /// Run the builds of the plan, each in a thread of its own.
+    /// Runs the builds of the plan, each in a thread of its own.
     Run,
 }
 
@@ -48,11 +48,11 @@ fn command<'a>(alloc: Global) -> Result<Command<'a>, AllocError>
 }
 
 impl Line {
-    /// The line that the words are. The first word is the program's name.
+    /// The request of the words. The first word is the program's name.
     pub fn of(alloc: Global, words: &[String]) -> Result<Line, Error>
-        // What clap's definition of a simple command gives for the words.
+        // The result of clap's definition of a simple command for the words.
         ensures ok { IfOk result (IsHostSubcommand (subcommand_of realmhost (map string_bytes words.now))) }
-        // Which kind an error has: one that the definition names, or that allocation failed.
+        // The kind of an error: one that the definition names, or a failed allocation.
         ensures kinds { FailsBy (fault_of realmhost (map string_bytes words.now)) result }
     {
         let matches = matched(command(alloc)?, words)?;

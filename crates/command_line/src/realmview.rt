@@ -10,26 +10,26 @@ use clap::{ArgMatches, Error};
 use granule_addr::BuildId;
 use std::alloc::{AllocError, Global};
 
-/// What the program is asked to do.
+/// The request to the program.
 #[derive(Clone, Copy)]
 pub enum ViewSubcommand {
-    /// Write the history of a plan; a build may be left out.
+    /// Writes the history of a plan; a build may be left out.
     History(Option<BuildId>),
-    /// Apply a history, and write the map; a build may be left out.
+    /// Applies a history, and writes the map; a build may be left out.
     Apply(Option<BuildId>),
-    /// Write the document of a plan's run.
+    /// Writes the JSON document of a plan's run.
     Json,
-    /// Write a page that shows a plan's run.
+    /// Writes a web page that shows a plan's run.
     Page,
-    /// Write what is wrong with a plan.
+    /// Writes the mistakes of a plan.
     Check,
-    /// Write the run of a plan, with the check that fails below each turn that is refused; or with all its checks.
+    /// Writes the run of a plan, with the check that fails below each refused turn; if `all`, also those that passed.
     Why { all: bool },
-    /// Write the outcomes of schedules of a plan.
+    /// Writes the outcomes of schedules of a plan.
     Explore(Schedules, AfterRefusal),
-    /// Write a plan with an order that gives each build all the turns that it needs.
+    /// Writes a plan with an order that gives each build all the turns that it needs.
     Order(SchedulingPolicy),
-    /// Write the run of a plan as calls on an RMM by registers, whose memory begins at an address.
+    /// Writes the run of a plan as calls on an RMM by registers, whose memory begins at an address.
     Calls(BaseAddress, CallsForm),
 }
 
@@ -53,7 +53,7 @@ pub enum Schedules {
     Shortest(u32, ScheduleQuestion),
 }
 
-/// What the last turn of a schedule is to show.
+/// The question that the last turn of a schedule answers.
 #[derive(Clone, Copy, Drop)]
 pub enum ScheduleQuestion {
     /// This step is refused.
@@ -64,12 +64,12 @@ pub enum ScheduleQuestion {
     Leased(u32),
 }
 
-/// What a build does in a schedule once one of its steps is refused.
+/// The behaviour of a build in a schedule after a refusal of one of its steps.
 #[derive(Clone, Copy, Drop)]
 pub enum AfterRefusal {
-    /// It goes on with its next step.
+    /// The build goes on with its next step.
     GoOn,
-    /// It leaves out its other steps, and aborts.
+    /// The build leaves out its other steps, and aborts.
     GiveUp,
 }
 
@@ -80,33 +80,33 @@ pub struct StepPlace {
     pub step: u32,
 }
 
-/// The reason why options ask for nothing.
+/// The reason why the options of a subcommand are refused.
 #[derive(Clone, Copy, Drop)]
 pub enum BadOption {
-    /// More schedules are to be drawn than may be.
+    /// A sample of more schedules than may be drawn.
     SampleAboveMost { sample: u32 },
-    /// The address is none, no multiple of 4,096, or too high.
+    /// A text that is no address, or an address that is too high or no multiple of 4,096.
     NoBase,
-    /// The text is no step of a build.
+    /// A text that is no step of a build.
     NoStep,
-    /// Builds are to give up in a plan that is printed.
+    /// Builds that are to give up in a plan that is printed.
     GiveUpInPlan,
-    /// No machine has so many granules, or none is asked for.
+    /// A number of granules out of range: none, or more than a machine has.
     NoGranules { granules: u32 },
-    /// More than one question is asked.
+    /// More than one question.
     TwoQuestions,
 }
 
-/// How the builds of a plan take turns.
+/// The policy by which the builds of a plan take turns.
 #[derive(Clone, Copy, Drop)]
 pub enum SchedulingPolicy {
     /// In rotation, each build that has a step left.
     InRotation,
-    /// One build after the other: the next begins where one has no step left.
+    /// One build after the other: the next begins when one has no step left.
     OneByOne,
 }
 
-// The most states, if no option says so.
+// The most states, if no option gives a number.
 const MOST_STATES: u32 = 1000000;
 
 // The most schedules that are drawn.
@@ -141,7 +141,8 @@ fn schedules_asked(
     }
 }
 
-// What builds do after a refusal in these schedules. A plan that is printed cannot say that its builds give up.
+// The behaviour of builds after a refusal in these schedules. A plan that is printed cannot say that its builds give
+// up.
 fn after_refusal(gives_up: bool, orders: &Schedules) -> Result<AfterRefusal, BadOption>
     ensures { result ≡ after_refusal gives_up orders.now }
 {
@@ -155,7 +156,7 @@ fn after_refusal(gives_up: bool, orders: &Schedules) -> Result<AfterRefusal, Bad
 // The most granules that a machine has.
 const MOST_GRANULES: u32 = 4096;
 
-// The question of how many granules are leased.
+// The question whether at least that many granules are leased.
 fn question_of_leased(granules: u32) -> Result<ScheduleQuestion, BadOption>
     ensures { result ≡ question_of_leased granules }
 {
@@ -166,7 +167,7 @@ fn question_of_leased(granules: u32) -> Result<ScheduleQuestion, BadOption>
     }
 }
 
-// The question that options ask, if one does. `refused` has no step if its text is none.
+// The question that options ask, if one is asked. `refused` is `Some(None)` if its text is no step.
 fn question_asked(
     refused: Option<Option<StepPlace>>,
     waiting: Option<u32>,
@@ -430,7 +431,7 @@ fn form_by(calls: &ArgMatches) -> CallsForm {
     }
 }
 
-// How builds take turns, by the words that were matched.
+// The policy by which builds take turns, by the words that were matched.
 fn turns_by(order: &ArgMatches) -> SchedulingPolicy {
     if order.get_flag("one-by-one") {
         SchedulingPolicy::OneByOne
@@ -456,7 +457,7 @@ fn asked_by(name: &str, matches: &ArgMatches) -> Result<ViewSubcommand, BadOptio
     }
 }
 
-// The error that says why options ask for nothing.
+// The error that says why options are refused.
 fn bad_option(alloc: Global, reason: BadOption) -> Result<Error, AllocError> {
     let message = match reason {
         BadOption::SampleAboveMost { sample } => {

@@ -24,22 +24,22 @@ pub struct Comparison {
     pub is_each: bool,
     /// Whether the check stops at the first line that is wrong.
     pub stops: bool,
-    /// The names of which a line has to have one, if any are given.
+    /// The names of the only lines that are compared, if any are given.
     pub only: Option<NameSet>,
-    /// The names of which a line may have none.
+    /// The names of the lines that are not compared.
     pub skip: Option<NameSet>,
 }
 
 /// The request to the program.
 #[derive(Clone, Copy)]
 pub enum TraceSubcommand {
-    /// Answer each line of a trace.
+    /// Answers each line of a trace.
     Answer,
-    /// Compare the answers of a trace.
+    /// Compares the answers of a trace.
     Check(Comparison),
-    /// Name the raw calls of a trace.
+    /// Names the raw calls of a trace.
     Names,
-    /// Answer each line of a trace, and explain each refusal.
+    /// Answers each line of a trace, and explains each refusal.
     Why,
 }
 

@@ -8,33 +8,33 @@ use clap::error::ErrorKind;
 use std::fmt;
 use std::fmt::Display;
 
-/// Why a program has not done what the command line asks for. Its text is a line for standard error.
+/// The reason why a program has not done what the command line asks for. Its text is a line for standard error.
 pub trait Reason: Display + Drop {
     /// The exit status of each reason.
     ghost status_of: { Self → ℕ };
 
-    /// Allocation failed.
+    /// The reason that is a failed allocation.
     ghost memory: { Self };
 
     /// The exit status of the program.
     fn status(&self) -> u8
         ensures { result ≡ status_of self.now };
 
-    /// That allocation failed.
+    /// The reason that is a failed allocation.
     fn of_memory() -> Self
         ensures { result ≡ memory };
 }
 
-/// Why a program stops: each reason has an exit status, and a line or more for standard error.
+/// The reason why a program stops, with an exit status, and a line or more for standard error.
 #[derive(Drop)]
 pub enum Stop<F> {
-    /// The command line is refused, or asks for help or for the version: `clap` says which.
+    /// A command line that is refused, or that asks for help or for the version: `clap` says which.
     Usage(Error),
-    /// An argument is not UTF-8.
+    /// An argument that is not UTF-8.
     NotUtf8,
-    /// The file of the command line cannot be opened, as this line says.
+    /// A file of the command line that cannot be opened, with the line that says so.
     Unopened(String),
-    /// What the command line asks for is not done.
+    /// A failure to do what the command line asks for, with its reason.
     Run(F),
 }
 

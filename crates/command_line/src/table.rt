@@ -100,7 +100,7 @@ impl Program {
         Ok(command)
     }
 
-    /// What the program finds in the words. The first word is the program's name.
+    /// The matches that the program finds in the words. The first word is the program's name.
     pub(crate) fn matched<'a>(
         &self,
         alloc: Global,

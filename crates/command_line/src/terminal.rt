@@ -23,10 +23,10 @@ pub enum Input<'a> {
     File(File),
 }
 
-// The number of the error that a folder gives where a file is read.
+// The error number of a directory that is read as a file.
 const EISDIR: i32 = 21;
 
-// The line of a file that cannot be opened.
+// The reason why a program stops at a file that cannot be opened.
 fn unopened<F: Reason>(alloc: Global, program: &str, name: &str, error: &io::Error) -> Stop<F>
     ensures { (status_of_stop F.status_of result ≡ 5) ⊎ (result ≡ Run F.memory) }
 {
@@ -133,7 +133,7 @@ impl Write for Output<'_> {
 }
 
 impl<F: Reason> Stop<F> {
-    /// Tells standard error why the program stops, in colour on a terminal, and gives its exit status.
+    /// Prints to standard error why the program stops, in colour on a terminal, and returns the exit status.
     pub fn end_in_colour(&self, rt: &HostRuntime) -> ExitCode
         ensures { exit_status result ≡ status_of_stop F.status_of self.now }
     {

@@ -1,4 +1,4 @@
-//! Streams that wait where a pipe does not.
+//! Streams that wait on pipes that do not block.
 use std::io;
 use std::io::{ErrorKind, Read, Write};
 use std::thread::sleep;

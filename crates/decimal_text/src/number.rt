@@ -16,7 +16,7 @@ fn is_plain(bytes: &[u8]) -> bool
     }
 }
 
-/// The number of 32 bits whose decimal the text is.
+/// The 32-bit number that the text spells in decimal.
 fn number_of(text: &str) -> Option<u32>
     ensures found { IfSome result (λ n. text.now ≡ decimal n) }
     ensures none { IfNone result ((n : ℕ) → n < 2 ^ 32 → text.now ≢ decimal n) }

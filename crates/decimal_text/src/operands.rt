@@ -98,8 +98,8 @@ pub fn four_operands<A: Operand, B: Operand, C: Operand, D: Operand>(
     Some((first, second, third, fourth))
 }
 
-/// The value of the kind whose fields the operands are, if they are in range: in their sequence, or any other value.
-/// This is a macro for a `match`, since a closure for each would be one more function to prove.
+/// The value made of operands, if they are in range: a variant whose fields are the operands in sequence, or any
+/// expression. This is a macro for a `match`, since a closure for each would be one more function to prove.
 #[macro_export]
 macro_rules! made_of {
     ($found:expr => $type:ident::$kind:ident { $($field:ident),+ }) => {

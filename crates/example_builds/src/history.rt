@@ -19,7 +19,7 @@ fn opened(alloc: Global, opening: &Opening) -> Result<Host<PlainStore>> {
     Ok(Host::boot(alloc, settings, store).map_err(|(error, _store)| error)?)
 }
 
-// Applies the event that a line is.
+// Applies the event in a line.
 fn apply(host: &mut Host<PlainStore>, line: &str) -> Result<()> {
     let event = parse_event(line.as_bytes()).context("it is no event")?;
     if !host.apply_recorded(&event) {

@@ -61,7 +61,7 @@ fn run<R: Print + AllocGlobal + Threads + Wait + Sync, L: Ledgers + Send + Sync>
     }
 }
 
-/// Two builds of a host of their own, and what they leave.
+/// Runs two builds on a host of their own, and prints what they leave.
 pub(crate) fn both<R: Print + AllocGlobal + Threads + Wait + Sync>(rt: &R) -> Result<()> {
     let host = booted(rt.alloc())?;
     run::<R, Brand>(rt, Blanks::new(), host)

@@ -55,7 +55,7 @@ pub(crate) fn error_of<S: PageStore>(
 
 // ---- what the host checks
 
-// A build of another number, where there are so many builds.
+// The error for a build that does not exist, on a host of `count` builds.
 fn no_build(build: u8, count: u8) -> Phrase {
     let words = if count == 1 {
         "build {} does not exist; builds are numbered from 0 and there is {}"
@@ -65,7 +65,7 @@ fn no_build(build: u8, count: u8) -> Phrase {
     two(words, Number(build as u64), Number(count as u64))
 }
 
-// A page that the build does not have.
+// The error for a page that the build does not have.
 fn missing_page(step: &Step, page: u16, count: u16) -> Phrase {
     let role = role_of(step, page);
     let name = Page(role, page);
@@ -76,7 +76,7 @@ fn missing_page(step: &Step, page: u16, count: u16) -> Phrase {
     }
 }
 
-// The RD of a realm that the build has already.
+// The error for a build that has a realm already, with the page of its RD.
 fn second_realm<S: PageStore>(host: &Host<S>, build: BuildId, rd: Option<Gran>) -> Phrase {
     if let Some(rd) = rd {
         if let Some(page) = page_of(host, build, rd) {
@@ -103,7 +103,7 @@ fn of_build<S: PageStore>(host: &Host<S>, build: BuildId, step: &Step, fact: Bui
     }
 }
 
-// A block that is not free, on a machine of that many pages.
+// The error for a block that is not free, on a machine of that many pages.
 fn block_error(machine: u16, order: u8, free: u16) -> Phrase {
     let size = size_of_order(order);
     let wanted = Number(size as u64);
@@ -147,7 +147,7 @@ fn of_room(machine: u16, fact: RoomFact) -> Phrase {
     }
 }
 
-/// The newest operation of a build, which created a REC that is RUNNING.
+/// The error for a newest operation that created a REC that is RUNNING.
 pub(crate) fn newest_error(number: u16) -> Phrase {
     one(
         "REC {}, the newest operation's, must be READY; it is RUNNING",
@@ -155,7 +155,7 @@ pub(crate) fn newest_error(number: u16) -> Phrase {
     )
 }
 
-// The RECs of a build that are RUNNING: words for one of them, and words for their number.
+// The error for RECs of a build that are RUNNING: in the words for one, or in those for their number.
 fn running_error<S: PageStore>(
     host: &Host<S>,
     build: BuildId,
@@ -202,7 +202,7 @@ fn access_of(step: &Step) -> Option<&'static str> {
     }
 }
 
-// A page in another state.
+// The error for a page in another state than the required one.
 fn page_error(
     step: &Step,
     page: Value,
@@ -330,7 +330,7 @@ fn distinct_error<S: PageStore>(host: &Host<S>, build: BuildId, step: &Step) -> 
     }
 }
 
-// A REC that the realm does not have, beside those that it has.
+// The error for a REC that the realm does not have, with those that it has.
 fn no_rec_error<S: PageStore>(host: &Host<S>, build: BuildId, number: u16) -> Phrase {
     let number = Number(number as u64);
     match count_of_recs(host, build, false) {
@@ -366,7 +366,7 @@ fn of_rec<S: PageStore>(host: &Host<S>, build: BuildId, step: &Step, fact: RecFa
     }
 }
 
-// Entries that are not all UNASSIGNED.
+// The error for entries that are not all UNASSIGNED.
 fn free_error<S: PageStore>(host: &Host<S>, build: BuildId, ipa: u32, count: u16) -> Phrase {
     let (first, taken) = (Number(ipa as u64), first_entry(host, build, ipa, false));
     match taken {

@@ -36,7 +36,7 @@ pub fn event_words<S: PageStore>(
     Ok(text)
 }
 
-// A check that fails, with granules in place of pages.
+// Appends the words for a check that fails, with granules in place of pages.
 fn push_check<S: PageStore>(
     text: &mut String,
     host: &Host<S>,
@@ -48,7 +48,7 @@ fn push_check<S: PageStore>(
     push_error(text, words, step, check)
 }
 
-// A reverse that is not in turn.
+// The error for a reverse that the host does not apply.
 fn reverse_error<S: PageStore>(host: &Host<S>, build: BuildId) -> Phrase {
     match newest_rec(host, build) {
         Some(number) if host.is_newest_running(build) => newest_error(number),
@@ -122,7 +122,7 @@ fn foreign_granule<S: PageStore>(host: &Host<S>, build: BuildId, act: &Act) -> O
     }
 }
 
-// A granule that the build does not lease, and who does.
+// The error for a granule that the build does not lease, with the build that does.
 fn foreign_error<S: PageStore>(host: &Host<S>, build: BuildId, granule: Gran) -> Phrase {
     let (number, build) = (
         Number(granule.number() as u64),
@@ -277,7 +277,7 @@ fn command_of<S: PageStore>(host: &Host<S>, build: BuildId, act: &Act) -> Option
     })
 }
 
-// A block that cannot be leased.
+// The error for a block, if it cannot be leased.
 fn block_error<S: PageStore>(host: &Host<S>, order: Order, first: Gran) -> Option<Phrase> {
     let (size, first) = (order.size(), first.number());
     if first % size != 0 {

@@ -64,7 +64,7 @@ fn reason_for<S: PageStore>(
     }
 }
 
-// One turn of a build's step, in a plan that gives up or does not.
+// Takes one turn of a build's step, in a plan that gives up if `gives_up`.
 fn explain_step<S: PageStore>(
     alloc: Global,
     host: &mut Host<S>,

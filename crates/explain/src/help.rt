@@ -1,4 +1,4 @@
-//! A step that helps where a step is refused, in the words of plans.
+//! The help for a step that is refused: a step that helps, in the words of plans.
 use crate::check::Fact;
 use crate::help_host::{build_help, room_help, undo_help};
 use crate::help_input::input_help;
@@ -17,9 +17,9 @@ use std::alloc::AllocError;
 pub(crate) enum Help {
     Nothing,
     Say(Phrase),
-    /// Two sentences that are one.
+    /// Two phrases, one after the other.
     Both(Phrase, Phrase),
-    /// Words, so many undos, after the exits of the RECs that are RUNNING, and words after these.
+    /// Words before, the exits of the RECs that are RUNNING, a number of undos, and words after.
     Undo(Phrase, usize, &'static str),
     /// The exits of the RECs that are RUNNING.
     Exit,
@@ -39,7 +39,7 @@ fn help_of<S: PageStore>(host: &Host<S>, build: BuildId, step: &Step, fact: Fact
     }
 }
 
-/// Appends what helps where a check of a step fails, or nothing.
+/// Appends the help for a check of a step that fails, if there is any.
 pub(crate) fn push_help<S: PageStore>(
     text: &mut String,
     host: &Host<S>,
@@ -70,7 +70,7 @@ pub(crate) fn push_help<S: PageStore>(
     }
 }
 
-// The exits of the RECs of a build that are RUNNING: the first in some words, and the next ones in others.
+// Appends the exits of a build's RECs that are RUNNING: the first in the words `first`, the others in the words `next`.
 fn push_exits<S: PageStore>(
     text: &mut String,
     host: &Host<S>,
@@ -88,7 +88,7 @@ fn push_exits<S: PageStore>(
     Ok(())
 }
 
-// No operation below a REC that runs is undone, so that their exits come first.
+// Appends undos after the exits of the RECs that run, since an operation below such a REC is not undone.
 fn push_undos<S: PageStore>(
     text: &mut String,
     host: &Host<S>,
@@ -102,7 +102,8 @@ fn push_undos<S: PageStore>(
     }
 }
 
-// The pages that a step names for a REC, then others that are DELEGATED, and a letter for each that is lacking.
+// Appends a `rec` with the pages that a step names, then others that are DELEGATED, and a letter for each that is
+// lacking.
 fn push_rec<S: PageStore>(
     text: &mut String,
     host: &Host<S>,

@@ -1,4 +1,4 @@
-//! A step that helps where the host itself refuses a step.
+//! The help for a step that the host itself refuses.
 use crate::help::Help;
 use crate::host_facts::{BuildFact, RoomFact, UndoFact};
 use crate::of_block::has_block;
@@ -31,7 +31,7 @@ pub(crate) fn take_of<S: PageStore>(host: &Host<S>, build: BuildId, count: u16) 
     ))
 }
 
-// More pages for a page that the build does not have; or else those that it has.
+// The help for a page that the build does not have: more pages, or else those that the build has.
 fn more_pages<S: PageStore>(host: &Host<S>, build: BuildId, page: u16, count: u16) -> Help {
     let lacking = page.saturating_sub(count).saturating_add(1);
     match take_of(host, build, lacking) {
@@ -44,7 +44,7 @@ fn more_pages<S: PageStore>(host: &Host<S>, build: BuildId, page: u16, count: u1
     }
 }
 
-// A realm for a step that needs one.
+// The help for a step that needs a realm: the steps that create one.
 fn realm_first<S: PageStore>(host: &Host<S>, build: BuildId, step: &Step) -> Phrase {
     let delegated = other_pages(host, build, step, GranuleState::Delegated);
     if let [rd, root, ..] = delegated.as_slice() {
@@ -100,7 +100,7 @@ pub(crate) fn build_help<S: PageStore>(
     }
 }
 
-// A block for one that is not free.
+// The help for a block that is not free.
 fn other_block<S: PageStore>(host: &Host<S>, order: u8) -> Phrase {
     let size = size_of_order(order);
     let (pages, largest) = (host.pages(), largest_free(host));

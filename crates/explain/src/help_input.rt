@@ -1,4 +1,4 @@
-//! A step that helps where a page or a number is not as the RMM requires.
+//! The help for a page or a number that is not as the RMM requires.
 use crate::error::protected_end;
 use crate::help::Help;
 use crate::help_host::take_of;
@@ -46,7 +46,7 @@ fn given_back<S: PageStore>(host: &Host<S>, build: BuildId, page: u16, words: Ph
     }
 }
 
-// Another page for the bytes of one: one of the build, or one that is taken.
+// The help to take bytes from another page: one of the build, or one that a `take` gives.
 fn other_source<S: PageStore>(host: &Host<S>, build: BuildId, other: Option<u16>) -> Help {
     match (other, take_of(host, build, 1)) {
         (Some(page), _) => Help::Say(one(
@@ -60,7 +60,7 @@ fn other_source<S: PageStore>(host: &Host<S>, build: BuildId, other: Option<u16>
     }
 }
 
-// A page that has to be UNDELEGATED.
+// The help for a page that has to be UNDELEGATED.
 fn undelegated_help<S: PageStore>(
     host: &Host<S>,
     build: BuildId,

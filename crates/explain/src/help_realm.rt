@@ -1,4 +1,4 @@
-//! A step that helps where a realm, a REC or a translation is not as a step requires.
+//! The help for a realm, a REC or a translation that is not as a step requires.
 use crate::help::Help;
 use crate::help_host::take_of;
 use crate::help_input::other_page;
@@ -15,7 +15,7 @@ use realm_host::{EntryState, GranuleState, Host, RealmState, RecState};
 
 // ---- realms
 
-// A NEW realm for an ACTIVE one.
+// The help for a step that needs a NEW realm while the realm is ACTIVE.
 fn new_again<S: PageStore>(host: &Host<S>, build: BuildId) -> Help {
     match undos_of_realm(host, build) {
         Some(count) => {
@@ -89,7 +89,7 @@ pub(crate) fn realm_help<S: PageStore>(
 
 // ---- RECs
 
-// A REC for one that a NEW realm does not have.
+// The help for a REC that a NEW realm does not have.
 fn missing_rec<S: PageStore>(host: &Host<S>, build: BuildId, number: u16) -> Help {
     let next = next_rec(host, build);
     if number > next {
@@ -129,7 +129,7 @@ pub(crate) fn rec_help<S: PageStore>(
 
 // ---- translations
 
-// One of the pages that a step is proposed with: one of the others, or a letter if these are fewer than it needs.
+// A page of a proposed step: one of `others`, or a letter if the step needs more than these.
 fn page_at(others: &[u16], needed: usize, place: usize) -> Value {
     let letter = match place {
         0 => "P",
@@ -188,7 +188,7 @@ fn missing_tables<S: PageStore>(
     Help::Both(words, plain(letters(others, needed)))
 }
 
-// A page at an IPA granule where none is, for a guest that writes there.
+// The help to map a page at an IPA granule that has none, for a guest that writes there.
 fn mapping<S: PageStore>(host: &Host<S>, build: BuildId, step: &Step, ipa: u32, ended: u8) -> Help {
     let needed = 4usize.saturating_sub(ended as usize);
     let others = other_pages(host, build, step, GranuleState::Delegated);

@@ -14,8 +14,8 @@ pub fn own_steps_decide()
     ensures back { (host : HostView) (build : ℕ) (mark : Option Mark) → ChecksDecideBack host build mark }
 {}
 
-/// For a command, the first check by its needs that fails is the refusal that the host gives before it asks the store
-/// or the RMM: 1 to 6, 9, 10 and 12. No check fails exactly if the host gives none of these.
+/// The first check by a command's needs that fails is the host's refusal before it asks the store or the RMM. These
+/// refusals are 1 to 6, 9, 10 and 12. No check fails exactly if the host gives none of these.
 pub fn needs_decide()
     ensures { (host : HostView) (build : ℕ) (cmd : Cmd) → ChecksDecideNeeds host build cmd }
 {}

@@ -68,7 +68,7 @@ fn page_there<S: PageStore>(host: &Host<S>, build: BuildId, page: u16) -> Check
     }
 }
 
-// Adds 4: the build has all pages.
+// Adds the checks of refusal 4: the build has all pages.
 fn add_pages<S: PageStore>(
     host: &Host<S>,
     build: BuildId,

@@ -20,7 +20,7 @@ use page_arena::PageStore;
 use realm_host::{Cmd, Host};
 use std::alloc::AllocError;
 
-// A block is free.
+// Adds the check that a block is free.
 fn add_take<S: PageStore>(
     host: &Host<S>,
     order: u8,
@@ -34,7 +34,7 @@ fn add_take<S: PageStore>(
     }
 }
 
-// A REC that runs writes. This profile's own.
+// The checks of a write by a REC that runs. This profile's own.
 fn guest_write<S: PageStore>(host: &Host<S>, build: BuildId, rec: RecNo, ipa: u32) -> [Check; 5]
     ensures { result ≡ guest_write_checks host.now build rec ipa }
 {
@@ -136,7 +136,7 @@ fn unknown<S: PageStore>(host: &Host<S>, build: BuildId, page: u16, ipa: u32) ->
     ]
 }
 
-// The commands on a realm that is there: on its tables, its pages, its state and its RECs.
+// Adds the checks of the commands on a realm that is there: on its tables, its pages, its state and its RECs.
 fn add_there<S: PageStore>(
     host: &Host<S>,
     build: BuildId,
@@ -169,7 +169,7 @@ fn add_there<S: PageStore>(
     }
 }
 
-// The checks of the store or of the RMM.
+// Adds the checks of the store or of the RMM.
 fn add_monitor<S: PageStore>(
     host: &Host<S>,
     build: BuildId,

@@ -30,7 +30,7 @@ fn page_check(page: u16, found: Option<GranuleState>, wanted: GranuleState, fail
     input_check(Fact::Input(fact), fails)
 }
 
-/// The granule of a build's page is DELEGATED.
+/// The check that the granule of a build's page is DELEGATED.
 pub(crate) fn page_delegated<S: PageStore>(host: &Host<S>, build: BuildId, page: u16) -> Check
     ensures { result ≡ page_delegated host.now build page }
 {
@@ -38,7 +38,7 @@ pub(crate) fn page_delegated<S: PageStore>(host: &Host<S>, build: BuildId, page:
     page_check(page, now, Delegated, !matches!(now, Some(Delegated)))
 }
 
-/// Adds that the granules of a build's pages are DELEGATED.
+/// Adds the checks that the granules of a build's pages are DELEGATED.
 pub(crate) fn add_delegated<S: PageStore>(
     host: &Host<S>,
     build: BuildId,
@@ -53,7 +53,7 @@ pub(crate) fn add_delegated<S: PageStore>(
     Ok(())
 }
 
-/// The granule of a build's page is UNDELEGATED.
+/// The check that the granule of a build's page is UNDELEGATED.
 pub(crate) fn page_undelegated<S: PageStore>(host: &Host<S>, build: BuildId, page: u16) -> Check
     ensures { result ≡ page_undelegated host.now build page }
 {
@@ -61,7 +61,7 @@ pub(crate) fn page_undelegated<S: PageStore>(host: &Host<S>, build: BuildId, pag
     page_check(page, now, Undelegated, !matches!(now, Some(Undelegated)))
 }
 
-// The IPA width of a build's realm; 0 where it has none.
+// The IPA width of a build's realm; 0 if it has none.
 fn width_of<S: PageStore>(host: &Host<S>, build: BuildId) -> u8
     ensures { result ≡ width_of host.now build }
 {
@@ -82,7 +82,7 @@ fn is_protected_at(ipa: u32, width: u8) -> bool
     ipa < 1 << top
 }
 
-/// An IPA granule lies in the protected half of the address space of a build's realm.
+/// The check that an IPA granule lies in the protected half of the address space of a build's realm.
 pub(crate) fn protected<S: PageStore>(host: &Host<S>, build: BuildId, ipa: u32) -> Check
     ensures { result ≡ protected host.now build ipa }
 {
@@ -93,7 +93,7 @@ pub(crate) fn protected<S: PageStore>(host: &Host<S>, build: BuildId, ipa: u32) 
     )
 }
 
-/// A table may have the level.
+/// The check that a table may have the level.
 pub(crate) fn table_level(level: u8) -> Check
     ensures { result ≡ table_level level }
 {
@@ -103,7 +103,7 @@ pub(crate) fn table_level(level: u8) -> Check
     )
 }
 
-/// A table of the level may begin at the IPA granule.
+/// The check that a table of the level may begin at the IPA granule.
 pub(crate) fn table_start(ipa: u32, level: u8) -> Check
     ensures { result ≡ table_start ipa level }
 {
@@ -114,7 +114,7 @@ pub(crate) fn table_start(ipa: u32, level: u8) -> Check
     )
 }
 
-/// `count` pages may become RAM at once.
+/// The check that `count` pages may become RAM at once.
 pub(crate) fn run_count(count: u16) -> Check
     ensures { result ≡ run_count count }
 {
@@ -124,7 +124,7 @@ pub(crate) fn run_count(count: u16) -> Check
     )
 }
 
-/// The `count` pages from the IPA granule on lie in one table.
+/// The check that the `count` pages from the IPA granule on lie in one table.
 pub(crate) fn one_table(ipa: u32, count: u16) -> Check
     ensures { result ≡ one_table ipa count }
 {

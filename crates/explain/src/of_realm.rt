@@ -30,7 +30,7 @@ fn state_check(found: Option<RealmState>, wanted: RealmState, fails: bool) -> Ch
     rmi_check(fact, fails, Rmi::REALM)
 }
 
-/// The realm of a build is NEW.
+/// The check that the realm of a build is NEW.
 pub(crate) fn realm_new<S: PageStore>(host: &Host<S>, build: BuildId) -> Check
     ensures { result ≡ realm_new host.now build }
 {
@@ -38,7 +38,7 @@ pub(crate) fn realm_new<S: PageStore>(host: &Host<S>, build: BuildId) -> Check
     state_check(found, New, !matches!(found, Some(New)))
 }
 
-/// The realm of a build is ACTIVE.
+/// The check that the realm of a build is ACTIVE.
 pub(crate) fn realm_active<S: PageStore>(host: &Host<S>, build: BuildId) -> Check
     ensures { result ≡ realm_active host.now build }
 {
@@ -83,7 +83,7 @@ fn begins_right(tables: &[Gran]) -> bool
     }
 }
 
-// A realm may have that IPA width.
+// The check that a realm may have that IPA width.
 fn width_check(width: u8) -> Check
     ensures { result ≡ width_check width }
 {
@@ -93,7 +93,7 @@ fn width_check(width: u8) -> Check
     )
 }
 
-// The RD is not one of the starting tables.
+// The check that the RD is not one of the starting tables.
 fn apart_check(rd: Gran, tables: &[Gran]) -> Check
     ensures { result ≡ apart_check rd tables.now }
 {

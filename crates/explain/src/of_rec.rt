@@ -13,7 +13,7 @@ use realm_host::{Host, RecState, Rmi};
 use realm_model::RecState::{Ready, Running};
 use std::alloc::AllocError;
 
-// Whether no granule stands twice in a list.
+// Whether the granules of a list are distinct.
 fn are_distinct(granules: &[Gran]) -> bool
     ensures { result ≡ are_distinct granules.now }
 {
@@ -51,7 +51,7 @@ pub(crate) fn add_rec_create<S: PageStore>(
     ])
 }
 
-// The state of a REC of a build's realm, where it has that REC.
+// The state of a REC of a build's realm, if the realm has that REC.
 fn state_of_rec<S: PageStore>(host: &Host<S>, build: BuildId, number: RecNo) -> Option<RecState>
     ensures { result ≡ state_of_rec host.now build number }
 {
@@ -61,7 +61,7 @@ fn state_of_rec<S: PageStore>(host: &Host<S>, build: BuildId, number: RecNo) -> 
     }
 }
 
-/// The realm of a build has a REC of that number.
+/// The check that the realm of a build has a REC of that number.
 pub(crate) fn rec_there<S: PageStore>(host: &Host<S>, build: BuildId, number: RecNo) -> Check
     ensures { result ≡ rec_there host.now build number }
 {
@@ -77,7 +77,7 @@ fn rec_check(number: RecNo, found: Option<RecState>, wanted: RecState, fails: bo
     rmi_check(fact, fails, Rmi::REC)
 }
 
-/// The REC is READY.
+/// The check that the REC is READY.
 pub(crate) fn rec_ready<S: PageStore>(host: &Host<S>, build: BuildId, number: RecNo) -> Check
     ensures { result ≡ rec_ready host.now build number }
 {
@@ -85,7 +85,7 @@ pub(crate) fn rec_ready<S: PageStore>(host: &Host<S>, build: BuildId, number: Re
     rec_check(number, found, Ready, !matches!(found, Some(Ready)))
 }
 
-/// The REC is RUNNING.
+/// The check that the REC is RUNNING.
 pub(crate) fn rec_is_running<S: PageStore>(host: &Host<S>, build: BuildId, number: RecNo) -> Check
     ensures { result ≡ rec_is_running host.now build number }
 {

@@ -1,4 +1,4 @@
-//! Checks of where a walk ends. RMM 1.0, RTT walk, RMI_ERROR_RTT.
+//! Checks of the end of a walk. RMM 1.0, RTT walk, RMI_ERROR_RTT.
 ghost use Rattle.std.specs.Prelude.{◌≡◌, ◌+◌, ◌-◌, ◌≤◌};
 ghost use Rattle.realm_host.specs.declared.reading.RowView.{RowView as Row};
 ghost use Rattle.explain.specs.OfWalk.{rtt_check, level_of, state_of, granule_of_row, walk_ends, entry_unassigned};
@@ -26,7 +26,7 @@ fn rtt_check(fact: WalkFact, fails: bool, level: u8) -> Check
     }
 }
 
-// The level of the row where a walk ends; 0 where it ends nowhere.
+// The level of the row where a walk ends; 0 if there is no such row.
 fn level_of(row: Option<RowView>) -> u8
     ensures { result ≡ level_of row }
 {
@@ -54,7 +54,7 @@ fn granule_of_row(row: Option<RowView>) -> Option<Gran>
     }
 }
 
-/// The walk of an IPA granule towards a level ends there.
+/// The check that the walk of an IPA granule towards a level ends at that level.
 pub(crate) fn walk_ends<S: PageStore>(host: &Host<S>, build: BuildId, ipa: u32, to: Level) -> Check
     ensures { result ≡ walk_ends host.now build ipa to }
 {
@@ -63,7 +63,7 @@ pub(crate) fn walk_ends<S: PageStore>(host: &Host<S>, build: BuildId, ipa: u32, 
     rtt_check(WalkFact::Walk(ipa, to, ended), !(ended == to), ended)
 }
 
-/// The entry where the walk to level 3 ends is UNASSIGNED.
+/// The check that the entry where the walk to level 3 ends is UNASSIGNED.
 pub(crate) fn entry_unassigned<S: PageStore>(host: &Host<S>, build: BuildId, ipa: u32) -> Check
     ensures { result ≡ entry_unassigned host.now build ipa }
 {
@@ -73,7 +73,7 @@ pub(crate) fn entry_unassigned<S: PageStore>(host: &Host<S>, build: BuildId, ipa
     rtt_check(fact, !matches!(found, Some(EntryState::Unassigned)), level)
 }
 
-/// The entry where the walk to level 3 ends is ASSIGNED.
+/// The check that the entry where the walk to level 3 ends is ASSIGNED.
 pub(crate) fn entry_assigned<S: PageStore>(host: &Host<S>, build: BuildId, ipa: u32) -> Check
     ensures { result ≡ entry_assigned host.now build ipa }
 {
@@ -83,7 +83,7 @@ pub(crate) fn entry_assigned<S: PageStore>(host: &Host<S>, build: BuildId, ipa: 
     rtt_check(fact, !matches!(found, Some(EntryState::Assigned)), level)
 }
 
-/// The entry where the walk towards a level ends is not TABLE.
+/// The check that the entry where the walk towards a level ends is not TABLE.
 pub(crate) fn entry_no_table<S: PageStore>(
     host: &Host<S>,
     build: BuildId,
@@ -101,7 +101,7 @@ pub(crate) fn entry_no_table<S: PageStore>(
     )
 }
 
-/// The entry of a page leads to its granule.
+/// The check that the entry where the walk to level 3 ends leads to a granule.
 pub(crate) fn entry_leads<S: PageStore>(host: &Host<S>, build: BuildId, ipa: u32) -> Check
     ensures { result ≡ entry_leads host.now build ipa }
 {
@@ -130,7 +130,7 @@ fn are_free<S: PageStore>(host: &Host<S>, build: BuildId, ipa: u32, count: u16) 
     true
 }
 
-/// The `count` entries of level 3 from an IPA granule on are UNASSIGNED.
+/// The check that the `count` entries of level 3 from an IPA granule on are UNASSIGNED.
 pub(crate) fn entries_free<S: PageStore>(
     host: &Host<S>,
     build: BuildId,

@@ -10,7 +10,7 @@ use host_commands::tables_named;
 use page_arena::PageStore;
 use realm_host::{Cmd, Host};
 
-// The number of them that are named: only the first, if no pages have the numbers of the last ones.
+// The number of starting tables that a command names; 1 if the last of them would be beyond all page numbers.
 fn tables_within(root: u16, width: u8) -> u16
     ensures value { result ≡ tables_within root width }
     ensures few { result ≤ 16 }
@@ -86,7 +86,7 @@ fn push_found(granules: &mut ArrayVec<Gran, 17>, found: Option<Gran>)
     }
 }
 
-/// The granules of those of the pages that the build has.
+/// The granules of the pages that the build has, among the given ones.
 pub(crate) fn granules_of<S: PageStore>(
     host: &Host<S>,
     build: BuildId,

@@ -1,4 +1,4 @@
-//! Checks that passed, in words: what is.
+//! The words for checks that passed: the facts that hold.
 use crate::check::Fact;
 use crate::host_facts::{BuildFact, RoomFact, UndoFact};
 use crate::names::{entry_state, rec_state};

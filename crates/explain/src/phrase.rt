@@ -16,7 +16,7 @@ pub(crate) enum Value {
     Many(usize, &'static str, &'static str),
     /// A page of a build, as `data page 5`: its role, with a space after it, and its number.
     Page(&'static str, u16),
-    /// A granule in a role, likewise.
+    /// A granule, as `data granule 5`: its role, with a space after it, and its number.
     Granule(&'static str, u16),
 }
 
@@ -127,7 +127,7 @@ fn fill(text: &mut String, words: &str, values: &[Value]) -> Result<(), AllocErr
 }
 
 impl Phrase {
-    /// The phrase with the granules of a build's pages in their places.
+    /// The phrase with granules in place of a build's pages.
     pub(crate) fn in_granules<S: PageStore>(self, host: &Host<S>, build: BuildId) -> Phrase {
         four(
             self.words,

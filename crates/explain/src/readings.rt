@@ -217,7 +217,8 @@ pub(crate) fn is_unassigned<S: PageStore>(host: &Host<S>, build: BuildId, ipa: u
     }
 }
 
-/// The first IPA granule from one on, in its table of level 3, whose entry is UNASSIGNED or not, as asked.
+/// The first IPA granule from `from` on, in its table of level 3, whose entry is UNASSIGNED or not, as `unassigned`
+/// asks.
 pub(crate) fn first_entry<S: PageStore>(
     host: &Host<S>,
     build: BuildId,

@@ -26,7 +26,7 @@ pub enum RealmFact {
     Width(u8),
     /// The starting tables are adjacent granules, in the order of their pages.
     Adjacent,
-    /// The first starting table is a multiple of their count, which is this.
+    /// The first starting table is at a multiple of the number of starting tables: that number.
     Multiple(usize),
     /// The RD is not one of the starting tables.
     Apart,
@@ -37,7 +37,7 @@ pub enum RealmFact {
 /// A fact of a REC that is to be created, or of one that is there. RMM 1.0, RMI_REC_CREATE, REC attributes.
 #[derive(Clone, Copy)]
 pub enum RecFact {
-    /// No granule is named twice.
+    /// The granules that are named are distinct.
     Distinct,
     /// As many auxiliary granules are named as a REC has: the number of those named, and of those a REC has.
     Auxiliaries(usize, u8),
@@ -50,13 +50,13 @@ pub enum RecFact {
 /// A fact of the end of a walk. RMM 1.0, RTT walk, RTT entry.
 #[derive(Clone, Copy)]
 pub enum WalkFact {
-    /// The walk of the IPA granule ends at the first level, which is required; the second is where it ends.
+    /// The walk of the IPA granule ends at the required level: that level, and the one at which it ends.
     Walk(u32, u8, u8),
     /// The entry of that level is in the first state, which is required; the second is the one that was found.
     Entry(u8, EntryState, Option<EntryState>),
     /// The entry of that level is not TABLE; the state is the one that was found.
     NoTable(u8, Option<EntryState>),
-    /// The entry leads to a granule, which is this.
+    /// The entry leads to a granule: the one that was found, if any.
     Leads(Option<Gran>),
     /// From the IPA granule on, that many entries of level 3 are UNASSIGNED.
     Free(u32, u16),

@@ -46,8 +46,8 @@ fn push_passed(text: &mut String, step: &Step, check: &Check) -> Result<(), Allo
     text.push_str("\n")
 }
 
-/// The lines below that of a refused turn: the check that fails, what helps, and how many checks passed before; if
-/// `all`, each of these too.
+/// The lines below that of a refused turn: the check that fails, the help, and the number of checks that passed before.
+/// If `all`, each of these has a line too.
 pub fn reason_lines(alloc: Global, reason: &Explanation, all: bool) -> Result<String, AllocError> {
     let mut text = String::new(alloc);
     push_line(&mut text, "error", &reason.error)?;

@@ -44,7 +44,7 @@ pub enum HostAction {
     Interrupt {
         rec: u64,
     },
-    /// The guest writes a byte, from its next entry on.
+    /// The guest writes a byte after its next entry.
     Write {
         rec: u64,
         ipa: u64,
@@ -54,7 +54,7 @@ pub enum HostAction {
     Spin {
         rec: u64,
     },
-    /// The guest has done the write before.
+    /// The guest reports its last write as done.
     Saw {
         rec: u64,
     },

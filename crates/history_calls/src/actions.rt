@@ -110,7 +110,7 @@ fn rec_params(frame: Frame, number: RecNo, auxiliaries: &ArrayVec<Gran, 16>) -> 
     }
 }
 
-// The first operations for an event about pages or a realm's descriptor.
+// Appends the operations for an event about pages or a realm's descriptor.
 fn push_on_granules(actions: &mut Actions, frame: Frame, act: &Act)
     requires { actions.old.items ≡ [] }
     ensures { actions.new.items ≡ specs.on_granules frame act.now }
@@ -204,7 +204,7 @@ fn call_in_realm(frame: Frame, rd: u64, act: &Act) -> Option<HostAction>
     Some(action)
 }
 
-// The operations for an event about the making of a REC, or its end.
+// Appends the operations for an event about the creation or the destruction of a REC.
 fn push_on_rec_granule(actions: &mut Actions, frame: Frame, rd: u64, act: &Act)
     requires { actions.old.items ≡ [] }
     ensures { actions.new.items ≡ specs.on_rec_granule frame rd act.now }
@@ -227,7 +227,7 @@ fn push_on_rec_granule(actions: &mut Actions, frame: Frame, rd: u64, act: &Act)
     }
 }
 
-// The operations for an event about a REC that runs or is to run.
+// Appends the operations for an event about a REC that runs or is to run.
 fn push_on_rec(actions: &mut Actions, rec: u64, run: u64, act: &Act)
     requires { actions.old.items ≡ [] }
     ensures { actions.new.items ≡ specs.on_rec rec run act.now }

@@ -5,10 +5,10 @@ ghost use Rattle.history_calls.specs.Frame as frames;
 use granule_addr::Gran;
 use std::marker::Model;
 
-/// The pages for the exits of runs: so many RECs run at a time, each with a page of its own.
+/// The number of pages for the exits of runs: as many RECs run at a time with a page of their own.
 pub const MOST_RUNS: u16 = 64;
 
-/// The granules of the host after those of the history's machine.
+/// The number of the host's granules, which follow those of the history's machine.
 pub const HOST_GRANULES: u16 = 66;
 
 /// The address of granule 0, and the number of granules of the history's machine.
@@ -48,7 +48,7 @@ impl Frame {
         self.base
     }
 
-    /// The granules of the machine and of the host.
+    /// The number of granules of the machine and of the host.
     pub fn granules(self) -> u16
         ensures { result ≡ self.pages + 66 }
     {

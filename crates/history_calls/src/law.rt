@@ -8,8 +8,8 @@ ghost use Rattle.history_calls.specs.Frame.{Place};
 ghost use Rattle.history_calls.specs.Made.{LeadsToItsMachine};
 ghost use Rattle.history_calls.specs.Prepared.{IsPreparedAsAsked, IsRefusedAsAsked, IsDecidedBefore, IsUndoPrepared};
 
-/// The calls of a history, made in its order on an RMM that has just been built, are accepted, and lead to the machine
-/// that the history's world has. A host's RMM has that machine.
+/// The calls of a history, made in its order on a fresh RMM, are accepted, and lead to the machine of the history's
+/// world. A host's RMM has that machine.
 pub fn calls_lead_to_the_machine()
     ensures { (limits : Limits) (history : List Event) → LeadsToItsMachine limits history }
 {}
@@ -20,7 +20,7 @@ pub fn prepared_is_performed()
     ensures { (host : HostView) (build : ℕ) (cmd : Cmd) → IsPreparedAsAsked host build cmd }
 {}
 
-/// The refusal of a command that is prepared is the one of the host that is asked for it.
+/// The refusal of a prepared command is the refusal that the host gives when it is asked for the command.
 pub fn refused_as_asked()
     ensures { (place : Place) (host : HostView) (build run : ℕ) (cmd : Cmd) → IsRefusedAsAsked place host build run cmd }
 {}

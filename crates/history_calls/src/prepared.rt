@@ -19,7 +19,7 @@ use page_arena::PageStore;
 use realm_host::{GranuleState, Host};
 use realm_model::{Act, RealmAndRec, Rmi};
 
-// The number that the next REC of a build's realm gets; 0 if it has none.
+// The number that the next REC of a build's realm gets; 0 if the build has no realm.
 fn next_rec<S: PageStore>(host: &Host<S>, build: BuildId) -> RecNo
     ensures { result ≡ next_number (realm_of build (world_of host.now)) }
 {
@@ -63,7 +63,7 @@ fn subject<S: PageStore>(host: &Host<S>, build: BuildId, act: &Act) -> RealmAndR
     }
 }
 
-// The operations for an operation of a build.
+// The operations on an RMM for one operation of a build.
 fn actions_for<S: PageStore>(
     frame: Frame,
     host: &Host<S>,
@@ -98,7 +98,7 @@ fn access_refusal(state: Option<GranuleState>) -> Option<Refusal>
     }
 }
 
-// The refusal of an entry of a REC that there is not.
+// The refusal of the entry of a REC that does not exist.
 fn entry_refusal<S: PageStore>(host: &Host<S>, build: BuildId, number: RecNo) -> Option<Refusal>
     ensures { result ≡ prepared.entry_refusal (rec_at (world_of host.now) build number) }
 {
@@ -124,7 +124,7 @@ fn exit_refusal<S: PageStore>(host: &Host<S>, build: BuildId, number: RecNo) -> 
     }
 }
 
-// The refusal of the model that needs no answer of an RMM.
+// The model's refusal of a command, if it is decided without an answer of an RMM.
 pub(crate) fn refused_before<S: PageStore>(
     host: &Host<S>,
     build: BuildId,
@@ -186,7 +186,7 @@ pub fn actions_asked<S: PageStore>(
     actions_of_act(frame, host, build, run, cmd, act)
 }
 
-// The operations for the reverse of an operation, which has one if it is open.
+// The operations on an RMM for the reverse of an operation. An open operation has a reverse.
 fn actions_of_newest<S: PageStore>(
     frame: Frame,
     host: &Host<S>,

@@ -157,7 +157,7 @@ fn is_page_run(ipa: IpaGran, count: u16) -> bool
     1 <= count && count <= 512 && first / 512 == (first + count as u32 - 1) / 512
 }
 
-// The refusal of a table of that level, by the end of the walk to the one above.
+// The refusal of a new table, by the end of the walk to the level `above` it.
 fn room_refusal<S: PageStore>(
     host: &Host<S>,
     build: BuildId,
@@ -192,7 +192,7 @@ fn is_free<S: PageStore>(host: &Host<S>, build: BuildId, ipa: u32) -> bool
     }
 }
 
-// Whether the entries of `count` IPA granules are so.
+// Whether the entries of level 3 of `count` IPA granules are there, and UNASSIGNED.
 fn are_free<S: PageStore>(host: &Host<S>, build: BuildId, first: u32, count: u16) -> bool
     requires { first + count ≤ 4294967296 }
     ensures { result ≡ refused.are_free_rows (row_of (world_of host.now) build) first count }

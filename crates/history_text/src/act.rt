@@ -25,7 +25,7 @@ const U8: u32 = 255;
 
 const U16: u32 = 65_535;
 
-/// The most numbers of an operation: a REC's granule, its number, and its auxiliary granules.
+/// The largest count of numbers of an operation: a REC's granule, its number, and its auxiliary granules.
 const MOST_NUMBERS: usize = 18;
 
 fn order_of(number: u32) -> Order
@@ -221,7 +221,7 @@ fn rec_act(word: &str, numbers: &[u32]) -> Option<Act>
     }
 }
 
-// The operation that the word and its numbers are.
+// The operation that a word and its numbers spell.
 fn act(word: &str, numbers: &[u32]) -> Option<Act>
     ensures { result ≡ act_at word.now numbers.now }
 {
@@ -232,8 +232,8 @@ fn act(word: &str, numbers: &[u32]) -> Option<Act>
         .or_else(|| rec_act(word, numbers))
 }
 
-/// The operation that the text is: a word and its numbers, one space before each number and nothing else. The numbers
-/// are in decimal, without a sign and without leading zeros, and each in its range. No memory is taken.
+/// The operation that the text spells: a word and its numbers, one space before each number and nothing else. The
+/// numbers are in decimal, without a sign and without leading zeros, and each in its range. No memory is taken.
 pub fn act_from_text(text: &str) -> Option<Act>
     ensures { result ≡ act_of_text text.now }
 {

@@ -40,11 +40,11 @@ fn build_of(digit: u8) -> Option<BuildId>
     BuildId::new(digit - b'0')
 }
 
-/// The event that the line is, if it is one. No memory is taken.
+/// The event whose text the line is; `None` if there is none. No memory is taken.
 pub fn parse_event(line: &[u8]) -> Option<Event>
     // The event that is returned has this text.
     ensures found { IfSome result (λ event. IsEventText line.now event) }
-    // If none is returned, no event has this text.
+    // `None` is returned only if no event has this text.
     ensures none { IfNone result ((event : Event) → IsEventText line.now event → ⊥) }
 {
     let Some((digit, rest)) = line.split_first() else {

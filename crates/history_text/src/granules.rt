@@ -12,10 +12,10 @@ pub const GRANULE: u32 = 4095;
 /// The greatest IPA granule.
 pub const IPA: u32 = 2_147_483_647;
 
-/// The most auxiliary granules of a REC.
+/// The largest number of auxiliary granules of a REC.
 const MOST_AUXILIARIES: usize = 16;
 
-/// The widest address space.
+/// The width of the widest address space, in bits.
 const WIDEST: u8 = 43;
 
 pub fn granule_of(number: u32) -> Gran
@@ -32,7 +32,7 @@ pub fn ipa_of(number: u32) -> IpaGran
     IpaGran::new(number, WIDEST).unwrap()
 }
 
-/// The granules, if there are no more than 16.
+/// The granules of these numbers, if there are at most 16 and each is in range.
 pub fn granules_of(numbers: &[u32]) -> Option<ArrayVec<Gran, MOST_AUXILIARIES>>
     ensures { result ≡ up_to 16 granule numbers.now }
 {

@@ -10,21 +10,21 @@ ghost use Rattle.history_text.specs.Histories.{IsOpeningText};
 use granule_addr::{Gran, RecNo, Root, Vmid};
 use realm_model::{Act, Event};
 
-/// The most bytes of a line, without its line feed.
+/// The largest number of bytes of a line, without its line feed.
 pub const MOST_LINE: u16 = 256;
 
-/// No two events have the same text.
+/// Event texts are injective: different events have different texts.
 pub fn event_texts_are_injective()
     ensures { (text : List ℕ) (a b : Event) → IsEventText text a → IsEventText text b → a ≡ b }
 {}
 
-/// No line of a history is longer than 256 bytes.
+/// Each line of a history has at most 256 bytes.
 pub fn lines_are_short()
     ensures events { (text : List ℕ) (event : Event) → IsEventText text event → length text ≤ 256 }
     ensures openings { (text : List ℕ) (opening : Opening) → IsOpeningText text opening → length text ≤ 256 }
 {}
 
-// Granules have numbers below 4,096.
+// Shows that granules have numbers below 4,096.
 fn granules_in_range(granules: &[Gran])
     ensures { AreAtMost granules.now (replicate (length granules.now) granule) }
 {

@@ -10,8 +10,8 @@ use std::fmt;
 /// The greatest number of each: pages, VMIDs, auxiliary granules of a REC, events of a build, builds.
 const MAXIMA: [u32; 5] = [4096, 255, 16, 16_384, 8];
 
-/// The size of the machine of a history: its pages, its VMIDs, the auxiliary granules of each REC, each build's room in
-/// the history, and the number of builds.
+/// The size of the machine of a history: pages, VMIDs, auxiliary granules of each REC, each build's room in the
+/// history, and builds.
 #[derive(Clone, Copy)]
 pub struct Opening {
     pub pages: u16,
@@ -58,13 +58,13 @@ impl Opening {
     }
 }
 
-/// The opening that the line is, if it is one, and there is a machine of that size. A machine has 1 to 4,096 pages, 1
-/// to 255 VMIDs and up to 16 auxiliary granules. The room is 16 to 16,384, and there are 1 to 8 builds. No memory is
+/// The opening whose text the line is, if there is one and a machine can have its size. A machine has 1 to 4,096 pages,
+/// 1 to 255 VMIDs and up to 16 auxiliary granules. The room is 16 to 16,384, and there are 1 to 8 builds. No memory is
 /// taken.
 pub fn parse_opening(line: &[u8]) -> Option<Opening>
     // The opening that is returned has this text.
     ensures found { IfSome result (λ opening. IsOpeningText line.now opening) }
-    // If none is returned, no opening has this text.
+    // `None` is returned only if no opening has this text.
     ensures none { IfNone result ((opening : Opening) → IsOpeningText line.now opening → ⊥) }
 {
     let Some(rest) = line.strip_prefix(b"history 1") else {

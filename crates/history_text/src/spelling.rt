@@ -6,7 +6,7 @@ use arrayvec::ArrayVec;
 use granule_addr::{Gran, IpaGran, PageOff, RecNo, Root, Vmid};
 use realm_model::Act;
 
-/// The most numbers of an operation: the granule of a REC, its number, and 16 auxiliary granules.
+/// The largest count of numbers of an operation: the granule of a REC, its number, and 16 auxiliary granules.
 const MOST_NUMBERS: usize = 18;
 
 /// The word of an operation.

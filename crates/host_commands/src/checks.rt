@@ -8,7 +8,7 @@ use arrayvec::ArrayVec;
 use granule_addr::{BuildId, Gran};
 use realm_model::JOURNAL_ROOM;
 
-/// Refusals 1 and 2: there is no such build, or it is in abort.
+/// Checks that the build exists and is not in abort: refusals 1 and 2.
 pub fn check_build<D: BuildsView>(view: &D, build: BuildId) -> Result<(), Refusal>
     ensures { result ≡ checked (build_checks (D.seen view.now) build) }
 {
@@ -90,8 +90,8 @@ fn check_state<D: BuildsView>(view: &D, build: BuildId, needs: &Needs) -> Result
     check_vmid(view, needs.vmid)
 }
 
-/// The granules of the pages that a command names, in sequence; or the refusal with the lowest number of those that
-/// apply to it and hold. The refusals of the store and of the RMM, 11 and 13, are not among them.
+/// The granules of the pages that a command names, in sequence; or, of the refusals that apply and hold, the one with
+/// the lowest number. The refusals of the store and of the RMM, 11 and 13, are not among them.
 pub fn check_needs<D: BuildsView>(
     view: &D,
     build: BuildId,

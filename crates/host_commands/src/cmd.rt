@@ -10,69 +10,68 @@ use granule_addr::{PageOff, RecNo};
 /// they were written: the RMM refuses one that no realm has.
 #[derive(Drop)]
 pub enum Cmd {
-    /// A block of 2^order pages is leased.
+    /// Leases a block of 2^order pages.
     Take {
         order: u8,
     },
-    /// Every byte of a page gets the value.
+    /// Sets every byte of a page to the value.
     Fill {
         page: u16,
         value: u8,
     },
-    /// A byte of a page is read.
+    /// Reads a byte of a page.
     Peek {
         page: u16,
         offset: PageOff,
     },
-    /// A page is delegated. RMI_GRANULE_DELEGATE
+    /// Delegates a page. RMI_GRANULE_DELEGATE
     Delegate {
         page: u16,
     },
-    /// A realm is created. Its starting tables are the pages from `root` on, as many as the width needs.
-    /// RMI_REALM_CREATE
+    /// Creates a realm. Its starting tables are the pages from `root` on, as many as the width needs. RMI_REALM_CREATE
     Realm {
         rd: u16,
         root: u16,
         width: u8,
     },
-    /// A page becomes a translation table. RMI_RTT_CREATE
+    /// Turns a page into a translation table. RMI_RTT_CREATE
     Rtt {
         page: u16,
         ipa: u32,
         level: u8,
     },
-    /// The `count` pages of the realm's memory from `ipa` on become RAM. RMI_RTT_INIT_RIPAS
+    /// Sets the RIPAS of the `count` pages of the realm's memory from `ipa` on to RAM. RMI_RTT_INIT_RIPAS
     Ripas {
         ipa: u32,
         count: u16,
     },
-    /// A page becomes memory of the realm, with the bytes of another page. RMI_DATA_CREATE
+    /// Turns a page into memory of the realm, with the bytes of another page. RMI_DATA_CREATE
     Data {
         page: u16,
         ipa: u32,
         source: u16,
     },
-    /// A page becomes memory of the realm, with zeros. RMI_DATA_CREATE_UNKNOWN
+    /// Turns a page into memory of the realm, with zeros. RMI_DATA_CREATE_UNKNOWN
     Unknown {
         page: u16,
         ipa: u32,
     },
-    /// Pages become a REC and its auxiliaries. RMI_REC_CREATE
+    /// Turns pages into a REC and its auxiliaries. RMI_REC_CREATE
     Rec {
         page: u16,
         auxiliaries: ArrayVec<u16, 16>,
     },
-    /// The realm is activated. RMI_REALM_ACTIVATE
+    /// Activates the realm. RMI_REALM_ACTIVATE
     Activate,
-    /// A REC is entered, and runs. RMI_REC_ENTER
+    /// Enters a REC, which then runs. RMI_REC_ENTER
     Enter {
         number: RecNo,
     },
-    /// A REC stops running.
+    /// Stops a running REC.
     Exit {
         number: RecNo,
     },
-    /// A running REC writes a byte of the realm's memory.
+    /// Writes a byte of the realm's memory, by a running REC.
     Poke {
         number: RecNo,
         ipa: u32,
@@ -85,13 +84,13 @@ pub enum Cmd {
 #[derive(Drop)]
 pub enum Step {
     Ask(Cmd),
-    /// The newest open operation of the build is reversed.
+    /// Reverses the newest open operation of the build.
     Undo,
-    /// All open operations of the build are reversed, the newest first.
+    /// Reverses all open operations of the build, the newest first.
     Abort,
-    /// The build's point is kept as a mark, to which it can go back.
+    /// Keeps the build's point as a mark, to which the build can go back.
     Mark,
-    /// The operations that the build has opened since its last mark are reversed, the newest first.
+    /// Reverses the operations that the build has opened since its last mark, the newest first.
     Back,
 }
 

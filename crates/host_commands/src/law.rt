@@ -12,7 +12,7 @@ pub fn act_is_that_of_its_command()
     ensures { (cmd : Cmd) (granules : List ℕ) (allocated : Allocated) (act : Act) → ActIsOfCommand cmd granules allocated act }
 {}
 
-/// The operation agrees with the machine, if the values that were allocated for it do.
+/// The operation of a command agrees with the machine, if the values that were allocated for it do.
 pub fn act_fits_what_is_there()
     ensures { (cmd : Cmd) (granules : List ℕ) (allocated : Allocated) (act : Act) (realm : Option Seen) (cells : List Seen) → ActFits cmd granules allocated act realm cells }
 {}
@@ -22,8 +22,8 @@ pub fn outcome_is_of_any_allocation()
     ensures { (limits : Limits) (used : List ℕ) (cmd : Cmd) (granules : List ℕ) (one other : Allocated) (realm : Option Seen) (cells : List Seen) → OutcomeIsOfAnyAllocation limits used cmd granules one other realm cells }
 {}
 
-/// If an IPA granule or a level of a command can be in no operation, the RMM refuses it with RMI_ERROR_INPUT, whatever
-/// else is wrong.
+/// The RMM refuses a command with RMI_ERROR_INPUT, whatever else is wrong, if an IPA granule or a level of it can be in
+/// no operation.
 pub fn no_act_is_an_input_error()
     ensures { (cmd : Cmd) (granules : List ℕ) (allocated : Allocated) (rd : Seen) (cells : List Seen) → NoActIsInputError cmd granules allocated rd cells }
 {}

@@ -5,7 +5,7 @@ ghost use Rattle.host_commands.specs.Needs.{needs_of, needs_but_vmid, tables_nam
 use crate::Cmd;
 use granule_addr::IpaWidth;
 
-/// Whether a command requires that its build has a realm.
+/// The requirement of a command on its build's realm: that there is one, that there is none, or neither.
 #[derive(Clone, Copy)]
 pub enum RealmRequirement {
     Either,
@@ -16,19 +16,19 @@ pub enum RealmRequirement {
 /// The requirements of a command on its build: a row of the table.
 #[derive(Clone, Copy)]
 pub struct Needs {
-    /// Whether there has to be a realm.
+    /// Whether the build has to have a realm, or none.
     pub realm: RealmRequirement,
     /// Whether the operation stays open, and so needs an entry in the journal.
     pub paired: bool,
-    /// The number of entries of the build's room that it takes: for its event, and for the reverse or the exit that it
-    /// will need.
+    /// The number of entries of the build's room that the command takes: for its event, and for the reverse or exit
+    /// that it will need.
     pub room: u16,
-    /// Whether it needs a VMID.
+    /// Whether the command needs a VMID.
     pub vmid: bool,
 }
 
-/// The number of starting tables that a command of this width names: as many as a realm of that width has, and one if
-/// no realm has that width.
+/// The number of starting tables that a command of this width names: that of a realm, or one if no realm has that
+/// width.
 pub fn tables_named(width: u8) -> u16
     ensures value { result ≡ tables_named width }
     ensures few { result ≤ 16 }

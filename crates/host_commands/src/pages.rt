@@ -10,7 +10,7 @@ use crate::{BuildsView, Cmd, Refusal};
 use arrayvec::ArrayVec;
 use granule_addr::{BuildId, Gran};
 
-// The granule of one page.
+// Appends the granule of one page to those that were found.
 fn find<D: BuildsView>(
     view: &D,
     build: BuildId,
@@ -29,7 +29,7 @@ fn find<D: BuildsView>(
     Ok(())
 }
 
-// The granules of the pages of a list.
+// Appends the granules of the pages of a list to those that were found.
 fn find_all<D: BuildsView>(
     view: &D,
     build: BuildId,
@@ -46,7 +46,7 @@ fn find_all<D: BuildsView>(
     Ok(())
 }
 
-// The granules of the pages with numbers from one on.
+// Appends the granules of `count` pages, with numbers from `first` on, to those that were found.
 fn find_run<D: BuildsView>(
     view: &D,
     build: BuildId,
@@ -66,7 +66,7 @@ fn find_run<D: BuildsView>(
     Ok(())
 }
 
-// The granules of the pages that a command names.
+// Appends the granules of the pages that a command names.
 #[tactic(auto, unfolding(crate::specs::Needs::operands))]
 fn find_operands<D: BuildsView>(
     view: &D,

@@ -3,46 +3,47 @@ use granule_addr::Order;
 use realm_model::Rmi;
 use thiserror::Error;
 
-/// A refusal: of those that apply and hold, the one with the lowest number is given, and nothing changes.
+/// A refusal, by its number. Of the refusals that apply and hold, the one with the lowest number is given, and nothing
+/// changes.
 #[derive(Clone, Copy, Debug, PartialEq, Eq, Error)]
 pub enum Refusal {
-    /// 1: there is no such build.
+    /// 1: a build that the host does not have.
     #[error("there is no such build")]
     NoBuild,
-    /// 2: the build is in abort.
+    /// 2: a build that is in abort.
     #[error("the build is being aborted")]
     Aborting,
-    /// 3: the order of a block is above 9.
+    /// 3: an order of a block above 9.
     #[error("a block has at most 512 pages")]
     BadOrder,
-    /// 4: the build has no such page.
+    /// 4: a page that the build does not have.
     #[error("the build has no page {0}")]
     NotLeased(u16),
-    /// 5: the build has a realm.
+    /// 5: a build that has a realm.
     #[error("the build has a realm")]
     RealmThere,
-    /// 6: the build has no realm.
+    /// 6: a build that has no realm.
     #[error("the build has no realm")]
     NoRealm,
-    /// 7: the build has nothing open.
+    /// 7: a build that has nothing open.
     #[error("there is nothing to undo")]
     NothingToUndo,
-    /// 8: a REC that would have to go is running.
+    /// 8: a running REC that would have to go.
     #[error("a REC is running")]
     RecRunning,
-    /// 9: the build has 512 operations open.
+    /// 9: a build that has 512 operations open.
     #[error("the journal is full")]
     JournalFull,
-    /// 10: the command would take room that the build's reverses and exits need.
+    /// 10: a command that would take room that the build's reverses and exits need.
     #[error("the history is full")]
     HistoryFull,
-    /// 11: no aligned block of that order is free.
+    /// 11: a lack of a free aligned block of that order.
     #[error("no block of order {} is free", .0.number())]
     NoBlock(Order),
-    /// 12: all VMIDs are in use.
+    /// 12: a lack of a free VMID.
     #[error("no VMID is free")]
     NoVmid,
-    /// 13: the RMM refused.
+    /// 13: a refusal by the RMM.
     #[error("the monitor refused: {:?}, index {}", .0.status, .0.index)]
     Rmi(Rmi),
 }

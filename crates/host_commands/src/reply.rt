@@ -32,7 +32,8 @@ pub fn reply_of(page_count: u16, act: &Act) -> Reply
     }
 }
 
-/// The answers that an operation holds. Each is read by the commands that get it, and may be anything for the others.
+/// The values that the machine gives an operation: a VMID, a REC number, or a byte. Each is read by the commands that
+/// get it, and may be anything for the others.
 #[derive(Clone, Copy)]
 pub struct Allocated {
     /// For a realm that is created, the lowest VMID that no realm has.

@@ -38,7 +38,7 @@ impl Build {
         })
     }
 
-    /// Follows an operation of the build.
+    /// Updates the record for an operation of the build.
     pub(crate) fn follow(&mut self, act: &Act)
         requires { CanFollow self.old act.now }
         ensures { self.new ≡ build_after self.old act.now }

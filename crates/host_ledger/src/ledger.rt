@@ -60,7 +60,7 @@ fn new_builds(alloc: Global, count: u8) -> Result<Vec<Build>, AllocError>
     Ok(builds)
 }
 
-// Follows an operation in the pages of a build: those of a block that is taken go on top, those of one given back are
+// Updates the pages of a build for an operation: pages of a taken block go on top, those of a block given back are
 // removed.
 fn follow_pages(leases: &mut Leases, build: BuildId, act: &Act)
     requires there { build < length leases.old.stacks }
@@ -74,8 +74,8 @@ fn follow_pages(leases: &mut Leases, build: BuildId, act: &Act)
     }
 }
 
-// Follows an operation in the holders of the granules. A build leases the granules of a block that it takes, and nobody
-// leases those of a block that it gives back.
+// Updates the holders of the granules for an operation. A build leases the granules of a block that it takes, and
+// nobody leases those of a block that it gives back.
 fn follow_holders(holders: &mut Holders, build: BuildId, act: &Act)
     requires { CanFollowHolders holders.old act.now }
     ensures { holders.new ≡ leases_after build act.now holders.old }
@@ -87,8 +87,7 @@ fn follow_holders(holders: &mut Holders, build: BuildId, act: &Act)
     }
 }
 
-// Follows an operation in the VMIDs in use: the VMID of a realm that is created is in use, and that of a realm that
-// ends is free.
+// Updates the VMIDs in use for an operation: a created realm's VMID is in use, and that of a realm that ends is free.
 fn follow_vmids(vmids: &mut VmidPool, act: &Act)
     requires { CanFollowVmids vmids.old act.now }
     ensures { IsVmidsAfter act.now vmids.old vmids.new }
@@ -317,7 +316,7 @@ impl HostLedger {
         self.builds[build.number() as usize].begin_abort();
     }
 
-    /// The mark of a build's point now.
+    /// The mark of the point at which a build is now.
     pub fn mark_now(&self, build: BuildId) -> Mark
         requires { build < self.now.limits.builds }
         ensures { result ≡ mark_now self.now build }

@@ -4,8 +4,8 @@ ghost use Rattle.page_arena.specs.Slots.{IsSlots};
 
 use std::alloc::{AllocError, Global};
 
-/// For each page, the slot that has its bytes: slot 0, which has the zeros of all pages that were never written, or a
-/// slot of its own. A page gets its own when it is first written: the next one that is not used yet.
+/// The slot of each page's bytes: slot 0, which has the zeros of all pages never written, or a slot of the page's own.
+/// A page gets its own when it is first written: the next one that is not used yet.
 #[derive(Drop)]
 pub(crate) struct Slots {
     of: Vec<u16>,

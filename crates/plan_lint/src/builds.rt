@@ -6,7 +6,7 @@ use crate::outline::{Build, Content, Outline, Value};
 use crate::step_text::{InvalidStep, of_step};
 use realm_plan::{MOST_BUILDS, MOST_STEPS, PlanFault, step_from_text};
 
-/// The number of builds of a plan, if the plan says it.
+/// The number of builds of a plan, or `None` if `build` is missing or not an array.
 pub(crate) fn count_of_builds(outline: &Outline) -> Option<usize> {
     match outline.value("build") {
         Some(value) if !value.is_array() => None,
@@ -38,7 +38,7 @@ pub(crate) fn builds(text: &str, outline: &Outline, meant: Meant, found: &mut Fi
     }
 }
 
-// A value of `build` that is no array of tables.
+// Reports a value of `build` that is not an array of tables.
 fn no_builds(text: &str, value: &Value, found: &mut Findings) {
     let span = value.span;
     match text.get(span.start..span.end) {
@@ -51,7 +51,7 @@ fn no_builds(text: &str, value: &Value, found: &mut Findings) {
     found.help("each build begins with a line `[[build]]`", &[]);
 }
 
-// An array of builds that is empty. Each turn names no build then.
+// Reports an empty array of builds. Each turn names no build then.
 fn no_build(outline: &Outline, value: &Value, found: &mut Findings) {
     let also = if outline.turns.is_empty() {
         None
@@ -67,7 +67,7 @@ fn no_build(outline: &Outline, value: &Value, found: &mut Findings) {
     );
 }
 
-// A build, which is a table with the one key `steps`.
+// Finds the mistakes in a build, which is a table with the one key `steps`.
 fn of_build(text: &str, number: usize, build: &Build, found: &mut Findings) {
     if !matches!(build.value.content, Content::Table | Content::Tables) {
         return of_kind(&build.value, "a table", found);
@@ -84,7 +84,7 @@ fn of_build(text: &str, number: usize, build: &Build, found: &mut Findings) {
     }
 }
 
-// A value of `steps` that is no array.
+// Reports a value of `steps` that is not an array.
 fn no_steps(value: &Value, found: &mut Findings) {
     of_kind(value, "an array", found);
     if let Some(step) = value.as_text() {
@@ -94,7 +94,7 @@ fn no_steps(value: &Value, found: &mut Findings) {
     }
 }
 
-// The steps of a build, which are strings.
+// Finds the mistakes in the steps of a build, which are strings.
 fn steps(text: &str, number: usize, build: &Build, found: &mut Findings) {
     for (step, value) in build.steps.iter().enumerate() {
         let fault = PlanFault::Step {

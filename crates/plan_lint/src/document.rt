@@ -54,7 +54,7 @@ fn in_text(alloc: Global, text: &str, found: &mut Findings) -> Result<(), AllocE
     Ok(())
 }
 
-// A text without any key.
+// Reports a text without any key.
 fn empty_plan(found: &mut Findings) {
     let words = "the plan is empty; it needs `pages` and `[[build]]`";
     found.error(PlanFault::Key, Span::new(0, 0), words, &[]);

@@ -4,7 +4,7 @@ use std::alloc::{AllocError, Global};
 /// The most bytes that are shown before the first caret, and from it on.
 const MOST: usize = 80;
 
-/// The number of bytes that are shown there of a line that is cut.
+/// The number of bytes that are shown before the first caret, or from it on, if the line is cut there.
 const LESS: usize = 78;
 
 /// A place of a text, with its line and its column, both from 1.
@@ -13,7 +13,7 @@ pub struct Cursor {
     pub at: usize,
     pub line: usize,
     pub column: usize,
-    /// The beginning of its line.
+    /// The offset of the first byte of the line.
     pub start: usize,
 }
 
@@ -80,7 +80,7 @@ fn shown_back(alloc: Global, back: &[u8]) -> Result<Vec<u8>, AllocError> {
     Ok(line)
 }
 
-/// The first bytes, as many as there are.
+/// The first `len` bytes, or all bytes if there are fewer.
 pub(crate) fn first_of(bytes: &[u8], len: usize) -> &[u8] {
     &bytes[..len.min(bytes.len())]
 }

@@ -4,7 +4,7 @@ use crate::nearest::nearest;
 use realm_plan::PlanFault;
 use std::alloc::{AllocError, Global};
 
-/// A stretch of a text, by the bytes before each of its ends.
+/// A stretch of a text, by the number of bytes before each of its ends.
 #[derive(Clone, Copy)]
 pub struct Span {
     pub start: usize,
@@ -22,7 +22,8 @@ impl Span {
 /// The severity of a finding.
 #[derive(Clone, Copy, PartialEq, Eq)]
 pub enum Severity {
-    /// The bytes are no plan: one of their faults, and a second one that follows from the same mistake.
+    /// A mistake in bytes that are no plan: one of their faults, and a second fault if it follows from the same
+    /// mistake.
     Error(PlanFault, Option<PlanFault>),
     /// A likely slip in a plan.
     Warning,

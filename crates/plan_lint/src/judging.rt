@@ -21,7 +21,7 @@ pub struct Size {
 /// The findings on bytes.
 #[derive(Drop)]
 pub struct Judged {
-    /// In the order of their places.
+    /// The findings in the order of their places.
     pub findings: Vec<Finding>,
     /// The size of the plan, if the bytes are one.
     pub size: Option<Size>,
@@ -72,7 +72,7 @@ fn clipped(span: Span, end: usize) -> Span
     }
 }
 
-// The errors among the findings, each on a stretch of the text, which ends there.
+// The errors among the findings, with each span clipped to a text of `end` bytes.
 fn all_errors(alloc: Global, found: Vec<Finding>, end: usize) -> Result<Vec<Finding>, AllocError>
     ensures errors { IfOk result (λ v. All (λ f. IsError f.severity) v.items) }
     ensures inside { IfOk result (λ v. AreInside end v.items) }
@@ -146,7 +146,7 @@ fn errors_of(alloc: Global, bytes: &[u8], fault: PlanFault) -> Result<Vec<Findin
     Ok(errors)
 }
 
-// The findings as warnings, each on a stretch of the text, which ends there.
+// The findings as warnings, with each span clipped to a text of `end` bytes.
 fn all_warnings(alloc: Global, found: Vec<Finding>, end: usize) -> Result<Vec<Finding>, AllocError>
     ensures warnings { IfOk result (λ v. AreWarnings v.items) }
     ensures inside { IfOk result (λ v. AreInside end v.items) }

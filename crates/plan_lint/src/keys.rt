@@ -4,7 +4,7 @@ use crate::message_text::Piece::{Quoted, Whole, Words};
 use crate::outline::{Build, KeyValue, Outline, PLAN_KEYS, Value, is_among};
 use realm_plan::PlanFault;
 
-/// Whether an unknown key means one that is missing.
+/// Whether an unknown key means the missing key `pages`, and whether one means `build`.
 #[derive(Clone, Copy)]
 pub struct Meant {
     pub pages: bool,
@@ -56,7 +56,7 @@ fn unknown_keys_of(outline: &Outline, build: &Build, meant: &mut Meant, found: &
     }
 }
 
-// A key that no plan has. Returns the missing one that it means.
+// Reports a key that no plan has, and returns the missing key that it means.
 fn unknown_key<'a>(outline: &Outline, key: &'a KeyValue, found: &mut Findings) -> Option<&'a str> {
     let name = key.name.as_str();
     if name == "steps" {
@@ -79,7 +79,7 @@ fn unknown_key<'a>(outline: &Outline, key: &'a KeyValue, found: &mut Findings) -
     near
 }
 
-// A key of the plan below a build. Returns it if the plan lacks it.
+// Reports a key of the plan below a build, and returns the key if the plan lacks it.
 fn key_of_plan<'a>(outline: &Outline, key: &'a KeyValue, found: &mut Findings) -> Option<&'a str> {
     let name = key.name.as_str();
     let words = "{} is a key of the plan, not of a build";
@@ -151,7 +151,7 @@ fn number(name: &str, low: i64, high: i64, value: &Value, found: &mut Findings) 
     }
 }
 
-/// A value in the place of an integer.
+/// Reports a value of another kind in the place of an integer.
 pub(crate) fn no_integer(value: &Value, found: &mut Findings) {
     of_kind(value, "an integer", found);
     if let Some(text) = value.as_text() {
@@ -161,7 +161,7 @@ pub(crate) fn no_integer(value: &Value, found: &mut Findings) {
     }
 }
 
-/// A value of another kind than the expected one.
+/// Reports a value of another kind than the expected one.
 pub(crate) fn of_kind(value: &Value, expected: &str, found: &mut Findings) {
     let pieces = [Words(expected), Words(value.content.kind())];
     let words = "expected {}, found {}";

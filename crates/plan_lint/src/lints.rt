@@ -52,7 +52,7 @@ impl PlannedBuild<'_> {
         self.outline.step_span(self.number, step)
     }
 
-    // The takes that no machine of this size can serve.
+    // Reports the takes that no machine of this size can serve.
     fn takes(&self, found: &mut Findings) {
         let pages = self.plan.pages as usize;
         for (place, step) in self.steps.iter().enumerate() {
@@ -71,7 +71,7 @@ impl PlannedBuild<'_> {
         }
     }
 
-    // The first step that names a page which no take before it can have given.
+    // Reports the first step that names a page which no take before it can have given.
     fn pages(&self, found: &mut Findings) {
         let mut given: usize = 0;
         for (place, step) in self.steps.iter().enumerate() {
@@ -97,7 +97,7 @@ impl PlannedBuild<'_> {
         found.warning(self.span(place), words, &pieces);
     }
 
-    // Too few turns for the steps, or too many.
+    // Reports too few turns for the steps, or too many.
     fn turns(&self, found: &mut Findings) -> Result<(), AllocError> {
         let (turns, further) = self.own_turns(most_turns(self.steps));
         if self.is_short(turns, found)? {
@@ -136,8 +136,8 @@ impl PlannedBuild<'_> {
         ]
     }
 
-    // Whether the turns run out, which is found then: the step that none reaches, or the abort or the way back that
-    // cannot end.
+    // Reports the step that no turn reaches, or the abort or way back that cannot end, and returns whether there is
+    // one.
     fn is_short(&self, turns: usize, found: &mut Findings) -> Result<bool, AllocError> {
         let mut known = KnownState::new(found.alloc, self.plan, self.steps);
         let mut left = turns;
@@ -156,7 +156,7 @@ impl PlannedBuild<'_> {
         Ok(false)
     }
 
-    // A step that no turn reaches.
+    // Reports a step that no turn reaches.
     fn unreached(&self, place: usize, turns: usize, found: &mut Findings) {
         if place == turns {
             let words = "no turn reaches this step: build {} has {} step{} and {} turn{}";
@@ -168,7 +168,7 @@ impl PlannedBuild<'_> {
         found.warning(self.span(place), words, &pieces);
     }
 
-    // An abort or a way back that lacks turns.
+    // Reports an abort or a way back that lacks turns.
     fn cut_off(
         &self,
         place: usize,

@@ -13,7 +13,7 @@ pub enum Piece<'a> {
     Count(usize),
     Number(u64),
     Whole(i64),
-    /// The ending of a noun of which there are so many.
+    /// The plural ending of a noun, which is empty for a count of 1.
     Plural(usize),
 }
 

@@ -13,7 +13,7 @@ const MOST_OPEN: usize = 512;
 /// The greatest order of a block.
 pub const MOST_ORDER: u8 = 9;
 
-/// The pages of a block. Blocks that no machine has count as 4,096 pages.
+/// The number of pages of a block. Blocks that no machine has count as 4,096 pages.
 pub(crate) fn block_len(order: u8) -> usize {
     1 << order.min(12)
 }
@@ -21,14 +21,14 @@ pub(crate) fn block_len(order: u8) -> usize {
 /// The state that a build surely has after the steps so far.
 #[derive(Drop)]
 pub struct KnownState {
-    /// The operations that are surely open, and those of them since the mark.
+    /// The number of operations that are surely open, and how many of them were opened since the mark.
     open: usize,
     since_mark: usize,
     has_mark: bool,
-    /// The pages that it surely has, and those that are surely delegated.
+    /// The number of pages that the build surely has, and the pages that are surely delegated.
     pages: usize,
     delegated: Vec<u16>,
-    /// Whether a realm is surely made where its pages are there.
+    /// Whether a realm is surely made if its pages are there.
     can_have_realm: bool,
     /// Whether takes are surely served, nothing was reversed yet, and no REC was entered.
     is_plain: bool,

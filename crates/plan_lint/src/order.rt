@@ -7,15 +7,15 @@ use realm_plan::{MOST_TURNS, PlanFault};
 use std::alloc::AllocError;
 use std::collections::BTreeMap;
 
-/// A number of turns that name no build.
+/// The turns with one number that names no build: the first of them, and their count.
 #[derive(Clone, Copy)]
 struct Stray {
-    /// The first turn that has it.
+    /// The index of the first turn with the number.
     place: usize,
     count: usize,
 }
 
-/// Finds what is wrong with `order`, in a plan of that many builds, if it says how many.
+/// Finds the mistakes in `order`, in a plan of `builds` builds, if their number is known.
 pub(crate) fn order(
     outline: &Outline,
     builds: Option<usize>,
@@ -55,7 +55,7 @@ fn of_turns(
     Ok(())
 }
 
-// The turns that name no build, each number once.
+// Reports the turns that name no build, each number once.
 fn strays(turns: &[Value], builds: usize, found: &mut Findings) -> Result<(), AllocError> {
     let mut numbers = BTreeMap::new(found.alloc);
     for (place, turn) in turns.iter().enumerate() {
@@ -86,7 +86,7 @@ fn is_build(number: i64, count: usize) -> bool {
     }
 }
 
-// Whether each turn is a number from 1 to that of the builds.
+// Whether each turn is a number from 1 to the number of builds.
 fn counts_from_1(turns: &[Value], builds: usize) -> bool {
     for turn in turns {
         match turn.as_whole() {
@@ -97,7 +97,7 @@ fn counts_from_1(turns: &[Value], builds: usize) -> bool {
     builds > 0
 }
 
-// The turns that have one number, which is that of no build.
+// Reports the turns with one number that names no build.
 fn of_stray(turn: &Value, number: i64, stray: Stray, builds: usize, found: &mut Findings) {
     let fault = PlanFault::Order { place: stray.place };
     let verb = if builds == 1 { "is" } else { "are" };

@@ -74,15 +74,15 @@ pub struct KeyValue {
 /// A build.
 #[derive(Drop)]
 pub struct Build {
-    /// Its header, or its item in an array.
+    /// The header of the build, or its item in an array.
     pub value: Value,
     pub keys: Vec<KeyValue>,
-    /// The items of its key `steps`.
+    /// The items of the build's key `steps`.
     pub steps: Vec<Value>,
 }
 
 impl Build {
-    /// The value of its key `steps`.
+    /// The value of the build's key `steps`.
     pub(crate) fn steps_value(&self) -> Option<&Value> {
         value_of(&self.keys, "steps")
     }
@@ -95,9 +95,9 @@ pub struct Outline {
     pub builds: Vec<Build>,
     /// The items of the key `order`.
     pub turns: Vec<Value>,
-    /// The keys of a plan that the text has not.
+    /// The keys of a plan that the text lacks.
     pub missing: Vec<&'static str>,
-    /// Whether a table that a plan has not has the key `pages`.
+    /// Whether a table that no plan has contains the key `pages`.
     pub has_deeper_pages: bool,
 }
 
@@ -123,7 +123,7 @@ impl Outline {
         Span::new(start, 0)
     }
 
-    /// The value of `order`, or the beginning of the text.
+    /// The place of the value of `order`, or else the beginning of the text.
     pub(crate) fn order_span(&self) -> Span {
         match self.value("order") {
             Some(value) => value.span,
@@ -131,7 +131,7 @@ impl Outline {
         }
     }
 
-    /// A turn, or else the value of `order`.
+    /// The place of a turn, or else of the value of `order`.
     pub(crate) fn turn_span(&self, place: usize) -> Span {
         match self.turns.get(place) {
             Some(turn) => turn.span,
@@ -148,7 +148,7 @@ impl Outline {
     }
 }
 
-/// Whether one of the names is this.
+/// Whether `name` is one of the names.
 pub(crate) fn is_among(names: &[&'static str], name: &str) -> bool {
     for it in names {
         if *it == name {

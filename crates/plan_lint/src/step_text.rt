@@ -5,7 +5,7 @@ use crate::message_text::Piece::{self, Count, Number, Quoted, Words};
 use decimal_text::cut_at_space;
 use realm_plan::PlanFault;
 
-/// The bytes of a page.
+/// The number of bytes of a page.
 const PAGE: u64 = 4096;
 
 /// The most bytes of a number that is shown whole.
@@ -91,7 +91,7 @@ fn stray_blank(bytes: &[u8]) -> Option<(usize, &'static str)> {
     }
 }
 
-// A first word that is not the word of a step.
+// Reports a first word that is not the word of a step.
 fn of_word(step: &InvalidStep<'_>, word: &str, found: &mut Findings) {
     let bare = word.strip_prefix("RMI_").or(word.strip_prefix("rmi_"));
     let meant = match step_of_command(bare.unwrap_or(word)) {
@@ -111,7 +111,7 @@ fn of_word(step: &InvalidStep<'_>, word: &str, found: &mut Findings) {
     }
 }
 
-// The arguments after the word, each after a space.
+// Finds the first mistake in the arguments after the word, each after a space.
 fn of_arguments(step: &InvalidStep<'_>, form: &Form, rest: &str, found: &mut Findings) {
     let mut at = form.word.len();
     for (place, text) in rest.split(' ').skip(1).enumerate() {
@@ -128,7 +128,7 @@ fn of_arguments(step: &InvalidStep<'_>, form: &Form, rest: &str, found: &mut Fin
     of_count(step, form, 0, rest, found)
 }
 
-// Too few arguments, or too many of them from `from` on.
+// Reports too few arguments, or too many from the byte `from` on.
 fn of_count(step: &InvalidStep<'_>, form: &Form, from: usize, rest: &str, found: &mut Findings) {
     let len = step.written.len().saturating_sub(from);
     if form.most == 0 {
@@ -163,7 +163,7 @@ fn has_leading_zero(text: &str) -> bool {
     text.len() > 1 && text.starts_with('0')
 }
 
-// An argument that is no such number.
+// Reports an argument that is not a decimal number in its range.
 fn of_argument(step: &InvalidStep<'_>, argument: &Argument<'_>, found: &mut Findings) {
     let text = argument.text;
     if let Some(number) = hexadecimal(text) {
@@ -212,7 +212,7 @@ fn granule_of(kind: OperandKind, number: u64) -> Option<u64> {
     }
 }
 
-// A number that is too large.
+// Reports a number that is too large.
 fn of_range(step: &InvalidStep<'_>, argument: &Argument<'_>, found: &mut Findings) {
     let Argument { kind, at, text } = *argument;
     let shown = if text.len() <= LONGEST {

@@ -6,7 +6,8 @@ use realm_plan::PlanFault;
 use std::ops::Range;
 use std::str::from_utf8;
 
-/// Finds what the reader of TOML stopped at. The words are the reader's, unless the mistake is one that plans have.
+/// Reports the mistake at which the reader of TOML stopped. The words are the reader's, unless the mistake is one that
+/// plans have.
 pub(crate) fn syntax(bytes: &[u8], range: Range<usize>, message: &str, found: &mut Findings) {
     let span = Span {
         start: range.start,
@@ -63,7 +64,7 @@ fn is_other_header(before: &str, after: &str) -> bool {
     is_header && !after.starts_with("[[build]]") && !before.starts_with("[[build]]")
 }
 
-// A header of a build with other brackets.
+// Reports a header of a build with other brackets.
 fn other_header(at: usize, before: &str, after: &str, found: &mut Findings) {
     let span = Span::new(
         at.saturating_sub(before.len()),
@@ -83,7 +84,7 @@ fn other_header(at: usize, before: &str, after: &str, found: &mut Findings) {
     found.help("each build begins with a line `[[build]]`", &[]);
 }
 
-// A string that its line does not close.
+// Reports a string that its line does not close.
 fn unclosed_string(at: usize, before: &str, found: &mut Findings) {
     let len = match before.rsplit_once(['"', '\'']) {
         Some((front, _)) => before.len().saturating_sub(front.len()),

@@ -20,7 +20,7 @@ enum Part {
     Build,
     /// The items of `steps` in the last build.
     Steps,
-    /// A table or an array that a plan has not.
+    /// A table or an array that no plan has.
     Other,
 }
 
@@ -40,7 +40,7 @@ impl Part {
 /// An array or an inline table that is still open.
 #[derive(Clone, Copy)]
 struct Open {
-    /// The part that it belongs to, and the part that it is.
+    /// The part that the array or table belongs to, and the part that it is.
     owner: Part,
     part: Part,
     is_table: bool,

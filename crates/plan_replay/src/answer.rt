@@ -12,15 +12,15 @@ use std::fmt;
 /// The answer of a turn to its step.
 #[derive(Clone, Copy)]
 pub enum TurnAnswer {
-    /// The command was accepted.
+    /// The reply to an accepted command.
     Replied(Reply),
-    /// The build's point is kept as a mark, with that many operations open.
+    /// A mark that is kept of the build's point, with that many operations open.
     Marked(u16),
-    /// An operation was undone; in an abort or a way back, more are to come.
+    /// An operation that was undone; in an abort or a way back, more are to come.
     Undone(Kind),
-    /// The last operation of an abort or of a way back was undone.
+    /// The last operation that an abort or a way back has undone.
     Ended(Kind),
-    /// An abort or a way back had nothing to undo.
+    /// An abort or a way back with nothing to undo.
     Nothing,
     Refused(Refusal),
 }

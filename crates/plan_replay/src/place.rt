@@ -9,7 +9,7 @@ use realm_plan::MOST_STEPS;
 /// The number of the abort of a build that gives up. Those of a plan's steps are lower.
 pub const GIVING_UP: usize = MOST_STEPS + 1;
 
-/// The number after a step that is used up. A refused step of a plan that gives up leads to the abort.
+/// The number of the step after one that is used up. A refused step of a plan that gives up leads to the abort.
 pub fn number_after(gives_up: bool, is_refused: bool, done: usize) -> usize
     requires { done < 2 ^ 32 }
     ensures { result ≡ number_after gives_up is_refused done }
@@ -21,8 +21,8 @@ pub fn number_after(gives_up: bool, is_refused: bool, done: usize) -> usize
     }
 }
 
-/// The position of a build in its plan: the number of steps done, the number of undos left of the one under way, and
-/// its last mark. In a plan that gives up the number may be `GIVING_UP`, and once that abort is over the next one.
+/// The position of a build in its plan: the number of steps done, the undos left of the current step, and the last
+/// mark. In a plan that gives up the number may be `GIVING_UP`, and once that abort is over the next one.
 #[derive(Clone, Copy)]
 pub struct PlanCursor {
     pub done: usize,

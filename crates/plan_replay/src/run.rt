@@ -12,7 +12,7 @@ use realm_host::Host;
 use realm_plan::{Plan, PlanStep, push_idle};
 use std::alloc::AllocError;
 
-// The step beyond those of a build that gives up.
+// The abort of a build that gives up, if `number` is `GIVING_UP`.
 fn given_up(plan: &Plan, number: usize) -> Option<&PlanStep>
     ensures { option_map (λ step. step.now) result ≡ given_up number }
 {
@@ -46,7 +46,7 @@ pub fn step_after(plan: &Plan, build: usize, done: usize) -> Option<&PlanStep>
     }
 }
 
-/// One turn of a build: its next step, if one is left, with the host's answer.
+/// Takes one turn of a build, and returns its next step, if one is left, with the host's answer.
 pub fn take_turn<'a, S: PageStore>(
     host: &mut Host<S>,
     plan: &'a Plan,
@@ -65,7 +65,7 @@ pub fn take_turn<'a, S: PageStore>(
     Some((step, answer))
 }
 
-// One turn of a build, and its line.
+// Takes one turn of a build, and appends its line.
 fn turn<S: PageStore>(
     host: &mut Host<S>,
     plan: &Plan,

@@ -41,7 +41,7 @@ fn mark_turn<S: PageStore>(host: &mut Host<S>, build: BuildId, place: &mut PlanC
     }
 }
 
-// One undo, with `left` more to come.
+// Performs one undo, with `left` more to come.
 fn one_of_many<S: PageStore>(
     host: &mut Host<S>,
     build: BuildId,
@@ -66,7 +66,7 @@ fn one_of_many<S: PageStore>(
     }
 }
 
-// The turn of a step that has `count` operations to undo, or is refused.
+// Takes the turn of a step that has `count` operations to undo, or is refused.
 fn turn_of_many<S: PageStore>(
     host: &mut Host<S>,
     build: BuildId,
@@ -82,7 +82,7 @@ fn turn_of_many<S: PageStore>(
     }
 }
 
-// The number of operations that an abort has to undo. Its first turn begins it.
+// Begins an abort if this is its first turn, and returns the number of operations that it has to undo.
 fn to_abort<S: PageStore>(
     host: &mut Host<S>,
     build: BuildId,
@@ -132,7 +132,7 @@ fn back_turn<S: PageStore>(host: &mut Host<S>, build: BuildId, place: &mut PlanC
     turn_of_many(host, build, place, count)
 }
 
-// The turn of a build's step, and its answer.
+// Takes the turn of a build's step, and returns the answer.
 fn step_turn<S: PageStore>(
     host: &mut Host<S>,
     build: BuildId,
@@ -150,8 +150,8 @@ fn step_turn<S: PageStore>(
     }
 }
 
-/// The turn of a step of a build's plan, and its answer. The cursor says afterwards how many undos of the step are
-/// left.
+/// Takes the turn of a step of a build's plan, and returns the answer. The cursor says afterwards how many undos of the
+/// step are left.
 pub fn plan_turn<S: PageStore>(
     host: &mut Host<S>,
     build: BuildId,

@@ -23,18 +23,18 @@ use schedule_graph::Edge;
 use std::alloc::{AllocError, Global};
 use std::collections::HashMap;
 
-/// The states after as many turns, each as the edges that lead from it.
+/// The states after the same number of turns, each as the edges that lead from it.
 pub type Layer = Vec<Vec<Edge<Label>>>;
 
 /// The graph of all schedules of a plan, layer by layer. Its first layer has one state.
 #[derive(Drop)]
 pub struct Graph {
     pub layers: Vec<Layer>,
-    /// Of each state of each layer, how many steps of each build are done.
+    /// The number of steps that each build has done, for each state of each layer.
     pub progress: Vec<Vec<StepsDone>>,
     /// The ends of steps.
     pub ends: Vec<EndOfStep>,
-    /// What builds hold after turns.
+    /// The numbers of pages that builds hold after turns.
     pub held: Vec<PagesHeld>,
     /// The maps in the end.
     pub maps: Vec<String>,
@@ -44,7 +44,7 @@ pub struct Graph {
 #[derive(Drop)]
 pub enum Exploration {
     All(Graph),
-    /// The search found more states than were allowed.
+    /// More states than were allowed.
     TooMany,
 }
 
@@ -55,7 +55,7 @@ struct Came {
     build: usize,
 }
 
-// The place of a state in its layer, and the numbers of what builds hold in it, and of its map, if schedules end in it.
+// The place of a state in its layer, the number of its holdings, and that of its map if schedules end in it.
 #[derive(Clone, Copy)]
 struct Target {
     to: usize,

@@ -6,7 +6,7 @@ use crate::question::PagesHeld;
 use std::alloc::{AllocError, Global};
 use std::collections::HashMap;
 
-/// What builds hold after turns, each with its number.
+/// The holdings of builds after turns, each with its number.
 #[derive(Drop)]
 pub(crate) struct Holdings {
     numbers: HashMap<PagesHeld, usize>,
@@ -14,7 +14,7 @@ pub(crate) struct Holdings {
 }
 
 impl Holdings {
-    /// None.
+    /// An empty table of holdings.
     pub(crate) fn new(alloc: Global) -> Holdings {
         Holdings {
             numbers: HashMap::new(alloc),
@@ -47,7 +47,7 @@ impl Holdings {
         Ok(number)
     }
 
-    /// What builds hold, by its numbers.
+    /// All holdings, in the sequence of their numbers.
     pub(crate) fn into_all(self) -> Vec<PagesHeld>
         ensures { result ≡ self.all }
     {

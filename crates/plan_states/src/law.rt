@@ -11,7 +11,7 @@ ghost use Rattle.plan_states.specs.Whole.{IsWholeGraph};
 ghost use Rattle.plan_states.specs.declared.edges.Label.{Label};
 ghost use Rattle.plan_states.specs.declared.graph.Graph.{Graph};
 
-/// By a rule that agrees with the paths of a whole graph, these have all schedules, and no other sequence of builds. A
+/// The paths of a whole graph have all schedules by a rule that agrees with them, and no other sequence of builds. A
 /// rule says which of eight builds have a step left after which turns. Each schedule by it is that of a path, and each
 /// path has one.
 pub fn every_schedule_is_a_path()
@@ -21,55 +21,57 @@ pub fn every_schedule_is_a_path()
         → All (IsSchedule left []) (map builds_of_path (paths_of graph)) }
 {}
 
-/// The schedules of the paths of a whole graph are the list of all schedules by such a rule. That list may have schedules
-/// of more turns than the graph has layers: there are none. So a sum over the paths is the sum over all schedules.
+/// The schedules of the paths of a whole graph are the list of all schedules by a rule that agrees with the paths. That
+/// list may have schedules of more turns than the graph has layers: there are none. So a sum over the paths is the sum
+/// over all schedules.
 pub fn paths_are_all_schedules()
     ensures { (plan : Plan) (graph : Graph) (left : List ℕ → ℕ → Bool) → IsWholeGraph plan graph → IsRuleOf plan graph left
         → (most : ℕ) → length graph.layers.items ≤ most + 1 → map builds_of_path (paths_of graph) ≡ schedules_after left most [] }
 {}
 
-/// The schedules of the paths of a whole graph rise: a path that comes earlier has the lower build at the first turn at
-/// which they differ. So no two paths have the same schedule, and a count of paths is one of schedules.
+/// The schedules of the paths of a whole graph rise in lexicographic order. Of two paths the earlier has the lower
+/// build at the first turn at which they differ. So no two paths have the same schedule, and a count of paths is one of
+/// schedules.
 pub fn path_schedules_rise()
     ensures rise { (plan : Plan) (graph : Graph) → IsWholeGraph plan graph
         → AllPairs (λ (one other : List ℕ). is_before one other ≡ true) (map builds_of_path (paths_of graph)) }
     ensures never_twice { (order : List ℕ) → is_before order order ≡ false }
 {}
 
-/// A whole graph has such a rule. After given turns, a build has a step left by the number that these turns lead to in
-/// the graph. So of any plan the paths are all schedules by this rule.
+/// A whole graph has a rule that agrees with its paths. After given turns, a build has a step left by the number that
+/// these turns lead to in the graph. So of any plan the paths are all schedules by this rule.
 pub fn a_whole_graph_has_a_rule()
     ensures { (plan : Plan) (graph : Graph) → IsWholeGraph plan graph → IsRuleOf plan graph (own_rule plan graph) }
 {}
 
-/// In a plan that does not give up, the number of a build after turns is that of the steps that they use up.
+/// The progress of a build along a path is the number of its steps that the turns use up, unless the plan gives up.
 pub fn steps_are_counted()
     ensures { (plan : Plan) (graph : Graph) (path : Path Label) (build : ℕ) → plan.gives_up ≡ false → done_by plan graph path build ≡ used_by path build }
 {}
 
-/// If a plan has no abort and no way back, and does not give up, each step takes one turn. Then the rule needs no graph: a
-/// build has a step left if it had fewer turns than steps. So the paths of a whole graph are all interleavings of the
-/// builds' steps.
+/// Each step takes one turn in a plan that has no abort and no way back, and does not give up. Then the rule needs no
+/// graph: a build has a step left if it had fewer turns than steps. So the paths of a whole graph are all interleavings
+/// of the builds' steps.
 pub fn single_turns_make_a_rule()
     ensures { (plan : Plan) (graph : Graph) → IsWholeGraph plan graph → HasSingleTurns plan → IsRuleOf plan graph (by_turns plan) }
 {}
 
-/// If a plan does not give up, each path of a whole graph ends each step of each build once, in the sequence of the plan.
+/// Each path of a whole graph ends each step of each build once, in the sequence of the plan, unless the plan gives up.
 pub fn paths_end_each_step()
     ensures { (plan : Plan) (graph : Graph) → IsWholeGraph plan graph → plan.gives_up ≡ false
         → All (λ (path : Path Label). (build : ℕ) → build < 8 → steps_ended graph.ends.items build path ≡ range_with_len 0 (step_number plan build))
         (paths_of graph) }
 {}
 
-/// Of any plan, each path of a whole graph ends the steps of each build in sequence, and goes on until none is left. In a
-/// plan that gives up, a step that is refused is followed by the build's abort, and nothing comes after that.
+/// Each path of a whole graph of any plan ends the steps of each build in sequence, and goes on until none is left. In
+/// a plan that gives up, a step that is refused is followed by the build's abort, and nothing comes after that.
 pub fn paths_end_steps_in_sequence()
     ensures { (plan : Plan) (graph : Graph) → IsWholeGraph plan graph
         → All (λ (path : Path Label). (build : ℕ) → build < 8 → AreInSequence plan build 0 (ends_of graph.ends.items build path)) (paths_of graph) }
 {}
 
-/// Each schedule, by such a rule, is that of a path of the graph along which the plan is run from boot. Each turn ends its
-/// step as the path says, and the map in the end is the path's own.
+/// Each schedule by a rule that agrees with a whole graph's paths is that of a path along which the plan is run from
+/// boot. Each turn ends its step as the path says, and the map in the end is the path's own.
 pub fn every_schedule_is_run()
     ensures { (plan : Plan) (graph : Graph) (left : List ℕ → ℕ → Bool) → IsWholeGraph plan graph → ArePathsRuns plan graph → IsRuleOf plan graph left
         → (order : List ℕ) → IsSchedule left [] order → IsRunOnPath plan graph order }

@@ -29,7 +29,7 @@ fn is_unseen(
     Ok(without.as_str() == map)
 }
 
-/// Whether the map of a host is that of its history without each build that has nothing open, as it has to be. The one
+/// Whether a host's map is that of its history without any one build that has nothing open, as it has to be. The one
 /// error is that allocation failed.
 pub fn leave_nothing(
     alloc: Global,

@@ -25,7 +25,7 @@ fn first_numbers(counts: &[Vec<PathNumber>]) -> &[PathNumber]
     }
 }
 
-// The number of the first state.
+// The count of paths from the first state.
 fn root_of(alloc: Global, counts: &[Vec<PathNumber>]) -> Result<Count, AllocError>
     ensures { IfOk result (λ count. count ≡ count_at (slice_index_or (path_numbers_in counts.now) 0 []) 0) }
 {
@@ -42,7 +42,7 @@ fn builds_of_path(alloc: Global, path: &[Label]) -> Result<Vec<usize>, AllocErro
     path.iter().map(|label| label.build).collect(alloc)
 }
 
-// The tally of those that show the sign, if any does.
+// The tally of the paths that show the sign, if any does.
 pub(crate) fn tally_with<K: Drop, S: Sign<Label>>(
     alloc: Global,
     layers: &[Layer],
@@ -66,7 +66,7 @@ pub(crate) fn tally_with<K: Drop, S: Sign<Label>>(
     }))
 }
 
-// The tally of those that do not, if any does not.
+// The tally of the paths that do not show the sign, if there are any.
 fn tally_without<K: Drop, S: Sign<Label>>(
     alloc: Global,
     layers: &[Layer],

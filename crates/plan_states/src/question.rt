@@ -11,18 +11,17 @@ use page_arena::PageStore;
 use realm_host::Host;
 use schedule_graph::Sign;
 
-/// How many pages each build holds.
+/// The number of pages that each build holds.
 pub type PagesHeld = [u16; 8];
 
-/// What the last turn of a schedule is to show.
+/// The property that the last turn of a schedule is to show.
 #[derive(Clone, Copy, Drop)]
 pub enum TurnQuestion {
     /// This step of a build is refused.
     Refused { build: usize, step: usize },
-    /// A build waits while another holds nothing: a step of it is refused for want of what builds share, and some other
-    /// build has no page leased then.
+    /// A build waits while another holds no page: a step of the first is refused for want of a block or a VMID.
     Waiting { build: usize },
-    /// At least so many granules are leased then, by all builds together.
+    /// At least that many granules are leased after the turn, by all builds together.
     Leased { granules: usize },
 }
 
@@ -57,7 +56,7 @@ fn waits(end: Option<EndOfStep>, build: usize) -> bool
     }
 }
 
-// Whether a build is another one, and holds nothing.
+// Whether `other` is not `build`, and holds nothing.
 fn is_at_rest(held: &PagesHeld, build: usize, other: usize) -> bool
     ensures { result ≡ is_at_rest build held.now other }
 {
@@ -67,7 +66,7 @@ fn is_at_rest(held: &PagesHeld, build: usize, other: usize) -> bool
     }
 }
 
-// Whether one of so many builds is another one, and holds nothing.
+// Whether one of the first `builds` builds is not `build`, and holds nothing.
 fn has_other_at_rest(held: &PagesHeld, builds: usize, build: usize) -> bool
     ensures { result ≡ has_other_at_rest builds build held.now }
 {
@@ -86,7 +85,7 @@ fn all_held(held: &PagesHeld) -> usize
 }
 
 impl TurnQuestion {
-    /// Whether a turn answers it, by the end of its step and by what each of `builds` builds holds after it.
+    /// Whether a turn answers the question, by the end of its step and by what each of `builds` builds holds after it.
     pub(crate) fn is_answer(&self, builds: usize, end: Option<EndOfStep>, held: &PagesHeld) -> bool
         ensures { result ≡ is_answer builds self.now end held.now }
     {
@@ -107,7 +106,7 @@ fn end_numbered(ends: &[EndOfStep], number: Option<usize>) -> Option<EndOfStep>
     ends.get(number?).copied()
 }
 
-/// An answer to a question, by the ends of steps and by what builds hold, of which labels have the numbers.
+/// The sign that a turn answers a question, by the ends and holdings whose numbers its label has.
 #[derive(Clone, Copy)]
 pub(crate) struct AnswerSign<'a> {
     pub(crate) ends: &'a [EndOfStep],
@@ -130,7 +129,7 @@ impl Sign<Label> for AnswerSign<'_> {
     }
 }
 
-/// How many pages each build of a host holds.
+/// The number of pages that each build of a host holds.
 pub(crate) fn pages_of_builds<S: PageStore>(host: &Host<S>) -> PagesHeld
     ensures { result ≡ pages_of_builds host.now }
 {

@@ -82,7 +82,7 @@ fn has_held(all: &[PagesHeld], running: &Running, held: usize) -> bool
     }
 }
 
-// Whether no build has a step left, and the map is the one that a label names, if it names one.
+// Whether a label names no map, or names the map of a run in which no build has a step left.
 fn has_map(
     alloc: Global,
     plan: &Plan,
@@ -154,7 +154,8 @@ impl RunLog {
         }
     }
 
-    // The number of a snapshot: a new one if none is known of its state, else the known one, if the two are the same.
+    // The number of a snapshot: the known number of its state, or a new one if none is known. `Mismatch`: the known
+    // snapshot is another one.
     fn number_of(&mut self, snapshot: Snapshot, known: Option<usize>) -> Result<usize, Fault>
         ensures turns { self.new.turns ≡ self.old.turns }
         ensures more { OnOk result (AreWith self.old.snapshots.items (Some snapshot) self.new.snapshots.items) }

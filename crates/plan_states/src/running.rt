@@ -89,7 +89,7 @@ fn vmid_of<S: PageStore>(host: &Host<S>, build: usize) -> Option<u8>
     }
 }
 
-/// How many pages a build holds.
+/// The number of pages that a build holds.
 pub(crate) fn pages_of<S: PageStore>(host: &Host<S>, build: usize) -> u16
     requires { build < 8 }
     ensures { result ≡ length (pages_of_build host.now build) }

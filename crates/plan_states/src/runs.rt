@@ -16,8 +16,8 @@ use realm_program::Fault;
 use schedule_graph::Edge;
 use std::alloc::{AllocError, Global};
 
-// A state of the graph: the number of its snapshot, the first way to it, and of its edges, from the first on, the turns
-// that were logged, as numbers.
+// A state of the graph: its snapshot's number, the first way to it, and the numbers of the turns logged for its edges.
+// Edges are logged from the first on.
 #[derive(Drop)]
 struct Visit {
     snapshot: Option<usize>,
@@ -93,7 +93,7 @@ fn unvisited(alloc: Global, count: usize) -> Result<Vec<Visit>, AllocError> {
 }
 
 impl Walk {
-    // No run: the first state has the snapshot at boot.
+    // A walk with no run, in which the first state has the snapshot at boot.
     fn new(alloc: Global, plan: &Plan, graph: &Graph) -> Result<Walk, Fault>
         ensures ok { IfOk result (λ walk. IsLog (plan_view plan.now) graph.now.ends.items graph.now.held.items graph.now.maps.items walk.log) }
         ensures err { IfErr result HasNoGraph }

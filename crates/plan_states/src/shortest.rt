@@ -26,9 +26,9 @@ use std::alloc::{AllocError, Global};
 pub enum Witness {
     /// The builds of the turns up to the answer.
     Found(Vec<usize>),
-    /// No turn of any schedule answers it.
+    /// A question that no turn of any schedule answers.
     Never,
-    /// There are more states than were allowed.
+    /// More states than were allowed.
     TooMany,
 }
 
@@ -174,8 +174,8 @@ pub fn answers(
     Ok(question.is_answer(plan.builds.len(), end, &held))
 }
 
-/// The shortest schedule that answers a question with its last turn, and of these the first, if the plan's graph has at
-/// most `most` states.
+/// The first of the shortest schedules whose last turn answers a question, if the plan's graph has at most `most`
+/// states.
 ///
 /// Errors. `Memory`: allocation failed. `Mismatch`: a run does not go on as another run said, which never happens on a
 /// host that gives the same answers to the same calls.

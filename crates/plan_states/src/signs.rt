@@ -51,7 +51,7 @@ pub(crate) struct RefusalSign<'a> {
     pub(crate) build: Option<usize>,
 }
 
-// Whether a build is the one that is asked for, if one is.
+// Whether a build is asked for: it is the one named, or none is named.
 fn is_asked(asked: Option<usize>, build: usize) -> bool
     ensures { result ≡ is_asked asked build }
 {

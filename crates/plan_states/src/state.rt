@@ -9,8 +9,7 @@ use crate::whole::StepsDone;
 use plan_replay::step_after;
 use realm_plan::Plan;
 
-/// The state of a build: what it did, as a number; the number of its steps done; the VMID of its realm; and the
-/// number of its pages.
+/// The state of a build: the number of what it did, its steps done, its realm's VMID, and its number of pages.
 #[derive(Clone, Copy, PartialEq, Eq, Hash)]
 pub(crate) struct BuildState {
     pub(crate) did: usize,
@@ -68,14 +67,14 @@ impl State {
         State { builds, blocks }
     }
 
-    // How many steps of a build are done; a plan has far fewer than 2^16.
+    // The number of steps that a build has done; a plan has far fewer than 2^16.
     fn done_by(&self, build: usize) -> u16
         requires { build < 8 }
     {
         u16::try_from(self.builds[build].done).unwrap_or(u16::MAX)
     }
 
-    /// How many steps of each build are done.
+    /// The number of steps that each build has done.
     pub(crate) fn progress(&self) -> StepsDone {
         [
             self.done_by(0),
@@ -89,7 +88,7 @@ impl State {
         ]
     }
 
-    /// How many pages each build holds.
+    /// The number of pages that each build holds.
     pub(crate) fn held(&self) -> PagesHeld {
         let [one, two, three, four, five, six, seven, eight] = self.builds;
         [

@@ -23,7 +23,7 @@ pub(crate) struct Moved {
     pub(crate) first: u16,
 }
 
-/// The things of all builds that a step needs.
+/// The shared resources that a step needs.
 #[derive(Clone, Copy, PartialEq, Eq)]
 enum Shared {
     Nothing,
@@ -31,7 +31,8 @@ enum Shared {
     Vmids,
 }
 
-/// What a build did, with one turn more: what it did before, and what the turn gave it beside what follows from that.
+/// A build's turns so far: what it did before, by number, and the end, block and VMID of its last turn. All else
+/// follows from these.
 #[derive(Clone, Copy, PartialEq, Eq, Hash)]
 struct Did {
     before: usize,
@@ -47,7 +48,7 @@ struct Moves {
     moved: Moved,
 }
 
-/// What a turn depends on: what its build did, and of what all builds share what it needs.
+/// The inputs of a turn: what its build did, and the shared resources that its step needs.
 #[derive(Clone, Copy, PartialEq, Eq, Hash)]
 pub(crate) struct Before {
     build: usize,
@@ -62,7 +63,7 @@ pub(crate) struct After {
     pub(crate) end: Option<usize>,
 }
 
-/// What builds did in any schedule, and the turns that they had.
+/// A table of what builds did in any schedule, and of the turns that they had.
 #[derive(Drop)]
 pub(crate) struct Turns {
     builds: HashMap<Did, usize>,
@@ -71,7 +72,7 @@ pub(crate) struct Turns {
     pub(crate) ends: Vec<EndOfStep>,
 }
 
-// The things of all builds that a step needs.
+// The shared resources that a step needs.
 fn shared_by(step: &PlanStep) -> Shared {
     match step {
         PlanStep::Whole(Step::Ask(Cmd::Take { .. })) => Shared::Blocks,
@@ -96,7 +97,7 @@ fn lowest_vmid(plan: &Plan, state: &State) -> usize {
     0
 }
 
-/// What the next turn of a build depends on; None if it has no step left.
+/// The inputs of the next turn of a build; None if the build has no step left.
 pub(crate) fn before_turn(plan: &Plan, state: &State, build: usize) -> Option<Before>
     requires { build < 8 }
 {
@@ -138,7 +139,7 @@ fn place_of_end(ends: &mut Vec<EndOfStep>, end: EndOfStep) -> Result<usize, Allo
 }
 
 impl Turns {
-    /// No turn.
+    /// A table with no turn.
     pub(crate) fn new(alloc: Global) -> Turns
         ensures { result.ends.items ≡ [] }
     {
@@ -197,7 +198,7 @@ impl Turns {
         Ok(Some(place_of_end(&mut self.ends, end)?))
     }
 
-    /// The turn that is known of this.
+    /// The known outcome of a turn with these inputs, if there is one.
     pub(crate) fn known(&self, before: &Before) -> Option<After> {
         self.known.get(before).copied()
     }

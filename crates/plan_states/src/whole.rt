@@ -15,7 +15,7 @@ use plan_replay::{number_after, step_after};
 use realm_plan::{Plan, PlanStep};
 use schedule_graph::Edge;
 
-/// How many steps of each build are done. Of a build that gave up it is a number beyond those of steps.
+/// The number of steps that each build has done; for a build that gave up, a number beyond those of steps.
 pub type StepsDone = [u16; 8];
 
 // The eight builds.
@@ -25,7 +25,7 @@ fn all_builds() -> [usize; 8]
     [0, 1, 2, 3, 4, 5, 6, 7]
 }
 
-// How many steps of a build are done.
+// The number of steps that a build has done.
 fn done_of(done: &StepsDone, build: usize) -> usize
     ensures value { result ≡ done_of done.now build }
     ensures fits { result < 2 ^ 16 }
@@ -109,7 +109,7 @@ fn is_end_refused(ends: &[EndOfStep], number: usize) -> bool
     }
 }
 
-// The number after a turn that has this end, or none.
+// The number of steps done after a turn with this end, or with none.
 fn number_with(plan: &Plan, ends: &[EndOfStep], done: usize, end: Option<usize>) -> usize
     requires { done < 2 ^ 32 }
     ensures { result ≡ number_with (plan_view plan.now) ends.now done end }
@@ -120,7 +120,7 @@ fn number_with(plan: &Plan, ends: &[EndOfStep], done: usize, end: Option<usize>)
     }
 }
 
-// How many steps of a build are done after a turn.
+// The number of steps that a build has done after a turn.
 fn done_after(
     plan: &Plan,
     ends: &[EndOfStep],
@@ -162,7 +162,7 @@ fn are_over(plan: &Plan, done: &StepsDone) -> bool
         .all(|build| !has_step_left(plan, done, *build))
 }
 
-// Whether a turn has a map, one of so many, exactly where schedules end.
+// Whether a turn has a map, with a number below `maps`, exactly if schedules end with the turn.
 fn has_map(maps: usize, over: bool, map: Option<usize>) -> bool
     ensures { result ≡ has_map maps over map }
 {
@@ -307,7 +307,7 @@ fn is_fresh(done: &StepsDone) -> bool
     builds.iter().all(|build| done_of(done, *build) == 0)
 }
 
-// Whether this is the one state in which no step is done.
+// Whether a layer has one state alone, in which no step is done.
 fn is_at_start(states: &[StepsDone]) -> bool
     ensures { result ≡ is_at_start states.now }
 {

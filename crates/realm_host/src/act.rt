@@ -1,4 +1,4 @@
-//! An operation, performed and recorded: the way of all commands but a Take, and of their reverses.
+//! The operation of any command but a Take, or its reverse, performed and recorded.
 ghost use Rattle.realm_host.specs.Acting.{CanAct, IsActed};
 
 use crate::Host;

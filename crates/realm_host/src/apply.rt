@@ -92,7 +92,7 @@ impl<S: PageStore> Host<S> {
             && (!act.is_paired() || self.ledger.open_count(build) < JOURNAL_ROOM)
     }
 
-    // Takes the block that was allocated, if it is free.
+    // Takes the block that an event records, if it is free.
     fn apply_take(&mut self, build: BuildId, order: Order, first: Gran) -> bool
         requires there { build < self.old.limits.builds }
         requires room { HasRoomFor self.old build (acts.Take order first) }

@@ -14,9 +14,9 @@ pub fn schedule_is_not_observed()
     ensures { (host twin : HostView) → DidTheSame host twin → AreIndistinguishable host twin }
 {}
 
-/// No command, undo or abort distinguishes two hosts that differ only in the schedule of their builds' events, however
-/// many calls are made. Each answer of the one, with what is allocated for it, is an answer of the other. The hosts
-/// after it again differ only in that schedule.
+/// Two hosts that differ only in the schedule of their builds' events cannot be distinguished by commands, undos or
+/// aborts, however many calls are made. Each answer of the one, with what is allocated for it, is an answer of the
+/// other. The hosts after it again differ only in that schedule.
 pub fn no_call_reveals_the_schedule()
     ensures call { (host twin : HostView) (build : ℕ) (call : Call) (answer : HostAnswer) (new : HostView) → DifferInInterleaving host twin → CallRevealsNothing host twin build call answer new }
     ensures begin { (host twin : HostView) (build : ℕ) (result : Result ℕ Refusal) (new : HostView) → DifferInInterleaving host twin → BeginRevealsNothing host twin build result new }

@@ -75,7 +75,7 @@ impl<S: PageStore> Host<S> {
         self.monitor.pages()
     }
 
-    /// Returns the state of a granule, the build that leases it and the realm that it belongs to, or `None` if the
+    /// Returns the state of a granule, the build that leases it and the realm that it belongs to. Returns `None` if the
     /// machine has no such granule. An RD belongs to its own realm.
     pub fn granule_view(&self, granule: Gran) -> Option<GranuleView>
         ensures { result ≡ granule_at (world_of self.now) granule }
@@ -102,7 +102,7 @@ impl<S: PageStore> Host<S> {
         }
     }
 
-    /// Returns the granule of the REC of that number in a build's realm, and its state and auxiliaries, or None if
+    /// Returns the granule of the REC of that number in a build's realm, and its state and auxiliaries. Returns None if
     /// there is no such REC. Each number is below that of the realm's next REC.
     pub fn rec(&self, build: BuildId, number: RecNo) -> Option<(Gran, &Rec)>
         ensures { option_map (λ rec. (rec.0, rec.1.now)) result ≡ rec_at (world_of self.now) build number }

@@ -124,7 +124,7 @@ pub struct Event {
 }
 
 impl Event {
-    /// Whether it is the same event: the same operation, of the same build.
+    /// Whether another event is the same: the same operation, of the same build.
     pub fn is_same(&self, event: &Event) -> bool
         ensures { (result ≡ true) ↔ (self.now ≡ event.now) }
     {
@@ -147,7 +147,7 @@ impl Act {
     ghost use Rattle.std.specs.Prelude.{Some, None, if◌then◌else◌};
     ghost use Rattle.realm_model.specs.Act as acts;
 
-    /// Whether it is the same operation: of the same kind, with the same granules and numbers.
+    /// Whether another operation is the same: of the same kind, with the same granules and numbers.
     pub fn is_same(&self, act: &Act) -> bool
         ensures { (result ≡ true) ↔ (self.now ≡ act.now) }
     {
@@ -281,9 +281,8 @@ impl Act {
     }
 }
 
-/// The RD of a build's realm, and the granule of the REC that an operation names by its number: `None` if there is no
-/// such realm or REC. So the RMM searches for neither. The value of `rec` does not matter to an operation that names no
-/// REC.
+/// The RD of a build's realm, and the granule of the REC whose number an operation names: `None` if there is none. So
+/// the RMM searches for neither. The value of `rec` does not matter to an operation that names no REC.
 #[derive(Clone, Copy)]
 pub struct RealmAndRec {
     pub realm: Option<Gran>,

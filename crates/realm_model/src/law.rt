@@ -35,8 +35,8 @@ pub fn schedule_does_not_matter()
     ensures { (limits : Limits) (history other : List Event) → IsLegal limits history → IsLegal limits other → HasSameEvents history other → replay limits history ≡ replay limits other }
 {}
 
-/// Two events of different builds that can follow one another can do so the other way round, unless the first gives
-/// back the block that the second takes. They lead to the same world.
+/// Two adjacent events of different builds commute, unless the second takes a granule or a VMID that the first gives
+/// back. Both sequences lead to the same world.
 pub fn events_of_two_builds_commute()
     ensures { (limits : Limits) (history : List Event) (one other : Event) → EventsCommute limits history one other }
 {}
@@ -66,12 +66,12 @@ pub fn numbers_are_few()
     ensures { (limits : Limits) (history : List Event) (world : World) (build : ℕ) → IsLegal limits history → replay limits history ≡ Some world → NumbersAreFew history world build }
 {}
 
-/// No REC of a build runs exactly when the count of those that run is 0.
+/// The count of a build's running RECs is 0 exactly if none of its RECs runs.
 pub fn at_rest_is_none_running()
     ensures { (limits : Limits) (history : List Event) (world : World) (build : ℕ) → replay limits history ≡ Some world → RestIsOfAll world build }
 {}
 
-/// The room of each build after an accepted event.
+/// An accepted event takes the room of its operation from its own build, and none from another.
 pub fn room_is_taken()
     ensures { (limits : Limits) (history : List Event) (world : World) (event : Event) (next : World)
         → IsLegal limits history → replay limits history ≡ Some world → RoomIsTaken limits history world event next }
@@ -82,13 +82,13 @@ pub fn room_is_a_sum()
     ensures { (limits : Limits) (history : List Event) (world : World) (build : ℕ) → IsLegal limits history → replay limits history ≡ Some world → RoomIsSum history world build }
 {}
 
-/// In a history without a build, another one has open what it had, and has used as much of its room.
+/// A build has the same operations open, and has used as much of its room, in a history without another build.
 pub fn others_keep_their_room()
     ensures { (limits : Limits) (history : List Event) (world : World) (build other : ℕ) → IsLegal limits history → replay limits history ≡ Some world → OthersKeepTheirRoom history world build other }
 {}
 
-/// Each event of a history without a build is accepted in turn, from nothing on. The machine has the same limits and
-/// room, and each build can have as many operations open.
+/// Each event of a history without a build is accepted in turn, from the empty history on. The machine has the same
+/// limits and room, and each build can have as many operations open.
 pub fn what_is_left_is_accepted()
     ensures { (limits : Limits) (capacity most : ℕ) (history : List Event) (world : World) (build : ℕ)
         → IsLegal limits history → replay limits history ≡ Some world → WhatIsLeftIsAccepted limits capacity most history world build }
@@ -115,8 +115,8 @@ pub fn other_acts_own_the_same()
     ensures { (limits : Limits) (world : World) (build : ℕ) (act : Act) (next : World) → OtherActOwnsSame limits build world act next }
 {}
 
-/// The ownership after an operation is a function of the ownership before and of the operation's fields: worlds that
-/// own the same still do after it.
+/// The ownership after an operation is a function of the ownership before and of the operation's fields. Worlds that
+/// own the same still do after the same operation.
 pub fn ownership_follows()
     ensures { (limits : Limits) (history past : List Event) (world twin : World) (build : ℕ) (act : Act) (next other : World)
         → replay limits history ≡ Some world → replay limits past ≡ Some twin → OwnershipFollows limits build act world twin next other }
@@ -128,30 +128,29 @@ pub fn newest_can_be_undone()
         → IsLegal limits history → replay limits history ≡ Some world → NewestCanBeUndone limits history build world act }
 {}
 
-/// If nothing of a build is open, the world is that of the history without it.
+/// The world is that of the history without a build if the build has nothing open.
 pub fn nothing_open_is_noninterference()
     ensures { (limits : Limits) (history : List Event) (world : World) (build : ℕ) → IsLegal limits history → replay limits history ≡ Some world → NothingOpenIsNoninterference limits history build world }
 {}
 
-/// If no REC of a build runs, all that it has open can be undone, newest first, and then it leaves nothing behind.
+/// All that a build has open can be undone, newest first, and leaves nothing, if no REC of the build runs.
 pub fn all_can_be_undone()
     ensures { (limits : Limits) (history : List Event) (world : World) (build : ℕ) → IsLegal limits history → replay limits history ≡ Some world → AllCanBeUndone limits history build world }
 {}
 
-/// If no REC of a build runs, none does after an event of another build or a reverse.
+/// A build of which no REC runs stays at rest after an event of another build or a reverse.
 pub fn builds_stay_at_rest()
     ensures { (limits : Limits) (history : List Event) (world : World) (build : ℕ) (event : Event) (next : World) → replay limits history ≡ Some world → StaysAtRest limits world build event next }
 {}
 
-/// From the begin of an abort to its end each undo is accepted, whatever others do, and then the build leaves nothing
-/// behind.
+/// Each undo of an abort is accepted, whatever others do, and at the end of the abort the build leaves nothing behind.
 pub fn aborts_go_on()
     ensures { (limits : Limits) (history later : List Event) (build : ℕ) (begun world : World)
         → IsLegal limits (history ++ later) → replay limits history ≡ Some begun → replay limits (history ++ later) ≡ Some world
         → AbortGoesOn limits history later build begun world }
 {}
 
-/// A build can go back to a mark at once.
+/// A mark is valid as soon as it is set.
 pub fn new_marks_stand()
     ensures { (build : ℕ) (history : List Event) → IsValidMark (mark_at build history) history }
 {}
@@ -171,8 +170,8 @@ pub fn recs_are_open_acts()
     ensures { (limits : Limits) (history : List Event) (world : World) (build : ℕ) → IsLegal limits history → replay limits history ≡ Some world → RecsAreOpen history world build }
 {}
 
-/// The VMIDs in use after an operation are those before it, with that of a realm that is created, and without that of
-/// one that ends.
+/// The VMIDs in use after an operation are those before it, with a created realm's VMID and without a destroyed
+/// realm's.
 pub fn vmids_follow_steps()
     ensures { (limits : Limits) (history : List Event) (world : World) (build : ℕ) (act : Act) (next : World)
         → IsLegal limits history → replay limits history ≡ Some world → VmidsFollowSteps limits history world build act next }

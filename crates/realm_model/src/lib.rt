@@ -1,5 +1,5 @@
-//! The model of a machine of realms as definitions: granules, realms and their translation, the commands of the RMM,
-//! events, histories, and the theorems that hold of every history.
+//! The model of a machine of realms: definitions of granules, realms, translation, RMM commands, events and histories,
+//! and theorems on every history.
 //!
 //! `specs/` has the definitions, one subject a file. The types that contracts and code share are here. The theorems are
 //! the contracts of the functions in `law`, which do nothing.

@@ -26,7 +26,7 @@ impl Status {
     }
 }
 
-/// A refusal: with RMI_ERROR_RTT the index is the level of a table, else it is 0.
+/// A refusal by the RMM: a status, and an index that is a table's level with RMI_ERROR_RTT and else 0.
 #[derive(Clone, Copy, Debug, PartialEq, Eq)]
 pub struct Rmi {
     pub status: Status,

@@ -8,19 +8,19 @@ use thiserror::Error;
 /// The fault of the bytes. If they have several, it is the one that comes first here.
 #[derive(Clone, Copy, Debug, PartialEq, Eq, Error)]
 pub enum PlanFault {
-    /// The bytes are no UTF-8, or no TOML.
+    /// Bytes that are not UTF-8, or not TOML.
     #[error("plan 20 syntax")]
     Syntax,
-    /// A key is missing, unknown or of the wrong kind.
+    /// A key that is missing, unknown or of the wrong kind.
     #[error("plan 21 key")]
     Key,
-    /// A text is no step: the first one of the lowest build, both counted from 0.
+    /// A text that is no step: the first one of the lowest build, both counted from 0.
     #[error("plan 22 step {build} {step}")]
     Step { build: usize, step: usize },
-    /// An entry of `order` names no build: the first one, counted from 0.
+    /// An entry of `order` that names no build: the first one, counted from 0.
     #[error("plan 23 order {place}")]
     Order { place: usize },
-    /// A number or a length is outside its limits. If there are too many bytes, this comes before all others.
+    /// A number or a length outside its limits. If there are too many bytes, this comes before all others.
     #[error("plan 24 limit")]
     Limit,
 }
@@ -28,7 +28,7 @@ pub enum PlanFault {
 /// The reason why no plan is returned.
 #[derive(Clone, Copy, Debug, Error)]
 pub enum PlanError {
-    /// Allocation failed.
+    /// A failed allocation.
     #[error("memory")]
     Memory,
     #[error(transparent)]

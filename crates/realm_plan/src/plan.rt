@@ -21,9 +21,9 @@ pub const MOST_BYTES: usize = 1_048_576;
 pub struct Plan {
     pub pages: u16,
     pub vmids: u8,
-    /// The auxiliary granules of a REC.
+    /// The number of auxiliary granules of a REC.
     pub aux: u8,
-    /// The events that the history holds for each build.
+    /// The number of events that the history holds for each build.
     pub history: u16,
     /// The steps of each build.
     pub builds: Vec<Vec<PlanStep>>,
@@ -70,7 +70,7 @@ impl Plan {
         }
     }
 
-    /// The plan of what a document holds, or its fault.
+    /// The plan of a document's contents, or the fault.
     #[tactic(auto, unfolding(crate::specs::Plan::plan_of_contents))]
     fn from_contents(alloc: Global, contents: &Contents<'_>) -> Result<Plan, PlanError>
         ensures { Gives plan_view result (plan_of_contents (contents_view contents.now)) }
@@ -96,7 +96,7 @@ impl Plan {
     #[tactic(auto, unfolding(crate::specs::Plan::plan_of))]
     pub fn from_bytes(alloc: Global, bytes: &[u8]) -> Result<Plan, PlanError>
         ensures value { Gives plan_view result (plan_of bytes.now) }
-        // Its steps are spelled as in the document.
+        // The plan's steps are spelled as in the document.
         ensures as_written { IfOk result (λ plan. written_steps bytes.now
             ≡ Some (map (map spelling) (plan_view plan).builds)) }
     {

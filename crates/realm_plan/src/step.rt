@@ -14,7 +14,7 @@ use host_commands::{Cmd, Step};
 /// A step as a plan writes it.
 #[derive(Drop)]
 pub enum PlanStep {
-    /// Every number is written.
+    /// A step with every number written.
     Whole(Step),
     /// A realm without a width, which has the least one: 39. RMI_REALM_CREATE
     WidthLeftOut { rd: u16, root: u16 },
@@ -45,7 +45,7 @@ impl PlanStep {
 pub fn step_from_text(text: &str) -> Option<PlanStep>
     // The step that is returned is the one that the text spells.
     ensures found { IfSome result (λ step. IsStepText text.now step) }
-    // If none is returned, the text spells no step.
+    // The text spells no step if none is returned.
     ensures none { IfNone result ((step : PlanStep) → IsStepText text.now step → ⊥) }
     ensures exact { result ≡ step_of text.now }
 {

@@ -27,7 +27,7 @@ fn next_of(history: &[Event], build: BuildId, from: usize) -> usize
     history.len()
 }
 
-// Follows an operation in the list of open ones.
+// Updates the list of open operations after an operation.
 fn follow(opened: &mut Vec<Act>, act: &Act) -> Result<(), AllocError>
     ensures { OnOk result (opened.new.items ≡ pushed opened.old.items act.now) }
 {
@@ -70,7 +70,7 @@ pub fn fits(
     Ok(next == history.len())
 }
 
-/// Whether each of these reports matches the history, each with the steps of its build's plan: as `fits` says of one.
+/// Whether `fits` holds for each of these reports, with the steps of its build's plan.
 pub fn fit_all(
     alloc: Global,
     history: &[Event],

@@ -12,23 +12,23 @@ use thiserror::Error;
 /// The reason why nothing is printed, or only a prefix of the text. Its line goes to standard error.
 #[derive(Clone, Copy, Debug, PartialEq, Eq, Error)]
 pub enum Fault {
-    /// The input is no plan.
+    /// An input that is no plan.
     #[error(transparent)]
     Plan(PlanFault),
-    /// The build to be left out is not one of the plan's.
+    /// A build to be left out that is not one of the plan's.
     #[error("erase names no build")]
     EraseNamesNoBuild,
-    /// Allocation failed.
+    /// A failed allocation.
     #[error("memory")]
     Memory,
-    /// A build's worker waited in vain for a turn.
+    /// A build's worker that waited in vain for a turn.
     #[error("thread")]
     Stuck(BuildId),
-    /// In a run in threads: the workers' reports, or the trails of their seats, do not fit the history. In runs of many
-    /// schedules: a schedule cannot begin as the run before it says.
+    /// Workers' reports, or trails of their seats, that do not fit the history of a run in threads. In runs of many
+    /// schedules: a schedule that cannot begin as the run before it says.
     #[error("mismatch")]
     Mismatch,
-    /// A read or a write failed.
+    /// A failed read or write.
     #[error("device")]
     Device,
 }

@@ -40,7 +40,7 @@ fn worker_of<L: Ledgers>(
     }
 }
 
-/// The worker of each build, which has asked nothing, in sequence.
+/// The workers of all builds in sequence, none of which has asked anything.
 pub fn workers_of<L: Ledgers>(
     alloc: Global,
     plan: &Plan,

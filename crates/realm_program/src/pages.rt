@@ -75,7 +75,8 @@ fn push_granules(granules: &mut ArrayVec<Gran, 17>, opened: &[Act], pages: &[u16
     Some(())
 }
 
-// Appends the granules of `count` pages from `first` on. None as above.
+// Appends the granules of `count` pages from `first` on. None if one of the pages is not there, or is no granule of a
+// machine.
 fn push_run(granules: &mut ArrayVec<Gran, 17>, opened: &[Act], first: u16, count: u16) -> Option<()>
     requires room { length granules.old.items + count ≤ 17 }
     ensures some { IfSome result (λ _. ArePushed (flat_map pages_held opened.now) (range_with_len first count) granules.old.items granules.new.items) }

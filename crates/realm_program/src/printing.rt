@@ -1,4 +1,4 @@
-//! The printing of a text of a plan: the way that all such texts have in common.
+//! The printing of a text of a plan, common to all kinds of such texts.
 ghost use Rattle.std.specs.Prelude.{◌≡◌, ◌+◌, ◌≤◌, ◌↔◌, ◌⊎◌, ℕ, List, false, true, Err, IfOk, IfErr};
 ghost use Rattle.realm_plan.specs.Plan.{Plan as PlanModel};
 ghost use Rattle.realm_plan.specs.PlanView.{plan_view};
@@ -13,7 +13,7 @@ use realm_plan::Plan;
 use std::alloc::Global;
 use std::io::{Read, Write};
 
-/// A kind of texts of plans.
+/// A kind of text of a plan.
 pub trait PlanText {
     ghost is_text: { Self → PlanModel → List ℕ → Type 0 };
 

@@ -9,13 +9,13 @@ use thiserror::Error;
 /// The reason why there is no text of a run in threads.
 #[derive(Clone, Copy, Debug, Error)]
 pub enum RunFault {
-    /// Allocation failed.
+    /// A failed allocation.
     #[error("memory")]
     Memory,
-    /// The worker of this build waited in vain for a turn; no worker of a lower build did.
+    /// A worker that waited in vain for a turn: the lowest build that has one.
     #[error("thread")]
     Stuck(BuildId),
-    /// The list of events of a build's seat, or a line of its report, does not fit the history.
+    /// The list of events of a build's seat, or a line of its report, that does not fit the history.
     #[error("mismatch")]
     Mismatch,
 }

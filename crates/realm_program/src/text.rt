@@ -89,7 +89,7 @@ fn run_without(alloc: Global, plan: &Plan, build: BuildId) -> Result<String, All
     map_without(alloc, plan, &ledger, build)
 }
 
-// The map of a run of the plan with a build left out.
+// The map of a run of the plan with a build left out, if the plan has that build.
 fn erased_text_of(alloc: Global, plan: &Plan, build: BuildId) -> Result<String, Fault>
     ensures ok { IfOk result (λ text. IsErasedText (plan_view plan.now) build (string_bytes text)) }
     ensures err { IfErr result (IsWithoutText (Some build) (plan_view plan.now)) }

@@ -1,4 +1,4 @@
-//! The run of all builds of a plan at once, and how their workers end.
+//! The run of all builds of a plan at once, and the results of their workers.
 ghost use Rattle.std.specs.Prelude.{◌≡◌, [], map, vec_len, string_bytes, IfOk, IfErr};
 ghost use Rattle.realm_plan.specs.PlanView.{plan_view};
 ghost use Rattle.realm_program.specs.Workers.{AreLeft, IsWithoutWorkersText, IsWorkersText, worker_seats, IsReportOf};
@@ -72,7 +72,7 @@ fn run_shared<
     audited_text_of(alloc, plan, reports.as_slice(), &host)
 }
 
-// As `run_text`, with ledgers of these names.
+// Runs a plan as `run_text` does, with ledgers of these names.
 fn run_with<
     R: Threads + Wait + Sync,
     S: PageStore + Drop + Send,

@@ -1,4 +1,4 @@
-//! The program that replays plans of builds, or runs them in threads: a plan comes on standard input, and the text of
+//! The program that replays plans of builds, or runs them in threads. A plan comes on standard input, and the text of
 //! its run goes to standard output.
 #![tactic(auto)]
 

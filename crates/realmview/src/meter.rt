@@ -7,8 +7,8 @@ use view_program::schedules::Progress;
 /// Milliseconds from one line to the next.
 const PAUSE: u128 = 200;
 
-/// The line on standard error with the number of schedules that were run, if that is a terminal. It is written over the
-/// one before it, five times a second at most.
+/// The line on standard error, if that is a terminal, with the number of schedules that were run. It is written over
+/// the one before it, five times a second at most.
 #[derive(Drop)]
 pub struct Meter<'a> {
     rt: &'a HostRuntime,

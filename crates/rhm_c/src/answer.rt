@@ -11,7 +11,7 @@ pub(crate) struct CallAnswer {
     pub(crate) value: u64,
 }
 
-/// The status of a build that there is not.
+/// The status for a build that does not exist.
 pub(crate) const NO_BUILD: u64 = 1;
 
 /// The status of a call on a closed handle.

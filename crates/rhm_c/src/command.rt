@@ -190,7 +190,7 @@ pub(crate) fn build_of(number: u64) -> Option<BuildId>
     }
 }
 
-// The status of what is no command.
+// The status for operands that are no command.
 const NO_COMMAND: u64 = 15;
 
 // The build and its command; or the status that says why there is none.

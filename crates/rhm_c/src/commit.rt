@@ -32,7 +32,7 @@ const DIVERGED: u64 = 16;
 
 const OTHER_OUTPUT: u64 = 17;
 
-// An X0 that is not the model's, which is `word`.
+// The answer to an X0 that is not the model's; `word` is the model's.
 fn diverged(word: u64) -> CallAnswer
     ensures { result ≡ commits.diverged word }
 {
@@ -80,7 +80,7 @@ fn are_outputs(actions: &[HostAction], x1: u64) -> bool
     actions.iter().all(|action| is_output(action, x1))
 }
 
-// Whether an answer is the model's, which performs the operations; or what it is said to be.
+// Checks that the RMM's answer is that of the model, which performs the operations. The error is the call's answer.
 fn check_performed(actions: &[HostAction], answer: &FirmwareAnswer) -> Result<(), CallAnswer>
     ensures { result ≡ commits.check_performed answer.now actions.now }
 {
@@ -103,7 +103,8 @@ fn check_refused(refusal: &Refusal, x0: u64) -> CallAnswer
     }
 }
 
-// Whether a call that was prepared can be committed, by the refusal of the host that is asked for it; or the answer.
+// Checks that a prepared call can be committed, by the RMM's answer and the host's refusal, if any. The error is the
+// call's answer.
 fn check(
     prepared: Result<Actions, Refusal>,
     refusal: Option<Refusal>,

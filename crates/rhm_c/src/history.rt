@@ -191,7 +191,7 @@ fn table_event(frame: Frame, act: &Act) -> RawEvent
     }
 }
 
-// An operation of a build; its number is still to be set.
+// An operation, as an event whose build is still to be set.
 fn act_event(frame: Frame, act: &Act) -> RawEvent
     ensures { result ≡ histories.act_event frame act.now }
 {
@@ -262,8 +262,8 @@ pub extern "C" fn rhm_event_count(alloc: Global, handle: &mut HostHandle) -> u64
     count
 }
 
-/// The event of a number, from 0 on, into `reading`. False, and nothing is written, if there is none, and for a closed
-/// handle.
+/// Writes the event of a number, from 0 on, to `reading`. Returns false, and writes nothing, if there is none, and for
+/// a closed handle.
 #[unsafe(no_mangle)]
 pub extern "C" fn rhm_read_event(
     alloc: Global,

@@ -12,7 +12,7 @@ use realm_host::{GranuleState, Mark, RealmState, RecState};
 use std::alloc::Global;
 
 /// A build: the numbers of its pages and of its open operations, and whether it is in abort. `mark` is the number of
-/// operations that were open at its mark, if it has one. What is a fact is 1 if it holds, and 0 if not.
+/// operations that were open at its mark, if it has one. A flag is 1 if it holds, and 0 if not.
 #[repr(C)]
 #[derive(Drop)]
 pub struct BuildReading {
@@ -31,8 +31,8 @@ pub struct PageReading {
     pub state: u64,
 }
 
-/// A realm: the address of its RD and of its first starting table, its state, its VMID, its IPA width, and the number of
-/// its next REC. `state` is 0 for NEW and 1 for ACTIVE.
+/// A realm: the addresses of its RD and first starting table, its state, VMID and IPA width, and the number of its next
+/// REC. `state` is 0 for NEW and 1 for ACTIVE.
 #[repr(C)]
 #[derive(Drop)]
 pub struct RealmReading {
@@ -117,7 +117,7 @@ fn flag(holds: bool) -> u64
     if holds { 1 } else { 0 }
 }
 
-// A build that there may be.
+// The build of that number, if there is one.
 fn build_at(host: &PlainHost, build: u64) -> Option<BuildReading>
     ensures { result ≡ readings.build_reading build host.now }
 {
@@ -200,7 +200,7 @@ pub extern "C" fn rhm_free_count(alloc: Global, handle: &mut HostHandle) -> u64
     count
 }
 
-/// A build, into `reading`. False, and nothing is written, if there is no such build, and for a closed handle.
+/// Writes a build to `reading`. Returns false, and writes nothing, if there is no such build, and for a closed handle.
 #[unsafe(no_mangle)]
 pub extern "C" fn rhm_read_build(
     alloc: Global,
@@ -219,8 +219,8 @@ pub extern "C" fn rhm_read_build(
     report(found, reading)
 }
 
-/// A page of a build by its number there, into `reading`. False, and nothing is written, if there is no such page, and
-/// for a closed handle.
+/// Writes a page of a build, by its number there, to `reading`. Returns false, and writes nothing, if there is no such
+/// page, and for a closed handle.
 #[unsafe(no_mangle)]
 pub extern "C" fn rhm_read_page(
     alloc: Global,
@@ -240,7 +240,8 @@ pub extern "C" fn rhm_read_page(
     report(found, reading)
 }
 
-/// The realm of a build, into `reading`. False, and nothing is written, if it has none, and for a closed handle.
+/// Writes the realm of a build to `reading`. Returns false, and writes nothing, if the build has none, and for a closed
+/// handle.
 #[unsafe(no_mangle)]
 pub extern "C" fn rhm_read_realm(
     alloc: Global,
@@ -259,8 +260,8 @@ pub extern "C" fn rhm_read_realm(
     report(found, reading)
 }
 
-/// The REC of a number in the realm of a build, into `reading`. False, and nothing is written, if there is none, and for
-/// a closed handle.
+/// Writes the REC of a number in the realm of a build to `reading`. Returns false, and writes nothing, if there is
+/// none, and for a closed handle.
 #[unsafe(no_mangle)]
 pub extern "C" fn rhm_read_rec(
     alloc: Global,

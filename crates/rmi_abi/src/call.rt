@@ -215,7 +215,7 @@ fn decode_last(r: Registers) -> Option<Call>
     }
 }
 
-/// The call that registers are, by the function identifier in X0; `None` comes for any other function.
+/// The call in registers, by the function identifier in X0; `None` if no command has that identifier.
 pub fn decode_call(r: Registers) -> Option<Call>
     ensures { result ≡ calls.call_in r }
 {

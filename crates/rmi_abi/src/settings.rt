@@ -19,7 +19,7 @@ pub struct RmmSettings {
     /// The address of the first granule that cannot be delegated, and the number of such granules.
     pub secure_base: u64,
     pub secure_count: u16,
-    /// Auxiliary granules of a REC.
+    /// The number of auxiliary granules of a REC.
     pub aux: u8,
     pub vmid_bits: u8,
     /// The widest address space of a realm, in bits.
@@ -32,23 +32,23 @@ pub struct RmmSettings {
     pub wps: u8,
     pub lrs: u8,
     pub layout: Layout,
-    /// RTT_INIT_RIPAS stops at an entry that is UNASSIGNED, DESTROYED.
+    /// Whether RTT_INIT_RIPAS stops at an entry that is UNASSIGNED, DESTROYED.
     pub stops_at_destroyed: bool,
-    /// A REC that is not runnable extends the measurement.
+    /// Whether a REC that is not runnable extends the measurement.
     pub measures_all_recs: bool,
-    /// DATA_CREATE ignores flags above bit 0.
+    /// Whether DATA_CREATE ignores flags above bit 0.
     pub ignores_data_flags: bool,
-    /// DATA_CREATE requires that the RIPAS is RAM.
+    /// Whether DATA_CREATE requires that the RIPAS is RAM.
     pub data_needs_ram: bool,
-    /// `top` of a live entry is the address at which the entry begins.
+    /// Whether `top` of a live entry is the address at which the entry begins.
     pub aligns_live_top: bool,
-    /// A PSCI exit shows the function and the target alone.
+    /// Whether a PSCI exit shows the function and the target alone.
     pub shows_target_alone: bool,
-    /// Bits 9:8 of a descriptor are the host's to choose, but for 0b01.
+    /// Whether bits 9:8 of a descriptor are the host's to choose, but for 0b01.
     pub takes_shareability: bool,
-    /// Fields of RmiRealmParams above those of feature register 0 are refused.
+    /// Whether fields of RmiRealmParams above those of feature register 0 are refused.
     pub checks_params: bool,
-    /// REC_ENTER checks gicv3_hcr and gicv3_lrs.
+    /// Whether REC_ENTER checks gicv3_hcr and gicv3_lrs.
     pub checks_gic: bool,
 }
 

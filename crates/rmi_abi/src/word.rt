@@ -2,7 +2,7 @@
 ghost use Rattle.std.specs.Prelude.{◌≡◌};
 ghost use Rattle.rmi_abi.specs.Word as words;
 
-/// A result word: a status, and for two of them an index. RMM 1.0, RmiCommandReturnCode.
+/// A result word: a status, and an index with RMI_ERROR_REALM or RMI_ERROR_RTT. RMM 1.0, RmiCommandReturnCode.
 #[derive(Clone, Copy)]
 pub enum Word {
     Success,
@@ -10,7 +10,7 @@ pub enum Word {
     ErrorRealm(u8),
     ErrorRec,
     ErrorRtt(u8),
-    /// REC_ENTER has not returned, since its REC runs on: no word of the standard, but this RMM's own.
+    /// The word of a REC_ENTER that has not returned, since its REC runs on: this RMM's own, and none of the standard.
     Running,
 }
 

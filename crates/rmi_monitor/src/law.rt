@@ -36,13 +36,12 @@ pub fn rec_taken_away_is_the_one_named()
     ensures { (limits : Limits) (world : World) (build : ℕ) (act : Act) → UnRecNamesItsRec limits world build act }
 {}
 
-/// A free block that is taken from the store is a step of any build that there is.
+/// Taking a free block from the store is a step of any build that there is.
 pub fn what_is_taken_is_a_step()
     ensures { (limits : Limits) (history : List Event) (world : World) (monitor : MonitorView) (build order first : ℕ) → TakenIsStep limits history world monitor build order first }
 {}
 
-/// The block of a Take that is the newest operation that a build has open can be given back, and that is a step in
-/// turn.
+/// The block of a Take that is a build's newest open operation can be given back, and giving it back is a step.
 pub fn what_is_given_back_is_a_step()
     ensures { (limits : Limits) (history : List Event) (world : World) (monitor : MonitorView) (build order first : ℕ) → GivenBackIsStep limits history world monitor build order first }
 {}

@@ -5,7 +5,7 @@ ghost use Rattle.realm_model.specs.Measurement as measured;
 use granule_addr::{IpaGran, RecNo};
 use sha2::{Digest, Sha256};
 
-// The first byte of an event is its kind: this one means a page of data, and the next two RIPAS and a REC.
+// The kinds of events, each the first byte of its event: a page of data, RIPAS, and a REC.
 const DATA: u8 = 1;
 
 const RIPAS: u8 = 2;

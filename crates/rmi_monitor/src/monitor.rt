@@ -47,8 +47,8 @@ impl<S: PageStore> Model for Monitor<S> {
 }
 
 impl<S: PageStore> Monitor<S> {
-    /// Returns an RMM with `vmids` VMIDs, 1 to 255, and `aux` auxiliary granules for each REC, 0 to 16, over a store
-    /// whose pages are all free and zero. If there is no memory for it, returns the error and the store.
+    /// Returns an RMM over a store whose pages are all free and zero. The RMM has `vmids` VMIDs, 1 to 255, and `aux`
+    /// auxiliary granules for each REC, 0 to 16. If there is no memory for it, returns the error and the store.
     pub fn build(alloc: Global, vmids: u8, aux: u8, store: S) -> Result<Monitor<S>, (AllocError, S)>
         requires some_vmid { 1 ≤ vmids }
         requires few_auxiliaries { aux ≤ 16 }

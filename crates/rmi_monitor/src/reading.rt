@@ -21,8 +21,8 @@ impl<S: PageStore> Monitor<S> {
         self.granules.realm_of(granule)
     }
 
-    /// Returns the REC that a granule is, with its number in its realm, its state and its auxiliaries, or `None` if the
-    /// granule is no REC.
+    /// Returns the REC that a granule is: its number in the realm, state and auxiliaries, or `None` if the granule is
+    /// no REC.
     pub fn rec_at(&self, granule: Gran) -> Option<&Rec>
         requires { granule < length self.now.machine }
         ensures { option_copied result ≡ rec_attributes_at self.now.machine granule }

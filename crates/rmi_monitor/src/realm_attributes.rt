@@ -13,7 +13,7 @@ use granule_addr::{RecNo, Root, Vmid};
 use realm_model::RealmState;
 use std::marker::Model;
 
-/// A realm descriptor: the attributes of a realm beside its RECs and its tables.
+/// A realm descriptor: the attributes of a realm other than its RECs and its tables.
 ///
 /// RMM 1.0, Realm attributes.
 #[derive(Drop)]

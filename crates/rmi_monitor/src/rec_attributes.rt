@@ -8,7 +8,7 @@ use granule_addr::{Gran, RecNo};
 use realm_model::RecState;
 use std::marker::Model;
 
-/// A realm execution context (REC): the attributes of one beside its granule.
+/// A realm execution context (REC): its attributes other than its granule.
 ///
 /// RMM 1.0, REC attributes.
 #[derive(Drop)]

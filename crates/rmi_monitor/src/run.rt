@@ -10,7 +10,7 @@ use realm_model::Rmi;
 use rtt::Rtt;
 
 impl<S: PageStore> Monitor<S> {
-    /// Enters a READY REC of an ACTIVE realm, which is RUNNING from now on.
+    /// Enters a READY REC of an ACTIVE realm: the REC is RUNNING from now on.
     ///
     /// RMM 1.0, RMI_REC_ENTER. RMI_ERROR_INPUT comes if the granule is no REC, RMI_ERROR_REALM if its realm is not
     /// ACTIVE, RMI_ERROR_REC if it is not READY.
@@ -33,7 +33,7 @@ impl<S: PageStore> Monitor<S> {
         Ok(())
     }
 
-    /// Writes a byte of a page of its realm for a RUNNING REC, under any RIPAS. This profile's own, for guest
+    /// Writes a byte for a RUNNING REC to a page of its realm, under any RIPAS. This profile's own, for guest
     /// instructions.
     ///
     /// `ipa` is the number of an IPA granule. RMI_ERROR_INPUT comes if the granule is no REC or the IPA is not

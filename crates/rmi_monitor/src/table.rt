@@ -58,7 +58,7 @@ impl<S: PageStore> Monitor<S> {
         Ok(())
     }
 
-    /// Gives RAM to `count` IPA granules from `ipa` on, to all or none, and extends the realm's measurement.
+    /// Sets the RIPAS of `count` IPA granules from `ipa` on to RAM, all or none, and extends the realm's measurement.
     ///
     /// RMM 1.0, RMI_RTT_INIT_RIPAS. RMI_ERROR_INPUT comes if `rd` is no RD, `count` is not 1 to 512, one table of level
     /// 3 does not serve all of them, or `ipa` is not protected. RMI_ERROR_REALM comes if the realm is not NEW.

@@ -1,4 +1,4 @@
--- Readings of a machine that no host has. This monitor's own.
+-- Readings of a machine that no host has. This RMM's own.
 use Rattle.std.specs.Prelude.{ℕ, ◌&&◌, nat_lt, Option, Some, None, if◌then◌else◌}
 use Rattle.page_arena.specs.Word.{word_of_page}
 use Rattle.rmm_model.specs.Machine.{Machine, page_in, is_aligned, is_inside, number_of}

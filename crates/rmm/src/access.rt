@@ -37,7 +37,7 @@ fn set_four_bytes<S: PageStore>(granules: &mut Granules<S>, granule: Gran, offse
     set_two_bytes(granules, granule, offset + 2, value / 0x1_0000);
 }
 
-// Writes a value by an access at an address.
+// Writes a value to a granule, by an access of a size at an address.
 #[tactic(auto, unfolding(rmm_model::specs::Access::with_value))]
 fn set_value<S: PageStore>(
     granules: &mut Granules<S>,
@@ -61,7 +61,7 @@ fn set_value<S: PageStore>(
 
 // ---- steps
 
-// A guest writes.
+// Performs a write of a guest.
 pub fn write<S: PageStore>(
     granules: &mut Granules<S>,
     realm: &RmmRealm,
@@ -85,7 +85,7 @@ pub fn write<S: PageStore>(
     }
 }
 
-// A guest reads.
+// Performs a read of a guest.
 pub fn read<S: PageStore>(
     granules: &Granules<S>,
     realm: &RmmRealm,

@@ -9,7 +9,7 @@ use page_arena::PageStore;
 use rmm_granules::{Granules, granule_named};
 use rmm_model::{RmmGranule, aux_address};
 
-// A granule gets other attributes, and its page is zero.
+// Gives a granule other attributes, and zeros its page.
 fn wipe<S: PageStore>(granules: &mut Granules<S>, granule: Gran, kept: &RmmGranule)
     requires inside { granule < granule_count granules.old }
     requires plain { realm_of kept.now.state ≡ None }
@@ -35,7 +35,7 @@ fn aux_granule<S: PageStore>(granules: &Granules<S>, rec: Gran, k: u8) -> Option
     granule_named(granules, aux_address(granules.page(rec), k))
 }
 
-// Auxiliary granule k of a REC gets other attributes, and is wiped.
+// Gives auxiliary granule k of a REC other attributes, and wipes it.
 fn set_one<S: PageStore>(granules: &mut Granules<S>, rec: Gran, kept: &RmmGranule, k: u8)
     requires inside { rec < granule_count granules.old }
     requires plain { realm_of kept.now.state ≡ None }
@@ -49,7 +49,7 @@ fn set_one<S: PageStore>(granules: &mut Granules<S>, rec: Gran, kept: &RmmGranul
     }
 }
 
-// The first auxiliary granules of a REC get other attributes, and are wiped.
+// Gives the first auxiliary granules of a REC other attributes, and wipes them.
 pub fn set_aux<S: PageStore>(granules: &mut Granules<S>, rec: Gran, kept: &RmmGranule, count: u8)
     requires inside { rec < granule_count granules.old }
     requires plain { realm_of kept.now.state ≡ None }

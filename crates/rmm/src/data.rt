@@ -105,7 +105,7 @@ fn left_ripas(ripas: RmmRipas) -> RmmRipas
     }
 }
 
-// Passes a walk that reached level 3, to an entry that leads to a page.
+// Checks that a walk reached level 3, and that the entry leads to a page.
 fn check_mapped<S: PageStore>(
     granules: &Granules<S>,
     found: &RttWalk,

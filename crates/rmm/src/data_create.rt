@@ -43,7 +43,7 @@ pub struct NewPage {
 
 // ---- operands
 
-// Passes flags that there are, if the settings say that they are checked.
+// Checks that all flags but bit 0 are clear, if the settings say that they are checked.
 fn check_flags(settings: &RmmSettings, flags: u64) -> Result<(), FailedCondition>
     ensures { refusal_in result ≡ first_failing (flags_checks settings.now flags) }
 {
@@ -74,7 +74,7 @@ fn find_source<S: PageStore>(
     })
 }
 
-// Passes a walk that reached level 3, to an UNASSIGNED entry; its RIPAS is RAM, if the settings require it.
+// Checks that a walk reached level 3, and that the entry is UNASSIGNED, with RIPAS RAM if the settings require it.
 fn check_vacant(
     settings: &RmmSettings,
     found: &RttWalk,
@@ -132,7 +132,7 @@ fn find_page<S: PageStore>(
 
 // ---- the measurement
 
-// The digest of a page that is measured, and else zeros.
+// The digest of a page if it is measured, and zeros otherwise.
 #[tactic(auto, unfolding(rmm_model::specs::Command::DataCreate::content_digest, rmm_model::specs::Bytes::zeros))]
 fn content_digest(hash: HashAlgorithm, flags: u64, page: &[u8]) -> [u8; 64]
     ensures { result ≡ command.content_digest hash flags page.now }
@@ -159,7 +159,7 @@ fn rim_with_data(realm: &RmmRealm, ipa: u64, flags: u64, page: &[u8]) -> [u8; 64
 
 // ---- the command
 
-// A granule becomes a page of data with the bytes of its source, and the entry of an address leads to it.
+// Turns a granule into a page of data with the bytes of its source, and writes the entry that leads to it.
 fn write_page<S: PageStore>(granules: &mut Granules<S>, place: &NewPage, page: u64, ipa: u64)
     requires source { place.now.source < granule_count granules.old }
     requires inside { place.now.granule < granule_count granules.old }

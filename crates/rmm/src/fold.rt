@@ -25,7 +25,7 @@ pub struct Foldable {
     pub parent: RmmRttEntry,
 }
 
-// Passes a walk that reaches the level above, to an entry that leads to a table which says the same as one entry.
+// Checks that a walk reached the level above, and that the entry leads to a table that one entry can replace.
 fn check_fold<S: PageStore>(
     granules: &Granules<S>,
     found: &RttWalk,

@@ -13,7 +13,7 @@ use rmi_abi::{SmcResult, Word};
 use rmm_granules::{Granules, OperandConditions};
 use rmm_model::{Condition, FailedCondition, RmmGranule, RmmGranuleState, error_input};
 
-// A granule becomes one of no realm, and its page is zero.
+// Gives a granule that state and no realm, and zeros its page.
 pub fn blank<S: PageStore>(granules: &mut Granules<S>, granule: Gran, state: RmmGranuleState)
     requires inside { granule < granule_count granules.old }
     requires plain { realm_of state ≡ None }

@@ -43,7 +43,7 @@ pub fn first_step<S: PageStore>(granules: &Granules<S>, g: Gran) -> GuestStep
     StepWords::read(granules.page(g), rec.first_step % 16).step()
 }
 
-// The guest of a REC is past its first step.
+// Moves the guest of a REC past its first step.
 #[tactic(auto, unfolding(rmm_model::specs::Guest::past_step))]
 pub fn past_step<S: PageStore>(granules: &mut Granules<S>, g: Gran)
     requires { g < granule_count granules.old }
@@ -53,7 +53,7 @@ pub fn past_step<S: PageStore>(granules: &mut Granules<S>, g: Gran)
     granules.edit_rec(g, RecEdit::PassStep);
 }
 
-// The guest of a REC has one result more.
+// Adds a result to those of the guest of a REC.
 #[inline(always)]
 #[tactic(auto, unfolding(rmm_model::specs::Guest::with_result))]
 pub fn push_result<S: PageStore>(granules: &mut Granules<S>, g: Gran, r: &StepResult)
@@ -100,7 +100,7 @@ fn write_step<S: PageStore>(granules: &mut Granules<S>, g: Gran, place: u8, word
     granules.set_word(g, first + 4, words.d);
 }
 
-// A guest is given a step.
+// Gives a step to the guest of the REC at an address.
 #[tactic(auto, unfolding(rmm_model::specs::Guest::with_step))]
 pub fn queue<S: PageStore>(granules: &mut Granules<S>, address: u64, words: &StepWords) -> Queued
     ensures { (result, granules.new) ≡ guests.queued granules.old address words.now }

@@ -28,7 +28,7 @@ pub fn host_granule<S: PageStore>(granules: &Granules<S>, address: u64) -> Optio
     }
 }
 
-// Loads the eight bytes at an address; `None` comes where the host may not.
+// Loads the eight bytes at an address; `None` if the host may not load them.
 pub fn load<S: PageStore>(granules: &Granules<S>, address: u64) -> Option<u64>
     ensures { result ≡ hosts.loaded granules.now address }
 {
@@ -41,7 +41,7 @@ pub fn load<S: PageStore>(granules: &Granules<S>, address: u64) -> Option<u64>
     }
 }
 
-// The bytes from an address on, which are in one granule; `None` comes where the host may not.
+// The bytes from an address on, if they are in one granule and the host may load them.
 pub fn load_bytes<S: PageStore>(granules: &Granules<S>, address: u64, count: usize) -> Option<&[u8]>
     ensures bytes { option_copied result ≡ by_bytes.loaded_bytes granules.now address count }
     ensures count { IfSome result (λ bytes. length bytes.now ≡ count) }
@@ -79,7 +79,7 @@ pub fn word<S: PageStore>(granules: &Granules<S>, address: u64, index: u16) -> O
     }
 }
 
-// Stores eight bytes at an address; `false`, with nothing changed, comes where the host may not.
+// Stores eight bytes at an address; `false`, with nothing changed, if the host may not store there.
 pub fn store<S: PageStore>(granules: &mut Granules<S>, address: u64, word: u64) -> bool
     ensures answer { result ≡ hosts.can_access granules.old address }
     ensures machine { granules.new ≡ hosts.after_store granules.old address word }
@@ -96,7 +96,7 @@ pub fn store<S: PageStore>(granules: &mut Granules<S>, address: u64, word: u64) 
     }
 }
 
-// Stores bytes from an address on, in one granule; `false`, with nothing changed, comes where the host may not.
+// Stores bytes from an address on, in one granule; `false`, with nothing changed, if the host may not store there.
 pub fn store_bytes<S: PageStore>(granules: &mut Granules<S>, address: u64, bytes: &[u8]) -> bool
     ensures answer { result ≡ by_bytes.can_access_bytes granules.old address (length bytes.now) }
     ensures machine { granules.new ≡ by_bytes.after_store_bytes granules.old address bytes.now }
@@ -114,7 +114,7 @@ pub fn store_bytes<S: PageStore>(granules: &mut Granules<S>, address: u64, bytes
     }
 }
 
-// Fills the page at an address; `false`, with nothing changed, comes where the host may not.
+// Fills the page at an address; `false`, with nothing changed, if the host may not store there.
 pub fn fill<S: PageStore>(granules: &mut Granules<S>, address: u64, value: u8) -> bool
     ensures answer { result ≡ hosts.can_fill granules.old address }
     ensures machine { granules.new ≡ hosts.after_fill granules.old address value }

@@ -1,4 +1,4 @@
-//! RMI_VERSION, RMI_FEATURES and RMI_REC_AUX_COUNT: commands that tell of the monitor and change nothing.
+//! RMI_VERSION, RMI_FEATURES and RMI_REC_AUX_COUNT: commands that report on the RMM and change nothing.
 ghost use Rattle.std.specs.Prelude.{◌≡◌};
 ghost use Rattle.rmm_model.specs.Check.{outcome};
 ghost use Rattle.rmm_model.specs.Command.Version.{version as versions};
@@ -10,7 +10,7 @@ use page_arena::PageStore;
 use rmi_abi::{SmcResult, Word, feature_register};
 use rmm_granules::Granules;
 
-// The version 1.0, the only one that there is.
+// Version 1.0, the only one that there is.
 const VERSION: u64 = 0x1_0000;
 
 // RMI_VERSION

@@ -24,7 +24,7 @@ pub struct RipasRange {
 
 // ---- operands
 
-// Passes a range of pages in the protected half of a NEW realm.
+// Checks that a range consists of pages in the protected half of a realm, and that the realm is NEW.
 #[tactic(auto, unfolding(rmm_model::specs::Command::RttInitRipas::range_checks))]
 fn check_range(realm: &RmmRealm, base: u64, top: u64) -> Result<(), FailedCondition>
     requires { realm.now.s2sz ≤ 48 }

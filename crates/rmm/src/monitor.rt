@@ -1,4 +1,4 @@
-//! The monitor, and its one call.
+//! The RMM, and its one call.
 ghost use Rattle.std.specs.Prelude.{◌≡◌, length, IfSome};
 ghost use Rattle.std.specs.Option.{option_copied};
 ghost use Rattle.rmm_model.specs.Call.{rmi, performed};
@@ -36,7 +36,7 @@ use rmm_granules::Granules;
 use rmm_model::{Queued, RmmGranuleState, StepWords};
 use std::marker::Model;
 
-/// A monitor of a platform over a store of pages. It is seen as its machine.
+/// An RMM of a platform over a store of pages. It is seen as its machine.
 #[derive(Drop)]
 pub struct Rmm<S: PageStore> {
     granules: Granules<S>,
@@ -54,7 +54,7 @@ impl<S: PageStore> Model for Rmm<S> {
 }
 
 impl<S: PageStore> Rmm<S> {
-    /// A monitor of granules.
+    /// An RMM over granules.
     pub fn over(granules: Granules<S>) -> Rmm<S>
         ensures { result ≡ granules }
     {
@@ -75,22 +75,22 @@ impl<S: PageStore> Rmm<S> {
         &self.granules
     }
 
-    /// The granules of a monitor.
+    /// Gives up an RMM, and returns its granules.
     pub fn into_granules(self) -> Granules<S>
         ensures { result ≡ self }
     {
         self.granules
     }
 
-    /// Loads the eight bytes at an address; `None` comes where the host faults: it has UNDELEGATED granules alone.
+    /// Loads the eight bytes at an address; `None` if the host faults: it has UNDELEGATED granules alone.
     pub fn load(&self, address: u64) -> Option<u64>
         ensures { result ≡ loaded self.now address }
     {
         load(&self.granules, address)
     }
 
-    /// Loads that many bytes from an address on, within one granule; `None` comes where the host faults, and for bytes of
-    /// more than one granule.
+    /// Loads that many bytes from an address on, within one granule; `None` if the host faults, and for bytes of more
+    /// than one granule.
     pub fn load_bytes(&self, address: u64, count: usize) -> Option<&[u8]>
         ensures bytes { option_copied result ≡ loaded_bytes self.now address count }
         ensures count { IfSome result (λ bytes. length bytes.now ≡ count) }
@@ -114,7 +114,7 @@ impl<S: PageStore> Rmm<S> {
         word(&self.granules, address, index)
     }
 
-    /// Stores eight bytes at an address; `false`, with nothing changed, comes where the host faults.
+    /// Stores eight bytes at an address; `false`, with nothing changed, if the host faults.
     pub fn store(&mut self, address: u64, word: u64) -> bool
         ensures answer { result ≡ can_access self.old address }
         ensures machine { self.new ≡ after_store self.old address word }
@@ -122,8 +122,8 @@ impl<S: PageStore> Rmm<S> {
         store(&mut self.granules, address, word)
     }
 
-    /// Stores bytes from an address on, within one granule; `false`, with nothing changed, comes where the host faults,
-    /// and for bytes of more than one granule.
+    /// Stores bytes from an address on, within one granule; `false`, with nothing changed, if the host faults, and for
+    /// bytes of more than one granule.
     pub fn store_bytes(&mut self, address: u64, bytes: &[u8]) -> bool
         ensures answer { result ≡ can_access_bytes self.old address (length bytes.now) }
         ensures machine { self.new ≡ after_store_bytes self.old address bytes.now }
@@ -131,8 +131,7 @@ impl<S: PageStore> Rmm<S> {
         store_bytes(&mut self.granules, address, bytes)
     }
 
-    /// Writes one value to each byte of the page at an address; `false`, with nothing changed, comes where the host
-    /// faults.
+    /// Writes one value to each byte of the page at an address; `false`, with nothing changed, if the host faults.
     pub fn fill(&mut self, address: u64, value: u8) -> bool
         ensures answer { result ≡ can_fill self.old address }
         ensures machine { self.new ≡ after_fill self.old address value }

@@ -101,7 +101,7 @@ pub fn realm_of<S: PageStore>(granules: &Granules<S>, address: u64) -> Result<Rd
 
 // ---- addresses of a realm
 
-// Whether an address is one of a realm.
+// Whether an address is in the address space of a realm.
 pub fn is_in_space(realm: &RmmRealm, ipa: u64) -> bool
     requires { realm.now.s2sz ≤ 48 }
     ensures { result ≡ realms.is_in_space realm.now ipa }
@@ -117,7 +117,7 @@ pub fn is_protected(realm: &RmmRealm, ipa: u64) -> bool
     ipa < 1 << realm.s2sz.saturating_sub(1)
 }
 
-// Passes a level that is at least `least`, and an address where an entry of the level that many above it begins.
+// Checks that a level is at least `least`, and that an entry `above` levels higher begins at an address of the realm.
 pub fn check_ipa(
     realm: &RmmRealm,
     least: u8,
@@ -148,7 +148,7 @@ pub fn check_ipa(
     Ok(found)
 }
 
-// Passes an address of a realm's protected half where a page begins.
+// Checks that a page begins at an address, and that the address is in a realm's protected half.
 pub fn check_page(realm: &RmmRealm, ipa: u64) -> Result<(), FailedCondition>
     requires { realm.now.s2sz ≤ 48 }
     ensures refusal { refusal_in result ≡ first_failing (operands.page_checks realm.now ipa) }
@@ -172,8 +172,8 @@ fn is_unprotected(realm: &RmmRealm, ipa: u64) -> bool
     !is_protected(realm, ipa) && is_in_space(realm, ipa)
 }
 
-// Passes a level at which there are pages or blocks, and an address of a realm's unprotected half where an entry of the
-// level begins.
+// Checks that there are pages or blocks at a level, and that an entry of it begins at an address of a realm's
+// unprotected half.
 pub fn check_unprotected(
     settings: &RmmSettings,
     realm: &RmmRealm,
@@ -215,7 +215,7 @@ pub fn error_rtt_top(condition: Condition, level: u8, top: u64) -> FailedConditi
     }
 }
 
-// Passes a walk that reached a level, to an entry that is as it has to be.
+// Checks that a walk reached a level, and that the entry is as it has to be.
 pub fn check_entry(found: &RttWalk, level: u8, fits: bool) -> Result<(), FailedCondition>
     ensures { refusal_in result
         ≡ first_failing (operands.entry_checks [] found.now level fits error_rtt) }

@@ -44,7 +44,7 @@ fn psci_result(request: PsciRequest, on: bool, status: u64) -> u64
     }
 }
 
-// Passes two RECs of one realm, of which the second is the target of the first's request, and a status that fits it.
+// Checks that the first of two RECs of one realm has a request whose target is the second, and that a status fits it.
 #[tactic(auto, unfolding(rmm_model::specs::Command::PsciComplete::request_checks))]
 fn check_request<S: PageStore>(
     granules: &Granules<S>,
@@ -78,7 +78,7 @@ fn check_request<S: PageStore>(
 
 // ---- the effect
 
-// The target of a CPU_ON that succeeds begins.
+// Starts the target of a CPU_ON that succeeds.
 fn begin_target<S: PageStore>(granules: &mut Granules<S>, granule: Gran, request: PsciRequest)
     requires { granule < granule_count granules.old }
     ensures { granules.new

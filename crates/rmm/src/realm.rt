@@ -29,7 +29,7 @@ pub fn error_realm(condition: Condition) -> FailedCondition
     }
 }
 
-// Passes a realm that is NEW.
+// Checks that a realm is NEW.
 pub fn check_new(realm: &RmmRealm) -> Result<(), FailedCondition>
     ensures { refusal_in result ≡ first_failing (new_checks realm.now) }
 {

@@ -44,7 +44,7 @@ fn read_params<S: PageStore>(
     Ok(RealmParams::read(granules.page(source)))
 }
 
-// Passes parameters of a realm that there can be, whose RD is none of its starting tables.
+// Checks that there can be a realm with these parameters, and that its RD is none of its starting tables.
 #[tactic(auto, unfolding(rmm_model::specs::Command::RealmCreate::params_checks))]
 fn check_params(settings: &RmmSettings, p: &RealmParams, rd: u64) -> Result<(), FailedCondition>
     requires { settings.now.s2sz ≤ 48 }
@@ -73,7 +73,7 @@ fn check_params(settings: &RmmSettings, p: &RealmParams, rd: u64) -> Result<(), 
 
 // ---- what the realm takes
 
-// Passes starting tables that can be used, and a VMID that is free.
+// Checks that starting tables can be used, and that a VMID is free.
 fn check_free<S: PageStore>(granules: &Granules<S>, p: &RealmParams) -> Result<(), FailedCondition>
     ensures refusal { refusal_in result ≡ first_failing (command.free_checks granules.now p.now) }
     ensures start { OnOk result (command.can_start granules.now p.now ≡ true) }

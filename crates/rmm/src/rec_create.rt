@@ -31,7 +31,8 @@ pub struct NewRec {
 
 // ---- auxiliary granules
 
-// Passes as many auxiliary granules as a REC has, all of them DELEGATED, and no two of them and the REC one.
+// Checks that there are as many auxiliary granules as a REC has, all DELEGATED, and distinct from one another and from
+// the REC.
 #[tactic(auto, unfolding(rmm_model::specs::Command::RecCreate::aux_checks))]
 fn check_aux<S: PageStore>(
     granules: &Granules<S>,
@@ -70,7 +71,7 @@ fn can_have_more(settings: &RmmSettings, realm: &RmmRealm) -> bool
     (realm.rec_count as u64) < 1 << settings.max_recs_order
 }
 
-// Passes the MPIDR of the next REC of a NEW realm that can have one more.
+// Checks that an MPIDR is that of a realm's next REC, and that the realm is NEW and can have one more.
 #[tactic(auto, unfolding(rmm_model::specs::Command::RecCreate::number_checks))]
 fn check_number(
     settings: &RmmSettings,
@@ -132,7 +133,7 @@ fn write_rec_page<S: PageStore>(granules: &mut Granules<S>, rec: Gran, source: G
     }
 }
 
-// A DELEGATED granule becomes a REC of an RD, with the parameters of a page.
+// Turns a DELEGATED granule into a REC of an RD, with the parameters of a page.
 fn write_rec<S: PageStore>(granules: &mut Granules<S>, rd: Gran, rec: Gran, source: Gran)
     requires inside { rec < granule_count granules.old }
     requires source { source < granule_count granules.old }

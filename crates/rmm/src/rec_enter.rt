@@ -37,7 +37,7 @@ pub struct Entering {
 
 // ---- exits
 
-// A REC leaves.
+// Ends the run of a REC with an exit.
 #[tactic(auto, unfolding(rmm_model::specs::Command::RecEnter::after_exit))]
 pub fn leave<S: PageStore>(granules: &mut Granules<S>, g: Gran, exit: &RecExit, last: LastExit)
     requires { g < granule_count granules.old }
@@ -72,7 +72,7 @@ fn emulated(step: GuestStep, gpr0: u64) -> StepResult
     }
 }
 
-// The step that made the last exit ends with a result.
+// Ends the first step of a guest with a result.
 #[inline(always)]
 fn end_step<S: PageStore>(granules: &mut Granules<S>, g: Gran, r: &StepResult)
     requires { g < granule_count granules.old }
@@ -83,7 +83,7 @@ fn end_step<S: PageStore>(granules: &mut Granules<S>, g: Gran, r: &StepResult)
     push_result(granules, g, r);
 }
 
-// The guest gets the result of its PSCI request, if that is complete.
+// Gives the guest the result of its PSCI request, if that is complete.
 fn push_psci<S: PageStore>(granules: &mut Granules<S>, g: Gran, request: PsciRequest)
     requires { g < granule_count granules.old }
     ensures machine { granules.new ≡ command.with_psci_result granules.old g request }
@@ -95,7 +95,7 @@ fn push_psci<S: PageStore>(granules: &mut Granules<S>, g: Gran, request: PsciReq
     }
 }
 
-// The guest gets how far a change of RIPAS came.
+// Gives the guest the result of a change of RIPAS: how far it came.
 fn push_ripas<S: PageStore>(granules: &mut Granules<S>, g: Gran, flags: u64)
     requires { g < granule_count granules.old }
     ensures machine { granules.new ≡ command.with_host_answer granules.old g RipasChange 0 flags }
@@ -106,7 +106,7 @@ fn push_ripas<S: PageStore>(granules: &mut Granules<S>, g: Gran, flags: u64)
     push_result(granules, g, &result);
 }
 
-// The guest gets the host's answer of a host call.
+// Gives the guest the host's answer to a host call.
 fn push_return<S: PageStore>(granules: &mut Granules<S>, g: Gran, run: Gran)
     requires inside { g < granule_count granules.old }
     requires run { run < granule_count granules.old }
@@ -118,7 +118,7 @@ fn push_return<S: PageStore>(granules: &mut Granules<S>, g: Gran, run: Gran)
     push_result(granules, g, &StepResult::Returned(value));
 }
 
-// The guest gets the host's answer to an abort.
+// Gives the guest the host's answer to an abort.
 fn push_abort<S: PageStore>(granules: &mut Granules<S>, g: Gran, run: Gran, flags: u64)
     requires inside { g < granule_count granules.old }
     requires run { run < granule_count granules.old }
@@ -134,7 +134,7 @@ fn push_abort<S: PageStore>(granules: &mut Granules<S>, g: Gran, run: Gran, flag
     }
 }
 
-// The guest gets the host's answer to its last exit.
+// Gives the guest the host's answer to its last exit.
 fn answer_exit<S: PageStore>(
     granules: &mut Granules<S>,
     g: Gran,
@@ -164,7 +164,7 @@ fn answer_exit<S: PageStore>(
     }
 }
 
-// A REC is entered.
+// Enters a REC.
 #[tactic(auto, unfolding(rmm_model::specs::Command::RecEnter::after_entry))]
 fn enter<S: PageStore>(granules: &mut Granules<S>, g: Gran, address: u64, run: Gran, flags: u64)
     requires inside { g < granule_count granules.old }
@@ -181,7 +181,7 @@ fn enter<S: PageStore>(granules: &mut Granules<S>, g: Gran, address: u64, run: G
 
 // ---- steps
 
-// The realm that owns a REC is off.
+// Turns off the realm that owns a REC.
 fn system_off<S: PageStore>(granules: &mut Granules<S>, g: Gran)
     requires { g < granule_count granules.old }
     ensures machine { granules.new ≡ command.with_system_off granules.old (granule_at granules.old g).owner }
@@ -192,7 +192,7 @@ fn system_off<S: PageStore>(granules: &mut Granules<S>, g: Gran)
     }
 }
 
-// A guest calls, and its REC has what it asked for.
+// Performs a call of a guest, and changes its REC as an exit of the call requires.
 fn call<S: PageStore>(
     granules: &mut Granules<S>,
     realm: &RmmRealm,
@@ -215,7 +215,7 @@ fn call<S: PageStore>(
     outcome
 }
 
-// A guest calls to turn its realm off.
+// Performs a call of a guest that turns its realm off.
 #[inline(always)]
 fn turn_off<S: PageStore>(
     granules: &mut Granules<S>,
@@ -238,7 +238,7 @@ fn turn_off<S: PageStore>(
     outcome
 }
 
-// A guest performs a step.
+// Performs a step of a guest.
 #[tactic(auto, unfolding(rmm_model::specs::Command::RecEnter::step_outcome, rmm_model::specs::Command::RecEnter::after_step))]
 fn perform<S: PageStore>(
     granules: &mut Granules<S>,
@@ -270,7 +270,7 @@ fn is_tried_again(reason: ExitReason, last: LastExit) -> bool
     matches!(reason, ExitReason::Sync) && !matches!(last, LastExit::SystemRegister)
 }
 
-// The guest is past a step, but for one that it tries again.
+// Moves the guest past a step, but for one that it tries again.
 fn pass_step<S: PageStore>(granules: &mut Granules<S>, g: Gran, outcome: StepOutcome)
     requires { g < granule_count granules.old }
     ensures machine { granules.new ≡ command.with_step_passed granules.old g outcome }
@@ -322,7 +322,7 @@ fn perform_first<S: PageStore>(granules: &mut Granules<S>, g: Gran, flags: u64) 
     }
 }
 
-// A guest performs its steps, up to one that makes an exit or spins. Whether the REC left.
+// Performs the steps of a guest, up to one that makes an exit or spins. Returns whether the REC left.
 fn perform_steps<S: PageStore>(granules: &mut Granules<S>, g: Gran, flags: u64) -> bool
     requires { g < granule_count granules.old }
     ensures { (result, granules.new) ≡ command.after_steps granules.old g flags 16 }
@@ -351,7 +351,7 @@ fn perform_steps<S: PageStore>(granules: &mut Granules<S>, g: Gran, flags: u64) 
 
 // ---- the command
 
-// Passes a REC of an ACTIVE realm that is READY and runnable, and has nothing pending, with GIC fields that are right.
+// Checks that a realm is ACTIVE, and its REC READY and runnable, with nothing pending and GIC fields that are right.
 #[tactic(auto, unfolding(rmm_model::specs::Command::RecEnter::enter_checks))]
 fn check_enter(
     state: RmmRealmState,
@@ -430,7 +430,7 @@ pub fn rec_enter<S: PageStore>(granules: &mut Granules<S>, rec: u64, address: u6
     }
 }
 
-// The run of a REC ends by an interrupt of the host's; `None` comes for a REC that does not run.
+// Ends the run of a REC by an interrupt of the host; `None` comes for a REC that does not run.
 #[tactic(auto, unfolding(rmm_model::specs::Command::RecEnter::interrupted))]
 pub fn interrupt<S: PageStore>(granules: &mut Granules<S>, address: u64) -> Option<Word>
     ensures { (result, granules.new) ≡ command.interrupted granules.old address }

@@ -12,7 +12,7 @@ use rmm_model::{
     entry_number, entry_offset, entry_size, error_input, error_rtt, first_fixed,
 };
 
-// Passes a range that has addresses.
+// Checks that a range has addresses.
 pub fn check_size(base: u64, top: u64) -> Result<(), FailedCondition>
     ensures refusal { refusal_in result ≡ first_failing (ranges.size_checks base top) }
     ensures size { OnOk result (base < top) }
@@ -23,7 +23,7 @@ pub fn check_size(base: u64, top: u64) -> Result<(), FailedCondition>
     Ok(())
 }
 
-// Passes a range that begins with a whole entry which can be changed.
+// Checks that a range begins with a whole entry that can be changed.
 pub fn check_progress<S: PageStore>(
     granules: &Granules<S>,
     changeable: Changeable,
@@ -64,7 +64,8 @@ fn entries_below(found: &RttWalk, base: u64, top: u64) -> u16
     }
 }
 
-// The number of these that can be changed one after another.
+// The number of entries of a table, from the one of an address on and below a top, that can be changed one after
+// another.
 pub fn change_count<S: PageStore>(
     granules: &Granules<S>,
     changeable: Changeable,

@@ -26,7 +26,7 @@ pub struct Unused {
     pub parent: RmmRttEntry,
 }
 
-// Passes a walk that reaches the level above a table, to an entry that leads to a table without live entries.
+// Checks that a walk reached the level above a table, and that the entry leads to a table without live entries.
 fn check_unused<S: PageStore>(
     granules: &Granules<S>,
     found: &RttWalk,

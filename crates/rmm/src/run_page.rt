@@ -10,8 +10,8 @@ use page_arena::{PageStore, word_in};
 use rmi_abi::RecExit;
 use rmm_granules::{Granules, refuses_gic};
 
-// Words `first` to `first + count` of a page become words `place` to `place + count` of another one, or of the same one
-// beside them.
+// Copies `count` words of a page, from `first` on, to those from `place` on of another page, or of the same one beside
+// them.
 fn copy_words<S: PageStore>(
     granules: &mut Granules<S>,
     from: Gran,
@@ -34,7 +34,7 @@ fn copy_words<S: PageStore>(
     }
 }
 
-// The general-purpose registers of a REC are those that the host gives.
+// Copies the general-purpose registers that the host gives, from a run page to its REC.
 pub fn copy_gprs<S: PageStore>(granules: &mut Granules<S>, g: Gran, run: Gran)
     requires inside { g < granule_count granules.old }
     requires run { run < granule_count granules.old }
@@ -46,7 +46,7 @@ pub fn copy_gprs<S: PageStore>(granules: &mut Granules<S>, g: Gran, run: Gran)
 
 // ---- GIC fields
 
-// A REC has the GIC fields of its run page, if they are checked.
+// Copies the GIC fields of a run page to its REC, if they are checked.
 #[tactic(auto, unfolding(rmm_model::specs::Command::RecEnter::with_gic))]
 pub fn copy_gic<S: PageStore>(granules: &mut Granules<S>, g: Gran, run: Gran)
     requires inside { g < granule_count granules.old }
@@ -59,7 +59,7 @@ pub fn copy_gic<S: PageStore>(granules: &mut Granules<S>, g: Gran, run: Gran)
     }
 }
 
-// The run page of a REC has its GIC fields, if they are checked.
+// Copies the GIC fields of a REC to its run page, if they are checked.
 #[tactic(auto, unfolding(rmm_model::specs::Command::RecEnter::with_exit_gic))]
 fn write_gic<S: PageStore>(granules: &mut Granules<S>, g: Gran, run: Gran)
     requires inside { g < granule_count granules.old }
@@ -82,7 +82,7 @@ pub fn is_gic_wrong<S: PageStore>(granules: &Granules<S>, run: Gran) -> bool
 
 // ---- exits
 
-// The upper half of a page becomes zero.
+// Zeros the upper half of a page.
 fn clear_exit<S: PageStore>(granules: &mut Granules<S>, page: Gran)
     requires { page < granule_count granules.old }
     ensures cleared { granules.new

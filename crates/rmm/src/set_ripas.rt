@@ -25,7 +25,8 @@ pub struct RequestedRange {
     pub found: RttWalk,
 }
 
-// Whether a range ends within what a REC asked for. The addresses of one of a REC of the realm begin at a protected one.
+// Whether a range ends within what a REC asked for. A range that has addresses also has to begin at a protected one, if
+// the REC is one of the realm.
 fn is_within(realm: &RmmRealm, asking: &RmmRec, is_owner: bool, base: u64, top: u64) -> bool
     requires { realm.now.s2sz ≤ 48 }
     ensures { result ≡ command.is_within realm.now asking.now is_owner base top }
@@ -49,7 +50,7 @@ fn is_rec_of<S: PageStore>(
     is_same_owner(granules.owner(asking.granule), Some(owner.granule))
 }
 
-// Passes a REC of the realm that does not run, and the range that it asked for.
+// Checks that a REC is one of the realm and does not run, and that it asked for a range.
 #[tactic(auto, unfolding(rmm_model::specs::Command::RttSetRipas::ripas_request_checks))]
 fn check_request(
     realm: &RmmRealm,

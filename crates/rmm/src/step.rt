@@ -59,7 +59,7 @@ fn is_empty(ripas: RmmRipas) -> bool
     matches!(ripas, RmmRipas::Empty)
 }
 
-// A granule, if it is one of the machine.
+// The granule that was found, or an SEA if there is none.
 fn found_or_sea(found: Option<Gran>) -> Result<Gran, StepOutcome>
     ensures { result ≡ steps.found_or_sea found }
 {
@@ -69,7 +69,7 @@ fn found_or_sea(found: Option<Gran>) -> Result<Gran, StepOutcome>
     }
 }
 
-// The granule of a protected address, or what comes of an access there.
+// The granule of a protected address, or the outcome of an access there.
 fn protected_access<S: PageStore>(
     granules: &Granules<S>,
     class: u64,
@@ -112,7 +112,7 @@ fn wnr(writes: bool) -> u64
     if writes { 0x40 } else { 0 }
 }
 
-// The granule of the host at a physical address, or what comes of an access there.
+// The granule of the host at a physical address, or the outcome of an access there.
 fn host_access<S: PageStore>(
     granules: &Granules<S>,
     address: u64,
@@ -127,7 +127,7 @@ fn host_access<S: PageStore>(
     }
 }
 
-// What ESR_EL2 says of a data abort that can be emulated.
+// The fields of ESR_EL2 that describe the access of a data abort that can be emulated.
 fn of_access(writes: bool, size: AccessSize, level: u8) -> u64
     ensures value { result ≡ steps.of_access writes size level }
     ensures below { result ≤ 0xC0_0140 }
@@ -135,7 +135,7 @@ fn of_access(writes: bool, size: AccessSize, level: u8) -> u64
     size.syndrome() + (wnr(writes) + level as u64)
 }
 
-// The granule of an unprotected address, or what comes of an access there.
+// The granule of an unprotected address, or the outcome of an access there.
 #[inline(always)]
 fn unprotected_access<S: PageStore>(
     granules: &Granules<S>,
@@ -165,7 +165,7 @@ fn unprotected_access<S: PageStore>(
     }
 }
 
-// The granule that an address of a guest is in, or what comes of an access there.
+// The granule that an address of a guest is in, or the outcome of an access there.
 #[inline(always)]
 #[tactic(auto, unfolding(rmm_model::specs::Step::access))]
 pub fn access<S: PageStore>(
@@ -192,7 +192,7 @@ pub fn access<S: PageStore>(
     }
 }
 
-// The granule that a guest fetches an instruction from, or what comes of it.
+// The granule that a guest fetches an instruction from, or the outcome of the fetch.
 #[tactic(auto, unfolding(rmm_model::specs::Step::fetched))]
 pub fn fetched<S: PageStore>(
     granules: &Granules<S>,
@@ -210,7 +210,7 @@ pub fn fetched<S: PageStore>(
     protected_access(granules, 0x8000_0000, entry, found.level, ipa)
 }
 
-// What comes of a step that only tries an access.
+// The outcome of a step that only tries an access.
 pub fn tried(found: Result<Gran, StepOutcome>) -> StepOutcome
     ensures { result ≡ steps.tried found }
 {
@@ -265,7 +265,7 @@ fn ripas_exit(base: u64, top: u64, ripas: u64) -> StepOutcome
     StepOutcome::Exit(exit, LastExit::RipasChange)
 }
 
-// What a PSCI exit shows of its second or third operand.
+// The second or third operand of a PSCI call, as its exit shows it.
 fn shown(settings: &RmmSettings, operand: u64) -> u64
     ensures { result ≡ steps.shown settings.now operand }
 {
@@ -372,7 +372,7 @@ fn system_register(iss: u64, value: u64) -> StepOutcome
     StepOutcome::Exit(exit, LastExit::SystemRegister)
 }
 
-// What comes of a step that accesses no memory.
+// The outcome of a step that accesses no memory.
 #[inline(always)]
 pub fn call_outcome(
     settings: &RmmSettings,
@@ -422,7 +422,7 @@ pub fn call_outcome(
     }
 }
 
-// What changes of a REC at a step of its guest that makes an exit.
+// The change of a REC at a step of its guest that makes an exit.
 #[inline(always)]
 pub fn exit_edit(step: GuestStep) -> RecEdit
     ensures { result ≡ edits.exit_edit step }

@@ -91,7 +91,7 @@ fn error_rtt_next(condition: Condition, level: u8, top: u64) -> FailedCondition
     }
 }
 
-// Passes a walk that reached a level, to an ASSIGNED_NS entry.
+// Checks that a walk reached a level, and that the entry is ASSIGNED_NS.
 fn check_mapped<S: PageStore>(
     granules: &Granules<S>,
     found: &RttWalk,

@@ -35,7 +35,7 @@ fn put_fill(answer: &mut Sentence, round: u64, is_done: bool)
     }
 }
 
-// Answers a call or a fill with so many rounds at most after the first.
+// Answers a call or a fill in one round and up to `more` further rounds.
 #[tactic(auto, unfolding(crate::specs::Answering::rounds_answered))]
 fn answer_rounds<S: PageStore>(
     reply: &mut TraceReply,
@@ -187,7 +187,7 @@ fn call_in(question: &[TraceWord]) -> &[TraceWord]
     }
 }
 
-/// The checks of the call that a reply has refused, on the machine then: a refusal changes nothing.
+/// The checks of the call that a reply refuses, on the machine at the call, which a refusal leaves unchanged.
 #[tactic(auto, unfolding(crate::specs::Answering::refused_checks))]
 pub fn checks_on<S: PageStore>(
     rmm: &Rmm<S>,

@@ -41,7 +41,7 @@ pub const STEPS: [usize; 15] = [
     SYSREG,
 ];
 
-// The place of a step among some.
+// The place of a step in a list of steps.
 fn kind_in(steps: &[usize], name: usize) -> Option<usize>
     ensures { result ≡ position_from (λ step. step == name) 0 steps.now }
 {
@@ -53,7 +53,7 @@ fn kind_in(steps: &[usize], name: usize) -> Option<usize>
     None
 }
 
-// The number of the kind of a step; one that is none if no step has the name.
+// The number of the kind of a step; 15, which is no kind's, if no step has the name.
 #[tactic(auto, unfolding(crate::specs::Guest::step_kind))]
 fn step_kind(name: usize) -> u64
     ensures { result ≡ guests.step_kind name }
@@ -89,7 +89,7 @@ fn step_words(name: usize, operands: &[TraceWord]) -> StepWords
     }
 }
 
-// The step that words are. A guest here has no call of the host with more than three registers.
+// The step in words, if there is one. A guest here has no call of the host with more than three registers.
 fn step_in(words: &[TraceWord]) -> Option<StepWords>
     ensures { result ≡ guests.step_in words.now }
 {
@@ -247,7 +247,7 @@ fn put_result_at<S: PageStore>(answer: &mut Sentence, rmm: &Rmm<S>, rec: u64, k:
     put_result(answer, k > 0, kind, value);
 }
 
-// Puts so many results of the REC at an address.
+// Puts the first `count` results of the REC at an address.
 fn put_results<S: PageStore>(answer: &mut Sentence, rmm: &Rmm<S>, rec: u64, count: u16)
     requires few { count < 32 }
     requires empty { answer.old.items ≡ [] }

@@ -102,8 +102,8 @@ fn allows_name(checks: &EvaluatedChecks, place: usize, rest: &[TraceWord]) -> bo
     allows_written(checks, (place - RMI_SUCCESS) as u64, rest)
 }
 
-/// Whether an answer that is written refuses the call by a word that evaluated checks allow, and that is not the word of
-/// the check that decides. The word is the name of its status with an index, or X0.
+/// Whether a written answer refuses the call by a word that the evaluated checks allow, other than that of the deciding
+/// check. The word is the name of its status with an index, or X0.
 pub fn is_allowed(written: &[TraceWord], checks: &EvaluatedChecks) -> bool
     ensures { result ≡ judging.is_refusal_allowed written.now checks.now }
 {

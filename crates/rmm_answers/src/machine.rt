@@ -34,7 +34,7 @@ impl Model for TraceMachine {
 }
 
 impl TraceMachine {
-    /// No machine.
+    /// The state before the first platform: no machine.
     pub fn new() -> TraceMachine
         ensures { result ≡ None }
     {
@@ -90,7 +90,7 @@ impl TraceMachine {
         Ok(())
     }
 
-    /// The checks of the call that a reply has refused, on the machine then: a refusal changes nothing.
+    /// The checks of the call that a reply refuses, on the machine at the call, which a refusal leaves unchanged.
     pub fn checks(&self, question: &[TraceWord], reply: &TraceReply) -> Option<EvaluatedChecks>
         ensures { result ≡ option_and_then (specs.refused_checks question.now reply.now) self.now }
     {

@@ -85,7 +85,7 @@ fn put_operand(call: &mut Sentence, form: OperandForm, number: u64)
     }
 }
 
-/// No operands.
+/// The operand forms of a command without operands.
 pub const NO_OPERANDS: [OperandForm; 5] = [Absent, Absent, Absent, Absent, Absent];
 
 // The forms of the operands in a row; none past the last row.
@@ -115,7 +115,7 @@ fn named_call(place: usize, words: &[TraceWord]) -> Sentence
     call
 }
 
-/// The named call of a raw one, `smc FID X1 ..`; none comes for a function that is no command.
+/// The named call of a raw call `smc FID X1 ..`; `None` for a function that is no command.
 #[tactic(auto, unfolding(crate::specs::Naming::named_question))]
 pub fn named_question(question: &[TraceWord]) -> Option<Sentence>
     ensures { option_map (λ call. call.items) result ≡ naming.named_question question.now }
@@ -131,7 +131,7 @@ pub fn named_question(question: &[TraceWord]) -> Option<Sentence>
 
 // ---- answers
 
-// The number of a register that is written; none comes if it is not, and for `-`.
+// The number of a written register; `None` if it is not written, or written as `-`.
 fn written_number(words: &[TraceWord], k: usize) -> Option<u64>
     ensures { result ≡ naming.written_number words.now k }
 {
@@ -168,7 +168,7 @@ fn answer_by(place: usize, x0: u64, written: &[TraceWord]) -> Sentence
     answer
 }
 
-/// The named answer of a raw one, `X0 X1 ..`, to a raw call; none comes if X0 is not written. Outputs that are not
+/// The named answer to a raw call, from its raw answer `X0 X1 ..`; `None` if X0 is not written. Outputs that are not
 /// written are left out.
 #[tactic(auto, unfolding(crate::specs::Naming::named_answer))]
 pub fn named_answer(question: &[TraceWord], written: &[TraceWord]) -> Option<Sentence>

@@ -12,7 +12,7 @@ use rmm_trace::place::{
 };
 use rmm_trace::{Atom, FUNCTIONS, Sentence, index_of, status_of};
 
-// No output: no output has the name at this place.
+// The place that means no output: that of a name which no output has.
 pub const NO_OUTPUT: usize = 0;
 
 /// The names of the outputs X1 to X4 of each command, at the places of their names; 0 is none. RMM 1.0, RMI commands.
@@ -47,7 +47,7 @@ pub const OUTPUTS: [[usize; 4]; 23] = [
     [0, 0, 0, 0],
 ];
 
-// No outputs.
+// The output names of a command without outputs.
 pub const NO_OUTPUTS: [usize; 4] = [0, 0, 0, 0];
 
 // The names of the outputs in a row; none past the last row.
@@ -69,7 +69,7 @@ pub(crate) fn outputs_of(place: usize) -> [usize; 4]
     row_at(&OUTPUTS, place)
 }
 
-// The place of a function identifier among some.
+// The place of a function identifier in a list.
 fn place_in(functions: &[u64], function: u64) -> Option<usize>
     ensures { result ≡ position_from (λ f. f == function) 0 functions.now }
 {

@@ -72,7 +72,7 @@ fn next_offset(fields: &[(usize, u64)], at: u64, atom: Atom) -> u64
     }
 }
 
-// Stores a value at an address; a name is none.
+// Stores a value at an address; a name is not stored.
 fn store_value<S: PageStore>(rmm: &mut Rmm<S>, address: u64, atom: Atom)
     ensures { rmm.new ≡ pages.with_stored rmm.old address atom }
 {

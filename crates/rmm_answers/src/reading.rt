@@ -1,4 +1,4 @@
-//! Answers to readings, which no host has.
+//! Answers to readings of the machine, which no firmware offers a host.
 ghost use Rattle.std.specs.Prelude.{◌≡◌, ◌+◌, ◌<◌, ◌≤◌, length, take, []};
 ghost use Rattle.std.specs.List.{sum};
 ghost use Rattle.rmm_model.specs.Command.PsciComplete as completion;
@@ -75,7 +75,7 @@ fn sum_of(page: &[u8]) -> u64
     total
 }
 
-// The sum of the bytes of the granule at an address; 0 of a table, an RD and a REC, and if there is no granule.
+// The sum of the bytes of the granule at an address; 0 for a table, an RD, a REC or no granule.
 fn granule_sum<S: PageStore>(rmm: &Rmm<S>, address: u64, state: RmmGranuleState) -> u64
     ensures { result ≡ readings.granule_sum rmm.now address state }
 {

@@ -79,7 +79,7 @@ fn are_words(
 }
 
 impl TraceReply {
-    /// No answer: that to a platform.
+    /// The empty answer, which is that to a platform.
     pub fn new() -> TraceReply
         ensures { result ≡ replies.no_answer }
     {
@@ -90,7 +90,7 @@ impl TraceReply {
         }
     }
 
-    /// Makes the answer none.
+    /// Clears the answer.
     pub fn clear(&mut self)
         ensures { self.new ≡ replies.no_answer }
     {
@@ -99,7 +99,7 @@ impl TraceReply {
         self.refused = None;
     }
 
-    /// Makes the answer that to a line which is no command.
+    /// Sets the answer that is given to a line which is no command.
     #[tactic(auto, unfolding(crate::specs::Replies::no_command))]
     pub fn no_command(&mut self)
         ensures { self.new ≡ replies.no_command }

@@ -15,7 +15,7 @@ pub struct LastCall {
     pub after: Registers,
 }
 
-// Performs a call in so many rounds, up to the first that is not RMI_SUCCESS.
+// Performs a call in one round and up to `more` further rounds, until one is not RMI_SUCCESS.
 #[tactic(auto, unfolding(crate::specs::Rounds::performed_rounds))]
 pub(crate) fn perform_rounds<S: PageStore>(
     rmm: &mut Rmm<S>,
@@ -47,7 +47,8 @@ fn fill_round<S: PageStore>(rmm: &mut Rmm<S>, operands: &[TraceWord], round: u64
     rmm.fill(operand(operands, 0, round), value as u8)
 }
 
-// Fills pages in so many rounds, up to the first that faults. Returns the last round, and whether it is done.
+// Fills pages in one round and up to `more` further rounds, until one faults. Returns the last round, and whether it is
+// done.
 #[tactic(auto, unfolding(crate::specs::Rounds::filled_rounds))]
 pub(crate) fn fill_rounds<S: PageStore>(
     rmm: &mut Rmm<S>,

@@ -86,7 +86,7 @@ fn rec_state_code(state: RmmRecState) -> u64
     }
 }
 
-// A fact as a number.
+// The number of a flag: 1 if it holds, and 0 if not.
 fn flag(holds: bool) -> u64
     ensures { result ≡ shown.flag holds }
 {

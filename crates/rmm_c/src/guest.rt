@@ -19,7 +19,7 @@ pub struct RawStep {
     pub d: u64,
 }
 
-/// The result of a step: its kind, and its value, 0 where there is none.
+/// The result of a step: its kind, and its value, 0 if there is none.
 #[repr(C)]
 #[derive(Drop)]
 pub struct GuestStepResult {
@@ -56,8 +56,8 @@ fn code(queued: Queued) -> u64
     }
 }
 
-/// Gives the guest of a REC a step. Returns 0; or 1 if it has 16, and 2 if no REC is at the address, and then nothing
-/// changes.
+/// Gives a step to the guest of a REC. Returns 0; or 1 if the guest has 16 steps, and 2 if no REC is at the address,
+/// and then nothing changes.
 #[unsafe(no_mangle)]
 pub extern "C" fn rmm_guest(alloc: Global, handle: &mut RmmHandle, rec: u64, step: &RawStep) -> u64
     ensures { (result, handle.new.held.machine) ≡ on_guest rec step.now handle.old.held.machine }
@@ -80,7 +80,8 @@ fn interrupt(plain: &mut PlainRmm, rec: u64) -> Option<u64>
     Some(word.number())
 }
 
-/// Ends the run of a REC: `word` is what RMI_REC_ENTER returns now. False, with nothing changed, if it does not run.
+/// Ends the run of a REC: `word` is what RMI_REC_ENTER returns now. Returns false, and changes nothing, if the REC does
+/// not run.
 #[unsafe(no_mangle)]
 pub extern "C" fn rmm_interrupt(
     alloc: Global,
@@ -114,7 +115,8 @@ fn result_of(plain: &PlainRmm, rec: u64, number: u64) -> Option<GuestStepResult>
     })
 }
 
-/// Result `number` of those since the last entry of a REC. False, and nothing is written, if there is none.
+/// Writes result `number` of those since the last entry of a REC to `outcome`. Returns false, and writes nothing, if
+/// there is none.
 #[unsafe(no_mangle)]
 pub extern "C" fn rmm_result(
     alloc: Global,

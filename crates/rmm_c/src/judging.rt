@@ -45,14 +45,14 @@ fn refuses_with(outcome: &CheckOutcome, x0: u64) -> bool
     }
 }
 
-// Whether a check was made and failed.
+// Whether one of the checks was made and failed.
 fn has_failed(rows: &[EvaluatedCheck]) -> bool
     ensures { result ≡ list_any (λ row. is_failure row.outcome) rows.now }
 {
     rows.iter().any(|row| row.outcome.is_failure())
 }
 
-// Whether a check was made and failed, and its answer has this X0.
+// Whether one of the checks was made and failed, and its answer has this X0.
 fn has_word(rows: &[EvaluatedCheck], x0: u64) -> bool
     ensures { result ≡ list_any (λ row. judging.refuses_with x0 row.outcome) rows.now }
 {

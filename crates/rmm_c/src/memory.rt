@@ -7,7 +7,7 @@ ghost use Rattle.rmm_c.specs.Reading.{Reports, Reads};
 use crate::{PlainRmm, RmmHandle};
 use std::alloc::Global;
 
-// Loads the bytes from an address on; where the host faults they stay as they are.
+// Loads the bytes from an address on; if the host faults, the buffer stays as it is.
 fn load_bytes(plain: &PlainRmm, address: u64, bytes: &mut [u8]) -> bool
     ensures { Reports (loaded_bytes plain.now address (length bytes.old)) bytes.old result bytes.new }
 {
@@ -20,7 +20,7 @@ fn load_bytes(plain: &PlainRmm, address: u64, bytes: &mut [u8]) -> bool
     }
 }
 
-/// Loads bytes within one granule. False, and nothing is written, where the host faults, for bytes of more than one
+/// Loads bytes within one granule. Returns false, and writes nothing, if the host faults, for bytes of more than one
 /// granule, and on a closed handle.
 #[unsafe(no_mangle)]
 pub extern "C" fn rmm_load(
@@ -41,7 +41,7 @@ pub extern "C" fn rmm_load(
     is_loaded
 }
 
-/// Stores bytes within one granule. False, with nothing changed, where the host faults, for bytes of more than one
+/// Stores bytes within one granule. Returns false, and changes nothing, if the host faults, for bytes of more than one
 /// granule, and on a closed handle.
 #[unsafe(no_mangle)]
 pub extern "C" fn rmm_store(

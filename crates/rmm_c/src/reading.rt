@@ -55,7 +55,7 @@ fn rec_of(plain: &PlainRmm, rec: u64) -> Option<RecAttributes>
     Some(rec_attributes(&attributes))
 }
 
-/// The state of the granule at an address, into `state`. False if there is none.
+/// Writes the state of the granule at an address to `state`. Returns false, and writes nothing, if there is none.
 #[unsafe(no_mangle)]
 pub extern "C" fn rmm_read_state(
     alloc: Global,
@@ -74,8 +74,8 @@ pub extern "C" fn rmm_read_state(
     report(found, state)
 }
 
-/// The eight bytes from 8 * `index` on of the granule at an address, little endian, into `word`. False if there is no
-/// such granule, for an index above 511, and on a closed handle.
+/// Writes the eight bytes from 8 * `index` on of the granule at an address to `word`, as little endian. Returns false,
+/// and writes nothing, if there is no such granule, for an index above 511, and on a closed handle.
 #[unsafe(no_mangle)]
 pub extern "C" fn rmm_read_word(
     alloc: Global,
@@ -95,7 +95,8 @@ pub extern "C" fn rmm_read_word(
     report(found, word)
 }
 
-/// The attributes of the realm whose RD is at an address, into `realm`. False if no RD is there.
+/// Writes the attributes of the realm whose RD is at an address to `realm`. Returns false, and writes nothing, if no RD
+/// is there.
 #[unsafe(no_mangle)]
 pub extern "C" fn rmm_read_realm(
     alloc: Global,
@@ -114,7 +115,8 @@ pub extern "C" fn rmm_read_realm(
     report(found, realm)
 }
 
-/// The attributes of the REC at an address, into `attributes`. False if no REC is there.
+/// Writes the attributes of the REC at an address to `attributes`. Returns false, and writes nothing, if no REC is
+/// there.
 #[unsafe(no_mangle)]
 pub extern "C" fn rmm_read_rec(
     alloc: Global,

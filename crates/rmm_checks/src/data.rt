@@ -65,7 +65,7 @@ pub fn data_destroy<S: PageStore>(granules: &Granules<S>, rd: u64, ipa: u64) -> 
 
 // ---- RMI_DATA_CREATE
 
-// Whether the flags have bit 0 alone, if the settings say that they are checked.
+// Whether all flags but bit 0 are clear, if the settings say that they are checked.
 fn are_flags_valid(settings: &RmmSettings, flags: u64) -> bool
     ensures { result ≡ creating.are_flags_valid settings.now flags }
 {

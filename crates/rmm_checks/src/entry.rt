@@ -47,7 +47,7 @@ fn is_at(reached: u8, level: u64) -> bool
     reached as u64 == level
 }
 
-// A level that is at most 3.
+// The level if it is at most 3, and 0 otherwise.
 pub fn low_level(level: u64) -> u8
     ensures value { nat_le level 3 ≡ true → result ≡ level }
     ensures low { result ≤ 3 }

@@ -82,7 +82,7 @@ fn is_made(rows: &[EvaluatedCheck], after: &[Condition]) -> bool
 }
 
 impl EvaluatedChecks {
-    /// No checks.
+    /// An empty list of checks.
     pub fn new() -> EvaluatedChecks
         ensures { result ≡ [] }
     {
@@ -98,7 +98,8 @@ impl EvaluatedChecks {
         self.rows.as_slice()
     }
 
-    // Adds a check with the answer by it. It is made if each that it comes after was made and passed.
+    // Adds a check, with the answer of the command if this check decides. It is made if each that it comes after was
+    // made and passed.
     #[tactic(auto, unfolding(crate::specs::Evaluated::evaluated_after))]
     pub(crate) fn add(
         &mut self,

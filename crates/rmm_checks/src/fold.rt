@@ -14,7 +14,7 @@ use rmi_abi::{SmcResult, Word};
 use rmm_granules::{Granules, is_block_too_high, is_homogeneous, table_below};
 use rmm_model::{Condition, RmmRttEntry};
 
-// A level of a table that is below another one: it is 1 to 3.
+// The level of a table below another one: the number if it is 1 to 3, and 1 otherwise.
 fn lower_level(level: u64) -> u8
     ensures value { nat_le 1 level ≡ true → nat_le level 3 ≡ true → result ≡ level }
     ensures some { 1 ≤ result }
@@ -26,7 +26,7 @@ fn lower_level(level: u64) -> u8
     }
 }
 
-// Whether the table that an entry leads to says the same as one entry.
+// Whether the table that an entry leads to is homogeneous.
 fn is_homogeneous_below<S: PageStore>(granules: &Granules<S>, entry: RmmRttEntry, level: u8) -> bool
     requires { 1 ≤ level }
     ensures { is_some (walks.table_below granules.now entry) ≡ true

@@ -59,14 +59,14 @@ fn first_failed(rows: &[EvaluatedCheck]) -> Option<FailedCondition>
     None
 }
 
-// Whether a check was made and failed.
+// Whether one of the checks was made and failed.
 fn has_failed(rows: &[EvaluatedCheck]) -> bool
     ensures { result ≡ list_any (λ row. specs.is_failure row.outcome) rows.now }
 {
     rows.iter().any(|row| row.outcome.is_failure())
 }
 
-// Whether a check was made and failed, and its answer has a word.
+// Whether one of the checks was made and failed, and its answer has a word.
 fn has_word(rows: &[EvaluatedCheck], word: Word) -> bool
     ensures { result ≡ list_any (λ row. specs.has_word word row.outcome) rows.now }
 {

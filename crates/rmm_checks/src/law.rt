@@ -3,7 +3,7 @@ ghost use Rattle.std.specs.Prelude.{◌≡◌, Some};
 ghost use Rattle.rmm_model.specs.declared.condition.Condition.{Condition};
 ghost use Rattle.rmm_checks.specs.Names.{name_of, condition_named};
 
-/// A name is that of one condition, and no two conditions have one name.
+/// The name of a condition is read back as that condition, so different conditions have different names.
 pub fn names_come_back()
     ensures { (c : Condition) → condition_named (name_of c) ≡ Some c }
 {}

@@ -168,7 +168,7 @@ pub fn condition_name(condition: Condition) -> &'static str
     }
 }
 
-// The first of some conditions that has a name.
+// The first of some conditions whose name is the text.
 fn find_named(text: &str, conditions: &[Condition]) -> Option<Condition>
     ensures { result ≡ names.find_named text.now conditions.now }
 {

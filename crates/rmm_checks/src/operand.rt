@@ -73,7 +73,7 @@ pub fn is_host<S: PageStore>(granules: &Granules<S>, address: u64) -> bool
 
 // ---- checks
 
-// Adds the checks of an address that is that of a granule.
+// Adds the checks that an address is that of a granule.
 pub fn add_address<S: PageStore>(
     checks: &mut EvaluatedChecks,
     granules: &Granules<S>,
@@ -89,7 +89,7 @@ pub fn add_address<S: PageStore>(
     checks.input(bound, &[align], !granules.is_inside(address));
 }
 
-// Adds the checks of an address that is that of a DELEGATED granule.
+// Adds the checks that an address is that of a DELEGATED granule.
 pub fn add_delegated<S: PageStore>(
     checks: &mut EvaluatedChecks,
     granules: &Granules<S>,
@@ -112,7 +112,7 @@ pub fn add_delegated<S: PageStore>(
     checks.input(conditions.state, &[conditions.bound], !state.is_delegated());
 }
 
-// Adds the checks of an address that is that of a page of the host.
+// Adds the checks that an address is that of a page of the host.
 pub fn add_host<S: PageStore>(
     checks: &mut EvaluatedChecks,
     granules: &Granules<S>,

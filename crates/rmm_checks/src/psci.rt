@@ -12,7 +12,7 @@ use page_arena::PageStore;
 use rmm_granules::{Granules, OperandConditions, is_pending, is_same_owner, is_status, target_of};
 use rmm_model::Condition;
 
-// Whether a number is an address.
+// Whether two numbers are equal.
 fn is_same(a: u64, b: u64) -> bool
     ensures { result ≡ (a == b) }
 {

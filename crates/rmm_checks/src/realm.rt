@@ -30,7 +30,7 @@ pub fn realm_named<S: PageStore>(granules: &Granules<S>, rd: u64) -> Option<RmmR
     }
 }
 
-// The width of the realm at an address; where there is none it is 0.
+// The width of the realm at an address; 0 if there is none.
 pub fn s2sz_at<S: PageStore>(granules: &Granules<S>, rd: u64) -> u8
     ensures value { result ≡ (realm_at granules.now rd).s2sz }
     ensures narrow { result ≤ 48 }
@@ -41,7 +41,7 @@ pub fn s2sz_at<S: PageStore>(granules: &Granules<S>, rd: u64) -> u8
     }
 }
 
-// The starting level of the realm at an address; where there is none it is 0.
+// The starting level of the realm at an address; 0 if there is none.
 pub fn start_level_at<S: PageStore>(granules: &Granules<S>, rd: u64) -> u8
     ensures value { result ≡ (realm_at granules.now rd).start_level }
     ensures low { result ≤ 3 }
@@ -52,7 +52,7 @@ pub fn start_level_at<S: PageStore>(granules: &Granules<S>, rd: u64) -> u8
     }
 }
 
-// Whether the realm at an address is NEW; where there is none it counts as NEW.
+// Whether the realm at an address is NEW; true if there is none.
 pub fn is_new_at<S: PageStore>(granules: &Granules<S>, rd: u64) -> bool
     ensures { result ≡ realms.is_new (realm_at granules.now rd).state }
 {
@@ -62,7 +62,7 @@ pub fn is_new_at<S: PageStore>(granules: &Granules<S>, rd: u64) -> bool
     }
 }
 
-// Whether an address is one of the realm of an RD.
+// Whether an address is in the address space of an RD's realm.
 pub fn is_in_space<S: PageStore>(granules: &Granules<S>, rd: u64, ipa: u64) -> bool
     ensures { result ≡ realms.is_in_space (realm_at granules.now rd) ipa }
 {
@@ -125,7 +125,7 @@ fn is_block_level<S: PageStore>(granules: &Granules<S>, rd: u64, level: u64) -> 
 
 // ---- checks
 
-// Adds the checks of an address that is that of an RD.
+// Adds the checks that an address is that of an RD.
 pub fn add_rd<S: PageStore>(checks: &mut EvaluatedChecks, granules: &Granules<S>, rd: u64)
     requires room { length checks.old + 3 ≤ 18 }
     ensures rows { Adds checks.old (operands.rd_checks granules.now rd) checks.new }
@@ -149,8 +149,8 @@ pub fn add_new<S: PageStore>(checks: &mut EvaluatedChecks, granules: &Granules<S
     );
 }
 
-// Adds the checks of a level that is at least `least`, and of an address where an entry of the level that many above
-// it begins.
+// Adds the checks that a level is at least `least`, and that an entry `above` levels higher begins at an address of the
+// realm.
 pub fn add_ipa<S: PageStore>(
     checks: &mut EvaluatedChecks,
     granules: &Granules<S>,
@@ -202,8 +202,7 @@ pub fn add_page<S: PageStore>(
     );
 }
 
-// Adds the checks of a level at which there are pages or blocks, and of an address of a realm's unprotected half where
-// an entry of the level begins.
+// Adds the checks that there are pages or blocks at a level, and that an entry of it begins at an unprotected address.
 pub fn add_unprotected<S: PageStore>(
     checks: &mut EvaluatedChecks,
     granules: &Granules<S>,

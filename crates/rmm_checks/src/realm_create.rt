@@ -49,7 +49,7 @@ fn is_hash(code: u8) -> bool
     code <= 1
 }
 
-// Whether the starting tables of parameters serve their width, where that has at most 48 bits.
+// Whether the starting tables of parameters serve their width; false for more than 48 bits.
 fn is_served(p: &RealmParams) -> bool
     ensures { p.now.s2sz ≤ 48
         → result ≡ can_begin p.now.s2sz p.now.rtt_level_start p.now.rtt_num_start }
@@ -57,7 +57,7 @@ fn is_served(p: &RealmParams) -> bool
     p.s2sz <= 48 && is_start(p.s2sz, p.rtt_level_start, p.rtt_num_start)
 }
 
-// Whether the starting tables of parameters begin at a multiple of their size, where there are any.
+// Whether the starting tables of parameters begin at a multiple of their size; false if there are none.
 fn is_base_aligned(p: &RealmParams) -> bool
     ensures { 0 < p.now.rtt_num_start
         → result ≡ (p.now.rtt_base % (p.now.rtt_num_start * 4096) == 0) }

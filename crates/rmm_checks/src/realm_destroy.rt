@@ -10,7 +10,7 @@ use page_arena::PageStore;
 use rmm_granules::{Granules, is_realm_live};
 use rmm_model::Condition;
 
-// Whether the realm of an RD has a REC or a live entry; where there is none it has neither.
+// Whether the realm of an RD has a REC or a live entry; false if there is no realm.
 #[tactic(auto, unfolding(rmm_model::specs::Command::RealmDestroy::is_realm_live, rmm_model::specs::Command::RealmDestroy::has_live_table))]
 fn is_live_at<S: PageStore>(granules: &Granules<S>, rd: u64) -> bool
     ensures { result ≡ command.is_realm_live granules.now (realm_at granules.now rd) }

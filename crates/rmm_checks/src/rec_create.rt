@@ -72,7 +72,7 @@ fn facts_at<S: PageStore>(granules: &Granules<S>, params: u64, rec: u64) -> RecF
 
 // ---- the realm
 
-// The number of the next REC of the realm at an address; where there is none it is 0.
+// The number of the next REC of the realm at an address; 0 if there is no realm.
 fn next_rec_at<S: PageStore>(granules: &Granules<S>, rd: u64) -> u32
     ensures { result ≡ (realm_at granules.now rd).next_rec }
 {
@@ -82,7 +82,7 @@ fn next_rec_at<S: PageStore>(granules: &Granules<S>, rd: u64) -> u32
     }
 }
 
-// The number of RECs of the realm at an address; where there is none it is 0.
+// The number of RECs of the realm at an address; 0 if there is no realm.
 fn rec_count_at<S: PageStore>(granules: &Granules<S>, rd: u64) -> u16
     ensures { result ≡ (realm_at granules.now rd).rec_count }
 {
@@ -109,8 +109,8 @@ fn is_next<S: PageStore>(granules: &Granules<S>, rd: u64, number: u64) -> bool
 
 // ---- checks
 
-// Adds the checks of as many auxiliary granules as a REC has. All of them are DELEGATED, and no two of them and the REC
-// are one.
+// Adds the checks that there are as many auxiliary granules as a REC has, all DELEGATED, and distinct from one another
+// and from the REC.
 fn add_aux(checks: &mut EvaluatedChecks, facts: &RecFacts)
     requires room { length checks.old + 5 ≤ 18 }
     ensures rows { (known : Facts) → (is_made checks.old (ParamsPas ∷ []) ≡ true → facts.now ≡ known)

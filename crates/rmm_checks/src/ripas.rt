@@ -26,7 +26,7 @@ fn is_empty(base: u64, top: u64) -> bool
     top <= base
 }
 
-// Whether a size from an address on ends at most at a top.
+// Whether a range of a size, from an address on, ends at a top or below it.
 fn ends_within(base: u64, size: u64, top: u64) -> bool
     ensures { result ≡ nat_le (base + size) top }
 {
@@ -142,7 +142,8 @@ fn begins_at(asking: &RmmRec, base: u64) -> bool
     base == asking.ripas.base
 }
 
-// Whether a range ends within what a REC asked for. The addresses of one of a REC of the realm begin at a protected one.
+// Whether a range ends within what a REC asked for. A range that has addresses also has to begin at a protected one, if
+// the REC is one of the realm.
 fn is_within<S: PageStore>(
     granules: &Granules<S>,
     rd: u64,

@@ -11,7 +11,7 @@ use granule_addr::{Gran, MOST_PAGES};
 use page_arena::PageStore;
 use rmm_model::RmmRealm;
 
-/// The granule that many after another.
+/// The granule `k` places after another.
 pub fn granule_after(first: Gran, k: u16) -> Gran
     requires { first + k < 4096 }
     ensures { result ≡ first + k }

@@ -57,7 +57,7 @@ fn undelegated(alloc: Global, count: u16) -> Result<Vec<RmmGranule>, AllocError>
     vec![in alloc; RmmGranule::UNDELEGATED; count as usize]
 }
 
-// A set of that many VMIDs that has none.
+// The empty set of VMIDs, as `count` flags.
 fn no_vmids(alloc: Global, count: u32) -> Result<Vec<bool>, AllocError>
     ensures { IfOk result (λ v. v.items ≡ replicate count false) }
 {
@@ -107,7 +107,7 @@ impl<S: PageStore> Granules<S> {
         self.platform.settings()
     }
 
-    /// The settings of the platform, as a platform.
+    /// The platform: the settings, known to be in range.
     pub fn platform(&self) -> &Platform
         ensures { result.now ≡ self.now.settings }
     {

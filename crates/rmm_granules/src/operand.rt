@@ -80,7 +80,7 @@ impl OperandConditions {
         state: Condition::CallingState,
     };
 
-    /// The REC that this request names.
+    /// The REC named by the request that RMI_PSCI_COMPLETE completes.
     pub const TARGET: OperandConditions = OperandConditions {
         align: Condition::TargetAlign,
         bound: Condition::TargetBound,

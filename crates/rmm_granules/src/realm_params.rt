@@ -30,7 +30,7 @@ pub fn is_supported(settings: &RmmSettings, p: &RealmParams) -> bool
         && (!settings.checks_params || fits_features(settings, p))
 }
 
-/// Whether starting tables of a level, as many as that, serve an address space of a width.
+/// Whether `count` starting tables of a level serve an address space of a width.
 #[tactic(auto, unfolding(rmm_model::specs::Realm::is_start))]
 pub fn is_start(s2sz: u8, level: u64, count: u32) -> bool
     requires { s2sz ≤ 48 }
@@ -92,7 +92,7 @@ pub fn can_start<S: PageStore>(granules: &Granules<S>, p: &RealmParams) -> bool
     are_delegated(granules, first, p.rtt_num_start as u16)
 }
 
-/// Whether the RMM has a VMID, and no realm does.
+/// Whether a VMID is in the RMM's range, and no realm has it.
 #[tactic(auto, unfolding(rmm_model::specs::Command::RealmCreate::is_vmid_valid))]
 pub fn is_vmid_valid<S: PageStore>(granules: &Granules<S>, vmid: u16) -> bool
     ensures { result ≡ command.is_vmid_valid granules.now vmid }

@@ -9,18 +9,18 @@ use rmm_model::{
     LastExit, PsciRequest, RipasRequest, RmmGranule, RmmGranuleState, RmmRec, RmmRecState,
 };
 
-/// What changes of the attributes of a REC.
+/// An edit of the attributes of a REC.
 #[derive(Clone, Copy)]
 pub enum RecEdit {
-    /// It is RUNNING with the run page at an address. It has no exit to answer, and no results.
+    /// The REC is RUNNING, with the run page at an address, no exit to answer, and no results.
     Enter(u64),
-    /// It is READY after an exit.
+    /// The REC is READY after an exit.
     Leave(LastExit),
-    /// Its guest is past its first step.
+    /// The guest is past its first step.
     PassStep,
-    /// Its guest has that many steps.
+    /// The guest has that many steps.
     Steps(u8),
-    /// Its guest has one result more.
+    /// The guest has one more result.
     AddResult,
     Ripas(RipasRequest),
     Psci(PsciRequest),

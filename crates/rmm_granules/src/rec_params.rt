@@ -58,7 +58,7 @@ pub fn are_aux_aligned<S: PageStore>(granules: &Granules<S>, page: &[u8], count:
     all_aux(granules, page, AuxTest::Aligned, count)
 }
 
-/// Whether each of these is a granule of the machine.
+/// Whether each of the first auxiliary granules that a page of parameters names is a granule of the machine.
 pub fn are_aux_inside<S: PageStore>(granules: &Granules<S>, page: &[u8], count: u8) -> bool
     requires page { length page.now ≡ 4096 }
     requires few { count ≤ 16 }
@@ -67,7 +67,7 @@ pub fn are_aux_inside<S: PageStore>(granules: &Granules<S>, page: &[u8], count: 
     all_aux(granules, page, AuxTest::Inside, count)
 }
 
-/// Whether each of these is a DELEGATED granule of the machine.
+/// Whether each of the first auxiliary granules that a page of parameters names is a DELEGATED granule of the machine.
 pub fn are_aux_delegated<S: PageStore>(granules: &Granules<S>, page: &[u8], count: u8) -> bool
     requires page { length page.now ≡ 4096 }
     requires few { count ≤ 16 }

@@ -64,10 +64,10 @@ ghost use Rattle.rmm_laws.specs.State.{IsRealmIn, IsRealmMadeOf, KeepsStates, Ke
 ghost use Rattle.rmm_laws.specs.Step.{HasNextStep, HasRemoval, CanBeTornDown};
 ghost use Rattle.rmm_laws.specs.Walk.{IsTableOf, Serves, EndsWell, IsPassed, IsAtLive, IsNextTop, LeadsToTable, walked_to};
 
-/// What is refused changes nothing: calls by registers, and the host's stores and fills. So do steps that no REC takes,
-/// interrupts that are answered `None`, as of each REC that does not run, and accesses of guests that are not done. Only
-/// a call that enters a REC is answered with the word of a REC that runs on. That REC is RUNNING then, and was not before.
-/// A REC that is entered with RMI_SUCCESS does not run after the call.
+/// Refusals change nothing: those of calls by registers, and those of the host's stores and fills. So do steps that no
+/// REC takes, interrupts that are answered `None`, as of each REC that does not run, and accesses of guests that are
+/// not done. Only a call that enters a REC is answered with the word of a REC that runs on. That REC is RUNNING then,
+/// and was not before. A REC that is entered with RMI_SUCCESS does not run after the call.
 pub fn refusals_change_nothing()
     ensures calls { (r : Registers) (m : Machine) → IsRefused (rmi r m).0.x0 → (rmi r m).1 ≡ m }
     ensures running { (r : Registers) (m : Machine) → (rmi r m).0.x0 ≡ 2 ^ 64 - 2 → IsRecEnter m (rmi r m).1 (call_in r) }
@@ -82,9 +82,9 @@ pub fn refusals_change_nothing()
         → IsNotDone (step_outcome m realm rec flags step) → after_step m realm rec step (step_outcome m realm rec flags step) ≡ m }
 {}
 
-/// Words that an RMM may answer beside the one that is answered refuse too. A call that is refused is answered one of the
-/// words that are allowed, and each of these refuses. If a call is not refused, RMI_SUCCESS alone is allowed, also of an
-/// RMI_REC_ENTER that is answered with the word of a REC that runs on.
+/// The words that an RMM may answer in place of a refusal are refusals too. A call that is refused is answered one of
+/// the words that are allowed, and each of these refuses. If a call is not refused, RMI_SUCCESS alone is allowed, also
+/// of an RMI_REC_ENTER that is answered with the word of a REC that runs on.
 pub fn allowed_is_refused()
     ensures done { (call : Call) (m : Machine) → is_refusal (performed call m).0.word ≡ false → allowed_words (command_of call m) ≡ Success ∷ [] }
     ensures own { (call : Call) (m : Machine) → is_refusal (performed call m).0.word ≡ true → IsOneOf (performed call m).0.word (allowed_words (command_of call m)) }
@@ -248,12 +248,12 @@ pub fn rims_are_measured()
     ensures sources { (m : Machine) (call : Call) → IsProper m → (performed call m).0.word ≡ Success → IsFromHost m call }
 {}
 
-/// What RECs ask for of RIPAS is their guests'. A call keeps what each REC asks for, but RMI_REC_ENTER of the REC, and
-/// RMI_RTT_SET_RIPAS, after which the REC asks for the rest. So do steps that a guest is given, and interrupts. A REC
-/// that keeps RIPAS_CHANGE as its exit has `no_request` once it is entered, and any other what it had before. A step of
-/// its guest asks for a range by `is_ripas_range`, or leaves what is asked for as it is, and so does the exit.
-/// RMI_RTT_SET_RIPAS begins where the REC asks, and then the REC asks for the rest from X1 on. RMI_REC_ENTER that is
-/// not refused is an entry, at most 16 steps, and an exit unless the guest spins.
+/// The RIPAS requests of RECs are those of their guests. A call keeps what each REC asks for, but RMI_REC_ENTER of the
+/// REC, and RMI_RTT_SET_RIPAS, after which the REC asks for the rest. So do steps that a guest is given, and
+/// interrupts. A REC that keeps RIPAS_CHANGE as its exit has `no_request` once it is entered, and any other what it had
+/// before. A step of its guest asks for a range by `is_ripas_range`, or leaves what is asked for as it is, and so does
+/// the exit. RMI_RTT_SET_RIPAS begins where the REC asks, and then the REC asks for the rest from X1 on. RMI_REC_ENTER
+/// that is not refused is an entry, at most 16 steps, and an exit unless the guest spins.
 pub fn requests_are_the_guest_s()
     ensures calls { (r : Registers) (m : Machine) → KeepsRequests m (call_in r) (rmi r m).1 }
     ensures steps { (m : Machine) (rec : ℕ) (w : StepWords) → KeepsRequests m None (queued m rec w).1 }
@@ -360,15 +360,15 @@ pub fn fold_and_unfold()
         → location_at (performed (RttFold rd ipa level) m).1 (realm_at m rd) x ≡ location_at m (realm_at m rd) x }
 {}
 
-/// Other realms stay: a call leaves each granule as it was, but for those of the realm that it is on, and UNDELEGATED
-/// and DELEGATED ones. So it keeps the RDs, tables, pages and RECs of all other realms. UNDELEGATED ones stay as they
-/// were, but for one that is delegated, and for pages that a REC writes which is entered. None of these is of the
-/// secure world. Stores and fills of the host change the granule of their address alone, if it is UNDELEGATED. A step
-/// that a guest is given changes its REC, and an interrupt its REC and its run page. A write of a guest changes pages
-/// of its realm, and of the host outside the secure world. At a protected address it changes none of the host. Calls
-/// keep settings and the number of granules. They keep VMIDs, but for that of a realm that is created or destroyed.
-/// Stores, fills, steps that guests are given, interrupts, and steps of guests keep settings and VMIDs. RMI_REC_CREATE
-/// alone makes RECs, and no REC comes to another realm.
+/// Other realms stay: a call leaves each granule as it was, but for those of its realm, and UNDELEGATED and DELEGATED
+/// ones. So it keeps the RDs, tables, pages and RECs of all other realms. UNDELEGATED ones stay as they were, but for
+/// one that is delegated, and for pages that a REC writes which is entered. None of these is of the secure world.
+/// Stores and fills of the host change the granule of their address alone, if it is UNDELEGATED. A step that a guest is
+/// given changes its REC, and an interrupt its REC and its run page. A write of a guest changes pages of its realm, and
+/// of the host outside the secure world. At a protected address it changes none of the host. Calls keep settings and
+/// the number of granules. They keep VMIDs, but for that of a realm that is created or destroyed. Stores, fills, steps
+/// that guests are given, interrupts, and steps of guests keep settings and VMIDs. RMI_REC_CREATE alone makes RECs, and
+/// no REC comes to another realm.
 pub fn other_realms_stay()
     ensures calls { (r : Registers) (m : Machine) (granule : ℕ) → IsProper m → IsOfAnother m (call_in r) granule → IsSameAt m (rmi r m).1 granule }
     ensures hosts { (r : Registers) (m : Machine) (granule : ℕ) → IsProper m → (granule_at m granule).state ≡ Undelegated → IsSameAt m (rmi r m).1 granule ⊎ IsHostChanged m (rmi r m).1 (call_in r) granule }

@@ -13,7 +13,8 @@ pub struct FailedCondition {
 }
 
 impl FailedCondition {
-    /// The answer, copied field by field: so a caller keeps it in registers, where a copy of the whole goes through memory.
+    /// The answer, copied field by field: so a caller keeps it in registers, while a copy of the whole goes through
+    /// memory.
     pub fn into_answer(self) -> SmcResult
         ensures { result ≡ self.answer }
     {

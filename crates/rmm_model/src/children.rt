@@ -31,7 +31,7 @@ impl ChildWords {
         }
     }
 
-    /// Word `index` of them.
+    /// The word of child `index`.
     pub fn word(&self, index: u16) -> u64
         requires { index < 512 }
         ensures { result ≡ child_word self.now index }

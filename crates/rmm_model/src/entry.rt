@@ -25,7 +25,7 @@ pub enum RmmRttEntry {
     AssignedNs(u64),
 }
 
-/// The entries whose RIPAS a command changes: UNASSIGNED ones, and which others.
+/// The entries whose RIPAS a command changes: UNASSIGNED ones, and others by two flags.
 #[derive(Clone, Copy)]
 pub struct Changeable {
     /// ASSIGNED entries.
@@ -220,7 +220,7 @@ impl RmmRttEntry {
         }
     }
 
-    /// The encoding of the RIPAS of a protected page or block, RmiRipas, and 0 of any other entry.
+    /// The encoding of the RIPAS of an UNASSIGNED or ASSIGNED entry, RmiRipas, and 0 of any other.
     pub fn ripas_code(self) -> u64
         ensures { result ≡ entries.shown_ripas self }
     {

@@ -79,7 +79,7 @@ pub enum StepOutcome {
     Spin,
 }
 
-/// The answer to a step that a guest is given.
+/// The answer to the queuing of a guest's step.
 #[derive(Clone, Copy)]
 pub enum Queued {
     Queued,
@@ -98,7 +98,7 @@ pub struct StepWords {
 }
 
 impl StepWords {
-    /// The step that words are; words of no other kind are a guest that spins.
+    /// The step that the words encode; words of an unknown kind encode a guest that spins.
     pub fn step(&self) -> GuestStep
         ensures { result ≡ guests.step_of self.now }
     {

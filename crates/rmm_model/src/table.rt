@@ -8,7 +8,7 @@ use crate::entry::LEAST_LIVE;
 use crate::{Changeable, ChildWords, RmmRttEntry, entry_from_word};
 use page_arena::word_in;
 
-/// The first live entry of a table from one on, or 512.
+/// The first live entry of a table from `from` on, or 512.
 #[tactic(auto, unfolding(crate::specs::Table::entry_in_page))]
 pub fn first_live(page: &[u8], from: u16) -> u16
     requires page { length page.now ≡ 4096 }
@@ -25,8 +25,8 @@ pub fn first_live(page: &[u8], from: u16) -> u16
     512
 }
 
-// Whether eight entries of a table, from one on, have words below those of live entries. All bits of their words are
-// compared at once: a number is at most its bitwise or with another.
+// Whether eight entries of a table, from `first` on, have words below those of live entries. All bits of their words
+// are compared at once: a number is at most its bitwise or with another.
 fn are_low(page: &[u8], first: u16) -> bool
     requires page { length page.now ≡ 4096 }
     requires first { first + 8 ≤ 512 }
@@ -59,7 +59,7 @@ pub fn has_live(page: &[u8]) -> bool
     false
 }
 
-/// The first entry of a table from one on whose RIPAS is not changed; `end`, if those before it are all changed.
+/// The first entry of a table from `from` on whose RIPAS is not changed; `end`, if those before it are all changed.
 pub fn first_fixed(page: &[u8], changeable: Changeable, from: u16, end: u16) -> u16
     requires page { length page.now ≡ 4096 }
     requires from { from ≤ end }

@@ -64,7 +64,7 @@ pub fn operand(words: &[TraceWord], place: usize, round: u64) -> u64
     }
 }
 
-/// The words after the first that is a name; none if no word is.
+/// The words after the first word that is the name `name`; none if no word is.
 pub fn after_name(words: &[TraceWord], name: usize) -> &[TraceWord]
     ensures { result.now ≡ after_name name words.now }
 {

@@ -1,4 +1,4 @@
-//! The comparison of an answer that is written with ours. What is not written is not compared.
+//! The comparison of a written answer with ours. What is not written is not compared.
 ghost use Rattle.std.specs.Prelude.{◌≡◌, ◌<◌, ◌∷◌, length};
 ghost use Rattle.std.specs.List.{list_any};
 ghost use Rattle.rmm_trace.specs.Compare.{is_name_among, ordinal, atom_number, mask_of, is_same_number, is_same_atom};
@@ -20,7 +20,7 @@ use crate::word::{Atom, TraceWord};
 
 // ---- values
 
-// Whether a place is one of so many from a first one on.
+// Whether a place is one of `count` places from `first` on.
 fn is_name_among(first: usize, count: usize, place: usize) -> bool
     ensures { result ≡ is_name_among first count place }
 {
@@ -99,7 +99,7 @@ fn is_dash(atom: Atom) -> bool
     }
 }
 
-// Whether a value is the same: `-` is each value, and a mask compares its bits alone.
+// Whether a written value agrees with ours: `-` agrees with any value, and with a mask only its bits are compared.
 fn is_same_value(written: TraceWord, ours: TraceWord) -> bool
     ensures { result ≡ is_same_value written ours }
 {
@@ -113,7 +113,7 @@ pub fn is_register(word: TraceWord) -> bool
     !word.is_listed && (is_dash(word.value) || atom_number(word.value).is_some())
 }
 
-/// Whether a register that is written is ours.
+/// Whether a written register agrees with ours.
 pub fn is_same_register(written: TraceWord, ours: TraceWord) -> bool
     ensures { result ≡ is_same_register written ours }
 {
@@ -382,7 +382,7 @@ fn command_in(question: &[TraceWord]) -> usize
     }
 }
 
-// Whether an answer that is written is ours, for a question of a name.
+// Whether a written answer agrees with ours, for a question whose name has the place `kind`.
 fn is_same_by(
     kind: usize,
     are_checks_compared: bool,
@@ -410,7 +410,7 @@ fn is_same_with(
     is_same_by(command, !has_unsure, written, ours)
 }
 
-/// Whether an answer that is written to a question is ours. A raw call is no question here.
+/// Whether the written answer to a question agrees with ours. A raw call is no question here.
 ///
 /// Calls are compared by their parts, and others word by word. A name of a check that is unsure is not compared.
 pub fn is_same(question: &[TraceWord], written: &[TraceWord], ours: &[TraceWord]) -> bool

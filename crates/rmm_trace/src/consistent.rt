@@ -8,7 +8,7 @@ use crate::access::{after_name, number_at, number_or_zero, operand};
 use crate::place::{FILL, GUEST, PLATFORM, READ, REPEAT, SECURE, WRITE};
 use crate::word::{Atom, TraceWord};
 
-// The end of so many granules from an address on.
+// The end of `count` granules that begin at the address `base`.
 fn end_of(base: u64, count: u64) -> u128
     ensures { result ≡ base + 4096 * count }
 {
@@ -37,7 +37,7 @@ fn is_platform_right(words: &[TraceWord]) -> bool
     end <= 0x1_0000_0000_0000 && is_secure_right(after_name(words, SECURE), base, end)
 }
 
-// The number above the values of so many bytes.
+// The least number above all values of `width` bytes.
 fn limit_of(width: u64) -> u128
     ensures { result ≡ limit_of width }
 {
@@ -49,7 +49,7 @@ fn limit_of(width: u64) -> u128
     }
 }
 
-// Whether a guest can access so many bytes at an address, and a value has as many.
+// Whether a guest can access `width` bytes at an address, and a value fits in them.
 fn is_access(ipa: u64, width: u64, value: u64) -> bool
     ensures { result ≡ is_access ipa width value }
 {

@@ -102,7 +102,7 @@ fn row_of(groups: &[Group], context: u64, name: usize) -> Option<&Group>
 }
 
 impl Place {
-    // Goes to the begin of a group; it returns whether no group came that this one excludes.
+    // Enters a group, unless one that the group excludes has come, and returns whether the group was entered.
     fn enter(&mut self, group: &Group) -> bool
         ensures { if_place result self.new ≡ enter self.old group.now }
     {
@@ -116,7 +116,7 @@ impl Place {
         true
     }
 
-    // Goes on with the name of a group; it returns whether there is one.
+    // Goes on with the name of a group, and returns whether such a group may follow.
     fn open(&mut self, groups: &[Group], atom: Atom) -> bool
         ensures { if_place result self.new ≡ opened groups.now self.old atom }
     {
@@ -129,7 +129,7 @@ impl Place {
         }
     }
 
-    // Goes on with a word; it returns whether a question may.
+    // Goes on with a word, and returns whether a question may have that word here.
     fn advance(&mut self, groups: &[Group], word: &TraceWord) -> bool
         ensures { if_place result self.new ≡ next groups.now self.old word.now }
     {

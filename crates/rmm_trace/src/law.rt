@@ -16,12 +16,12 @@ pub fn printed_words_are_read_back()
         → words_in 64 (slice_split (λ b. b == 32) (sentence_text ws)) ≡ Some ws }
 {}
 
-/// No two sentences are written alike.
+/// Sentences that are written alike are the same.
 pub fn sentences_are_injective()
     ensures { (vs ws : List TraceWord) → IsSentence vs → IsSentence ws → sentence_text vs ≡ sentence_text ws → vs ≡ ws }
 {}
 
-/// A line that is a question's text is that question.
+/// A line that is a question's text is read as that question.
 pub fn printed_questions_are_read_back()
     ensures { (groups : List Group) (start : Place) (ws : List TraceWord)
         → IsSentence ws → is_question groups start ws ≡ true
@@ -29,7 +29,7 @@ pub fn printed_questions_are_read_back()
         → line_in groups start (sentence_text ws) ≡ question_of (record { items = ws }) }
 {}
 
-/// A line that is a question's text and an answer's is that question.
+/// A line of a question's text and an answer's text is read as that question.
 pub fn answered_questions_are_read_back()
     ensures { (groups : List Group) (start : Place) (ws vs : List TraceWord)
         → IsSentence ws → IsSentence vs → is_question groups start ws ≡ true
@@ -38,18 +38,18 @@ pub fn answered_questions_are_read_back()
         ≡ question_of (record { items = ws }) }
 {}
 
-/// The answer's text in a line that is a question's text and an answer's is that answer's.
+/// An answer's text is read back from a line of a question's text and that answer's text.
 pub fn printed_answers_are_read_back()
     ensures { (ws vs : List TraceWord) → IsSentence vs
         → answer_in (bare_text (sentence_text ws ++ (codes " = " ++ sentence_text vs))) ≡ Some (sentence_text vs) }
 {}
 
-/// No two measurements are written alike.
+/// Measurements that are written alike are the same.
 pub fn measurement_texts_are_injective()
     ensures { (a b : List ℕ) → IsBytes a → IsBytes b → encode_lower a ≡ encode_lower b → a ≡ b }
 {}
 
-/// The places that the grammar has are those of their names.
+/// Each constant for the place of a name is the place of that name.
 pub fn places_are_of_their_names()
     ensures { are_places_named ≡ true }
 {}

@@ -22,7 +22,7 @@ pub enum LineKind {
     /// A comment, or an empty line.
     Remark,
     Question,
-    /// No command.
+    /// A line that is no command.
     Neither,
 }
 
@@ -114,7 +114,7 @@ impl RmmTraceLine {
         }
     }
 
-    // Makes it a line without words.
+    // Makes this a line of a kind, without words.
     fn clear(&mut self, kind: LineKind)
         ensures { self.new ≡ without_words kind }
     {
@@ -122,7 +122,7 @@ impl RmmTraceLine {
         self.kind = kind;
     }
 
-    // Makes it the question that a text is, by a grammar; no command if the text is none.
+    // Makes this the question that a text is by a grammar, or no command if the text is no question.
     fn fill(&mut self, groups: &[Group], start: Place, text: &[u8])
         ensures { self.new ≡ as_line (question_in groups.now start text.now) }
     {
@@ -136,7 +136,7 @@ impl RmmTraceLine {
         }
     }
 
-    // Makes it the line of a question's text and of so many bytes, by a grammar.
+    // Makes this the line of a question's text by a grammar, for a line of `bytes` bytes.
     fn fill_by(&mut self, groups: &[Group], start: Place, question: &[u8], bytes: usize)
         ensures { self.new ≡ line_of_question groups.now start question.now bytes }
     {
@@ -149,8 +149,8 @@ impl RmmTraceLine {
         }
     }
 
-    /// Makes it what a line is, and returns the text of the answer that is written in it, if there is one. It takes no
-    /// memory.
+    /// Parses a line into `self`, and returns the text of the answer that is written in the line, if there is one. It
+    /// takes no memory.
     ///
     /// A question in more than `MOST_LINE` bytes is no command.
     pub fn parse<'a>(&mut self, line: &'a [u8]) -> Option<&'a [u8]>

@@ -15,7 +15,7 @@ fn digit(byte: u8) -> u8
     }
 }
 
-// The number of 64 bits that the digits are.
+// The 64-bit number that the digits spell in a base.
 fn value(base: u64, digits: &[u8]) -> Option<u64>
     ensures { result ≡ value_after base 0 digits.now }
 {
@@ -30,7 +30,7 @@ fn value(base: u64, digits: &[u8]) -> Option<u64>
     Some(value)
 }
 
-/// The number of 64 bits that the digits are, if there is a digit, and a zero only alone begins them.
+/// The 64-bit number that the digits spell in a base, if there are digits, without leading zeros.
 pub(crate) fn plain_value(base: u64, digits: &[u8]) -> Option<u64>
     ensures { result ≡ plain_value base digits.now }
 {

@@ -14,7 +14,7 @@ pub const MOST_WORDS: usize = 64;
 /// A sentence: its words.
 pub type Sentence = ArrayVec<TraceWord, MOST_WORDS>;
 
-/// Puts the words that a text is into an empty sentence, and returns whether they are words. It takes no memory.
+/// Reads the words of a text into an empty sentence, and returns whether the text is a sentence. It takes no memory.
 ///
 /// A sentence has 64 places. It is filled where it stays, since a move costs more than the reading.
 pub fn read_into(text: &[u8], words: &mut Sentence) -> bool
@@ -36,7 +36,7 @@ pub fn read_into(text: &[u8], words: &mut Sentence) -> bool
     true
 }
 
-/// The words that a text is. It takes no memory.
+/// The words of a text, if the text is a sentence. It takes no memory.
 pub fn read_words(text: &[u8]) -> Option<Sentence>
     ensures { option_map (λ v. v.items) result ≡ words_in 64 (slice_split (λ b. b == 32) text.now) }
 {

@@ -150,7 +150,7 @@ macro_rules! plain {
     };
 }
 
-// A setting has so many values, and comes once.
+// A setting, which has `$count` values and comes once.
 macro_rules! setting {
     ($name:expr, $place:expr, $count:expr, [$first:expr, $second:expr]) => {
         Group {
@@ -170,7 +170,7 @@ macro_rules! setting {
     };
 }
 
-// A field has up to so many values, and comes before those that follow it in the table.
+// A field, which has up to `$most` values and comes before those that follow it in the table.
 macro_rules! field {
     ($context:expr, $name:expr, $place:expr, $most:expr, $kind:expr) => {
         Group {
@@ -190,7 +190,7 @@ macro_rules! field {
     };
 }
 
-/// The begin of a question, which is no question.
+/// The place at the beginning of a question, where no question may end.
 pub const START: Place = Place {
     group: group!(0, 0, 0, 0, [ANY, ANY, ANY, ANY], LINE, false),
     context: 0,

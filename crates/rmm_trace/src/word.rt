@@ -1,4 +1,4 @@
-//! Words of a line: a name or a number, with what may stand after it.
+//! Words of a line: a name or a number, with an optional mask, step and comma.
 ghost use Rattle.std.specs.Prelude.{◌≡◌};
 ghost use Rattle.std.specs.Option.{option_copied};
 ghost use Rattle.rmm_trace.specs.Words.{number_in, atom_in, tail_in, comma_in, word_in};
@@ -60,7 +60,7 @@ fn read_atom(text: &[u8]) -> Option<Atom>
     }
 }
 
-// What stands after a mark, if the mark is there.
+// The name or number after a mark, or `Some(None)` if the mark is not there.
 fn read_tail(text: Option<&[u8]>) -> Option<Option<Atom>>
     ensures { result ≡ tail_in (option_copied text.entry) }
 {
@@ -113,7 +113,7 @@ impl fmt::Display for Atom {
     }
 }
 
-// A mark and what stands after it, if that is there.
+// A mark and the name or number after it, if there is one.
 #[derive(Clone, Copy)]
 struct TailText<'a>(&'a str, Option<Atom>);
 

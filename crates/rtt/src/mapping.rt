@@ -116,7 +116,7 @@ impl Tables {
         Ok(())
     }
 
-    /// Sets the RIPAS of all `count` IPA granules to RAM, which one table of level 3 serves, or refuses and changes
+    /// Sets the RIPAS of `count` IPA granules, which one table of level 3 serves, to RAM, or refuses and changes
     /// nothing.
     ///
     /// RMM 1.0, RMI_RTT_INIT_RIPAS. Refused with RMI_ERROR_RTT and the level at which the walk ended, unless that is 3

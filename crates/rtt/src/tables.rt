@@ -1,4 +1,4 @@
-//! The tables of a realm, walks and where they end.
+//! The tables of a realm, walks, and their ends.
 ghost use Rattle.std.specs.Prelude.{◌≡◌, ℕ, ◌<◌, ◌≤◌, length, Some};
 ghost use Rattle.granule_addr.specs.Ipa.{entry_index};
 ghost use Rattle.granule_addr.specs.Root.{served_space};
@@ -33,8 +33,8 @@ pub struct EntryAddress {
 }
 
 impl Tables {
-    /// The end of the walk of an IPA granule towards a level: the first entry on the way that is not TABLE, or the one
-    /// at that level.
+    /// The end of the walk of an IPA granule towards a level. That is the first entry on the way that is not TABLE, or
+    /// the one at that level.
     pub fn walk<S: PageStore>(
         &self,
         store: &S,

@@ -5,7 +5,7 @@ ghost use Rattle.run_json.specs.Changes.{one_granule, granules_of, changes_realm
 use granule_addr::{Gran, Level, RecNo};
 use realm_model::Act;
 
-/// Granules: one, `count` granules from the number `from` on, and others.
+/// The granules that an operation changes: one, `count` from the number `from` on, and others.
 #[derive(Drop)]
 pub struct Changed<'a> {
     pub granule: Gran,
@@ -84,8 +84,8 @@ pub fn rec_named_by(act: &Act) -> Option<RecNo>
     }
 }
 
-/// Whether an operation changes what is kept of the realm itself: that it is there, its state, its measurement, or the
-/// number of its next REC.
+/// Whether an operation changes what is kept of the realm itself: its existence, state, measurement, or the number of
+/// its next REC.
 pub fn changes_realm(act: &Act) -> bool
     ensures { result ≡ changes_realm act.now }
 {

@@ -45,7 +45,7 @@ fn settings_of(plan: &Plan) -> MachineSettings
     }
 }
 
-// One turn of a build, and its item.
+// Takes one turn of a build, and appends its item.
 fn push_turn<S: PageStore>(
     alloc: Global,
     items: &mut Vec<TurnItem>,
@@ -66,7 +66,7 @@ fn push_turn<S: PageStore>(
     Ok(())
 }
 
-// Does the turns of a plan, and returns their items.
+// Takes the turns of a plan, and returns their items.
 fn turns_of<S: PageStore>(
     alloc: Global,
     host: &mut Host<S>,
@@ -89,7 +89,7 @@ fn turns_of<S: PageStore>(
     Ok(items)
 }
 
-/// Does the turns of a plan on a host, and makes the document of the run. An `Err` comes only where allocation failed.
+/// Takes the turns of a plan on a host, and makes the document of the run. An `Err` comes only if allocation failed.
 pub fn run_document<S: PageStore>(
     alloc: Global,
     host: &mut Host<S>,

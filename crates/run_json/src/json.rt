@@ -25,7 +25,7 @@ pub fn member<W: Serializer, T: Serialize>(
     value.serialize(out)
 }
 
-/// The JSON text of a value. An `Err` comes only where allocation failed.
+/// The JSON text of a value. An `Err` comes only if allocation failed.
 pub fn json_text<T: Serialize>(alloc: Global, value: &T) -> Result<String, AllocError> {
     match serde_json::to_string(alloc, value) {
         Ok(text) => Ok(text),

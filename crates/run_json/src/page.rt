@@ -5,7 +5,7 @@ ghost use Rattle.run_json.specs.Page.{escaped, page_bytes};
 use crate::template::{HEAD, TAIL};
 use std::alloc::{AllocError, Global};
 
-// Appends a text of JSON, in which no tag begins: each `<` stands as an escape.
+// Appends a text of JSON with each `<` written as an escape, so that no tag begins in it.
 fn push_escaped(page: &mut Vec<u8>, json: &[u8]) -> Result<(), AllocError>
     ensures { OnOk result (page.new.items ≡ page.old.items ++ escaped json.now) }
 {
@@ -19,8 +19,8 @@ fn push_escaped(page: &mut Vec<u8>, json: &[u8]) -> Result<(), AllocError>
     Ok(())
 }
 
-/// The page of a run: the template's head, the data in JSON, and the template's tail. In the data each `<` stands as
-/// `\u003c`, so that it cannot end the script element that it is in. An `Err` comes only where allocation failed.
+/// The page of a run: the template's head, the data in JSON, and the template's tail. In the data each `<` is written
+/// as `\u003c`, so that the data cannot end the script element around it. An `Err` comes only if allocation failed.
 pub fn page_of(alloc: Global, json: &[u8]) -> Result<Vec<u8>, AllocError>
     ensures { IfOk result (λ page. page.items ≡ page_bytes json.now) }
 {

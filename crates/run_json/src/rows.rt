@@ -26,7 +26,7 @@ fn begins_table(row: &RowView) -> bool
     }
 }
 
-// Whether the row says what the one before it does, in the same table.
+// Whether a row has the same entry as the row before it in the same table.
 fn says_the_same(row: &RowView, before: &RowView) -> bool
     ensures { IsTrue result ↔ ((row.now.level ≡ before.now.level) × (row.now.entry ≡ before.now.entry) × (is_table_place row.now.first row.now.level ≡ false)) }
 {
@@ -81,7 +81,7 @@ fn goes_on<S: PageStore>(host: &Host<S>, build: BuildId, row: &RowView, ipa: u32
     }
 }
 
-// The number of rows of a table that say the same, from one row on, and the begin of the next.
+// The number of equal rows of a table from one row on, and the first IPA granule after them.
 fn count_same<S: PageStore>(host: &Host<S>, build: BuildId, row: &RowView) -> (u32, u32)
     requires { first_covered row.now.level row.now.first ≡ row.now.first }
     ensures run { IsRowRun (world_of host.now) build row.now result.0 }

@@ -359,7 +359,7 @@ function withRec(recs, rec) {
 function granuleAt(realm, ipa) {
   return realm.rows.find((row) => row.level === 3 && row.first <= ipa && ipa < row.first + row.count).granule;
 }
-// What an event does, as its word and its numbers.
+// The operation of an event, as its word and its numbers.
 function eventOf(turn) {
   const [, word, ...numbers] = turn.event.split(\" \");
   return { word, numbers: numbers.map(Number) };
@@ -445,7 +445,7 @@ const isNarrow = matchMedia(\"(max-width: 760px)\");
 const columnsNow = () => Math.min(pages, COLUMNS[SIZE][isNarrow.matches ? 1 : 0]);
 const hasBytes = (state) => state === \"UNDELEGATED\" || state === \"DELEGATED\" || state === \"DATA\";
 
-// What the page of a granule contains: the RMM's own, nothing but zeros, or more.
+// The contents of a granule's page: the RMM's own, nothing but zeros, or more.
 const kindOf = (state, page) => (!hasBytes(state) ? \"\" : page.sum === 0 ? \"zero\" : \"full\");
 function contentText(state, page) {
   if (!hasBytes(state)) return \"holds what the RMM keeps there\";
@@ -622,7 +622,7 @@ const bare = (text, label) => (text.startsWith(label + \": \") ? text.slice(labe
 const isRefused = (turn) => turn.accepted === false;
 const lineOf = (turn) => turn.build + (turn.step === null ? \" - idle\" : \" \" + turn.step + \" = \" + turn.answer);
 
-// Of the turn at a place: why it was refused, and what mends it; or what it added to the history.
+// The text of the turn at a place: the reason and the help of a refusal, or the event that it added to the history.
 function reasonOf(at) {
   const turn = turns[at], found = refusedAt.get(at);
   if (turn.step === null) return { text: \"The build has no step left.\" };
@@ -794,7 +794,7 @@ function chooseTheme(theme) {
   themeAsked = theme;
   setTheme(theme);
 }
-// The number in a part of the address, where it is a count up to `most`.
+// The number in a part of the address, if it is a count up to `most`.
 function countIn(text, most) {
   return /^(0|[1-9][0-9]{0,5})$/.test(text) && Number(text) <= most ? Number(text) : undefined;
 }

@@ -27,8 +27,7 @@ pub struct StepItem {
     pub answer: TurnAnswer,
 }
 
-/// An event, and what it names, as the host has it after the turn. A list is empty where the event changes no such
-/// thing.
+/// An event, and what it names, as the host has it after the turn. A list is empty if the event changes no such thing.
 #[derive(Drop)]
 pub struct EventItem {
     pub event: Event,
@@ -38,8 +37,7 @@ pub struct EventItem {
     pub realm: Option<Option<RealmItem>>,
 }
 
-/// A turn of a build: its step, if one is left, the event that it added, if it added one, and what the host keeps of
-/// the build after it.
+/// A turn of a build: its step and its event, if it has them, and what the host keeps of the build after it.
 #[derive(Drop)]
 pub struct TurnItem {
     pub build: BuildId,
@@ -128,7 +126,7 @@ fn step_item(
     })
 }
 
-/// The step of a turn, which is the one at that place, and its answer; none where the build has no step left.
+/// The step of a turn, with its place and its answer; `None` if the build has no step left.
 pub fn step_of(
     alloc: Global,
     place: usize,
@@ -144,7 +142,7 @@ pub fn step_of(
 
 // ---- what an event changed
 
-// Appends the granule of that number, where there can be one.
+// Appends the granule of that number, if a granule can have it.
 fn push_numbered<S: PageStore>(
     items: &mut Vec<Option<GranuleItem>>,
     host: &Host<S>,
@@ -315,8 +313,7 @@ fn event_at<S: PageStore>(
     }
 }
 
-/// The item of a turn that a build has taken with this step and answer, where the history had `before` events before
-/// it.
+/// The item of a turn that a build has taken after `before` events of the history, with this step and answer.
 pub fn turn_item<S: PageStore>(
     alloc: Global,
     host: &Host<S>,

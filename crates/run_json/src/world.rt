@@ -185,7 +185,7 @@ fn builds_of<S: PageStore>(alloc: Global, host: &Host<S>) -> Result<Vec<BuildIte
     Ok(items)
 }
 
-/// The world of a host. An `Err` comes only where allocation failed.
+/// The world of a host. An `Err` comes only if allocation failed.
 pub fn world_item<S: PageStore>(alloc: Global, host: &Host<S>) -> Result<WorldItem, AllocError>
     ensures { IfOk result (IsWorldItem host.now) }
 {

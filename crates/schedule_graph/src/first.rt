@@ -1,4 +1,4 @@
-//! The first paths that show a label, and that show none.
+//! The first path that shows a sign, and the first that shows none.
 ghost use Rattle.std.specs.Prelude.{◌≡◌, ◌<◌, nat_lt, Bool, true, option_map, slice_index_or, [], IfOk, Some, map, vec_items};
 ghost use Rattle.std.specs.List.{find};
 ghost use Rattle.schedule_graph.specs.First.{layers_in, path_numbers_in, first_like, any_path, shows_none};
@@ -75,8 +75,8 @@ fn edges_at<L>(layer: &[Vec<Edge<L>>], state: usize) -> &[Edge<L>]
     }
 }
 
-// The labels of the first path from the first state that is like that. `accept` says whether a path is, by whether it
-// shows the sign. The numbers are those of the paths that are, if they have shown the sign before, and if not.
+// The labels of the first accepted path from the first state. `accept` decides by whether a path shows the sign.
+// `with_it` counts the accepted paths once the sign was shown, and `without_it` before.
 fn walk<L: Copy, S: Sign<L>>(
     alloc: Global,
     layers: &[Vec<Vec<Edge<L>>>],
@@ -109,8 +109,8 @@ fn walk<L: Copy, S: Sign<L>>(
     Ok(labels)
 }
 
-/// The labels of the first path from the first state that shows the sign, by the numbers of all paths and of those that
-/// do; None if none does. The one error is that allocation failed.
+/// The labels of the first path that shows the sign, from the first state; None if no path does. `all` counts all
+/// paths, and `with_it` those that show the sign. The one error is that allocation failed.
 pub fn first_with<L: Copy, S: Sign<L>>(
     alloc: Global,
     layers: &[Vec<Vec<Edge<L>>>],
@@ -128,8 +128,8 @@ pub fn first_with<L: Copy, S: Sign<L>>(
     Ok(Some(walk(alloc, layers, sign, all, with_it)?))
 }
 
-/// The labels of the first path from the first state that does not show the sign, by the numbers of those that do not;
-/// None if each does. The one error is that allocation failed.
+/// The labels of the first path that does not show the sign, from the first state; None if each path does. `without_it`
+/// counts the paths that do not. The one error is that allocation failed.
 pub fn first_without<L: Copy, S: Sign<L>>(
     alloc: Global,
     layers: &[Vec<Vec<Edge<L>>>],

@@ -12,7 +12,7 @@ pub struct Edge<L> {
     pub to: usize,
 }
 
-/// A property of labels.
+/// A property of labels; a path shows it if one of the path's labels has it.
 pub trait Sign<L> {
     ghost is_on: { Self → L → Bool };
 
@@ -49,7 +49,7 @@ fn count_from<L>(
     Ok(sum)
 }
 
-// The number of those that show the sign.
+// The number of paths from a state with these edges that show the sign.
 fn count_with<L, S: Sign<L>>(
     alloc: Global,
     edges: &[Edge<L>],
@@ -71,7 +71,7 @@ fn count_with<L, S: Sign<L>>(
     Ok(sum)
 }
 
-// The number of those that do not.
+// The number of paths from a state with these edges that do not show the sign.
 fn count_without<L, S: Sign<L>>(
     alloc: Global,
     edges: &[Edge<L>],
@@ -110,8 +110,8 @@ pub fn count_paths<L>(
     Ok(counts)
 }
 
-/// The number of paths from each state of a layer that show the sign, by the counts of the next layer: of all paths,
-/// and of those that show it. The one error is that allocation failed.
+/// The number of paths from each state of a layer that show the sign, by the counts of the next layer. `next` counts
+/// all paths, and `next_with` those that show the sign. The one error is that allocation failed.
 pub fn count_paths_with<L, S: Sign<L>>(
     alloc: Global,
     layer: &[Vec<Edge<L>>],

@@ -25,7 +25,7 @@ pub fn a_state_decides_its_turns()
     ensures map { (one other : Position) → AreOneState one other → map_text other.host ≡ map_text one.host }
 {}
 
-/// What other builds did decides nothing of a call that needs no block and no VMID. Take hosts of the same machine on
+/// A call that needs no block and no VMID does not depend on what other builds did. Take hosts of the same machine on
 /// which the build did the same, and is in abort on both or neither. There a call has the same refusal, and a command
 /// the same operation.
 pub fn a_build_decides_its_own_calls()

@@ -154,7 +154,7 @@ impl Count {
         Ok(Count { digits })
     }
 
-    /// The number once more. The one error is that allocation failed.
+    /// A copy of the number. The one error is that allocation failed.
     pub(crate) fn copy(&self, alloc: Global) -> Result<Count, AllocError>
         ensures { IfOk result (λ copy. copy ≡ self.now) }
     {
@@ -189,14 +189,14 @@ impl Count {
         add_digits(&mut self.digits, &other.digits)
     }
 
-    /// Whether it is 0.
+    /// Whether the number is 0.
     pub fn is_zero(&self) -> bool
         ensures { result ≡ (self.now == 0) }
     {
         trimmed(&self.digits).is_empty()
     }
 
-    /// Whether it is the same number.
+    /// Whether the two numbers are the same.
     pub fn is_same(&self, other: &Count) -> bool
         ensures { result ≡ (self.now == other.now) }
     {

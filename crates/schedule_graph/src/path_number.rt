@@ -5,7 +5,7 @@ use crate::number::Count;
 use std::alloc::{AllocError, Global};
 use std::marker::Model;
 
-/// A number of any size: what is below 2^128, and how many times 2^128 there is beside it. Seen as the number.
+/// A number of any size: its remainder and its quotient by 2^128. Seen as the number.
 #[derive(Drop)]
 pub struct PathNumber {
     low: u128,
@@ -53,7 +53,7 @@ impl PathNumber {
         self.high.add(&other.high)
     }
 
-    /// Whether it is 0.
+    /// Whether the number is 0.
     pub fn is_zero(&self) -> bool
         ensures { result ≡ (self.now == 0) }
     {

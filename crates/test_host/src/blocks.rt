@@ -9,7 +9,7 @@ use granule_addr::{Gran, Order};
 use page_arena::PageStore;
 use std::process::Abort;
 
-// The free blocks that lie in no larger one are these, and no others.
+// Checks that the free blocks that lie in no larger one are these, and no others.
 fn has_blocks(rt: &impl Abort, arena: &BuddyArena, wanted: &[(u8, u16)]) {
     for number in 0..10 {
         for first in 0..arena.pages() {
@@ -20,7 +20,7 @@ fn has_blocks(rt: &impl Abort, arena: &BuddyArena, wanted: &[(u8, u16)]) {
     }
 }
 
-// That page is taken. It has been free.
+// Takes that page, which has to be free.
 #[tactic(auto, using(page_arena::specs::Blocks::taken_block))]
 fn takes_the_page<S: PageStore>(rt: &impl Abort, store: &mut S, page: Gran, one: Order)
     ensures { IsTakenBlock (S.free_flags store.new) one page }
@@ -30,7 +30,7 @@ fn takes_the_page<S: PageStore>(rt: &impl Abort, store: &mut S, page: Gran, one:
     }
 }
 
-// Blocks of 13 pages: the last page of the block at 8 makes two halves of it, and they merge when it comes back.
+// Blocks of 13 pages: page 9 splits the block at 8, and the parts merge when the page comes back.
 #[test]
 fn thirteen_pages(rt: HostRuntime) {
     let mut arena = built(&rt, BuddyArena::build(rt.alloc(), 13));

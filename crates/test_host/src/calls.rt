@@ -14,14 +14,14 @@ pub(crate) type Script = &'static [(u8, Call)];
 
 /// A command of a build.
 pub(crate) enum Command {
-    /// A block of 2^order pages is leased.
+    /// Leases a block of 2^order pages.
     Take(u8),
-    /// Every byte of a page gets the value.
+    /// Sets every byte of a page to the value.
     Fill(u16, u8),
     Delegate(u16),
-    /// Pages 0 and 1 become the RD and the starting table of a realm.
+    /// Turns pages 0 and 1 into the RD and the starting table of a realm.
     Realm,
-    /// Page 2 becomes a REC.
+    /// Turns page 2 into a REC.
     Rec,
 }
 
@@ -37,12 +37,12 @@ pub(crate) enum Said {
 pub(crate) enum No {
     Build,
     Aborting,
-    /// The build has no such page.
+    /// A page that the build does not have.
     Page(u16),
     NothingToUndo,
 }
 
-/// Two marks of a script.
+/// One of the last two marks of a script.
 pub(crate) enum Which {
     Newest,
     /// The mark before the newest one.
@@ -59,7 +59,7 @@ pub(crate) enum Call {
     /// A mark, with so many operations open.
     Mark(Result<u16, No>),
     CheckBack(Which, Result<u16, No>),
-    /// A way back, first checked and then gone, with one answer.
+    /// A way back, first checked and then taken, with the same answer to both.
     GoBack(Which, Result<u16, No>),
     /// The number of free pages, of all pages, and of the build's.
     Pages(u16, u16, u16),

@@ -17,7 +17,7 @@ fn failure(call: u64) -> io::Error {
     }
 }
 
-/// Gives up to `most` bytes a read, and fails at one of its reads, counted from 0.
+/// An input that gives at most `most` bytes a read, and fails at one of its reads, counted from 0.
 #[derive(Drop)]
 pub(crate) struct Source<'a> {
     pub rest: &'a [u8],
@@ -40,7 +40,7 @@ impl Read for Source<'_> {
     }
 }
 
-/// Takes up to `most` bytes a write, and fails at one of its writes, counted from 0, or at its flush.
+/// An output that takes at most `most` bytes a write, and fails at one of its writes, counted from 0, or at its flush.
 #[derive(Drop)]
 pub(crate) struct Sink {
     got: Vec<u8>,
@@ -176,7 +176,7 @@ pub(crate) struct Outcome<'a> {
 }
 
 impl<'a> Outcome<'a> {
-    /// A text is written whole, in that many writes.
+    /// The outcome of a text that is written whole, in that many writes.
     pub(crate) fn printed(text: &'a [u8], writes: u64) -> Outcome<'a> {
         Outcome {
             end: Ok(()),
@@ -187,7 +187,7 @@ impl<'a> Outcome<'a> {
         }
     }
 
-    /// The program ends so, and writes nothing.
+    /// The outcome of a program that ends with that fault, and writes nothing.
     pub(crate) fn nothing(fault: Fault, left: usize) -> Outcome<'a> {
         Outcome {
             end: Err(fault),
@@ -198,7 +198,7 @@ impl<'a> Outcome<'a> {
         }
     }
 
-    /// A write fails after these bytes, each of them in a write of its own.
+    /// The outcome of a write that fails after these bytes, each of them in a write of its own.
     pub(crate) fn cut(text: &'a [u8]) -> Outcome<'a> {
         Outcome {
             end: Err(Fault::Device),
@@ -209,7 +209,7 @@ impl<'a> Outcome<'a> {
         }
     }
 
-    /// The end of a program is this one.
+    /// Checks that a program came to this outcome.
     pub(crate) fn came(
         &self,
         rt: &impl Abort,

@@ -5,22 +5,22 @@
 use page_arena::BuildError;
 use std::process::Abort;
 
-/// A number is the expected one.
+/// Checks that a number is the expected one.
 pub(crate) fn equal(rt: &impl Abort, what: &str, seen: u64, want: u64) {
     assert_eq!(rt; seen, want, "{what}");
 }
 
-/// A text is the expected one.
+/// Checks that a text is the expected one.
 pub(crate) fn same_text(rt: &impl Abort, seen: &str, want: &str) {
     assert_eq!(rt; seen, want);
 }
 
-/// It holds: 1, and not 0.
+/// Checks that a fact holds, as the number 1 and not 0.
 pub(crate) fn holds(rt: &impl Abort, what: &str, is_so: bool) {
     equal(rt, what, u64::from(is_so), 1);
 }
 
-/// It holds at that place of a table.
+/// Checks that a fact holds at that place of a table.
 pub(crate) fn holds_at(rt: &impl Abort, what: &str, place: usize, is_so: bool) {
     assert!(rt; is_so, "{what}, row {place}");
 }

@@ -5,7 +5,7 @@ use std::sync::atomic::{AtomicU64, Ordering};
 use std::thread;
 use std::time::{Clock, Duration};
 
-/// Lets a build's turn 2 pass only after the other one of two builds has asked for its turn 2.
+/// A gate that gives one of two builds its turn 2 only after the other build has asked for its own turn 2.
 #[derive(Drop)]
 pub(crate) struct Together<'a, C: Clock> {
     clock: &'a C,
@@ -49,7 +49,7 @@ impl<'a, C: Clock> Gate for Together<'a, C> {
     }
 }
 
-/// Stops all builds but build 0 at their turn 1.
+/// A gate that stops all builds but build 0 at their turn 1.
 #[derive(Drop)]
 pub(crate) struct ForBuild0;
 

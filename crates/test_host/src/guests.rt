@@ -19,7 +19,7 @@ pub struct Guest<L: Ledgers> {
 }
 
 impl<L: Ledgers> Guest<L> {
-    /// Takes its steps.
+    /// Takes the steps of the guest.
     pub(crate) fn run<R: Wait + Abort, S: PageStore, G: Gate>(
         &mut self,
         rt: &R,

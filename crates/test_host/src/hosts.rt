@@ -57,7 +57,7 @@ pub(crate) fn over_arena(
     }
 }
 
-/// The host is shared, with a seat for each of its builds.
+/// Shares the host, with a seat for each of its builds.
 pub(crate) fn started<S: PageStore + Drop, L: Ledgers>(
     rt: &impl Abort,
     alloc: Global,

@@ -13,7 +13,7 @@ pub(crate) enum No {
     RecRunning,
     /// RMI_ERROR_INPUT
     Input,
-    /// The build has no such page.
+    /// A page that the build does not have.
     Page(u16),
 }
 
@@ -25,16 +25,16 @@ pub(crate) enum Line {
     Page(usize, u16),
     Byte(usize, u8),
     Marked(usize, u16),
-    /// An abort or a way back has nothing to undo.
+    /// An abort or a way back with nothing to undo.
     Nothing(usize),
     No(usize, No),
-    /// An abort or a way back undoes an operation of that kind, and leaves so many open.
+    /// An undo of an operation of that kind by an abort or a way back, which leaves so many open.
     StepUndone(usize, Kind, u16),
-    /// After a refusal an operation of that kind is undone, and so many are left open.
+    /// An undo of an operation of that kind after a refusal, which leaves so many open.
     Undone(Kind, u16),
-    /// After a refusal an undo is refused, since the history is full.
+    /// An undo after a refusal, itself refused, since the history is full.
     UndoRefused,
-    /// After a refusal that REC stops running.
+    /// The exit of that REC after a refusal.
     Exited(u16),
 }
 
@@ -90,7 +90,7 @@ impl Line {
     }
 }
 
-/// The lines of a report are those that are wanted.
+/// Checks that the lines of a report are the expected ones.
 pub(crate) fn has_lines(rt: &impl Abort, name: &str, seen: &[ReportLine], want: &[Line]) {
     for place in 0..want.len() {
         let is_so = seen.get(place) == Some(&want[place].of_report());

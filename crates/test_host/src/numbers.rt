@@ -5,7 +5,7 @@ use granule_addr::{IpaGran, IpaWidth, Level, index_at, is_protected, start_table
 use realm_model::{Ripas, Rmi, Status};
 use rtt::Entry;
 
-// IPA granules and widths, and the entries of levels that cover each; of level 1, of the starting table that serves it.
+// An IPA granule and its width, its starting table, a level, and the index of the entry that covers it at that level.
 //
 // 788,999 is 3 * 2^18 + 5 * 2^9 + 7. The second starting table begins at 2^27.
 const ENTRIES: [(u32, u8, u16, u8, u16); 7] = [
@@ -82,7 +82,7 @@ fn result_words(rt: HostRuntime) {
     }
 }
 
-// An entry and its word name one another.
+// Whether a word is that of an entry, and the entry that of the word.
 fn is_word_of(entry: Entry, word: u64) -> bool {
     entry.to_word() == word && Entry::from_word(word) == entry
 }

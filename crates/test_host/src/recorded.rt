@@ -27,8 +27,8 @@ const EVENTS: &[(u8, Recorded, u16, bool)] = &[
     (0, Recorded::UnTake, 2, true),
 ];
 
-// The history is made of the events that are applied: two pages are leased, the first of them is delegated, and both
-// operations are reversed.
+// The history of the events that are applied: two pages are leased, the first of them is delegated, and both operations
+// are reversed.
 const HISTORY: &[Recorded] = &[
     Recorded::Take,
     Recorded::Delegate,
@@ -49,7 +49,7 @@ fn event(build: BuildId, recorded: &Recorded, granule: u16) -> Event {
     Event { build, act }
 }
 
-// An event is applied, or it is not.
+// Checks that an event is applied, or that it is not, as its row says.
 fn is_applied<S: PageStore>(
     rt: &impl Abort,
     host: &mut Host<S>,
@@ -62,7 +62,7 @@ fn is_applied<S: PageStore>(
     holds_at(rt, "an event", place, is_applied == *want);
 }
 
-// The history has these events, and no other.
+// Checks that the history has these events, and no other.
 fn has_history(rt: &impl Abort, history: &[Event]) {
     let build = BuildId::new(0).unwrap();
     equal(rt, "events", history.len() as u64, 4);

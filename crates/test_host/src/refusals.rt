@@ -26,7 +26,7 @@ const TEXTS: [(Refusal, &str); 12] = [
     ),
 ];
 
-// A refusal has that text.
+// Checks that a refusal has that text.
 fn has_text(rt: &impl Abort, alloc: Global, refusal: Refusal, text: &str) {
     let seen = format!(in alloc; "{refusal}").expect(rt, "memory");
     assert_eq!(rt; seen.as_str(), text);

@@ -1,4 +1,4 @@
-//! Each command of a build is refused once, while two other builds go on.
+//! Tests in which each command of a build is refused once, while two other builds go on.
 ghost use Rattle.std.specs.Prelude.{◌≡◌, []};
 ghost use Rattle.build_seats.specs.Names.{AreNamed};
 
@@ -20,7 +20,7 @@ use std::thread;
 use std::thread::Threads;
 use std::time::Clock;
 
-// The report of a guest, refused that step or none, is as it has to be.
+// Checks the report of a guest that was refused that step or none.
 fn is_reported(rt: &impl Abort, report: &Option<Report>, refused: Option<usize>) {
     let report = report.as_ref().expect(rt, "a report");
     match refused {
@@ -29,7 +29,7 @@ fn is_reported(rt: &impl Abort, report: &Option<Report>, refused: Option<usize>)
     }
 }
 
-// A guest has ended, and its report is as it has to be. Its seat comes back.
+// Checks that a guest has ended with the report that it has to have, and returns its seat.
 fn ended<L: Ledgers>(rt: &impl Abort, guest: Guest<L>) -> Seat<L> {
     let Guest {
         seat,
@@ -43,7 +43,7 @@ fn ended<L: Ledgers>(rt: &impl Abort, guest: Guest<L>) -> Seat<L> {
     seat
 }
 
-// Guests have ended, and their seats come back.
+// Checks that guests have ended, and returns their seats.
 fn all_ended<L: Ledgers>(rt: &impl Abort, alloc: Global, guests: Vec<Guest<L>>) -> Vec<Seat<L>> {
     let mut seats = Vec::new(alloc);
     for guest in guests {
@@ -52,7 +52,7 @@ fn all_ended<L: Ledgers>(rt: &impl Abort, alloc: Global, guests: Vec<Guest<L>>) 
     seats
 }
 
-// Guests work side by side, and build 1 is refused that step. Their reports are as they have to be.
+// Runs guests side by side, with build 1 refused that step, and checks their reports.
 fn run_guests<
     R: Threads + Wait + Abort + Sync,
     S: PageStore + Drop + Send,
@@ -92,7 +92,7 @@ fn work_together<
     closed(rt, shared, seats)
 }
 
-// What is left of a host on which build 1 is refused that step, at a gate where builds wait like this.
+// The host after build 1 is refused that step, at a gate where builds wait like this.
 fn host_after<R: Threads + Wait + Abort + Clock + Sync>(
     rt: &R,
     alloc: Global,
@@ -104,14 +104,15 @@ fn host_after<R: Threads + Wait + Abort + Clock + Sync>(
     work_together::<R, PlainStore, Turns<R>, Brand>(rt, alloc, Blanks::new(), host, &gate, refused)
 }
 
-// Nothing is left of build 1, and the others have all that they have built.
+// Checks that nothing is left of build 1, and the others have all that they have built.
 fn is_left_by_two(rt: &impl Abort, alloc: Global, host: &Host<PlainStore>) {
     has_two_guests(rt, alloc, host);
     let mut fresh = booted(rt, alloc, 24, 1, 3);
     is_without_build_1(rt, alloc, host, &mut fresh);
 }
 
-// Nothing is left of build 1, at whichever step it is refused, and the others have all that they have built.
+// Checks that nothing is left of build 1, at whichever step it is refused, and the others have all that they have
+// built.
 fn refused_at_each<R: Threads + Wait + Abort + Clock + Sync>(
     rt: &R,
     alloc: Global,

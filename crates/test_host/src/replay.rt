@@ -20,7 +20,7 @@ const TEXT: &[u8] = b"0 take 0 = ok 0
 free 0
 ";
 
-// The plan in the input is replayed, and this comes of it.
+// Replays the plan in the input, and checks the outcome.
 fn replays(
     rt: &impl Abort,
     alloc: Global,

@@ -6,13 +6,13 @@ use builders::{Answer, Asked, Report, ReportLine};
 use realm_host::Kind;
 use std::process::Abort;
 
-// A place of a report has that line.
+// Checks that a place of a report has that line.
 fn has_line(rt: &impl Abort, report: &Report, place: usize, want: &Line) {
     let is_so = report.lines.get(place) == Some(&want.of_report());
     holds_at(rt, "a line of a guest", place, is_so);
 }
 
-// The first steps of a report are accepted, each at its own place.
+// Checks that the first steps of a report are accepted, each at its own place.
 fn accepted(rt: &impl Abort, report: &Report, steps: usize) {
     for step in 0..steps {
         let is_so = match report.lines.get(step) {
@@ -28,7 +28,7 @@ fn accepted(rt: &impl Abort, report: &Report, steps: usize) {
     }
 }
 
-/// Each step is accepted, and nothing else was asked.
+/// Checks that each step is accepted, and nothing else was asked.
 pub(crate) fn is_accepted(rt: &impl Abort, report: &Report) {
     accepted(rt, report, STEPS);
     equal(rt, "lines", report.lines.len() as u64, STEPS as u64);
@@ -51,7 +51,7 @@ const UNDOS: &[(usize, Line)] = &[
     (0, Line::Undone(Kind::Take, 0)),
 ];
 
-// From that place on, a report has the undos of the steps before the refused one, and no other line.
+// Checks that a report has, from that place on, the undos of the steps before the refused one, and no other line.
 fn is_undone(rt: &impl Abort, report: &Report, mut place: usize, refused: usize) {
     for (step, undo) in UNDOS {
         if *step < refused {
@@ -62,7 +62,8 @@ fn is_undone(rt: &impl Abort, report: &Report, mut place: usize, refused: usize)
     equal(rt, "lines", report.lines.len() as u64, place as u64);
 }
 
-/// The steps before one are accepted, and that one is refused. Then a REC that runs exits, and all is undone.
+/// Checks that the steps before one are accepted, and that one is refused. Then a REC that runs exits, and all is
+/// undone.
 pub(crate) fn is_refused(rt: &impl Abort, report: &Report, refused: usize) {
     accepted(rt, report, refused);
     has_line(rt, report, refused, &Line::No(refused, No::Input));

@@ -32,7 +32,7 @@ free 0
 audit ok
 ";
 
-// The plan in the input is run in threads at that gate, and this comes of it.
+// Runs the plan in the input in threads at that gate, and checks the outcome.
 fn runs<R: Threads + Wait + Abort + Sync, G: Gate + Sync>(
     rt: &R,
     alloc: Global,

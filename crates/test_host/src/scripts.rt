@@ -4,7 +4,7 @@ use realm_host::{GranuleState, Kind, RealmState};
 
 const FIRST_PAGE: Result<Said, No> = Ok(Said::FirstPage(0));
 
-// A build in abort is refused what is no undo.
+// A script in which a build in abort is refused all but undos.
 const ABORTS: Script = &[
     (1, Call::Ask(Command::Take(0), Err(No::Build))),
     (0, Call::Ask(Command::Fill(0, 1), Err(No::Page(0)))),
@@ -19,7 +19,7 @@ const ABORTS: Script = &[
     (0, Call::Ask(Command::Take(0), FIRST_PAGE)),
 ];
 
-// A build goes back to a mark, and cannot once its way back has undone what was open there.
+// A script in which a build goes back to a mark, but not after an undo of an operation that was open there.
 const MARKS: Script = &[
     (0, Call::Ask(Command::Take(2), FIRST_PAGE)),
     (0, Call::Ask(Command::Delegate(0), Ok(Said::Done))),
@@ -40,7 +40,7 @@ const MARKS: Script = &[
     (0, Call::Pages(0, 4, 4)),
 ];
 
-// Only the newest mark is one to go back to, of its own build, and not in an abort.
+// A script in which a build can go back to its own newest mark alone, and not in an abort.
 const REFUSED_MARKS: Script = &[
     (0, Call::Mark(Ok(0))),
     (0, Call::Ask(Command::Take(2), FIRST_PAGE)),
@@ -67,7 +67,7 @@ const AFTER_REC_1: [u8; 32] = [
     0xc8, 0x69, 0x36, 0xf5, 0x54, 0x8a, 0x22, 0x82, 0xdc, 0x5d, 0xd6, 0xf5, 0x8a, 0x3c, 0x8c, 0xcd,
 ];
 
-// A REC that is undone stays measured.
+// A script in which a REC that is undone stays measured.
 const MEASUREMENT: Script = &[
     (0, Call::Pages(4, 4, 0)),
     (0, Call::Realm(None)),
@@ -87,7 +87,7 @@ const MEASUREMENT: Script = &[
     (0, Call::Measurement(Some(AFTER_REC_1))),
 ];
 
-// A program that runs plans cannot ask for a build that the host has not got.
+// Calls of a build that the host does not have, which no plan can make.
 const NO_BUILD: Script = &[
     (2, Call::Ask(Command::Take(10), Err(No::Build))),
     (2, Call::Undo(Err(No::Build))),

@@ -21,7 +21,7 @@ use std::sync::Wait;
 // Commands of a seat, as a plan spells them, and the answer of each. The steps of lines count for nothing.
 type Script = &'static [(&'static str, Line)];
 
-// A seat asks for a command, and is answered so.
+// Asks for a command through a seat, and checks the answer.
 fn asks<R: Wait + Abort, L: Ledgers>(
     rt: &R,
     shared: &Shared<PlainStore, L>,
@@ -37,7 +37,7 @@ fn asks<R: Wait + Abort, L: Ledgers>(
     holds(rt, word, answer == want);
 }
 
-// A seat asks for commands, one after the other.
+// Asks for commands through a seat, one after the other.
 fn runs<R: Wait + Abort, L: Ledgers>(
     rt: &R,
     shared: &Shared<PlainStore, L>,
@@ -53,7 +53,7 @@ fn runs<R: Wait + Abort, L: Ledgers>(
     }
 }
 
-// A seat keeps a mark, delegates its page, and goes back.
+// Keeps a mark through a seat, delegates its page, and goes back.
 fn goes_back<R: Wait + Abort, L: Ledgers>(
     rt: &R,
     shared: &Shared<PlainStore, L>,
@@ -93,7 +93,7 @@ const WORKS: [(Script, Script); 2] = [
     ),
 ];
 
-// The seats of two builds work, one after the other.
+// Works through the seats of two builds, one after the other.
 fn all_work<R: Wait + Abort, L: Ledgers>(
     rt: &R,
     shared: &Shared<PlainStore, L>,
@@ -114,7 +114,7 @@ fn has_ten_events(rt: &impl Abort, host: &Host<PlainStore>) {
     equal(rt, "events", host.history().len() as u64, 10);
 }
 
-// A host is closed, or not, and has ten events. At `Some` is what was wrong.
+// The reason why a host was not closed, if it was not. In both cases the host has to have ten events.
 fn fault_of_close(
     rt: &impl Abort,
     closed: &Result<Host<PlainStore>, (CloseFault, Host<PlainStore>)>,
@@ -131,8 +131,8 @@ fn fault_of_close(
     }
 }
 
-// Two builds work on a shared host. It is closed with the first `kept` of their seats; at `Some` is what was wrong
-// then.
+// Works on a shared host with two builds, and closes it with the first `kept` of their seats. Returns the fault, if
+// there is one.
 fn closed<R: Wait + Abort, L: Ledgers>(
     rt: &R,
     alloc: Global,
@@ -191,7 +191,7 @@ const FILL_FOUR: [Script; 2] = [
     ],
 ];
 
-// The seats of two builds fill four pages each, one after the other.
+// Fills four pages through each seat of two builds, one after the other.
 fn all_fill<R: Wait + Abort, L: Ledgers>(
     rt: &R,
     shared: &Shared<PlainStore, L>,
@@ -203,7 +203,7 @@ fn all_fill<R: Wait + Abort, L: Ledgers>(
     }
 }
 
-// Each build of a host fills four pages. The host is closed, and this is its map.
+// The map of a host that is closed after each build has filled four pages.
 fn map_of_filled<R: Wait + Abort, L: Ledgers>(
     rt: &R,
     alloc: Global,

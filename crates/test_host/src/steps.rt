@@ -7,7 +7,7 @@ use std::process::Abort;
 /// The steps of a build, as a plan spells them.
 pub(crate) type Words = &'static [&'static str];
 
-/// The steps that are spelled so.
+/// The steps that these words spell.
 pub(crate) fn steps_of(rt: &impl Abort, alloc: Global, words: Words) -> Vec<Step> {
     let mut steps = Vec::new(alloc);
     for word in words {
@@ -17,13 +17,13 @@ pub(crate) fn steps_of(rt: &impl Abort, alloc: Global, words: Words) -> Vec<Step
     steps
 }
 
-/// The first two pages of a build, with the first one filled.
+/// The steps that take two pages, and fill the first one.
 pub(crate) const FILLS: Words = &["take 1", "fill 0 1"];
 
-/// The third step is refused by the RMM.
+/// Steps of which the RMM refuses the third.
 pub(crate) const IS_REFUSED: Words = &["take 1", "delegate 0", "delegate 0", "fill 1 5"];
 
-/// The build reads the last byte of what it filled.
+/// The steps that take a page, fill it, and read its last byte.
 pub(crate) const READS: Words = &["take 0", "fill 0 2", "peek 0 4095"];
 
 /// The number of steps of a guest.
@@ -32,8 +32,8 @@ pub(crate) const STEPS: usize = 18;
 /// The step that enters the REC, which runs from then on.
 pub(crate) const ENTER: usize = 16;
 
-// From eight pages to a realm that runs: its one page of memory has the bytes of page 5 but for the last, which its REC
-// writes. The value of page 5 is left to each guest.
+// The steps from eight pages to a realm that runs. Its one page of memory has the bytes of page 5 but for the last,
+// which its REC writes. The value of page 5 is left to each guest.
 const GUEST: Words = &[
     "take 3",
     "fill 5 0",

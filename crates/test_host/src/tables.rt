@@ -14,13 +14,14 @@ use rmi_monitor::Monitor;
 use std::alloc::Global;
 use std::process::Abort;
 
-// A command that has to be done, or the words of a page. The realm is that of granule 0, and each IPA is 0.
+// A command that has to succeed, or the words that a page has to have. The realm is that of granule 0, and each IPA is
+// 0.
 enum Call {
     Fill(u16, u8),
     Delegate(u16),
     // The starting table.
     Realm(u16),
-    // A granule becomes the table of that level.
+    // The granule of a table, and the table's level.
     Table(u16, u8),
     // The page, and the source of its bytes.
     Data(u16, u16),
@@ -33,7 +34,7 @@ enum Call {
     IsZero(u16),
 }
 
-// The words of the tables while all is made, and while one after the other goes.
+// The commands that make tables and remove them one after the other, with the words of the tables in between.
 //
 // Granule 0 becomes the RD of a realm with tables in granules 1 to 3, and granule 4 its page, with the bytes of
 // granule 5.
@@ -74,7 +75,7 @@ fn taken<S: PageStore>(rt: &impl Abort, monitor: &Monitor<S>, number: u16) -> Gr
     granule
 }
 
-// All words of a granule's page are 0.
+// Whether all words of a granule's page are 0.
 fn is_zero<S: PageStore>(rt: &impl Abort, monitor: &Monitor<S>, number: u16) -> bool {
     let granule = taken(rt, monitor, number);
     for index in 0..512 {
@@ -127,7 +128,7 @@ fn is_answered<S: PageStore>(rt: &impl Abort, monitor: &mut Monitor<S>, call: &C
     }
 }
 
-// The calls over a store of eight pages.
+// Performs the calls over a store of eight pages.
 fn over<S: PageStore + Drop>(rt: &impl Abort, alloc: Global, store: S)
     requires zero { S.page_bytes store ≡ replicate (length (S.page_bytes store)) zero_page }
     requires free { S.free_flags store ≡ replicate (length (S.page_bytes store)) true }

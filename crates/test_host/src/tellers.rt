@@ -7,7 +7,7 @@ use realm_host::{Cmd, Mark, Refusal, Reply, Undone};
 use realm_model::Rmi;
 use std::sync::Wait;
 
-/// Passes each question on to a seat, but refuses one, counted from 0, without asking the host.
+/// A teller that passes each question on to a seat, but refuses one, counted from 0, without asking the host.
 #[derive(Drop)]
 pub struct Refusing<'a, R: Wait, S: PageStore, L: Ledgers> {
     pub teller: SeatTeller<'a, R, S, L>,

@@ -7,7 +7,7 @@ use realm_plan::PlanStep;
 use std::alloc::Global;
 use std::process::Abort;
 
-// The turn of an undo of build 7 that is refused has that line.
+// Checks that a refused undo of build 7 has that line.
 fn has_line(rt: &impl Abort, alloc: Global, refusal: Refusal, line: &str) {
     let undo = PlanStep::Whole(Step::Undo);
     let mut text = String::new(alloc);

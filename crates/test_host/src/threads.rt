@@ -31,10 +31,10 @@ struct Outcome {
 // The plans of builds that work side by side, by build.
 type Plans = &'static [Words];
 
-// Build 0 fills a page, build 1 is refused at its third step, and build 2 reads what it filled.
+// Plans in which build 0 fills a page, build 1 is refused at its third step, and build 2 reads what it filled.
 const THREE: Plans = &[FILLS, IS_REFUSED, READS];
 
-// Both builds fill a page and read from it.
+// Plans in which both builds fill a page and read from it.
 const TWO: Plans = &[
     &["take 0", "fill 0 9", "peek 0 0"],
     &["take 0", "fill 0 3", "peek 0 0"],
@@ -98,7 +98,7 @@ fn ended<L: Ledgers>(
     (seats, reports)
 }
 
-// Builds of a shared host work side by side, each by its plan. Their seats and reports come back.
+// Runs builds of a shared host side by side, each by its plan, and returns their seats and reports.
 fn run_plans<R: Threads + Wait + Abort + Sync, G: Gate + Sync, L: Ledgers + Send + Sync>(
     rt: &R,
     alloc: Global,
@@ -113,7 +113,7 @@ fn run_plans<R: Threads + Wait + Abort + Sync, G: Gate + Sync, L: Ledgers + Send
     (ends, seats, reports)
 }
 
-// Builds of a host work side by side, each by its plan.
+// Runs builds of a host side by side, each by its plan.
 fn work_together<R: Threads + Wait + Abort + Sync, G: Gate + Sync, L: Ledgers + Send + Sync>(
     rt: &R,
     alloc: Global,
@@ -145,7 +145,7 @@ fn boot_and_work<R: Threads + Wait + Abort + Sync, G: Gate + Sync>(
     work_together::<R, G, Brand>(rt, alloc, Blanks::new(), host, gate, plans)
 }
 
-// Builds that worked side by side ended so, each with these lines, and left this map.
+// Checks that builds that worked side by side ended so, each with these lines, and left this map.
 fn is_outcome(
     rt: &impl Abort,
     outcome: &Outcome,

@@ -15,7 +15,7 @@ pub enum Waiting {
     ForBuild1,
 }
 
-/// The turns that each of three builds has passed.
+/// A gate with the number of turns that each of three builds has passed.
 #[derive(Drop)]
 pub struct Turns<'a, C: Clock> {
     clock: &'a C,

@@ -5,12 +5,12 @@ use buddy::BuddyArena;
 use page_arena::PageStore;
 use std::process::Abort;
 
-// The last call read `count` block sizes.
+// Checks that the last call read `count` block sizes.
 fn visited(rt: &impl Abort, arena: &BuddyArena, count: u64) {
     equal(rt, "visits", arena.visits() as u64, count);
 }
 
-// A page is taken and given back, and each call reads `count` block sizes.
+// Takes a page and gives it back, and checks that each call reads `count` block sizes.
 #[tactic(auto, using(page_arena::specs::Blocks::taken_block))]
 fn comes_and_goes(rt: &impl Abort, arena: &mut BuddyArena, count: u64) {
     let one = order(0);

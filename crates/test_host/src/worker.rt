@@ -13,7 +13,7 @@ use std::alloc::Global;
 use std::process::Abort;
 use std::sync::atomic::{AtomicU64, Ordering};
 
-// Accepts all questions but those two, counted from 0. An undo always leaves 1.
+// A teller that accepts all questions but two, counted from 0. An undo always leaves 1.
 #[derive(Drop)]
 struct Fake<'a> {
     asked: &'a AtomicU64,
@@ -66,7 +66,8 @@ impl Teller for Fake<'_> {
     }
 }
 
-// Lets the first `most` turns pass, each of them once, and only right before its own question: when as many were asked.
+// A gate that gives the first `most` turns, each of them once, and only right before its own question: when as many
+// were asked.
 #[derive(Drop)]
 struct Turns<'a> {
     most: u64,
@@ -108,7 +109,7 @@ struct Case {
 
 const NEVER: u64 = 10_000;
 
-// Nothing is refused, and all turns come.
+// The case in which nothing is refused, and all turns come.
 const ALL: Case = Case {
     refused: NEVER,
     refused_later: NEVER,
@@ -146,7 +147,7 @@ fn takes_all(report: &mut Report, case: &Case, mark: Mark, steps: &[Step]) -> bo
     work(report, steps, &mut fake, &gate).is_ok()
 }
 
-// A worker takes the steps, and has these lines then, and has ended or not.
+// Checks the lines of a worker that takes the steps, and whether it has ended.
 fn works(
     rt: &impl Abort,
     alloc: Global,
@@ -168,7 +169,7 @@ fn works(
     has_lines(rt, name, report.lines.as_slice(), want);
 }
 
-// The question of that number is refused, counted from 0.
+// The case in which the question of that number is refused, counted from 0.
 const REFUSED_0: Case = Case { refused: 0, ..ALL };
 
 const REFUSED_1: Case = Case { refused: 1, ..ALL };
@@ -180,8 +181,8 @@ const REFUSED_3: Case = Case { refused: 3, ..ALL };
 // The undo after a refusal: each leaves 1, as the teller says.
 const UNDONE: Line = Line::Undone(Kind::Delegate, 1);
 
-// Each step of three plans is refused in turn, and then what is open is undone: takes and delegations. Or none is
-// refused.
+// The cases of three plans: each step is refused in turn, or none is. After a refusal, the open takes and delegations
+// are undone.
 const REFUSED_STEPS: &[(&str, Case, Words, &[Line])] = &[
     (
         "fills, 0",

@@ -19,7 +19,7 @@ fn comes_and_goes(arena: &mut BuddyArena, order: Order) -> bool {
     }
 }
 
-// Takes the same block by its first granule, and gives it back.
+// Takes a block of 512 pages by its first granule, and gives it back.
 #[tactic(auto, using(page_arena::specs::Blocks::taken_block))]
 fn is_named_and_goes(arena: &mut BuddyArena, order: Order, first: Gran) -> bool {
     if !arena.take_at(order, first) {

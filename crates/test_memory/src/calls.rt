@@ -101,7 +101,7 @@ fn realm_command(turn: u8, offset: PageOff) -> Cmd {
 /// The number of commands.
 pub(crate) const TURNS: u8 = 22;
 
-// Asks for a mark's distance, and goes back to it.
+// Asks for the number of operations above a mark, and goes back to it.
 fn go_back(host: &mut Host<BuddyArena>, build: BuildId, mark: &Mark, tally: &mut Tally) {
     tally.count(&host.check_back(build, *mark));
     tally.count(&host.rollback_to(build, *mark));

@@ -30,9 +30,9 @@ use std::time::CpuClock;
 /// The reason why the program stops.
 #[derive(Clone, Copy)]
 pub(crate) enum Fault {
-    /// Memory was refused to a call that got nothing to give back.
+    /// A refusal of memory to a call that got nothing to give back.
     Memory,
-    /// Something else went wrong, which should not happen.
+    /// Any other fault, which should not happen.
     Other,
 }
 

@@ -4,7 +4,7 @@ use rmi_abi::Registers;
 use rmm::Rmm;
 use rmm_model::{Queued, StepWords};
 
-/// An operation.
+/// An operation on an RMM.
 #[derive(Clone, Copy)]
 pub(crate) enum Operation {
     Call(Registers),
@@ -56,7 +56,7 @@ impl Operation {
         }
     }
 
-    // Performs the operation; the number depends on all that it returns.
+    // Performs the operation, and returns a number that depends on all its results.
     fn result(&self, rmm: &mut Rmm<PlainStore>) -> u64 {
         match self {
             Operation::Call(registers) => sum_of(&rmm.smc(*registers)),

@@ -19,11 +19,11 @@ pub enum LineVerdict {
 /// The verdict on a trace.
 #[derive(Clone, Copy)]
 pub enum TraceVerdict {
-    /// A line is the same, and none is wrong.
+    /// A trace with a line that is the same, and no wrong line.
     Agrees,
-    /// No line is the same, and none is wrong.
+    /// A trace with no line that is the same, and no wrong line.
     NothingSame,
-    /// A line is wrong.
+    /// A trace with a wrong line.
     Differs,
 }
 
@@ -36,7 +36,7 @@ pub struct Counts {
     pub wrong: u64,
 }
 
-// One more; 2^64 lines are too many.
+// The count plus one; `TooLong` if that is 2^64.
 fn one_more(count: u64) -> Result<u64, TraceError>
     ensures ok { IfOk result (λ more. more ≡ count + 1) }
     ensures err { IfErr result (λ e. e ≡ TooLong) }
@@ -53,7 +53,7 @@ impl Counts {
         wrong: 0,
     };
 
-    /// The counts with a line more.
+    /// The counts with one more line of that verdict.
     pub fn with(self, verdict: LineVerdict) -> Result<Counts, TraceError>
         ensures ok { IfOk result (λ counts. counts ≡ with_line_counted self verdict) }
         ensures err { IfErr result (λ e. e ≡ TooLong) }

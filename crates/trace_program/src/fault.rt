@@ -10,13 +10,13 @@ use thiserror::Error;
 /// The reason why a trace is not taken to its end. Its line goes to standard error.
 #[derive(Clone, Copy, Debug, Error)]
 pub enum TraceError {
-    /// Allocation failed.
+    /// A failed allocation.
     #[error("memory")]
     Memory,
-    /// A read or a write failed.
+    /// A failed read or write.
     #[error("device")]
     Device,
-    /// The trace has 2^64 lines, or took 2^64 reads.
+    /// A trace that has 2^64 lines, or took 2^64 reads.
     #[error("the trace is too long")]
     TooLong,
 }

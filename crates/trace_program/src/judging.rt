@@ -157,7 +157,7 @@ fn answer_verdict(
     }
 }
 
-// The verdict on a line that is no command: it has to say so.
+// The verdict on a line that is no command: its written answer has to be `no command`.
 fn no_command_verdict(written: Option<&[u8]>) -> LineVerdict
     ensures { result ≡ specs.no_command_verdict (option_copied written.entry) }
 {
@@ -167,8 +167,8 @@ fn no_command_verdict(written: Option<&[u8]>) -> LineVerdict
     }
 }
 
-/// The verdict on a line with the answer that is written in it, after it was answered: the machine and our answer are
-/// those after it. The words of the written answer are read into `words`.
+/// The verdict on a line and its written answer, by the machine and our answer after that line. The words of the
+/// written answer are read into `words`.
 #[tactic(auto, unfolding(crate::specs::Judged::line_verdict))]
 pub fn line_verdict(
     asked: &Comparison,

@@ -14,7 +14,7 @@ use std::marker::Model;
 #[derive(Drop)]
 pub struct LineTexts {
     bytes: Vec<u8>,
-    // The text of words, on its way to the others.
+    // The text of words, before it is appended to `bytes`.
     words: String,
 }
 
@@ -27,7 +27,7 @@ impl Model for LineTexts {
 }
 
 impl LineTexts {
-    /// No texts.
+    /// The texts of no lines.
     pub fn new(alloc: Global) -> LineTexts
         ensures { result ≡ [] }
     {

@@ -34,8 +34,8 @@ struct Request<'a> {
     source: &'a str,
 }
 
-// A trace that is being read: the session of its lines, the kept bytes of the next line, and the text for lines that is
-// not written yet. The words of a line are kept for the next one.
+// A trace that is being read: the session of its lines, the kept bytes of the next line, and the text not yet written.
+// The words of a line are kept for the next one.
 #[derive(Drop)]
 struct Reading {
     session: Session,

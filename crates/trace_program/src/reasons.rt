@@ -111,8 +111,8 @@ pub(crate) fn heading(
     Ok(text)
 }
 
-/// The lines on one that is allowed or wrong, after their heading: the line, our answer, and for a line that is no
-/// command the word that was probably meant.
+/// The note on an allowed or wrong line, after its heading: the line, our answer, and for no command the word probably
+/// meant.
 pub(crate) fn difference(
     alloc: Global,
     bytes: &[u8],

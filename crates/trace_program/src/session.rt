@@ -26,7 +26,7 @@ pub struct LineWords {
 }
 
 impl LineWords {
-    /// No words.
+    /// The words of no line.
     pub fn new() -> LineWords
         ensures line { result.line ≡ without_words Remark }
         ensures written { result.written.items ≡ [] }

@@ -25,7 +25,7 @@ fn push_numbers(text: &mut String, numbers: &[u64]) -> Result<(), AllocError> {
     Ok(())
 }
 
-// Appends the head of a row: its kind, what goes in, and what has to come out, all of which is compared.
+// Appends the head of a row: its kind, the inputs, and the expected outputs, which are all compared.
 fn push_head(text: &mut String, kind: &str, given: &[u64], out: &[u64]) -> Result<(), AllocError> {
     write!(text, "{{.kind = {kind}, .in = {{")?;
     push_numbers(text, given)?;

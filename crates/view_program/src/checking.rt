@@ -13,9 +13,9 @@ use std::io::{Read, Write};
 /// The outcome of a subcommand.
 #[derive(Clone, Copy)]
 pub enum ViewOutcome {
-    /// The subcommand is done.
+    /// A subcommand that is done.
     Done,
-    /// The input that was checked is no plan, and its errors are written.
+    /// A checked input that is no plan, and whose errors are written.
     HasErrors,
 }
 
@@ -30,8 +30,8 @@ fn verdict_of(is_plan: bool) -> ViewOutcome
     }
 }
 
-/// Reads bytes, and writes the findings on them as a plan: all errors, if they are no plan; if they are one, its likely
-/// slips and its size.
+/// Reads bytes, and writes the findings on them: all errors if they are no plan, or else the plan's likely slips and
+/// size.
 ///
 /// The text is complete before any of it is written. Errors: Memory, if allocation failed; Device, if a read failed and
 /// nothing is written, or if a write failed and a prefix of the text is written.

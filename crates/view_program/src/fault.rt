@@ -12,31 +12,31 @@ use thiserror::Error;
 /// from 1.
 #[derive(Debug, Drop, Error)]
 pub enum ViewError {
-    /// The input is no plan: its errors, as `check` writes them.
+    /// An input that is no plan: its errors, as `check` writes them.
     #[error("{}", .0.trim_end())]
     NoPlan(String),
-    /// A plan has no such text, for this reason.
+    /// A plan that has no such text, for this reason.
     #[error(transparent)]
     Plan(realm_program::Fault),
-    /// The first line opens no machine, or there is none.
+    /// A first line that is missing, or opens no machine.
     #[error("line 1 opens no history")]
     NoOpening,
-    /// The line is no event.
+    /// A line that is no event, by its number.
     #[error("line {0} is no event")]
     NoEvent(usize),
-    /// The event of the line cannot be applied, for this reason, with its words.
+    /// An event that cannot be applied: the number of its line, the reason, and the words for it.
     #[error("line {0} is refused: {2}")]
     Refused(usize, WhyNot, String),
-    /// The build to be left out is not one of the machine's.
+    /// A build to be left out that is not one of the machine's.
     #[error("erase names no build")]
     EraseNamesNoBuild,
-    /// With the turns that its builds need, a plan has more turns or more bytes than a plan may have.
+    /// More turns or more bytes than a plan may have, in a plan with the turns that its builds need.
     #[error("with the turns that its builds need, the plan has more than 16384 turns or 1048576 bytes")]
     OrderOutsideLimits,
-    /// Allocation failed.
+    /// A failed allocation.
     #[error("memory")]
     Memory,
-    /// A read or a write failed.
+    /// A failed read or write.
     #[error("device")]
     Device,
 }

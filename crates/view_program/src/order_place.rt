@@ -18,9 +18,9 @@ pub struct OrderPlace {
 /// The reason why a key cannot be read.
 #[derive(Drop)]
 enum Lost {
-    /// Allocation failed.
+    /// A failed allocation.
     Memory,
-    /// The next item is not the expected one.
+    /// An item other than the expected one.
     Unread,
 }
 

@@ -5,7 +5,8 @@ use std::fmt;
 /// The most turns on the line of the key. Such a line has up to 100 columns.
 const MOST_ON_ONE: usize = 30;
 
-/// The turns of each line below the key, if there are more. Such a line has up to 100 columns too.
+/// The number of turns on each line below the key, if the line of the key cannot have all turns. Such a line has up to
+/// 100 columns too.
 const TURNS_A_LINE: usize = 32;
 
 /// Turns, with a comma between two of them.

@@ -1,4 +1,4 @@
-//! The words of a page for the reasons of refusals. They are tested, not proved.
+//! The words of a browser page for the reasons of refusals. They are tested, not proved.
 use buddy::BuddyArena;
 use explain::explain_turns;
 use realm_plan::Plan;
@@ -6,8 +6,8 @@ use realm_program::boot;
 use serde::Serialize;
 use std::alloc::{AllocError, Global};
 
-/// A refused turn: its number, counted from 0 as in the document of the run, the check that fails, and a step that
-/// helps, which is empty if none does.
+/// A refused turn: its number, the check that fails, and a step that helps. Turns are counted from 0 as in the document
+/// of the run, and the step is empty if none helps.
 #[derive(Drop, Serialize)]
 pub(crate) struct RefusedTurn {
     turn: usize,

@@ -19,7 +19,7 @@ use realm_plan::{Plan, PlanStep, push_idle};
 use realm_program::{Fault, boot};
 use std::alloc::{AllocError, Global};
 
-// The comment in place of a guest's write that RMM 1.0 has not.
+// The comment in place of a guest's write that RMM 1.0 does not have.
 const BESIDE_RAM: &str =
     "no call: the RIPAS there is not RAM, and in RMM 1.0 the guest's write is refused\n";
 
@@ -124,8 +124,8 @@ impl CallsText {
         }
     }
 
-    // Appends the line of a turn as a comment, and below it the operations for the event that it added, or the call that
-    // the RMM has refused. The history had `before` events.
+    // Appends the line of a turn as a comment, and below it the operations for the added event, or the call that the
+    // RMM refused. The history had `before` events.
     fn push_answered(
         &mut self,
         host: &Host<BuddyArena>,

@@ -1,4 +1,4 @@
-//! The pages that show runs.
+//! The browser pages that show runs.
 ghost use Rattle.std.specs.Prelude.{◌≡◌, ◌<◌, None, IfOk, vec_len};
 ghost use Rattle.realm_plan.specs.PlanView.{plan_view};
 ghost use Rattle.realm_host.specs.Recorded.{fresh_like, IsWithout};

@@ -77,7 +77,7 @@ fn plan_after(after: AfterRefusal, plan: Plan) -> Plan
 pub struct Exploring<'a, P> {
     /// The schedules whose outcomes are asked for.
     pub orders: Schedules,
-    /// What builds do in them after a refusal.
+    /// Whether the builds go on or give up after a refusal.
     pub after: AfterRefusal,
     /// The receiver of the progress: each schedule that is drawn and run is reported to it.
     pub progress: &'a P,

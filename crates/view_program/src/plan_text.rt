@@ -9,7 +9,7 @@ use realm_plan::Plan;
 use realm_program::Fault;
 use std::alloc::Global;
 
-/// A kind of texts of plans.
+/// A kind of text of a plan.
 pub trait ViewText {
     ghost is_text: { Self → PlanModel → List ℕ → Type 0 };
 

@@ -28,8 +28,8 @@ fn is_in_one_table(ipa: u32, count: u16) -> bool {
     ipa % PAGES_OF_A_TABLE + u32::from(count) <= PAGES_OF_A_TABLE
 }
 
-// Whether the refusal of a command is the one of RMM 1.0, which has tables for unprotected IPAs, and changes the RIPAS of
-// as many pages as it can.
+// Whether the refusal of a command is that of RMM 1.0. RMM 1.0 has tables for unprotected IPAs, and changes the RIPAS
+// of as many pages as it can.
 fn is_of_the_standard(host: &Host<BuddyArena>, build: BuildId, cmd: &Cmd, rmi: Rmi) -> bool {
     match (cmd, rmi.status) {
         (Cmd::Rtt { ipa, .. }, Status::Input) => !is_unprotected(host, build, *ipa),
@@ -39,8 +39,8 @@ fn is_of_the_standard(host: &Host<BuddyArena>, build: BuildId, cmd: &Cmd, rmi: R
     }
 }
 
-/// The operations for a command of a build that the RMM has just refused, if RMM 1.0 has the call and refuses it with the
-/// same word. The page for exits is one that no REC uses before all others are in use.
+/// The operations for a command that the RMM has just refused, if RMM 1.0 has the call and refuses it with the same
+/// word. The page for exits is one that no REC uses before all others are in use.
 pub(crate) fn refused_calls(
     frame: Frame,
     host: &Host<BuddyArena>,

@@ -9,7 +9,7 @@ function chooseTheme(theme) {
   themeAsked = theme;
   setTheme(theme);
 }
-// The number in a part of the address, where it is a count up to `most`.
+// The number in a part of the address, if it is a count up to `most`.
 function countIn(text, most) {
   return /^(0|[1-9][0-9]{0,5})$/.test(text) && Number(text) <= most ? Number(text) : undefined;
 }

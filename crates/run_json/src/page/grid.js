@@ -12,7 +12,7 @@ const isNarrow = matchMedia("(max-width: 760px)");
 const columnsNow = () => Math.min(pages, COLUMNS[SIZE][isNarrow.matches ? 1 : 0]);
 const hasBytes = (state) => state === "UNDELEGATED" || state === "DELEGATED" || state === "DATA";
 
-// What the page of a granule contains: the RMM's own, nothing but zeros, or more.
+// The contents of a granule's page: the RMM's own, nothing but zeros, or more.
 const kindOf = (state, page) => (!hasBytes(state) ? "" : page.sum === 0 ? "zero" : "full");
 function contentText(state, page) {
   if (!hasBytes(state)) return "holds what the RMM keeps there";

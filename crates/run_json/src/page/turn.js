@@ -4,7 +4,7 @@ const bare = (text, label) => (text.startsWith(label + ": ") ? text.slice(label.
 const isRefused = (turn) => turn.accepted === false;
 const lineOf = (turn) => turn.build + (turn.step === null ? " - idle" : " " + turn.step + " = " + turn.answer);
 
-// Of the turn at a place: why it was refused, and what mends it; or what it added to the history.
+// The text of the turn at a place: the reason and the help of a refusal, or the event that it added to the history.
 function reasonOf(at) {
   const turn = turns[at], found = refusedAt.get(at);
   if (turn.step === null) return { text: "The build has no step left." };

@@ -58,7 +58,7 @@ function withRec(recs, rec) {
 function granuleAt(realm, ipa) {
   return realm.rows.find((row) => row.level === 3 && row.first <= ipa && ipa < row.first + row.count).granule;
 }
-// What an event does, as its word and its numbers.
+// The operation of an event, as its word and its numbers.
 function eventOf(turn) {
   const [, word, ...numbers] = turn.event.split(" ");
   return { word, numbers: numbers.map(Number) };

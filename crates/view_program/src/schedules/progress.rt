@@ -2,6 +2,6 @@
 
 /// The receiver of the progress of a sample. Nothing in the sample depends on what it does.
 pub trait Progress {
-    /// `orders` of `most` schedules have been run.
+    /// Reports that `orders` of `most` schedules have been run.
     fn told(&self, orders: u32, most: u32);
 }

@@ -106,7 +106,7 @@ fn go_on<S: PageStore>(
     Ok(())
 }
 
-/// Runs a plan on a host: at each turn the lowest build that has a step left has it, until none has. The choices are
+/// Runs a plan on a host: each turn is that of the lowest build that has a step left, until none has. The choices are
 /// then those of the whole schedule, and each end of a step is noted. At an `Err` allocation failed.
 pub(crate) fn run_one_by_one<S: PageStore>(
     host: &mut Host<S>,

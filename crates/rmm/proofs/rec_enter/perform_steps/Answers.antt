@@ -30,6 +30,7 @@ returns g c =
     ap (λ (m : Machine). (true, m)) c.leave-2.ensures.machine
     ∙ ap (λ (exit : RecExit). (true, after_exit c.loop-i.granules c.args.g exit Other)) c.only.ensures
     ∙ sym (elim c.loop-i-test.branch [
-      else-loop-i-test w ↦ after_steps-end c.loop-i.granules c.args.g c.args.flags c.loop-i.i (omega arith)
-    | then-loop-i-test+then-is_idle w ↦ after_steps-idle c.loop-i.granules c.args.g c.args.flags c.loop-i.i (omega arith) (sym w.is_idle.ensures ∙ w.if-is_idle.true) ])
+      | else-loop-i-test w ↦ after_steps-end c.loop-i.granules c.args.g c.args.flags c.loop-i.i (omega arith)
+      | then-loop-i-test+then-is_idle w ↦ after_steps-idle c.loop-i.granules c.args.g c.args.flags c.loop-i.i (omega arith) (sym w.is_idle.ensures ∙ w.if-is_idle.true)
+    ])
     ∙ c.loop-i.invariant.goes_on
