@@ -1,4 +1,4 @@
-//! Boxes as structs with public fields, for code that keeps the pointer of a box, as the handles of C do.
+//! Boxes as structs with public fields, for code that keeps a box's raw pointer, such as handles for C.
 #![tactic(auto)]
 
 mod parts;

@@ -5,7 +5,7 @@ ghost use Rattle.std_alloc.specs.Box.Ownership.{box_owns};
 use std::alloc::Allocator;
 use std::marker::Model;
 
-/// The pointer of a box and its allocator. They own what the box owned.
+/// The raw pointer of a box, and the box's allocator. They own what the box owned.
 pub struct BoxParts<T, A: Allocator> {
     pub ptr: *mut T,
     pub alloc: A,
@@ -27,7 +27,7 @@ impl<T, A: Allocator> BoxParts<T, A> {
         BoxParts { ptr, alloc }
     }
 
-    /// The box of the parts.
+    /// Puts a box together from its parts.
     pub fn into_box(self) -> Box<T, A>
         ensures { result.value ≡ self.value }
     {

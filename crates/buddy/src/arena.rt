@@ -43,7 +43,7 @@ impl BuddyArena {
         })
     }
 
-    /// Whether a block is one of those in the lists: a free block that is inside no larger one.
+    /// Whether a block is free, and is part of no larger free block.
     pub fn is_free_block(&self, order: Order, first: Gran) -> bool
         ensures { IsTrue result ↔
             IsMaximalBlock (⟦<BuddyArena as PageStore>⟧.free_flags self.now) order first }
@@ -52,7 +52,8 @@ impl BuddyArena {
             .is_free_block(order.number() as usize, first.number() as usize)
     }
 
-    /// The number of orders that the last `take`, `take_at` or `give` visited: one at each turn of its loop.
+    /// The number of orders that the last `take`, `take_at` or `give` visited. Each turn of the loop in these calls
+    /// visits one order.
     pub fn visits(&self) -> u8
         ensures { result ≡ self.now.visits }
     {
@@ -75,7 +76,7 @@ impl PageStore for BuddyArena {
         self.index.count()
     }
 
-    /// Takes a block out of the first block of the first nonempty list, from the list of its order up. The visits are
+    /// Takes a block out of the first block in the nonempty list of the smallest order that suffices. The visits are
     /// one for each order up to that of the list. If no order has a block, there are no visits.
     fn take(&mut self, order: Order) -> Option<Gran>
         ensures first { result ≡ first_block self.old.index.lists order }
@@ -95,8 +96,8 @@ impl PageStore for BuddyArena {
         Gran::new(first as u16, MOST_PAGES)
     }
 
-    /// Takes the block at that granule, if it is free. The visits are one for each order from 9 down to that of the
-    /// block, whether the block is taken or not. If the block is not aligned, there are no visits.
+    /// Takes the block that begins at granule `first`, if the block is free. The visits are one for each order from 9
+    /// down to that of the block, whether the block is taken or not. If the block is not aligned, there are no visits.
     fn take_at(&mut self, order: Order, first: Gran) -> bool
         ensures answer { IsTrue result ↔ IsFreeBlock self.old.index.flags order first }
         ensures taken { OnTrue result (self.new.index.flags ≡ with_taken self.old.index.flags order first) }

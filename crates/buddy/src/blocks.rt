@@ -9,7 +9,7 @@ ghost use Rattle.buddy.specs.InHand.{AllBelow, HasChecked};
 use crate::lists::FreeLists;
 use granule_addr::{Gran, MOST_PAGES, Order, align_down, buddy_of};
 
-// The order of that number.
+// The order with the given number.
 fn order_of(number: usize) -> Order
     requires { number < 10 }
     ensures { result ≡ number }
@@ -26,7 +26,7 @@ pub(crate) fn size_of(order: usize) -> u16
     order_of(order).size()
 }
 
-/// The first granule of the block of an order that holds a granule.
+/// The first granule of the block of order `order` that contains `granule`.
 pub(crate) fn start_of(granule: usize, order: usize) -> usize
     requires granule { granule < 4096 }
     requires order { order < 10 }
@@ -35,7 +35,8 @@ pub(crate) fn start_of(granule: usize, order: usize) -> usize
     align_down(granule as u16, order_of(order)) as usize
 }
 
-// The other half of the block of the next order. A machine may lack it.
+// The first granule of a block's buddy, which is the other half of the enclosing block of the next order. A machine may
+// lack the buddy.
 fn other_half(first: usize, order: usize) -> usize
     requires first { first < 4096 }
     requires order { order < 10 }
@@ -45,7 +46,8 @@ fn other_half(first: usize, order: usize) -> usize
     buddy_of(first, order_of(order)) as usize
 }
 
-// Visits one order. A block that is being split is halved, and the half without the granule is put back.
+// Visits one order in `cut_out`, and returns whether the free block is found by then. Once found, the block is halved,
+// and the half without the granule is put back.
 fn check_order(lists: &mut FreeLists, granule: usize, order: usize, found: bool) -> bool
     ghost flags: { List Bool }
     requires granule { granule < 4096 }
@@ -67,8 +69,8 @@ fn check_order(lists: &mut FreeLists, granule: usize, order: usize, found: bool)
     true
 }
 
-/// Cuts a block out of the free block that holds it, whose order is at most `top`. Returns whether there is such a
-/// block, and the number of orders visited.
+/// Cuts a block out of the free block that contains it and has an order of at most `top`. Returns whether there is such
+/// a block, and the number of orders visited.
 pub(crate) fn cut_out(lists: &mut FreeLists, first: usize, order: usize, top: usize) -> (bool, u8)
     ghost flags: { List Bool }
     requires orders { (order ≤ top) × (top ≤ 9) }
@@ -92,7 +94,7 @@ pub(crate) fn cut_out(lists: &mut FreeLists, first: usize, order: usize, top: us
     (found, turns)
 }
 
-// The other half of the block of the next order, if it is free and whole.
+// The first granule of a block's buddy, if the buddy is in the free list of the same order.
 fn free_buddy(lists: &FreeLists, first: usize, order: usize) -> Option<usize>
     requires first { first < 4096 }
     requires order { order < 10 }
@@ -108,7 +110,8 @@ fn free_buddy(lists: &FreeLists, first: usize, order: usize) -> Option<usize>
     None
 }
 
-/// Puts a block back, merged with each other half that is free and whole. Returns the number of orders visited.
+/// Puts a block back, and merges it with its buddy, order by order, as long as the whole buddy is free. Returns the
+/// number of orders visited.
 pub(crate) fn give_to(lists: &mut FreeLists, first: usize, order: usize) -> u8
     ghost flags: { List Bool }
     requires few { length flags ≤ 4096 }

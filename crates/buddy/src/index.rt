@@ -1,4 +1,4 @@
-//! The index of free granules: a flag for each, and lists of the maximal free blocks.
+//! The index of free granules, kept as lists of the maximal free blocks.
 ghost use Rattle.std.specs.Prelude.{◌≡◌, ◌≢◌, ℕ, ◌+◌, ◌%◌, ◌^◌, ◌<◌, ◌≤◌, ◌↔◌, true, length, filter, replicate, IsTrue, IfOk, IfSome, IfNone, option_map};
 ghost use Rattle.std.specs.Bool.{OnTrue, OnFalse};
 ghost use Rattle.page_arena.specs.Block.{IsFreeBlock, IsTakenBlock, with_taken, with_given};
@@ -10,7 +10,8 @@ use crate::lists::FreeLists;
 use std::alloc::{AllocError, Global};
 use std::marker::Model;
 
-/// A flag for each granule, kept as lists of the maximal free blocks. Seen as the flags and the lists.
+/// The index of free granules, kept as lists of the maximal free blocks. Seen as a flag for each granule, and the
+/// lists.
 #[derive(Drop)]
 pub(crate) struct FreeIndex {
     lists: FreeLists,
@@ -80,7 +81,7 @@ impl FreeIndex {
         Some((first, turns))
     }
 
-    /// Takes the block at that granule, if it is free. Returns the number of orders visited, too.
+    /// Takes the block that begins at granule `first`, if the block is free. Returns the number of orders visited, too.
     pub(crate) fn take_at(&mut self, order: usize, first: usize) -> (bool, u8)
         requires order { order < 10 }
         requires first { first < 4096 }

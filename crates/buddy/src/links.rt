@@ -7,11 +7,11 @@ use granule_addr::MOST_PAGES;
 use std::alloc::{AllocError, Global};
 use std::marker::Model;
 
-// The number of no granule: the end of a list.
+// The value that ends a list, which is the number of no granule.
 const NOWHERE: u16 = MOST_PAGES;
 
-/// A list for each order, linked both ways by number, beside the pages and not in them: free pages are zero. Seen as
-/// the table of heads, and the first block of each list.
+/// A doubly linked list of free blocks for each order. The links are kept outside the pages, because free pages are
+/// zero. Seen as the table of heads, and the first block of each list.
 #[derive(Drop)]
 pub(crate) struct Links {
     heads: Vec<u8>,

@@ -1,4 +1,4 @@
-//! The lists of free blocks by order, with a mask of those that have one.
+//! The lists of free blocks by order, with a mask: a bit for each order that has a free block.
 ghost use Rattle.std.specs.Prelude.{◌≡◌, ℕ, ◌+◌, ◌<◌, ◌≤◌, ◌≢◌, length, replicate, slice_set, IfOk, IfSome, IfNone};
 ghost use Rattle.buddy.specs.Heads.{head_at};
 ghost use Rattle.buddy.specs.Links.{HasHead, at};
@@ -7,8 +7,9 @@ use crate::links::Links;
 use std::alloc::{AllocError, Global};
 use std::marker::Model;
 
-/// Lists of blocks by order, and a mask of the orders that have one. Seen as the table of heads, and the first block of
-/// each list. The head of a granule is one more than the order of the block that it heads, or 0 if it heads none.
+/// Lists of free blocks by order, and a mask of the orders that have a free block. Seen as the table of heads, and the
+/// first block of each list. The head of a granule is one more than the order of the block that it heads, or 0 if it
+/// heads none.
 #[derive(Drop)]
 pub(crate) struct FreeLists {
     links: Links,
@@ -43,7 +44,7 @@ impl FreeLists {
         self.links.head(granule)
     }
 
-    /// The lowest order from `order` on that has a block, and the first of its list.
+    /// The lowest order from `order` up that has a free block, and the first block in the list of that order.
     pub(crate) fn lowest(&self, order: usize) -> Option<(usize, usize)>
         requires { order < 10 }
         ensures first { IfSome result (λ r. r.1 ≡ at self.now.firsts r.0) }

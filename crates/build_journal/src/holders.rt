@@ -23,7 +23,7 @@ impl Model for Holders {
 }
 
 impl Holders {
-    /// The holders of the granules of a machine of `pages` pages, none of which is leased.
+    /// Returns the holders for a machine of `pages` granules, none of which is leased.
     pub fn build(alloc: Global, pages: u16) -> Result<Holders, AllocError>
         ensures { IfOk result (λ holders. holders ≡ replicate pages None) }
     {

@@ -27,7 +27,7 @@ impl Model for Journal {
 }
 
 impl Journal {
-    /// An empty journal.
+    /// Returns an empty journal.
     pub fn build(alloc: Global) -> Result<Journal, AllocError>
         ensures { IfOk result (λ j. j ≡ []) }
     {
@@ -49,8 +49,8 @@ impl Journal {
         count <= self.entries.len() as u16
     }
 
-    /// Follows an operation of the build. One that has a reverse is pushed, a reverse pops the newest, and any other
-    /// operation changes nothing.
+    /// Updates the journal for an operation of the build. An operation that has a reverse is pushed, a reverse pops the
+    /// newest, and any other operation changes nothing.
     pub fn follow(&mut self, act: &Act)
         requires { length (pushed self.old act.now) ≤ 512 }
         ensures { self.new ≡ pushed self.old act.now }
@@ -62,7 +62,7 @@ impl Journal {
         }
     }
 
-    /// The newest operation.
+    /// The newest open operation, if there is one.
     pub fn newest(&self) -> Option<&Act>
         ensures value { option_map (λ a. a.now) result ≡ last_or None (self.now) }
         ensures paired { IfSome result (λ a. is_paired a.now ≡ true) }
@@ -70,7 +70,7 @@ impl Journal {
         self.entries.last()
     }
 
-    /// The operations above the first `count`.
+    /// The open operations after the first `count`, the newest last.
     pub fn above(&self, count: u16) -> &[Act]
         requires { count ≤ length self.now }
         ensures { result.now ≡ drop count self.now }

@@ -1,5 +1,5 @@
-//! The records of builds beside the history: what each has open, what each leases, and the VMIDs in use. The history
-//! grows by one event at a time.
+//! The records of builds beside the history: the open operations and leased pages of each build, and the VMIDs in use.
+//! The history grows by one event at a time.
 //!
 //! The journal of a build is a stack of its open operations. Each operation that is open has a reverse.
 //!

@@ -1,4 +1,4 @@
-//! The stacks of pages of all builds.
+//! The stack of leased pages of each build.
 ghost use Rattle.std.specs.Prelude.{◌≡◌, ◌+◌, ◌^◌, ◌<◌, ◌≤◌, [], length, replicate, IfOk, slice_get, vec_len, vec_capacity};
 ghost use Rattle.build_journal.specs.Stacks.{stack_of, with_stack, pushed, popped};
 
@@ -24,7 +24,7 @@ impl Model for Leases {
 }
 
 impl Leases {
-    /// The leases of `builds` builds, which have no pages yet, with capacity for `pages` pages of each.
+    /// Returns the leases of `builds` builds: no pages yet, and capacity for `pages` pages of each build.
     pub fn build(alloc: Global, builds: u8, pages: u16) -> Result<Leases, AllocError>
         requires { pages ≤ 4096 }
         ensures { IfOk result (λ leases.
@@ -40,7 +40,7 @@ impl Leases {
         })
     }
 
-    /// Puts the pages of a block that a build has taken at the end of its stack, in rising order.
+    /// Appends the pages of a block, in rising order, to the stack of the build that has taken the block.
     pub fn push_block(&mut self, build: BuildId, first: Gran, order: Order)
         requires there { build < length self.old.stacks }
         requires room { length (stack_of self.old build) + 2 ^ order ≤ self.old.room }
@@ -51,7 +51,7 @@ impl Leases {
         push_run(&mut self.stacks[build.number() as usize], first, order);
     }
 
-    /// Removes the pages of the block that a build has taken last.
+    /// Removes from a build's stack the pages of the block that the build has taken last.
     pub fn pop_block(&mut self, build: BuildId, order: Order)
         requires there { build < length self.old.stacks }
         requires enough { 2 ^ order ≤ length (stack_of self.old build) }
@@ -60,7 +60,7 @@ impl Leases {
         pop_run(&mut self.stacks[build.number() as usize], order);
     }
 
-    /// Page `k` of a build; `None` comes exactly when it has no such page.
+    /// The granule of page `k` of a build; `None` if and only if the build has no such page.
     pub fn page(&self, build: BuildId, k: u16) -> Option<Gran>
         requires { build < length self.now.stacks }
         ensures { result ≡ slice_get (stack_of self.now build) k }
@@ -79,7 +79,7 @@ impl Leases {
     }
 }
 
-// Puts the granules of a block at the end of a stack that has the memory for them.
+// Appends the granules of a block to a stack that has capacity for them.
 pub fn push_run(stack: &mut Vec<Gran>, first: Gran, order: Order)
     requires room { vec_len stack.old + 2 ^ order ≤ vec_capacity stack.old }
     requires machine { first + 2 ^ order ≤ 4096 }
@@ -89,7 +89,7 @@ pub fn push_run(stack: &mut Vec<Gran>, first: Gran, order: Order)
     let start = stack.len();
     stack.resize(start + order.size() as usize, first).unwrap();
     let number = first.number();
-    // (written by index and not pushed, so that no write depends on the length that the write before it stored)
+    // (written by index and not pushed, so that no write depends on the length that the previous write stored)
     for k in 0..order.size() {
         stack[start + k as usize] = Gran::new(number + k, MOST_PAGES).unwrap();
     }

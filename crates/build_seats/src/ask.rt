@@ -1,4 +1,4 @@
-//! Questions of a worker: for each a turn, a call of the teller, and a line of the report.
+//! The questions of a worker: each takes a turn, makes a call of the teller, and adds a line to the report.
 ghost use Rattle.std.specs.Prelude.{◌≡◌, ◌+◌, ◌^◌, ◌<◌, [], ◌∷◌, ◌++◌, vec_len, vec_capacity};
 ghost use Rattle.build_seats.specs.Asked.{answer_of, line, ArePut};
 ghost use Rattle.build_seats.specs.Report.{ending_of};
@@ -11,7 +11,7 @@ use crate::standing::Standing;
 use crate::teller::{Gate, Teller};
 use host_commands::{Cmd, Refusal};
 
-/// A question whose answer has a line of the report.
+/// A question whose answer becomes a line of the report.
 #[derive(Drop)]
 pub enum Question {
     Do(Cmd),
@@ -19,18 +19,18 @@ pub enum Question {
     Mark,
 }
 
-/// The end of a list of questions.
+/// The outcome of a list of questions.
 #[derive(Clone, Copy)]
 pub enum Ending {
-    /// The end of a list whose questions were all accepted.
+    /// The outcome if all questions were accepted.
     Done,
-    /// The end at a question that was refused.
+    /// The outcome if a question was refused.
     Refused,
-    /// The end at a turn that the gate did not give. Its question was not asked.
+    /// The outcome if the gate did not give a turn. The question of that turn was not asked.
     Cut,
 }
 
-// Takes a turn and asks the teller for a command. An accepted command is counted, and its reply is at `Ok`.
+// Takes a turn, and asks the teller to perform a command. An accepted command is counted, and its reply is at `Ok`.
 fn put_command<T: Teller>(
     cmd: &Cmd,
     standing: &mut Standing,
@@ -84,7 +84,7 @@ fn ending_of(answer: &Answer) -> Ending
     }
 }
 
-/// Writes a line, and returns whether the worker may ask more after it.
+/// Adds the line of an answer to the report, and returns the outcome.
 pub fn tell(report: &mut Report, asked: Asked, answer: Answer) -> Ending
     requires room { vec_len report.old.lines < vec_capacity report.old.lines }
     ensures ending { result ≡ ending_of answer }
@@ -97,8 +97,8 @@ pub fn tell(report: &mut Report, asked: Asked, answer: Answer) -> Ending
     end
 }
 
-/// Waits for the next turn, asks for a command, and writes the answer's line. The command is borrowed and not copied: a
-/// copy between two calls would take time in which others wait for the lock.
+/// Waits for the next turn, asks the teller to perform a command, and writes the line of the answer. The command is
+/// borrowed and not copied: a copy between two calls would take time in which others wait for the lock.
 pub fn ask_command<T: Teller, G: Gate>(
     report: &mut Report,
     standing: &mut Standing,

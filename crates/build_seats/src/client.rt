@@ -26,7 +26,7 @@ fn clone_numbers(numbers: &[u16]) -> ArrayVec<u16, MOST>
     clone
 }
 
-// Asks that these RECs stop running, one after the other.
+// Asks for the exit of each REC whose number is given, one after the other.
 fn exit_each<T: Teller, G: Gate>(
     report: &mut Report,
     standing: &mut Standing,

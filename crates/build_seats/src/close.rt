@@ -1,4 +1,4 @@
-//! The checks at a close: one seat for each build, whose trail is the build's part of the history.
+//! The checks at a close: each build has one seat, and the trail of the seat is the build's part of the history.
 ghost use Rattle.std.specs.Prelude.{◌≡◌, ◌+◌, ◌<◌, ◌≤◌, ◌↔◌, [], filter, slice_index, true, IsTrue, IfSome, IfNone};
 ghost use Rattle.std.specs.List.{All};
 ghost use Rattle.build_seats.specs.Close.{seats_of, Fits, IsMissing, AreSeatsWhole, Differs, FitsAll};
@@ -18,7 +18,7 @@ pub enum CloseFault {
     RecordMismatch(BuildId),
 }
 
-/// Shows that the count of each seat equals its build's count behind the lock. Nothing changes.
+/// Shows that the count of each seat equals the count that the lock protects for the same build. Nothing changes.
 pub fn audit<L: Ledgers>(books: &mut Books<L>, seats: &mut [Seat<L>])
     ensures books { books.new ≡ books.old }
     ensures seats { seats.new ≡ seats.old }
@@ -67,7 +67,7 @@ pub fn mismatch<L: Ledgers>(seats: &[Seat<L>], history: &[Event]) -> Option<Buil
     None
 }
 
-// Whether the trail of each of a build's seats is the build's part of a history.
+// Whether every seat of a build has a trail that equals the build's part of a history.
 fn fits<L: Ledgers>(seats: &[Seat<L>], history: &[Event], build: BuildId) -> bool
     ensures { IsTrue result ↔ Fits build history.now seats.now }
 {

@@ -26,7 +26,7 @@ use realm_model::Event;
 use std::alloc::{AllocError, Global};
 use std::marker::Model;
 
-/// A host, and for each of its builds the number of its events in the history. No build is in abort.
+/// A host, with the number of events that each of its builds has in the history. No build is in abort.
 #[derive(Drop)]
 pub struct Kept<S: PageStore, L: Ledgers> {
     host: Host<S>,
@@ -47,8 +47,8 @@ impl<S: PageStore, L: Ledgers> Model for Kept<S, L> {
 }
 
 impl<S: PageStore, L: Ledgers> Kept<S, L> {
-    /// A host that has no history, with a seat for each of its builds in sequence. All memory for their events is taken
-    /// here. If there is none, blanks and host come back.
+    /// Prepares a host without history for sharing, and makes a seat for each of its builds, the lowest build first.
+    /// All memory for their events is taken here. If there is none, blanks and host come back.
     pub fn start(
         alloc: Global,
         blanks: Blanks,
@@ -68,15 +68,15 @@ impl<S: PageStore, L: Ledgers> Kept<S, L> {
         let Ok(seats) = Vec::with_capacity(alloc, count as usize) else {
             return Err((AllocError, blanks, host));
         };
-        // (called for its contract alone, which says what always holds of a host)
+        // (called only for its contract, which gives the invariant of a host)
         let _ = host.history();
         let Opened { books, passes } = Opened::new(blanks);
         let seats = seated(seats, passes, trails);
         Ok((Kept { host, books }, seats))
     }
 
-    /// Asks for a command of the seat's build. The answer is the host's. An accepted command appends one event of the
-    /// build to the history and to the trail. A refusal leaves both as they are. No memory is taken.
+    /// Asks the host to perform a command for the seat's build. The answer is the host's. An accepted command appends
+    /// one event of the build to the history and to the trail. A refusal leaves both as they are. No memory is taken.
     pub fn call(&mut self, seat: &mut Seat<L>, cmd: Cmd) -> Result<Reply, Refusal>
         ensures answer { IsAnswer self.old.host seat.old.build (Ask cmd) (replied result) self.new.host }
         ensures noted { IfOk result (λ _. IsNoted self.old seat.old self.new seat.new) }
@@ -107,7 +107,7 @@ impl<S: PageStore, L: Ledgers> Kept<S, L> {
         Ok(undone)
     }
 
-    /// Keeps the point of the seat's build as a mark, with the host's answer. This is no event.
+    /// Sets a mark for the seat's build, and returns the host's answer. A mark is not an event.
     pub fn mark(&mut self, seat: &mut Seat<L>) -> Result<Mark, Refusal>
         ensures answer { IsMarked self.old.host seat.old.build result self.new.host }
         ensures books { self.new.books ≡ self.old.books }
@@ -118,12 +118,12 @@ impl<S: PageStore, L: Ledgers> Kept<S, L> {
         let build = seat.pass.build();
         self.books.audit(&mut seat.pass);
         let mark = self.host.mark(build)?;
-        // (called for its contract alone, which says what always holds of a host)
+        // (called only for its contract, which gives the invariant of a host)
         let _ = self.host.history();
         Ok(mark)
     }
 
-    /// The number of operations that the seat's build has open above a mark, with the host's answer. Nothing changes.
+    /// The number of operations that the seat's build has open above a mark, or the host's refusal. Nothing changes.
     pub fn check_back(&mut self, seat: &mut Seat<L>, mark: Mark) -> Result<u16, Refusal>
         ensures answer { result ≡ way_back self.old.host seat.old.build mark }
         ensures stands { OnOk result (IsMarkOf self.old.host seat.old.build mark) }
@@ -135,8 +135,8 @@ impl<S: PageStore, L: Ledgers> Kept<S, L> {
         self.host.check_back(build, mark)
     }
 
-    /// Gives the host back as it is, in return for its builds' seats. Each build has to have one seat, with the events
-    /// that the history has of the build. At `Err` the host comes back too.
+    /// Takes back the seats of all builds, and returns the host unchanged. Each build has to have one seat, with the
+    /// events that the history has of the build. At `Err` the host comes back too.
     pub fn close(self, mut seats: Vec<Seat<L>>) -> Result<Host<S>, (CloseFault, Host<S>)>
         ensures closed { IfOk result (λ host. IsClosed host seats.items) }
         ensures fault { IfErr result (λ e. IsFault e.0 e.1 seats.items) }
@@ -155,7 +155,7 @@ impl<S: PageStore, L: Ledgers> Kept<S, L> {
     }
 }
 
-// Appends the last event of a host's history to the trail, and adds one to both counts of the event's build.
+// Appends the last event of a host's history to a seat's trail, and counts the event in the seat and under the lock.
 fn note<S: PageStore, L: Ledgers>(host: &Host<S>, books: &mut Books<L>, seat: &mut Seat<L>)
     requires some { 0 < length host.now.history }
     requires counted { length (events_of seat.old.build host.now.history) ≡ seat.old.count + 1 }

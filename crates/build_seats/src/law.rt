@@ -6,7 +6,7 @@ ghost use Rattle.build_seats.specs.Exchange.{Exchange};
 ghost use Rattle.build_seats.specs.Standing.{StandingView};
 ghost use Rattle.build_seats.specs.declared.report.ReportLine.{ReportLine};
 
-/// The accepted lines of a report are the accepted commands and undos, in the same sequence. Each such line has one
+/// The accepted lines of a report match the accepted commands and undos one by one, in sequence. Each such line has one
 /// event of the build, and each event its line.
 pub fn accepted_lines_match_events()
     ensures { (standing : StandingView) (steps : List Step) (exchanges : List Exchange) (lines : List ReportLine) (ended : Bool) → AcceptedMatchEvents standing steps exchanges lines ended }

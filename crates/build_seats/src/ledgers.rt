@@ -1,4 +1,4 @@
-//! Ghost ledgers, one for each build: the counts that are behind the lock, and the passes that the seats carry.
+//! Ghost ledgers, one for each build: the counts that the lock protects, and the passes that the seats carry.
 ghost use Rattle.std.specs.Prelude.{◌≡◌, ℕ, ◌+◌, ◌<◌, [], ◌∷◌, length, map, slice_index, slice_set};
 ghost use Rattle.std.specs.List.{range_with_len};
 ghost use Rattle.host_ledger.specs.View.{HostView};
@@ -25,7 +25,7 @@ impl Ledgers for Brand {
     ghost names = { λ build. 0 };
 }
 
-/// The type of one build's ledger, which has one part.
+/// The type of the ledger of one build. The ledger has one part.
 pub struct LedgerOf<L, const BUILD: u8>(PhantomData<L>);
 
 impl<L: Ledgers, const BUILD: u8> Ledger for LedgerOf<L, BUILD> {
@@ -34,7 +34,7 @@ impl<L: Ledgers, const BUILD: u8> Ledger for LedgerOf<L, BUILD> {
     ghost parts = { 1 };
 }
 
-/// The counts behind the lock, one for each build, seen as their totals.
+/// The counts that the lock protects, one for each build. The view is the list of their totals.
 #[derive(Drop)]
 pub struct Books<L: Ledgers> {
     book0: Book<LedgerOf<L, 0>>,
@@ -56,7 +56,7 @@ impl<L: Ledgers> Model for Books<L> {
 }
 
 impl<L: Ledgers> Books<L> {
-    /// Shows that the count of a pass equals its build's count behind the lock. Nothing changes.
+    /// Shows that the count of a pass equals the count that the lock protects for the same build. Nothing changes.
     pub fn audit(&mut self, pass: &mut Pass<L>)
         ensures same { (self.new ≡ self.old) × (pass.new ≡ pass.old) }
         ensures build { pass.old.build < 8 }
@@ -75,7 +75,7 @@ impl<L: Ledgers> Books<L> {
         }
     }
 
-    /// Counts one event more in a pass and in its build's count behind the lock.
+    /// Adds one to the count of a pass, and to the count that the lock protects for the same build.
     pub(crate) fn raise(&mut self, pass: &mut Pass<L>)
         ensures book { self.new ≡ slice_set self.old pass.old.build (pass.old.count + 1) }
         ensures pass { pass.new ≡ record pass.old { count = pass.old.count + 1 } }
@@ -94,7 +94,7 @@ impl<L: Ledgers> Books<L> {
     }
 }
 
-// The whole share of the ledger of one build.
+// The undivided share of the ledger of one build.
 #[derive(Drop)]
 enum Whole<L: Ledgers> {
     Build0(Share<LedgerOf<L, 0>>),
@@ -107,7 +107,7 @@ enum Whole<L: Ledgers> {
     Build7(Share<LedgerOf<L, 7>>),
 }
 
-/// The whole share of one build's ledger, seen as the build and the count.
+/// The undivided share of one build's ledger. The view is the build and the count.
 #[derive(Drop)]
 pub struct Pass<L: Ledgers> {
     whole: Whole<L>,
@@ -145,7 +145,8 @@ impl<L: Ledgers> Pass<L> {
     }
 }
 
-/// The counts behind the lock, and the pass of each build in sequence. Nothing is counted yet.
+/// Newly opened ledgers: the counts that the lock will protect, and a pass for each build, in sequence. Nothing is
+/// counted yet.
 #[derive(Drop)]
 pub struct Opened<L: Ledgers> {
     pub books: Books<L>,

@@ -2,10 +2,10 @@
 use granule_addr::{BuildId, RecNo};
 use host_commands::{Refusal, Reply, Undone};
 
-/// The question of a worker, in a line of its report.
+/// The question that a line of a worker's report answers.
 #[derive(Clone, Copy, PartialEq, Eq)]
 pub enum Asked {
-    /// The step at that index of the plan, from 0.
+    /// A step of the plan, by its index from 0.
     Step(usize),
     /// After a refusal, the exit of a REC.
     Exit(RecNo),
@@ -13,16 +13,16 @@ pub enum Asked {
     Undo,
 }
 
-/// The answer to a worker, in a line of its report.
+/// The answer in a line of a worker's report.
 #[derive(Clone, Copy, PartialEq, Eq)]
 pub enum Answer {
     /// The reply to an accepted command.
     Replied(Reply),
     /// The result of an undo.
     Undone(Undone),
-    /// A mark of the build's point, with that many operations open.
+    /// A mark that was set, with the number of operations open at the mark.
     Marked(u16),
-    /// An abort or a way back with nothing to undo.
+    /// An abort or a `back` with nothing to undo.
     Nothing,
     Refused(Refusal),
 }

@@ -29,7 +29,7 @@ impl<L: Ledgers> Model for Trail<L> {
 }
 
 impl<L: Ledgers> Trail<L> {
-    /// A trail without an event.
+    /// An empty trail, with capacity for `room` events.
     pub fn build(alloc: Global, room: u16) -> Result<Trail<L>, AllocError>
         requires { room ≡ L.opened.capacity }
         ensures { IfOk result (λ trail. trail ≡ []) }
@@ -49,7 +49,7 @@ impl<L: Ledgers> Trail<L> {
         self.events.push_reserved(event);
     }
 
-    /// The events so far.
+    /// The events of the trail.
     pub fn events(&self) -> &[Event]
         ensures { result.now ≡ self.now }
     {
@@ -57,7 +57,7 @@ impl<L: Ledgers> Trail<L> {
     }
 }
 
-/// `count` trails without an event.
+/// Makes `count` empty trails, each with capacity for `room` events.
 pub(crate) fn new_trails<L: Ledgers>(
     alloc: Global,
     count: u8,
@@ -101,7 +101,7 @@ impl<L: Ledgers> Seat<L> {
         self.pass.build()
     }
 
-    /// The number of the build's events that the seat counts: as many as the trail has.
+    /// The number of the build's events that the seat has counted, which is the length of the trail.
     pub fn count(&self) -> usize
         ensures count { result ≡ self.now.count }
         ensures trail { result ≡ length self.now.trail }
@@ -117,7 +117,7 @@ impl<L: Ledgers> Seat<L> {
     }
 }
 
-/// A seat for each trail, with the passes in sequence. The other passes are dropped.
+/// Makes a seat of each trail and one of the passes, taken in sequence. The other passes are dropped.
 pub(crate) fn seated<L: Ledgers>(
     mut seats: Vec<Seat<L>>,
     passes: [Pass<L>; 8],

@@ -1,4 +1,4 @@
-//! The knowledge that a worker has of its build, from its own replies.
+//! The state of a build, as far as its worker knows it from the replies that the worker got.
 ghost use Rattle.std.specs.Prelude.{◌≡◌, ◌+◌, ◌-◌, ◌^◌, ◌<◌, ◌≤◌, ◌++◌, length, take, drop, slice_index, Some};
 ghost use Rattle.build_seats.specs.Standing.{first_standing, with_number, without_number, standing_after_command, left_to_clear};
 
@@ -7,10 +7,10 @@ use host_commands::Cmd;
 use host_ledger::Mark;
 use std::marker::Model;
 
-/// The largest number of RECs of a build that can run: that of the steps of a plan.
+/// The largest number of RECs of a build that can run at once, which is the largest number of steps of a build.
 pub const MOST: usize = 1024;
 
-/// The state of a build as its worker knows it from its own replies.
+/// The state of a build, as far as its worker knows it from the replies that the worker got.
 #[derive(Drop)]
 pub struct Standing {
     turn: usize,
@@ -80,7 +80,7 @@ impl Standing {
         self.turn
     }
 
-    /// Counts a turn: a question is asked.
+    /// Counts the turn that a question takes.
     pub(crate) fn take_turn(&mut self)
         requires { self.old.turn + 1 < 2 ^ 64 }
         ensures { self.new ≡ record self.old { turn = self.old.turn + 1 } }
@@ -88,7 +88,7 @@ impl Standing {
         self.turn += 1;
     }
 
-    /// The RECs that run, in rising number.
+    /// The numbers of the running RECs, the lowest first.
     pub fn running(&self) -> &[u16]
         ensures value { result.now ≡ self.now.running }
         ensures few { length result.now ≤ 1024 }
@@ -96,7 +96,7 @@ impl Standing {
         self.running.as_slice()
     }
 
-    /// Follows an accepted command.
+    /// Updates the state after an accepted command.
     #[tactic(auto, unfolding(crate::specs::Standing::standing_after_command))]
     pub(crate) fn count_command(&mut self, cmd: &Cmd)
         requires { left_to_clear self.old < 1024 }
@@ -119,7 +119,7 @@ impl Standing {
         self.journal
     }
 
-    /// Follows an accepted undo.
+    /// Updates the state after an accepted undo.
     pub(crate) fn count_undo(&mut self)
         ensures { self.new ≡ record self.old { journal = self.old.journal - 1 } }
     {
@@ -133,7 +133,7 @@ impl Standing {
         self.mark
     }
 
-    /// Follows an accepted mark.
+    /// Updates the state after an accepted mark.
     pub(crate) fn count_mark(&mut self, mark: Mark)
         ensures { self.new ≡ record self.old { mark = Some mark } }
     {

@@ -149,7 +149,7 @@ fn go_back<T: Teller, G: Gate>(
     }
 }
 
-/// Takes the step at that index of the plan.
+/// Takes the step of a plan at the index `place`.
 pub(crate) fn take_step<T: Teller, G: Gate>(
     report: &mut Report,
     standing: &mut Standing,

@@ -1,4 +1,4 @@
-//! The two parties of a worker: the teller that answers it, and the gate that gives it its turns.
+//! The two traits that a worker depends on: a teller, which answers its questions, and a gate, which gives it turns.
 ghost use Rattle.std.specs.Prelude.{◌≡◌, ℕ, List, [], ◌∷◌, ◌++◌, OnOk, OnErr};
 ghost use Rattle.build_seats.specs.Exchange.{Exchange, Did, Undid, KeptMark, CheckedBack};
 
@@ -7,15 +7,15 @@ use granule_addr::BuildId;
 use host_commands::{Cmd, Refusal, Reply, Undone};
 use host_ledger::Mark;
 
-/// The client side of a host for the worker of one build, such as a seat.
+/// The client side of a host, such as a seat, for the worker of one build.
 pub trait Teller {
-    /// Whether these are the questions that the teller was asked, in sequence, each with its answer.
+    /// Whether a list has all questions that the teller was asked, in sequence, each with its answer.
     ghost tells: { Self → List Exchange → Type 0 };
 
     /// The loan that the teller writes through, if there is one.
     ghost loan: { Self → ℕ };
 
-    /// Asks for a command, which stays with the worker.
+    /// Asks the host to perform a command, which the worker keeps.
     fn ask(&mut self, cmd: &Cmd) -> Result<Reply, Refusal>
         ensures told { (earlier : List Exchange) → tells self.old earlier → tells self.new (earlier ++ Did cmd.now result ∷ []) }
         ensures loan { loan self.new ≡ loan self.old };
@@ -25,7 +25,7 @@ pub trait Teller {
         ensures told { (earlier : List Exchange) → tells self.old earlier → tells self.new (earlier ++ Undid result ∷ []) }
         ensures loan { loan self.new ≡ loan self.old };
 
-    /// Asks that the build's point be kept as a mark.
+    /// Asks the host to set a mark for the build.
     fn mark(&mut self) -> Result<Mark, Refusal>
         ensures told { (earlier : List Exchange) → tells self.old earlier → tells self.new (earlier ++ KeptMark result ∷ []) }
         ensures loan { loan self.new ≡ loan self.old };
@@ -38,13 +38,14 @@ pub trait Teller {
 
 /// The scheduler of workers' turns.
 pub trait Gate {
-    /// Whether the gate lets that turn of a build pass.
+    /// Whether the gate gives a build its turn with a given number.
     ghost passes: { Self → ℕ → ℕ → Type 0 };
 
-    /// Whether that turn of a build does not come.
+    /// Whether the gate withholds from a build its turn with a given number.
     ghost stops: { Self → ℕ → ℕ → Type 0 };
 
-    /// Waits for a turn of a build: the build's worker calls it before each question. Turns are counted from 0.
+    /// Waits for a turn of a build. The build's worker calls this function before each question. Turns are counted from
+    /// 0.
     fn pass(&self, build: BuildId, turn: usize) -> Result<(), Stuck>
         ensures ok { OnOk result (passes self.now build turn) }
         ensures stuck { OnErr result (stops self.now build turn) };

@@ -1,4 +1,4 @@
-//! All workers at once, each in a thread of its own.
+//! The run of all workers at once, each worker in a thread of its own.
 ghost use Rattle.std.specs.Prelude.{◌≡◌, [], true, All, MatchOption, MatchResult};
 ghost use Rattle.builders.specs.Runs.{AreRun, IsLowestWaiting};
 ghost use Rattle.builders.specs.Workers.{IsWorkerRun};

@@ -23,7 +23,7 @@ impl<'a, R: Wait, S: PageStore, L: Ledgers> Teller for SeatTeller<'a, R, S, L> {
     // the exchanges of the seat since it was new
     ghost tells = { λ teller exchanges. AreAnswered L.opened (new_seat teller.seat.now.build) exchanges teller.seat.now };
 
-    // the name of the seat, and its build, so that both stay
+    // the seat's name and build, as one number that no call changes
     ghost loan = { λ teller. 8 * teller.seat.ghost_name + teller.seat.now.build };
 
     fn ask(&mut self, cmd: &Cmd) -> Result<Reply, Refusal> {

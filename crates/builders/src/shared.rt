@@ -23,8 +23,8 @@ pub struct Shared<S: PageStore, L: Ledgers> {
 }
 
 impl<S: PageStore, L: Ledgers> Shared<S, L> {
-    /// Shares a host that has no history, with a seat for each of its builds in sequence. All memory for their events
-    /// is taken here. If there is none, blanks and host come back.
+    /// Shares a host that has no history, and returns a seat for each of the host's builds, in sequence. All memory for
+    /// their events is taken here. If there is none, blanks and host come back.
     pub fn start(
         alloc: Global,
         blanks: Blanks,
@@ -45,7 +45,7 @@ impl<S: PageStore, L: Ledgers> Shared<S, L> {
         }
     }
 
-    /// Asks for a command of the seat's build.
+    /// Performs a command of the seat's build on the host, and returns the reply.
     pub fn call(&self, rt: &impl Wait, seat: &mut Seat<L>, cmd: Cmd) -> Result<Reply, Refusal>
         ensures told { IfOk result (λ reply. IsCallTold L.opened (Ask cmd) (Replied reply) seat.old seat.new) }
         ensures refused { IfErr result (λ refusal. IsCallRefused L.opened (Ask cmd) refusal seat.old × (seat.new ≡ seat.old)) }
@@ -61,8 +61,8 @@ impl<S: PageStore, L: Ledgers> Shared<S, L> {
         self.kept.lock(rt).undo(seat)
     }
 
-    /// Keeps the point of the seat's build as a mark, to which undos can go back. The seat is borrowed mutably, since
-    /// its count is compared with the one behind the lock; it stays as it is.
+    /// Keeps a mark at the operations that the seat's build has open now, and returns the mark. The seat is borrowed
+    /// mutably, since its count is compared with the one behind the lock; it stays as it is.
     pub fn mark(&self, rt: &impl Wait, seat: &mut Seat<L>) -> Result<Mark, Refusal>
         ensures told { IsMarkTold L.opened seat.old result }
         ensures seat { seat.new ≡ seat.old }
@@ -70,7 +70,8 @@ impl<S: PageStore, L: Ledgers> Shared<S, L> {
         self.kept.lock(rt).mark(seat)
     }
 
-    /// The number of operations that the seat's build has open above a mark. The seat is borrowed as for `mark`.
+    /// Returns the number of operations that the seat's build has open above a mark, or the host's refusal. The seat is
+    /// borrowed as for `mark`.
     pub fn check_back(&self, rt: &impl Wait, seat: &mut Seat<L>, mark: Mark) -> Result<u16, Refusal>
         ensures told { IsBackTold L.opened seat.old mark result }
         ensures seat { seat.new ≡ seat.old }

@@ -34,8 +34,8 @@ impl<L: Ledgers> Model for Worker<L> {
 }
 
 impl<L: Ledgers> Worker<L> {
-    /// A worker that has asked nothing yet, for a seat's build. If there is no memory for its report, seat and steps
-    /// come back.
+    /// Returns a new worker for a seat's build, with an empty report. If there is no memory for its report, seat and
+    /// steps come back.
     pub fn build(
         alloc: Global,
         seat: Seat<L>,
@@ -75,7 +75,7 @@ impl<L: Ledgers> Worker<L> {
         self.ended
     }
 
-    /// Takes the worker's steps, with its turns from the gate.
+    /// Takes the worker's steps, in turns that the gate gives.
     pub fn run<R: Wait, S: PageStore, G: Gate>(&mut self, rt: &R, shared: &Shared<S, L>, gate: &G)
         requires { self.old.lines ≡ [] }
         ensures { IsWorkerRun L.opened (G.passes gate.now self.old.seat.build) (G.stops gate.now self.old.seat.build) self.old self.new }
@@ -89,7 +89,7 @@ impl<L: Ledgers> Worker<L> {
         *ended = work_at(rt, shared, seat, steps.as_slice(), report, gate);
     }
 
-    /// The seat, the steps and the report of the worker.
+    /// Consumes the worker, and returns its seat, steps and report.
     pub fn end(self) -> (Seat<L>, Vec<Step>, Report)
         ensures parts { (result.0 ≡ self.seat) × (result.1.items ≡ self.steps) × (result.2.lines.items ≡ self.lines) }
         ensures build { result.2.build ≡ self.seat.build }
@@ -105,7 +105,7 @@ impl<L: Ledgers> Worker<L> {
     }
 }
 
-// Takes steps for a seat, and returns whether they came to their end.
+// Takes steps of a seat's build, and returns whether the gate gave every turn.
 fn work_at<R: Wait, S: PageStore, G: Gate, L: Ledgers>(
     rt: &R,
     shared: &Shared<S, L>,
@@ -124,7 +124,7 @@ fn work_at<R: Wait, S: PageStore, G: Gate, L: Ledgers>(
         (record { seat = seat.new; steps = steps.now; lines = report.new.lines.items; ended = result }) }
     ensures same { (report.new.build ≡ report.old.build) × (vec_capacity report.new.lines ≡ vec_capacity report.old.lines) }
 {
-    // A seat's build is below 8, before and after, and it counts its trail.
+    // (the contracts of these calls say that a seat's build is below 8, and that the seat counts its trail)
     let _ = (seat.build(), seat.count());
     let mut teller = SeatTeller { rt, shared, seat };
     let ended = work(report, steps, &mut teller, gate).is_ok();

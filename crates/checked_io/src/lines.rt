@@ -8,18 +8,18 @@ use crate::{DeviceFailed, ReadError, Told};
 use std::io::Read;
 use std::marker::Model;
 
-/// The next item of an input: a line, or its end.
+/// The next item of an input: a line, or the end of the input.
 #[derive(Clone, Copy)]
 pub enum Next {
     /// A line that was read whole.
     Line,
-    /// A line that is longer than it may be.
+    /// A line that is longer than the limit.
     TooLong,
     /// The end of the input.
     End,
 }
 
-/// The bytes that were read of an input and not yet taken.
+/// The bytes that were read from an input and not yet taken.
 #[derive(Drop)]
 pub struct Lines {
     buffer: [u8; 4096],
@@ -76,7 +76,7 @@ impl Lines {
         byte
     }
 
-    /// Reads the next line, if there is one of no more than `most` bytes. Its line feed is no part of it.
+    /// Reads the next line without its line feed, and returns `TooLong` for a line of more than `most` bytes.
     ///
     /// `Device` comes exactly when a read failed, and `Memory` only if allocation failed.
     pub fn next_line<R: Read>(

@@ -1,5 +1,5 @@
-//! A reader or writer that remembers whether a call of it has failed. Nothing outside of this module calls the device
-//! or sets the flag.
+//! A reader or writer that remembers whether a call has failed. Nothing outside of this module calls the device or sets
+//! the flag.
 ghost use Rattle.std.specs.Prelude.{◌≡◌, ◌+◌, ◌-◌, ◌^◌, ◌<◌, ◌≤◌, ◌↔◌, min, false, true, is_err, IfOk, IfSome, OnOk, OnErr, Err, length};
 ghost use Rattle.std.specs.Io.{ReadsAtMost, WritesAtMost};
 ghost use Rattle.std.specs.Io.KnownBytes.{Appends, Keeps, ReadConsumes, WriteAppends};
@@ -33,7 +33,7 @@ impl From<DeviceFailed> for ReadError {
     }
 }
 
-/// A device, a reader or a writer, with a flag for its failure.
+/// A device (a reader or a writer) with a flag that says whether a call has failed.
 #[derive(Drop)]
 pub struct Told<D> {
     device: D,
@@ -73,7 +73,7 @@ impl<D> Told<D> {
         self.failed
     }
 
-    /// Whether a write failed because nobody reads what is written: a pipe whose other end is closed.
+    /// Whether a write failed because the device is a pipe whose other end is closed.
     pub fn is_closed(&self) -> bool
         ensures value { result ≡ self.now.is_closed }
         ensures failed { result ≡ true → self.now.failed ≡ true }
@@ -88,7 +88,7 @@ impl<D> Told<D> {
         &self.device
     }
 
-    // Notes a failure, and whether it is that of a closed pipe.
+    // Records a failure, and whether the cause is a closed pipe.
     fn fail(&mut self, is_closed: bool) -> DeviceFailed
         ensures { self.new ≡ record self.old { failed = true; is_closed = is_closed } }
     {
@@ -124,8 +124,8 @@ impl<R: Read> Told<R> {
 }
 
 impl<W: Write> Told<W> {
-    /// Writes once: some of the bytes, if there are any. Every error of the device is a failure, and so is a write that
-    /// takes none of the bytes. An `Err` sets `failed`.
+    /// Writes at least one of the bytes, if there are any, with one call of the device. Every error of the device is a
+    /// failure, and so is a write that takes none of the bytes. An `Err` sets `failed`.
     pub fn write(&mut self, buf: &[u8]) -> Result<usize, DeviceFailed>
         requires { self.old.failed ≡ false }
         ensures told { self.new.failed ≡ is_err result }

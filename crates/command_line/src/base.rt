@@ -27,8 +27,8 @@ impl BaseAddress {
         BaseAddress(0x8000_0000)
     }
 
-    /// The address that a text gives in hexadecimal, as `0x80000000`. None: it gives none, or no multiple of 4,096
-    /// below 2^46.
+    /// The address that a text gives in hexadecimal, as `0x80000000`. `None` if the text gives no number, or no
+    /// multiple of 4,096 below 2^46.
     pub(crate) fn read(text: &str) -> Option<BaseAddress> {
         let address = u64::from_str_radix(text.strip_prefix("0x")?, 16).ok()?;
         if address % 4096 == 0 && address < (1 << 46) {

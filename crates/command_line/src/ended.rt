@@ -1,4 +1,4 @@
-//! The end of a program without an error.
+//! The outcome of a program that stops without an error.
 ghost use Rattle.std.specs.Prelude.{◌≡◌, false, true, Err, IfErr, IfOk};
 ghost use Rattle.clap.specs.Values.{kind_of};
 ghost use Rattle.command_line.specs.Ended.{end_of_run, is_request, IsShown, IsUnshown};
@@ -10,19 +10,19 @@ use clap::Error;
 use std::alloc::Global;
 use std::io::Write;
 
-/// The end of a program without an error.
+/// The outcome of a program that stops without an error.
 #[derive(Clone, Copy)]
 pub enum Ended<V> {
-    /// The program has done what it was asked for, with this verdict.
+    /// A request that was carried out, with its verdict.
     Done(V),
-    /// The program has printed its help or its version.
+    /// A help or version text that was printed.
     Shown,
-    /// The program's output is closed: nobody reads it any more.
+    /// An output that is closed: nobody reads it any more.
     Closed,
 }
 
 impl<V> Ended<V> {
-    /// The end of a run. A run that failed for a closed output is no fault.
+    /// Returns the outcome of a run, or the run's fault. A run that failed because the output is closed is no fault.
     pub fn of_run<F>(outcome: Result<V, F>, is_closed: bool) -> Result<Ended<V>, Stop<F>>
     where
         V: Drop,

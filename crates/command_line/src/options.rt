@@ -1,4 +1,4 @@
-//! The parts of a command line whose `clap` definition is proved: a program, a subcommand, and the option `--erase`.
+//! Parts of a command line with a proved `clap` definition: a program, a subcommand, and the option `--erase`.
 ghost use Rattle.std.specs.Prelude.{◌≡◌, IfOk, None, Some, codes, false, if◌then◌else◌, map, nat_lt, option_and_then, option_map, string_bytes, true};
 ghost use Rattle.clap.specs.Words.{FailsBy, app_of, fault_of, found_of, is_simple_and_free, new_app, one_of, rows_of, rule_of, subcommand_of, subcommand_rows_of};
 ghost use Rattle.clap.specs.declared.builder.command.Command.TheViews.{out-Command as fields_of};
@@ -8,7 +8,8 @@ use clap::{Arg, ArgAction, ArgMatches, Command, Error, value_parser};
 use granule_addr::BuildId;
 use std::alloc::Global;
 
-/// A program, but for its subcommands. It has a version, and one of its subcommands is required.
+/// The `clap` definition of a program, without its subcommands. It has a version, and one of its subcommands is
+/// required.
 pub(crate) fn program<'a>(alloc: Global, name: &'a str, about: &'a str) -> Command<'a>
     ensures { app_of result ≡ program_named name.now }
 {
@@ -37,7 +38,7 @@ pub(crate) fn erase<'a>(alloc: Global, help: &'a str) -> Arg<'a>
         .value_parser(value_parser!(u8).range(0..=7))
 }
 
-/// The matches that the program finds in the words.
+/// Returns the matches that the program finds in the words, or the error.
 pub(crate) fn matched<'a>(
     program: Command<'a>,
     words: &'a [String],
@@ -49,14 +50,14 @@ pub(crate) fn matched<'a>(
     program.try_get_matches_from(words)
 }
 
-/// The build of a number, if one is given and it is below 8.
+/// The build with a number, if a number is given and it is below 8.
 pub(crate) fn build_of(number: Option<u8>) -> Option<BuildId>
     ensures { result ≡ option_and_then (λ n. if nat_lt n 8 then Some n else None) number }
 {
     BuildId::new(number?)
 }
 
-/// The build that is left out, by the words that were matched.
+/// The build that the matched words ask to leave out, if they name one.
 pub(crate) fn erased(matches: &ArgMatches) -> Option<BuildId>
     requires { ArePassed built_erase matches.now }
     ensures { IsErase (one_of (codes "erase") (rows_of (found_of matches.now))) result }

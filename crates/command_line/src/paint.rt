@@ -4,7 +4,7 @@ ghost use Rattle.command_line.specs.Painted.{code_of, shown_by, AddsPainted, IsP
 
 use std::alloc::{AllocError, Global};
 
-/// The lines that are painted.
+/// The kind of text that is painted.
 #[derive(Clone, Copy)]
 pub enum Painting {
     /// Messages: `error:`, `warning:` and `help:`, the carets below a word, and the lines of refused turns.
@@ -43,7 +43,7 @@ impl Colour {
     }
 }
 
-// A part of a line that is painted.
+// A painted part of a line.
 #[derive(Clone, Copy)]
 struct Label {
     start: usize,
@@ -51,7 +51,7 @@ struct Label {
     colour: Colour,
 }
 
-// Whether a label may follow a text: spaces alone, or one that ends with a place as `plan:4:28: `.
+// Whether a label may follow a text: the text is spaces alone, or ends with a place such as `plan:4:28: `.
 fn may_begin_label(before: &[u8]) -> bool {
     if let [.., digit, b':', b' '] = before {
         return digit.is_ascii_digit();
@@ -94,7 +94,7 @@ fn label_in(line: &[u8]) -> Option<Label>
     None
 }
 
-// Whether a line is that of a turn that is refused.
+// Whether a line shows a refused turn.
 fn is_refused_turn(line: &[u8]) -> bool {
     match line {
         [first, ..] if first.is_ascii_digit() => {}
@@ -144,7 +144,7 @@ fn colour_of_line(painting: Painting, line: &[u8]) -> Option<Colour> {
     }
 }
 
-// Appends a piece of a text.
+// Appends a piece of a text, in a colour if one is given.
 fn push(out: &mut Vec<u8>, colour: Option<Colour>, piece: &[u8]) -> Result<(), AllocError>
     ensures { OnOk result (out.new.items ≡ out.old.items ++ shown_by colour piece.now) }
 {
@@ -156,7 +156,7 @@ fn push(out: &mut Vec<u8>, colour: Option<Colour>, piece: &[u8]) -> Result<(), A
     out.extend_from_slice(b"\x1b[0m")
 }
 
-// Appends a line without its line feed.
+// Appends a line in its colours. The line has no line feed.
 fn push_line(out: &mut Vec<u8>, painting: Painting, line: &[u8]) -> Result<(), AllocError>
     ensures { OnOk result (AddsPainted out.old.items line.now out.new.items) }
 {
@@ -187,7 +187,7 @@ fn line_len(text: &[u8]) -> usize
     text.len()
 }
 
-/// The text for a terminal, with escape sequences around its painted pieces.
+/// Returns the text for a terminal, with escape sequences around its painted pieces.
 pub fn painted(alloc: Global, text: &[u8], painting: Painting) -> Result<Vec<u8>, AllocError>
     ensures { IfOk result (λ out. IsPainted text.now out.items) }
 {

@@ -35,7 +35,7 @@ fn replay<'a>(alloc: Global) -> Result<Command<'a>, AllocError>
     subcommand(alloc, "replay", REPLAY).arg(erase(alloc, ERASE))
 }
 
-// The program as it is declared to `clap`.
+// Returns the program as it is declared to `clap`.
 fn command<'a>(alloc: Global) -> Result<Command<'a>, AllocError>
     ensures { IfOk result (λ c. app_of c ≡ realmhost) }
 {
@@ -48,9 +48,9 @@ fn command<'a>(alloc: Global) -> Result<Command<'a>, AllocError>
 }
 
 impl Line {
-    /// The request of the words. The first word is the program's name.
+    /// Returns the request that the words make, or the error. The first word is the program's name.
     pub fn of(alloc: Global, words: &[String]) -> Result<Line, Error>
-        // The result of clap's definition of a simple command for the words.
+        // The request is that of the subcommand that clap's definition of a simple command finds in the words.
         ensures ok { IfOk result (IsHostSubcommand (subcommand_of realmhost (map string_bytes words.now))) }
         // The kind of an error: one that the definition names, or a failed allocation.
         ensures kinds { FailsBy (fault_of realmhost (map string_bytes words.now)) result }

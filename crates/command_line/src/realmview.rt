@@ -23,13 +23,13 @@ pub enum ViewSubcommand {
     Page,
     /// Writes the mistakes of a plan.
     Check,
-    /// Writes the run of a plan, with the check that fails below each refused turn; if `all`, also those that passed.
+    /// Writes the run of a plan, and below each refused turn the failed check; if `all`, also the passed checks.
     Why { all: bool },
     /// Writes the outcomes of schedules of a plan.
     Explore(Schedules, AfterRefusal),
     /// Writes a plan with an order that gives each build all the turns that it needs.
     Order(SchedulingPolicy),
-    /// Writes the run of a plan as calls on an RMM by registers, whose memory begins at an address.
+    /// Writes the run of a plan as calls by registers on an RMM whose memory begins at an address.
     Calls(BaseAddress, CallsForm),
 }
 
@@ -42,34 +42,34 @@ pub enum CallsForm {
     Rows,
 }
 
-/// The schedules of a plan whose outcomes are asked for.
+/// The schedules of a plan that are explored.
 #[derive(Clone, Copy, Drop)]
 pub enum Schedules {
-    /// All schedules, if their runs have at most that many states.
+    /// All schedules, if their runs have at most the given number of states.
     All(u32),
-    /// That many schedules, drawn by the random numbers of the seed.
+    /// A number of schedules, drawn by the random numbers of a seed.
     Drawn(u32, u32),
-    /// The shortest schedule whose last turn answers a question, if the runs have at most that many states.
+    /// The shortest schedule whose last turn answers a question, if the runs have at most the given number of states.
     Shortest(u32, ScheduleQuestion),
 }
 
 /// The question that the last turn of a schedule answers.
 #[derive(Clone, Copy, Drop)]
 pub enum ScheduleQuestion {
-    /// This step is refused.
+    /// Whether the step is refused.
     Refused(StepPlace),
-    /// This build waits while another holds nothing.
+    /// Whether the build waits while another build holds nothing.
     Waiting(u32),
-    /// At least so many granules are leased.
+    /// Whether at least the given number of granules is leased.
     Leased(u32),
 }
 
 /// The behaviour of a build in a schedule after a refusal of one of its steps.
 #[derive(Clone, Copy, Drop)]
 pub enum AfterRefusal {
-    /// The build goes on with its next step.
+    /// Goes on with the build's next step.
     GoOn,
-    /// The build leaves out its other steps, and aborts.
+    /// Leaves out the build's other steps, and aborts.
     GiveUp,
 }
 
@@ -100,22 +100,22 @@ pub enum BadOption {
 /// The policy by which the builds of a plan take turns.
 #[derive(Clone, Copy, Drop)]
 pub enum SchedulingPolicy {
-    /// In rotation, each build that has a step left.
+    /// Turns in rotation, for each build that has a step left.
     InRotation,
-    /// One build after the other: the next begins when one has no step left.
+    /// Turns of one build after another: a build begins when the previous build has no step left.
     OneByOne,
 }
 
-// The most states, if no option gives a number.
+// The most states that are explored, if no option gives a number.
 const MOST_STATES: u32 = 1000000;
 
-// The most schedules that are drawn.
+// The most schedules that may be drawn.
 const MOST_DRAWN: u32 = 1000000;
 
 // The number of schedules that are drawn, if only a seed is given.
 const SAMPLE: u32 = 1000;
 
-// The `sample` schedules that are drawn by the seed, if they are not too many.
+// Returns `sample` schedules that are drawn with the seed, or an error if they are too many.
 fn schedules_drawn(sample: u32, seed: u32) -> Result<Schedules, BadOption>
     ensures { result ≡ schedules_drawn sample seed }
 {
@@ -126,7 +126,7 @@ fn schedules_drawn(sample: u32, seed: u32) -> Result<Schedules, BadOption>
     }
 }
 
-// The schedules that options ask for. They are drawn if a sample or a seed is given.
+// Returns the schedules that options ask for, or an error. They are drawn if a sample or a seed is given.
 fn schedules_asked(
     most_states: Option<u32>,
     sample: Option<u32>,
@@ -141,8 +141,8 @@ fn schedules_asked(
     }
 }
 
-// The behaviour of builds after a refusal in these schedules. A plan that is printed cannot say that its builds give
-// up.
+// Returns the behaviour of builds after a refusal, or an error if it does not fit the schedules. A plan that is printed
+// cannot say that its builds give up.
 fn after_refusal(gives_up: bool, orders: &Schedules) -> Result<AfterRefusal, BadOption>
     ensures { result ≡ after_refusal gives_up orders.now }
 {
@@ -153,10 +153,10 @@ fn after_refusal(gives_up: bool, orders: &Schedules) -> Result<AfterRefusal, Bad
     }
 }
 
-// The most granules that a machine has.
+// The most granules that a machine can have.
 const MOST_GRANULES: u32 = 4096;
 
-// The question whether at least that many granules are leased.
+// Returns the question whether at least `granules` granules are leased, or an error if the number is out of range.
 fn question_of_leased(granules: u32) -> Result<ScheduleQuestion, BadOption>
     ensures { result ≡ question_of_leased granules }
 {
@@ -167,7 +167,8 @@ fn question_of_leased(granules: u32) -> Result<ScheduleQuestion, BadOption>
     }
 }
 
-// The question that options ask, if one is asked. `refused` is `Some(None)` if its text is no step.
+// Returns the question that options ask, if they ask one, or an error. `refused` is `Some(None)` if its text is no
+// step.
 fn question_asked(
     refused: Option<Option<StepPlace>>,
     waiting: Option<u32>,
@@ -375,12 +376,12 @@ const REALMVIEW: Program = Program {
     ],
 };
 
-// The build that is left out, by the words that were matched.
+// The build that the matched words ask to leave out, if they name one.
 fn erased(matches: &ArgMatches) -> Option<BuildId> {
     build_of(matches.get_one("erase"))
 }
 
-// The step of a text: its build, and its place, with a colon between them.
+// The step that a text names: a build and a place, with a colon between them.
 fn step_of(text: &str) -> Option<StepPlace> {
     let (build, step) = text.split_once(':')?;
     let build = build.parse::<u32>().ok()?;
@@ -388,7 +389,7 @@ fn step_of(text: &str) -> Option<StepPlace> {
     Some(StepPlace { build, step })
 }
 
-// The schedules that are asked for by the words that were matched.
+// Returns the schedules that the matched words ask for, or an error.
 fn schedules_by(explore: &ArgMatches) -> Result<Schedules, BadOption> {
     let most_states: Option<u32> = explore.get_one("most-states");
     let question = question_asked(
@@ -407,14 +408,14 @@ fn schedules_by(explore: &ArgMatches) -> Result<Schedules, BadOption> {
     )
 }
 
-// The exploration that is asked for by the words that were matched.
+// Returns the exploration that the matched words ask for, or an error.
 fn explore_by(explore: &ArgMatches) -> Result<ViewSubcommand, BadOption> {
     let orders = schedules_by(explore)?;
     let after = after_refusal(explore.get_flag("give-up"), &orders)?;
     Ok(ViewSubcommand::Explore(orders, after))
 }
 
-// The address of the first granule, by the words that were matched.
+// Returns the address of the first granule that the matched words ask for, or an error.
 fn base_by(calls: &ArgMatches) -> Result<BaseAddress, BadOption> {
     match calls.get_str("base") {
         Some(text) => BaseAddress::read(text).ok_or(BadOption::NoBase),
@@ -422,7 +423,7 @@ fn base_by(calls: &ArgMatches) -> Result<BaseAddress, BadOption> {
     }
 }
 
-// The form of calls, by the words that were matched.
+// The form of calls that the matched words ask for.
 fn form_by(calls: &ArgMatches) -> CallsForm {
     if calls.get_flag("c") {
         CallsForm::Rows
@@ -431,7 +432,7 @@ fn form_by(calls: &ArgMatches) -> CallsForm {
     }
 }
 
-// The policy by which builds take turns, by the words that were matched.
+// The scheduling policy that the matched words ask for.
 fn turns_by(order: &ArgMatches) -> SchedulingPolicy {
     if order.get_flag("one-by-one") {
         SchedulingPolicy::OneByOne
@@ -440,7 +441,7 @@ fn turns_by(order: &ArgMatches) -> SchedulingPolicy {
     }
 }
 
-// The request of the subcommand of that name.
+// Returns the request that the subcommand `name` makes, or an error.
 fn asked_by(name: &str, matches: &ArgMatches) -> Result<ViewSubcommand, BadOption> {
     match name {
         "history" => Ok(ViewSubcommand::History(erased(matches))),
@@ -457,7 +458,7 @@ fn asked_by(name: &str, matches: &ArgMatches) -> Result<ViewSubcommand, BadOptio
     }
 }
 
-// The error that says why options are refused.
+// Returns the error that explains why options are refused.
 fn bad_option(alloc: Global, reason: BadOption) -> Result<Error, AllocError> {
     let message = match reason {
         BadOption::SampleAboveMost { sample } => {
@@ -477,7 +478,7 @@ fn bad_option(alloc: Global, reason: BadOption) -> Result<Error, AllocError> {
 }
 
 impl ViewSubcommand {
-    /// The request and the file of the words. The first word is the program's name.
+    /// Returns the request and the file that the words name, or the error. The first word is the program's name.
     pub fn of<'a>(
         alloc: Global,
         words: &'a [String],

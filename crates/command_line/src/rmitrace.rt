@@ -11,16 +11,16 @@ use rmm_trace::{find_name, name_text};
 use std::alloc::{AllocError, Global};
 use strsim::osa_distance;
 
-/// A set of names of lines, by their places in `rmm_trace`.
+/// A set of names of lines, by the places that the names have in `rmm_trace`.
 #[derive(Clone, Copy)]
 pub struct NameSet {
     pub places: [bool; 256],
 }
 
-/// The lines that a check compares, and what it prints of them.
+/// The lines that a check compares, the verdicts that it prints, and whether it stops at a wrong line.
 #[derive(Clone, Copy)]
 pub struct Comparison {
-    /// Whether each line that is compared gets its verdict, also one that is the same.
+    /// Whether the verdict on each compared line is printed, also on a line that is the same.
     pub is_each: bool,
     /// Whether the check stops at the first line that is wrong.
     pub stops: bool,
@@ -130,7 +130,7 @@ const RMITRACE: Program = Program {
 // ---- names
 
 impl NameSet {
-    /// Whether a name is in the set.
+    /// Whether the name at a place is in the set.
     pub fn has(&self, place: usize) -> bool
         ensures { result ≡ is_name_in self.now place }
     {
@@ -141,12 +141,13 @@ impl NameSet {
     }
 }
 
-// Whether a line can have the name at a place: that of a question, or of a check.
+// Whether a line can have the name at a place, as the name of a question or of a check.
 fn is_of_line(place: usize) -> bool {
     place < WRITE || FIRST_CHECK <= place
 }
 
-// The place of a name of lines. In a trace the name of a check is in brackets.
+// Returns the place of a name that a line can have, or `None` for any other name. In a trace the name of a check is in
+// brackets.
 fn place_of(alloc: Global, name: &str) -> Result<Option<usize>, AllocError> {
     let check = format!(in alloc; "({name})")?;
     match find_name(name.as_bytes()).or(find_name(check.as_bytes())) {
@@ -155,12 +156,12 @@ fn place_of(alloc: Global, name: &str) -> Result<Option<usize>, AllocError> {
     }
 }
 
-// A name of lines as an option has it.
+// The name at a place, without the brackets of a check.
 fn bare_name(place: usize) -> &'static str {
     name_text(place).trim_matches(['(', ')'])
 }
 
-// The name of lines that is the nearest to a text, if one is near: a third of the text differs at most.
+// Returns the name of lines that is nearest to a text, if at most a third of the text differs.
 fn nearest(alloc: Global, text: &str) -> Result<Option<&'static str>, AllocError> {
     let mut found = None;
     let mut least = text.len() / 3 + 1;
@@ -174,7 +175,7 @@ fn nearest(alloc: Global, text: &str) -> Result<Option<&'static str>, AllocError
     Ok(found)
 }
 
-// The error for a name that no line has.
+// Returns the error for a name that no line has.
 fn unknown(alloc: Global, name: &str) -> Result<Error, AllocError> {
     let message = match nearest(alloc, name)? {
         Some(near) => {
@@ -187,7 +188,7 @@ fn unknown(alloc: Global, name: &str) -> Result<Error, AllocError> {
         .error(ErrorKind::ValueValidation, &message)
 }
 
-// The set of names; a name that no line has is an error.
+// Returns the set of the names, or an error if no line has one of them.
 fn set_of(alloc: Global, names: &[&str]) -> Result<NameSet, Error> {
     let mut set = NameSet {
         places: [false; 256],
@@ -203,7 +204,7 @@ fn set_of(alloc: Global, names: &[&str]) -> Result<NameSet, Error> {
 
 // ---- words
 
-// The set of the names of an option, if it is given.
+// Returns the set of the names of an option, if the option is given, or an error.
 fn names_by(alloc: Global, check: &ArgMatches, option: &str) -> Result<Option<NameSet>, Error> {
     match check.get_strs(option) {
         Some(names) => Ok(Some(set_of(alloc, names)?)),
@@ -211,7 +212,7 @@ fn names_by(alloc: Global, check: &ArgMatches, option: &str) -> Result<Option<Na
     }
 }
 
-// The lines that a check is to compare, by the words that were matched.
+// Returns the comparison that the matched words ask for, or an error.
 fn compared_by(alloc: Global, check: &ArgMatches) -> Result<Comparison, Error> {
     Ok(Comparison {
         is_each: check.get_flag("each"),
@@ -221,7 +222,7 @@ fn compared_by(alloc: Global, check: &ArgMatches) -> Result<Comparison, Error> {
     })
 }
 
-// The request of the words that were matched.
+// Returns the request that the matched words make, or an error.
 fn asked_by(alloc: Global, matches: &ArgMatches) -> Result<TraceSubcommand, Error> {
     match matches.subcommand() {
         Some(("check", check)) => Ok(TraceSubcommand::Check(compared_by(alloc, check)?)),
@@ -232,7 +233,7 @@ fn asked_by(alloc: Global, matches: &ArgMatches) -> Result<TraceSubcommand, Erro
 }
 
 impl TraceSubcommand {
-    /// The request and the file of the words. The first word is the program's name.
+    /// Returns the request and the file that the words name, or the error. The first word is the program's name.
     pub fn of<'a>(
         alloc: Global,
         words: &'a [String],

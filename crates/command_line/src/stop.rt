@@ -13,14 +13,14 @@ pub trait Reason: Display + Drop {
     /// The exit status of each reason.
     ghost status_of: { Self → ℕ };
 
-    /// The reason that is a failed allocation.
+    /// The reason that reports a failed allocation.
     ghost memory: { Self };
 
     /// The exit status of the program.
     fn status(&self) -> u8
         ensures { result ≡ status_of self.now };
 
-    /// The reason that is a failed allocation.
+    /// The reason that reports a failed allocation.
     fn of_memory() -> Self
         ensures { result ≡ memory };
 }

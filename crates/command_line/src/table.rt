@@ -8,13 +8,13 @@ use std::alloc::{AllocError, Global};
 pub(crate) enum Opt {
     /// `--erase B`, the build that is left out.
     Erase(&'static str),
-    /// A number of 32 bits: the option's name, and that of its value.
+    /// A number of 32 bits: the option's name, the value's name, and the help.
     Number(&'static str, &'static str, &'static str),
     /// A flag.
     Flag(&'static str, &'static str),
     /// An option with a name, which may be repeated.
     Names(&'static str, &'static str),
-    /// A text: the option's name, and that of its value.
+    /// A text: the option's name, the value's name, and the help.
     Text(&'static str, &'static str, &'static str),
 }
 
@@ -91,7 +91,7 @@ impl Subcommand {
 }
 
 impl Program {
-    /// The program as it is declared to `clap`.
+    /// Returns the program as it is declared to `clap`.
     pub(crate) fn command<'a>(&self, alloc: Global) -> Result<Command<'a>, AllocError> {
         let mut command = program(alloc, self.name, self.about).after_help(self.examples);
         for row in self.subcommands {
@@ -100,7 +100,7 @@ impl Program {
         Ok(command)
     }
 
-    /// The matches that the program finds in the words. The first word is the program's name.
+    /// Returns the matches that the program finds in the words, or the error. The first word is the program's name.
     pub(crate) fn matched<'a>(
         &self,
         alloc: Global,

@@ -40,7 +40,7 @@ fn unopened<F: Reason>(alloc: Global, program: &str, name: &str, error: &io::Err
     }
 }
 
-// A file to read.
+// Opens a file to read; a directory is an error.
 fn opened(rt: &HostRuntime, name: &str) -> io::Result<File> {
     let file = File::open(rt, name)?;
     if file.metadata()?.is_dir() {
@@ -86,7 +86,7 @@ impl Read for Input<'_> {
     }
 }
 
-// Whether the environment allows colours: `NO_COLOR` is not set, or empty.
+// Whether the environment allows colours: `NO_COLOR` is unset or empty.
 fn allows_colours(rt: &HostRuntime) -> bool {
     match env::var(rt, "NO_COLOR") {
         Ok(value) => value.is_empty(),

@@ -1,4 +1,4 @@
-//! Streams that wait on pipes that do not block.
+//! Streams that wait when a non-blocking pipe is not ready.
 use std::io;
 use std::io::{ErrorKind, Read, Write};
 use std::thread::sleep;
@@ -16,7 +16,7 @@ pub struct WaitingStream<'a, D> {
 }
 
 impl<'a, D> WaitingStream<'a, D> {
-    /// A stream that waits.
+    /// A waiting stream over `stream`.
     pub fn new(rt: &'a HostRuntime, stream: D) -> WaitingStream<'a, D> {
         WaitingStream { rt, stream }
     }

@@ -1,4 +1,4 @@
-//! Decimal numbers in a text: the spelling of a word with its numbers, and the reading of it.
+//! The text of a word and its decimal numbers, written and read.
 //!
 //! A number is written in decimal, without a sign and without leading zeros, and one space is before it. A function
 //! that returns a value returns the one that the text spells; if it returns none, the text spells none.

@@ -5,7 +5,7 @@ ghost use Rattle.decimal_text.specs.Numbers.{IsPlain, AreNumbers, spelled_number
 
 use arrayvec::ArrayVec;
 
-/// Whether the text begins as a decimal does: with no sign, and with a zero only if the zero is all.
+/// Whether the text begins as a decimal does: with no `+`, and with a zero only if the whole text is `0`.
 fn is_plain(bytes: &[u8]) -> bool
     ensures { IsTrue result ↔ IsPlain bytes.now }
 {
@@ -27,7 +27,7 @@ fn number_of(text: &str) -> Option<u32>
     text.parse::<u32>().ok()
 }
 
-/// The text before the first space, and the text from it on.
+/// The text before the first space, and the text from that space on.
 pub fn cut_at_space(text: &str) -> (&str, &str)
     ensures before { result.0.now ≡ before_space text.now }
     ensures from { result.1.now ≡ from_space text.now }

@@ -1,9 +1,9 @@
-//! Operands of a word: as many numbers as it takes, each in the range of its type.
+//! The operands of a word: as many numbers as the word takes, each in the range of its type.
 ghost use Rattle.std.specs.Prelude.{◌≡◌, ℕ, nat_le, ◌&&◌, if◌then◌else◌, Some, None};
 ghost use Rattle.decimal_text.specs.Rows.{one, two, three, four};
 ghost use Rattle.decimal_text.specs.Written.{u8, u16, u32};
 
-/// A type of numbers that can follow a word.
+/// A type for the operands of a word. Each value is made from a number that is at most `maximum`.
 pub trait Operand: Copy {
     ghost maximum: { ℕ };
 
@@ -51,7 +51,7 @@ fn both<A: Operand, B: Operand>(first: u32, second: u32) -> Option<(A, B)>
     A::from_number(first).zip(B::from_number(second))
 }
 
-/// The operand, if there is one number, and it is in its range.
+/// The operand, if there is exactly one number, and the number is in the operand's range.
 pub fn one_operand<A: Operand>(numbers: &[u32]) -> Option<A>
     ensures { result ≡ one A.maximum (λ k. A.of k) numbers.now }
 {
@@ -61,7 +61,7 @@ pub fn one_operand<A: Operand>(numbers: &[u32]) -> Option<A>
     }
 }
 
-/// The operands, if there are two numbers, and each is in its range.
+/// The operands, if there are exactly two numbers, each in the range of its operand.
 pub fn two_operands<A: Operand, B: Operand>(numbers: &[u32]) -> Option<(A, B)>
     ensures { result ≡ two A.maximum B.maximum (λ k l. (A.of k, B.of l)) numbers.now }
 {
@@ -71,7 +71,7 @@ pub fn two_operands<A: Operand, B: Operand>(numbers: &[u32]) -> Option<(A, B)>
     }
 }
 
-/// The operands, if there are three numbers, and each is in its range.
+/// The operands, if there are exactly three numbers, each in the range of its operand.
 pub fn three_operands<A: Operand, B: Operand, C: Operand>(numbers: &[u32]) -> Option<(A, B, C)>
     ensures { result ≡ three A.maximum B.maximum C.maximum (λ k l m. (A.of k, B.of l, C.of m)) numbers.now }
 {
@@ -83,7 +83,7 @@ pub fn three_operands<A: Operand, B: Operand, C: Operand>(numbers: &[u32]) -> Op
     Some((first, second, third))
 }
 
-/// The operands, if there are four numbers, and each is in its range.
+/// The operands, if there are exactly four numbers, each in the range of its operand.
 pub fn four_operands<A: Operand, B: Operand, C: Operand, D: Operand>(
     numbers: &[u32],
 ) -> Option<(A, B, C, D)>

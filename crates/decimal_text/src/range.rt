@@ -5,7 +5,7 @@ ghost use Rattle.decimal_text.specs.Rows.{up_to};
 
 use arrayvec::ArrayVec;
 
-/// The numbers, if there is one for each maximum, and each is at most that.
+/// The numbers, if there is one for each maximum, and none is above its maximum.
 pub fn at_most<const N: usize>(numbers: &[u32], maxima: [u32; N]) -> Option<[u32; N]>
     ensures found { IfSome result (λ ns. (numbers.now ≡ ns) × AreAtMost ns maxima.entry) }
     ensures none { IfNone result (AreAtMost numbers.now maxima.entry → ⊥) }

@@ -1,7 +1,7 @@
 //! The text of numbers in decimal.
 use std::fmt;
 
-/// Each number in decimal after one space.
+/// The text of numbers in decimal, with one space before each number.
 #[derive(Clone, Copy)]
 pub struct NumbersText<'a>(pub &'a [u32]);
 
@@ -19,7 +19,7 @@ impl fmt::Display for NumbersText<'_> {
     }
 }
 
-/// A word, and each of its numbers in decimal after one space.
+/// The text of a word and its numbers in decimal, with one space before each number.
 #[derive(Clone, Copy)]
 pub struct SpelledText<'a>(pub &'a str, pub &'a [u32]);
 

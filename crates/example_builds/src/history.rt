@@ -1,5 +1,5 @@
-//! A history from standard input: it is applied to a host event by event, up to the first that is refused. Then the map
-//! of the host is printed.
+//! The example that applies a history from standard input to a host, up to the first refused event. Then it prints the
+//! host's map.
 use anyhow::{Context, Result};
 use history_text::{Opening, parse_event, parse_opening};
 use plan_replay::map_text;
@@ -7,7 +7,7 @@ use realm_host::{Host, PlainStore, Settings};
 use std::alloc::Global;
 use std::io;
 
-// A host of the size in an opening.
+// Boots a host of the size that the opening of a history gives.
 fn opened(alloc: Global, opening: &Opening) -> Result<Host<PlainStore>> {
     let settings = Settings::new(
         opening.vmids,
@@ -28,7 +28,7 @@ fn apply(host: &mut Host<PlainStore>, line: &str) -> Result<()> {
     Ok(())
 }
 
-// Applies the lines after the first, and prints each, up to one that cannot be applied.
+// Applies and prints each line after the first, up to a line that cannot be applied.
 fn apply_all(rt: &impl Print, host: &mut Host<PlainStore>, text: &str) -> io::Result<()> {
     for line in text.lines().skip(1) {
         if let Err(error) = apply(host, line) {
@@ -46,7 +46,7 @@ fn show(rt: &impl Print, alloc: Global, host: &mut Host<PlainStore>, text: &str)
     Ok(())
 }
 
-/// Applies the history on standard input, if there is one.
+/// Applies the history on standard input, if there is one, and prints the host's map.
 pub(crate) fn run(rt: &HostRuntime) -> Result<()> {
     let alloc = rt.alloc();
     let text = io::read_to_string(alloc, rt.stdin())?;

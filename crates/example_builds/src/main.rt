@@ -11,7 +11,7 @@ use realm_host::{BuildId, Cmd, Host, PlainStore, Refusal, Rmi, Settings, Status}
 use std::alloc::Global;
 use std::io;
 
-// A host of 8 pages, for one build.
+// Boots a host of 8 pages for one build.
 fn booted(alloc: Global) -> Result<Host<PlainStore>> {
     let settings = Settings::new(8, 0, 64, 1).unwrap();
     let store = PlainStore::build(alloc, 8)?;
@@ -37,7 +37,7 @@ fn ask(rt: &impl Print, host: &mut Host<PlainStore>, build: BuildId, cmd: Cmd) -
     }
 }
 
-// Takes two pages, and delegates the first of them once too often.
+// Asks for five commands, of which the last two are refused, then for an undo and an abort.
 fn build(rt: &impl Print, host: &mut Host<PlainStore>, build: BuildId) -> io::Result<()> {
     ask(rt, host, build, Cmd::Take { order: 1 })?;
     ask(rt, host, build, Cmd::Fill { page: 1, value: 7 })?;
@@ -48,7 +48,7 @@ fn build(rt: &impl Print, host: &mut Host<PlainStore>, build: BuildId) -> io::Re
     println!(rt; "{:?}", host.abort(build))
 }
 
-// Prints the answers of a build, its history, and the number of free pages after it.
+// Prints the answers to a build's commands, the host's history, and the number of free pages.
 fn show(rt: &impl Print, host: &mut Host<PlainStore>) -> io::Result<()> {
     build(rt, host, BuildId::new(0).unwrap())?;
     for event in host.history() {

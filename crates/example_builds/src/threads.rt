@@ -1,4 +1,5 @@
-//! Two builds in threads of their own, on one host behind a lock: each has a seat, and the seats close the host.
+//! Two builds on one host behind a lock, each in a thread of its own. Each build has a seat, and the seats close the
+//! host.
 ghost use Rattle.std.specs.Prelude.{◌≡◌, [], IfOk};
 ghost use Rattle.build_seats.specs.Names.{AreNamed};
 
@@ -61,7 +62,7 @@ fn run<R: Print + AllocGlobal + Threads + Wait + Sync, L: Ledgers + Send + Sync>
     }
 }
 
-/// Runs two builds on a host of their own, and prints what they leave.
+/// Runs two builds on a new host, and prints the number of events and the map of the host.
 pub(crate) fn both<R: Print + AllocGlobal + Threads + Wait + Sync>(rt: &R) -> Result<()> {
     let host = booted(rt.alloc())?;
     run::<R, Brand>(rt, Blanks::new(), host)

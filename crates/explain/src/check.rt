@@ -1,4 +1,4 @@
-//! A check, with the numbers that it reads.
+//! A check of a step, with the values that the check reads.
 ghost use Rattle.std.specs.Prelude.{◌≡◌, ◌∷◌, ◌++◌, [], OnOk};
 ghost use Rattle.std.specs.List.{cons_option};
 ghost use Rattle.explain.specs.RmiChecks.{rmi_check};
@@ -8,7 +8,7 @@ use crate::rmi_facts::{InputFact, RealmFact, RecFact, WalkFact};
 use realm_host::{Refusal, Rmi};
 use std::alloc::AllocError;
 
-/// The fact that a check requires, and the numbers that it reads.
+/// The fact that a check requires, with the values that the check reads.
 #[derive(Clone, Copy)]
 pub enum Fact {
     Build(BuildFact),
@@ -20,7 +20,7 @@ pub enum Fact {
     Walk(WalkFact),
 }
 
-/// A check: the fact that it requires, whether it fails, and the refusal that it gives then.
+/// A check: the required fact, whether the check fails, and the refusal that a failure gives.
 #[derive(Clone, Copy)]
 pub struct Check {
     pub fact: Fact,
@@ -28,7 +28,7 @@ pub struct Check {
     pub refusal: Refusal,
 }
 
-/// A check of the RMM, with its answer if the check fails.
+/// A check by the RMM, with the RMM's answer if the check fails.
 pub(crate) fn rmi_check(fact: Fact, fails: bool, rmi: Rmi) -> Check
     ensures { result ≡ rmi_check fact fails rmi }
 {
@@ -39,14 +39,14 @@ pub(crate) fn rmi_check(fact: Fact, fails: bool, rmi: Rmi) -> Check
     }
 }
 
-/// Adds a check to others.
+/// Appends a check to a list of checks.
 pub(crate) fn add(checks: &mut Vec<Check>, check: Check) -> Result<(), AllocError>
     ensures { OnOk result (checks.new.items ≡ checks.old.items ++ check ∷ []) }
 {
     checks.extend_from_slice(&[check])
 }
 
-/// Adds a check to others, if there is one.
+/// Appends a check to a list of checks, unless the check is `None`.
 pub(crate) fn add_some(checks: &mut Vec<Check>, check: Option<Check>) -> Result<(), AllocError>
     ensures { OnOk result (checks.new.items ≡ checks.old.items ++ cons_option check []) }
 {

@@ -1,4 +1,4 @@
-//! The check that refuses a step, in words: what must be, what is, and the name of the refusal.
+//! The error message of a refused step: the required fact, the found fact, and the name of the refusal.
 use crate::check::{Check, Fact};
 use crate::host_facts::{BuildFact, RoomFact, UndoFact};
 use crate::names::{entry_state, granule_state, realm_state, rec_state, refusal_name};
@@ -16,7 +16,7 @@ use realm_host::{GranuleState, Host};
 use realm_plan::{realm_word, state_word};
 use std::alloc::AllocError;
 
-/// Appends the words for a check that fails: what must be and what is, and the name of the refusal.
+/// Appends the words for a failed check, with the name of the refusal in parentheses.
 pub(crate) fn push_error(
     text: &mut String,
     words: Phrase,
@@ -35,7 +35,7 @@ pub(crate) fn push_error(
     text.push_str(")")
 }
 
-/// The error of a check of a step that fails: the fact that is required, and the one that is found.
+/// The words for a failed check of a step: the required fact, and the fact that was found.
 pub(crate) fn error_of<S: PageStore>(
     host: &Host<S>,
     build: BuildId,
@@ -76,7 +76,7 @@ fn missing_page(step: &Step, page: u16, count: u16) -> Phrase {
     }
 }
 
-// The error for a build that has a realm already, with the page of its RD.
+// The error for a build that has a realm already, with the page of the realm's RD.
 fn second_realm<S: PageStore>(host: &Host<S>, build: BuildId, rd: Option<Gran>) -> Phrase {
     if let Some(rd) = rd {
         if let Some(page) = page_of(host, build, rd) {
@@ -103,7 +103,7 @@ fn of_build<S: PageStore>(host: &Host<S>, build: BuildId, step: &Step, fact: Bui
     }
 }
 
-// The error for a block that is not free, on a machine of that many pages.
+// The error for an order of which no block is free, on a machine of `machine` pages.
 fn block_error(machine: u16, order: u8, free: u16) -> Phrase {
     let size = size_of_order(order);
     let wanted = Number(size as u64);
@@ -147,7 +147,7 @@ fn of_room(machine: u16, fact: RoomFact) -> Phrase {
     }
 }
 
-/// The error for a newest operation that created a REC that is RUNNING.
+/// The error for a RUNNING REC that the newest open operation created.
 pub(crate) fn newest_error(number: u16) -> Phrase {
     one(
         "REC {}, the newest operation's, must be READY; it is RUNNING",
@@ -155,7 +155,7 @@ pub(crate) fn newest_error(number: u16) -> Phrase {
     )
 }
 
-// The error for RECs of a build that are RUNNING: in the words for one, or in those for their number.
+// The error for a build's RUNNING RECs, in the words `of_one` for one REC and `of_many` for more.
 fn running_error<S: PageStore>(
     host: &Host<S>,
     build: BuildId,
@@ -193,7 +193,7 @@ fn of_undo<S: PageStore>(host: &Host<S>, build: BuildId, fact: UndoFact) -> Phra
 
 // ---- what the RMM checks
 
-// The access of a step to a page, as a participle, if the step is no RMI command.
+// The participle for a step's access to a page, `written` or `read`, if the step is no RMI command.
 fn access_of(step: &Step) -> Option<&'static str> {
     match step {
         Step::Ask(Cmd::Fill { .. }) => Some("written"),
@@ -257,12 +257,12 @@ fn of_input(step: &Step, fact: InputFact) -> Phrase {
     }
 }
 
-/// The number of IPA granules in the protected half of an address space of that width.
+/// The number of IPA granules in the protected half of an address space of `width` bits.
 pub(crate) fn protected_end(width: u8) -> u64 {
     1 << width.saturating_sub(13).min(32)
 }
 
-// The pages that a step names for a realm: the RD, the first starting table, and the number of these.
+// The RD page and the first starting table that a step names for a realm, and the number of starting tables.
 fn realm_pages(step: &Step) -> (u16, u16, u16) {
     match step {
         Step::Ask(Cmd::Realm { rd, root, width }) => {
@@ -330,7 +330,7 @@ fn distinct_error<S: PageStore>(host: &Host<S>, build: BuildId, step: &Step) -> 
     }
 }
 
-// The error for a REC that the realm does not have, with those that it has.
+// The error for a REC that the realm lacks, with the only REC or the number of RECs that the realm has.
 fn no_rec_error<S: PageStore>(host: &Host<S>, build: BuildId, number: u16) -> Phrase {
     let number = Number(number as u64);
     match count_of_recs(host, build, false) {

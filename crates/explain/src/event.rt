@@ -1,4 +1,4 @@
-//! Recorded events that cannot be applied, in the words of the check that refuses them.
+//! The words for recorded events that a host does not apply, by the check that fails.
 use crate::check::Check;
 use crate::error::{error_of, newest_error, push_error};
 use crate::of_build::build_there;
@@ -14,8 +14,8 @@ use plan_replay::PlanCursor;
 use realm_host::{Act, Event, Host, Refusal};
 use std::alloc::{AllocError, Global};
 
-/// The words for an event that a host does not apply: the check that refuses it, with granules in place of pages. They
-/// are empty if no check of a command does.
+/// Returns the reason why a host does not apply an event, in words, with granules in place of pages. The words are
+/// empty if neither a check nor a recorded value explains it.
 pub fn event_words<S: PageStore>(
     alloc: Global,
     host: &Host<S>,
@@ -59,8 +59,8 @@ fn reverse_error<S: PageStore>(host: &Host<S>, build: BuildId) -> Phrase {
     }
 }
 
-// The words for an operation of a command: the check that fails, or else what the event records. The block that the
-// host would allocate is not checked, since a history names its own.
+// Appends the words for an operation of a command: the failed check, or else the recorded value that does not fit. The
+// block that the host would allocate is not checked, since a history names its own.
 fn push_act<S: PageStore>(
     alloc: Global,
     text: &mut String,
@@ -86,7 +86,7 @@ fn push_act<S: PageStore>(
     }
 }
 
-// The first of these granules that the build does not lease.
+// The first of `granules` that the build does not lease.
 fn first_foreign<S: PageStore>(host: &Host<S>, build: BuildId, granules: &[Gran]) -> Option<Gran> {
     for granule in granules {
         if page_of(host, build, *granule).is_none() {
@@ -96,7 +96,7 @@ fn first_foreign<S: PageStore>(host: &Host<S>, build: BuildId, granules: &[Gran]
     None
 }
 
-// The first granule of an operation that the build does not lease. A block that is taken is nobody's yet.
+// The first granule that an operation names and that the build does not lease. A block that is taken is nobody's yet.
 fn foreign_granule<S: PageStore>(host: &Host<S>, build: BuildId, act: &Act) -> Option<Gran> {
     match act {
         Act::Fill { granule, .. }
@@ -122,7 +122,7 @@ fn foreign_granule<S: PageStore>(host: &Host<S>, build: BuildId, act: &Act) -> O
     }
 }
 
-// The error for a granule that the build does not lease, with the build that does.
+// The error for a granule that the build does not lease, with the build that leases it, if any.
 fn foreign_error<S: PageStore>(host: &Host<S>, build: BuildId, granule: Gran) -> Phrase {
     let (number, build) = (
         Number(granule.number() as u64),
@@ -143,12 +143,12 @@ fn foreign_error<S: PageStore>(host: &Host<S>, build: BuildId, granule: Gran) ->
     }
 }
 
-// The number of a build's page. It is there: `foreign_granule` has found none that is not.
+// The page number that a build has for a granule. `foreign_granule` has found that the build leases the granule.
 fn number_of<S: PageStore>(host: &Host<S>, build: BuildId, granule: Gran) -> u16 {
     page_of(host, build, granule).unwrap_or(0)
 }
 
-// The command of an operation on a page alone.
+// The command of an operation that takes, fills, reads or delegates pages.
 fn page_command<S: PageStore>(host: &Host<S>, build: BuildId, act: &Act) -> Option<Cmd> {
     let cmd = match act {
         Act::Take { order, .. } => Cmd::Take {
@@ -174,7 +174,7 @@ fn page_command<S: PageStore>(host: &Host<S>, build: BuildId, act: &Act) -> Opti
     Some(cmd)
 }
 
-// The command of an operation that makes a realm or its tables, or activates it.
+// The command of an operation that creates or activates a realm, or creates a table.
 fn realm_command<S: PageStore>(host: &Host<S>, build: BuildId, act: &Act) -> Option<Cmd> {
     let cmd = match act {
         Act::Realm { rd, root, .. } => Cmd::Realm {
@@ -243,7 +243,7 @@ fn rec_command(act: &Act) -> Option<Cmd> {
     Some(cmd)
 }
 
-// The numbers of a build's pages.
+// The page numbers that a build has for granules.
 fn numbers_of<S: PageStore>(
     host: &Host<S>,
     build: BuildId,
@@ -258,7 +258,7 @@ fn numbers_of<S: PageStore>(
     pages
 }
 
-// The command of an operation, on pages of the build. A reverse has none.
+// The command that performs an operation, with the build's page numbers, or `None` for a reverse.
 fn command_of<S: PageStore>(host: &Host<S>, build: BuildId, act: &Act) -> Option<Cmd> {
     let Act::Rec {
         granule,
@@ -308,7 +308,7 @@ fn block_error<S: PageStore>(host: &Host<S>, order: Order, first: Gran) -> Optio
     None
 }
 
-// The mismatch of an event that no check of a command finds: of a block, a VMID, the number of a REC, or a byte.
+// The error for a recorded value that no check of a command reads: a block, a VMID, a REC number, or a byte.
 fn recorded_error<S: PageStore>(host: &Host<S>, build: BuildId, act: &Act) -> Option<Phrase> {
     match act {
         Act::Take { order, first } => block_error(host, *order, *first),

@@ -1,4 +1,4 @@
-//! A turn of a run, and why it is refused.
+//! A turn of a run, with the reason if the turn is refused.
 use crate::check::Check;
 use host_commands::Step;
 
@@ -7,11 +7,11 @@ use host_commands::Step;
 pub struct Explanation {
     /// The step that the build asked for.
     pub step: Step,
-    /// The checks of the step up to the first that fails, which is the last of these.
+    /// The checks of the step, up to and including the first failed check.
     pub checks: Vec<Check>,
     /// The check that fails, in words.
     pub error: String,
-    /// A step that helps, in words; empty if nothing does.
+    /// The help, in words; empty if there is none.
     pub help: String,
 }
 

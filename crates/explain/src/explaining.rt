@@ -1,4 +1,4 @@
-//! The runs of a plan, with the checks of each turn that is refused.
+//! The run of a plan, with the checks of each refused turn.
 ghost use Rattle.std.specs.Prelude.{◌≡◌, ◌<◌, ◌≤◌, IfOk, map, option_map, vec_len};
 ghost use Rattle.realm_plan.specs.Asked.{asked};
 ghost use Rattle.realm_plan.specs.PlanView.{plan_view};
@@ -24,7 +24,7 @@ pub(crate) fn id_of(place: usize) -> BuildId
     BuildId::new(place as u8).unwrap()
 }
 
-// The checks up to the first that fails.
+// Returns the checks up to and including the first failed check.
 fn up_to_failing(alloc: Global, checks: &[Check]) -> Result<Vec<Check>, AllocError>
     ensures { IfOk result (λ front. front.items ≡ up_to_failing checks.now) }
 {
@@ -38,7 +38,8 @@ fn up_to_failing(alloc: Global, checks: &[Check]) -> Result<Vec<Check>, AllocErr
     Ok(front)
 }
 
-// The reason why a step is refused, if it is. A refusal changes nothing, so the host has all that it names.
+// Returns the reason why a step is refused, or `None` if the step is not refused. A refusal changes nothing, so the
+// host still has all that the reason names.
 fn reason_for<S: PageStore>(
     alloc: Global,
     host: &Host<S>,
@@ -64,7 +65,7 @@ fn reason_for<S: PageStore>(
     }
 }
 
-// Takes one turn of a build's step, in a plan that gives up if `gives_up`.
+// Takes one turn of a build's step, in a plan whose builds give up if `gives_up` is set.
 fn explain_step<S: PageStore>(
     alloc: Global,
     host: &mut Host<S>,
@@ -85,7 +86,7 @@ fn explain_step<S: PageStore>(
     Ok(ExplainedTurn { line, reason })
 }
 
-// A turn of a build that has no step left.
+// Returns the idle turn of a build that has no step left.
 fn idle_turn(alloc: Global, build: BuildId) -> Result<ExplainedTurn, AllocError>
     ensures { IfOk result (λ turn. report_of turn ≡ idle_report build) }
 {
@@ -94,7 +95,7 @@ fn idle_turn(alloc: Global, build: BuildId) -> Result<ExplainedTurn, AllocError>
     Ok(ExplainedTurn { line, reason: None })
 }
 
-// One turn of a build: its next step, if one is left.
+// Takes one turn of a build: performs the build's next step, if one is left.
 fn explain_turn<S: PageStore>(
     alloc: Global,
     host: &mut Host<S>,
@@ -116,8 +117,8 @@ fn explain_turn<S: PageStore>(
     Ok(turn)
 }
 
-/// Runs a plan, and returns its turns: the line of each, and the checks of each that is refused, up to the first that
-/// fails. At an `Err` allocation failed.
+/// Runs a plan, and returns its turns, each with its line. A refused turn has its checks too, up to and including the
+/// first failed check. At an `Err` allocation failed.
 pub fn explain_turns<S: PageStore>(
     alloc: Global,
     host: &mut Host<S>,

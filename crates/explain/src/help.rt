@@ -1,4 +1,4 @@
-//! The help for a step that is refused: a step that helps, in the words of plans.
+//! The help for a refused step: a proposed step, in the words of plans.
 use crate::check::Fact;
 use crate::help_host::{build_help, room_help, undo_help};
 use crate::help_input::input_help;
@@ -19,11 +19,11 @@ pub(crate) enum Help {
     Say(Phrase),
     /// Two phrases, one after the other.
     Both(Phrase, Phrase),
-    /// Words before, the exits of the RECs that are RUNNING, a number of undos, and words after.
+    /// Leading words, the exits of the RUNNING RECs, a number of undos, and closing words.
     Undo(Phrase, usize, &'static str),
     /// The exits of the RECs that are RUNNING.
     Exit,
-    /// Words, and a `rec` with as many pages as a REC has.
+    /// Words, then a `rec` step with all the pages that a REC needs.
     Rec(&'static str),
 }
 
@@ -39,7 +39,7 @@ fn help_of<S: PageStore>(host: &Host<S>, build: BuildId, step: &Step, fact: Fact
     }
 }
 
-/// Appends the help for a check of a step that fails, if there is any.
+/// Appends the help for a failed check of a step, if there is any.
 pub(crate) fn push_help<S: PageStore>(
     text: &mut String,
     host: &Host<S>,
@@ -70,7 +70,7 @@ pub(crate) fn push_help<S: PageStore>(
     }
 }
 
-// Appends the exits of a build's RECs that are RUNNING: the first in the words `first`, the others in the words `next`.
+// Appends an `exit` of each RUNNING REC of a build: the first in the words `first`, any later one in `next`.
 fn push_exits<S: PageStore>(
     text: &mut String,
     host: &Host<S>,
@@ -88,7 +88,7 @@ fn push_exits<S: PageStore>(
     Ok(())
 }
 
-// Appends undos after the exits of the RECs that run, since an operation below such a REC is not undone.
+// Appends the exits of the RECs that run, then `count` undos. The creation of a REC that runs cannot be undone.
 fn push_undos<S: PageStore>(
     text: &mut String,
     host: &Host<S>,
@@ -102,8 +102,8 @@ fn push_undos<S: PageStore>(
     }
 }
 
-// Appends a `rec` with the pages that a step names, then others that are DELEGATED, and a letter for each that is
-// lacking.
+// Appends a proposed `rec` step: the pages that a step names, then other DELEGATED pages, then `P` for each missing
+// page.
 fn push_rec<S: PageStore>(
     text: &mut String,
     host: &Host<S>,

@@ -12,7 +12,7 @@ use host_commands::Step;
 use page_arena::PageStore;
 use realm_host::{GranuleState, Host};
 
-/// The step that takes the least block of that many pages, and the pages that it gives, if such a block is free.
+/// The words for the smallest `take` of at least `count` pages, or `None` if no block for it is free.
 pub(crate) fn take_of<S: PageStore>(host: &Host<S>, build: BuildId, count: u16) -> Option<Phrase> {
     let order = order_for(count)?;
     if !has_block(host, order) {
@@ -31,7 +31,7 @@ pub(crate) fn take_of<S: PageStore>(host: &Host<S>, build: BuildId, count: u16) 
     ))
 }
 
-// The help for a page that the build does not have: more pages, or else those that the build has.
+// The help for a page that the build lacks: a `take` that gives the page, or else the build's page numbers.
 fn more_pages<S: PageStore>(host: &Host<S>, build: BuildId, page: u16, count: u16) -> Help {
     let lacking = page.saturating_sub(count).saturating_add(1);
     match take_of(host, build, lacking) {
@@ -70,7 +70,7 @@ fn realm_first<S: PageStore>(host: &Host<S>, build: BuildId, step: &Step) -> Phr
     }
 }
 
-/// The help for a check of a build that fails.
+/// The help for a failed check of a build.
 pub(crate) fn build_help<S: PageStore>(
     host: &Host<S>,
     build: BuildId,
@@ -100,7 +100,7 @@ pub(crate) fn build_help<S: PageStore>(
     }
 }
 
-// The help for a block that is not free.
+// The help for a `take` if no block of its order is free.
 fn other_block<S: PageStore>(host: &Host<S>, order: u8) -> Phrase {
     let size = size_of_order(order);
     let (pages, largest) = (host.pages(), largest_free(host));
@@ -126,7 +126,7 @@ fn other_block<S: PageStore>(host: &Host<S>, order: u8) -> Phrase {
     }
 }
 
-/// The help for a check of room that fails.
+/// The help for a failed check of room: in the journal or the history, or for a VMID or a block.
 pub(crate) fn room_help<S: PageStore>(host: &Host<S>, fact: RoomFact) -> Help {
     Help::Say(match fact {
         RoomFact::Journal(_) => plain(
@@ -143,7 +143,7 @@ pub(crate) fn room_help<S: PageStore>(host: &Host<S>, fact: RoomFact) -> Help {
     })
 }
 
-/// The help for a check of an undo that fails.
+/// The help for a failed check of an undo.
 pub(crate) fn undo_help<S: PageStore>(host: &Host<S>, build: BuildId, fact: UndoFact) -> Help {
     match fact {
         UndoFact::Open(_) => Help::Nothing,

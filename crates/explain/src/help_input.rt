@@ -13,7 +13,7 @@ use realm_host::{GranuleState, Host};
 
 // ---- pages
 
-/// Another page of the build: one that is DELEGATED, or one that may become so.
+/// The help to use another page of the build: a DELEGATED page, or a page to delegate first.
 pub(crate) fn other_page<S: PageStore>(host: &Host<S>, build: BuildId, step: &Step) -> Help {
     let delegated = other_pages(host, build, step, GranuleState::Delegated);
     if let [page, ..] = delegated.as_slice() {
@@ -33,12 +33,12 @@ pub(crate) fn other_page<S: PageStore>(host: &Host<S>, build: BuildId, step: &St
     }
 }
 
-// Whether a step names a page as its source too, so that it may not be delegated.
+// Whether a step names a page as its source, which may not be delegated.
 fn is_source(step: &Step, page: u16) -> bool {
     matches!(step, Step::Ask(Cmd::Data { source, .. }) if *source == page)
 }
 
-// The undos that make a page UNDELEGATED again, after other words.
+// The help `words`, followed by the undos that make a page UNDELEGATED again.
 fn given_back<S: PageStore>(host: &Host<S>, build: BuildId, page: u16, words: Phrase) -> Help {
     match undos_of_delegation(host, build, page) {
         Some(count) => Help::Undo(words, count, " undelegates it"),
@@ -95,7 +95,7 @@ fn undelegated_help<S: PageStore>(
 
 // ---- numbers
 
-// The IPA granule that was meant, if it was written as an address; or a width that has it.
+// The help for an unprotected IPA granule: its number if an address was written, or else a larger IPA width.
 fn protected_help(ipa: u32, width: u8) -> Help {
     if ipa % 4096 == 0 && ((ipa / 4096) as u64) < protected_end(width) {
         return Help::Say(one(
@@ -115,7 +115,7 @@ fn protected_help(ipa: u32, width: u8) -> Help {
     Help::Nothing
 }
 
-// Two steps for pages that lie in two tables.
+// The help for pages that lie in two tables: two `ripas` steps.
 fn two_runs(ipa: u32, count: u16) -> Phrase {
     let next = (ipa as u64 / 512 + 1) * 512;
     let before = next.saturating_sub(ipa as u64);
@@ -129,7 +129,7 @@ fn two_runs(ipa: u32, count: u16) -> Phrase {
     )
 }
 
-// The table that covers an IPA granule.
+// The `rtt` step for the table that covers an IPA granule.
 fn covering_table(step: &Step, ipa: u32, level: u8) -> Phrase {
     let page = match step {
         Step::Ask(Cmd::Rtt { page, .. }) => Some(*page),

@@ -29,7 +29,7 @@ fn new_again<S: PageStore>(host: &Host<S>, build: BuildId) -> Help {
     }
 }
 
-// Pages that can be the starting tables; or else a block that has such.
+// The help for unsuitable starting tables: suitable pages of the build, or else a `take` of a block.
 fn other_tables<S: PageStore>(host: &Host<S>, build: BuildId, rd: u16, width: u8) -> Help {
     let count = host_commands::tables_named(width);
     if let Some(first) = first_of_tables(host, build, rd, count) {
@@ -53,7 +53,7 @@ fn other_tables<S: PageStore>(host: &Host<S>, build: BuildId, rd: u16, width: u8
     }
 }
 
-// Another IPA width.
+// The help for an IPA width that realms cannot have: a `realm` step with another width.
 fn other_width(rd: u16, root: u16, width: u8) -> Phrase {
     let words = if width < 39 {
         "leave the width out for 39: `realm {} {}`"
@@ -63,7 +63,7 @@ fn other_width(rd: u16, root: u16, width: u8) -> Phrase {
     two(words, Number(rd as u64), Number(root as u64))
 }
 
-/// The help for a realm that is not as a step requires, or that cannot be created of its operands.
+/// The help for a failed check on a realm: its state, or the operands to create it from.
 pub(crate) fn realm_help<S: PageStore>(
     host: &Host<S>,
     build: BuildId,
@@ -101,7 +101,7 @@ fn missing_rec<S: PageStore>(host: &Host<S>, build: BuildId, number: u16) -> Hel
     Help::Rec("create it first: ")
 }
 
-/// The help for a REC that is not as a step requires, or that cannot be created of its operands.
+/// The help for a failed check on a REC: its presence, its state, or the pages to create it from.
 pub(crate) fn rec_help<S: PageStore>(
     host: &Host<S>,
     build: BuildId,
@@ -129,7 +129,7 @@ pub(crate) fn rec_help<S: PageStore>(
 
 // ---- translations
 
-// A page of a proposed step: one of `others`, or a letter if the step needs more than these.
+// A page of a proposed step: one of `others`, or a letter if `others` has fewer pages than needed.
 fn page_at(others: &[u16], needed: usize, place: usize) -> Value {
     let letter = match place {
         0 => "P",
@@ -142,7 +142,7 @@ fn page_at(others: &[u16], needed: usize, place: usize) -> Value {
     }
 }
 
-// The meaning of the letters of a step that is proposed.
+// The words that explain the letters of a proposed step; empty if the step has none.
 fn letters(others: &[u16], needed: usize) -> &'static str {
     match needed {
         _ if others.len() >= needed => "",
@@ -152,7 +152,7 @@ fn letters(others: &[u16], needed: usize) -> &'static str {
     }
 }
 
-// The tables that a walk to a level lacks.
+// The help to create the tables that a walk to a level lacks.
 fn missing_tables<S: PageStore>(
     host: &Host<S>,
     build: BuildId,
@@ -216,7 +216,7 @@ fn mapping<S: PageStore>(host: &Host<S>, build: BuildId, step: &Step, ipa: u32, 
     )
 }
 
-// Another IPA granule for a page.
+// The help to map a page at another IPA granule, whose entry is UNASSIGNED.
 fn other_entry<S: PageStore>(host: &Host<S>, build: BuildId, step: &Step, ipa: u32) -> Help {
     let Some(other) = first_entry(host, build, ipa, true) else {
         return Help::Nothing;
@@ -240,7 +240,7 @@ fn other_entry<S: PageStore>(host: &Host<S>, build: BuildId, step: &Step, ipa: u
     }
 }
 
-/// The help for a walk that ends elsewhere, or at another entry, than a step requires.
+/// The help for a walk that ends at another level or entry than a step requires.
 pub(crate) fn walk_help<S: PageStore>(
     host: &Host<S>,
     build: BuildId,

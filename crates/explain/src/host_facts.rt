@@ -1,46 +1,46 @@
 //! Facts that the host checks before it calls the RMM.
 use granule_addr::{Gran, Vmid};
 
-/// The facts of refusals 1 to 6.
+/// A fact about a build, checked for refusals 1 to 6.
 #[derive(Clone, Copy)]
 pub enum BuildFact {
-    /// The build is one of that many builds.
+    /// The build exists; the value is the number of builds of the host.
     There(u8),
     /// The build is not in abort.
     NotAborting,
-    /// The order of a block is at most 9: the order that is asked for.
+    /// The order of a block is at most 9; the value is the order.
     Order(u8),
-    /// The build has the page: its number, its granule if there is one, and the number of the build's pages.
+    /// The build has the page; the values are its number, its granule if any, and the number of the build's pages.
     Page(u16, Option<Gran>, u16),
-    /// The build has a realm, with that RD.
+    /// The build has a realm; the value is the RD that was found, if any.
     Realm(Option<Gran>),
-    /// The build has no realm.
+    /// The build has no realm; the value is the RD that was found, if any.
     NoRealm(Option<Gran>),
 }
 
-/// The facts of refusals 9 to 12.
+/// A fact about free room, checked for refusals 9 to 12.
 #[derive(Clone, Copy)]
 pub enum RoomFact {
-    /// Fewer than 512 operations of the build are open: the number of open ones.
+    /// Fewer than 512 operations of the build are open; the value is the number of open operations.
     Journal(usize),
-    /// Enough of the build's capacity is left: the entries that are left, and those that are needed.
+    /// Enough of the build's room in the history is left; the values are the entries left and the entries needed.
     History(u16, u16),
-    /// A VMID is free: the lowest free one, if there is one.
+    /// A VMID is free; the value is the lowest free VMID, if any.
     Vmid(Option<Vmid>),
-    /// An aligned block is free: its order, and the number of free pages.
+    /// An aligned block is free; the values are its order and the number of free pages.
     Block(u8, u16),
 }
 
-/// The facts of refusals 7 and 8.
+/// A fact about an undo, an abort or a step `back`, checked for refusals 7 and 8.
 #[derive(Clone, Copy)]
 pub enum UndoFact {
-    /// The build has operations open: their number.
+    /// The build has operations open; the value is the number of open operations.
     Open(usize),
     /// The newest open operation created no REC that is RUNNING.
     NewestRests,
-    /// The build's RECs are all READY: the number of those that are RUNNING.
+    /// The build's RECs are all READY; the value is the number of RUNNING RECs.
     AllRest(u16),
-    /// The build has a mark that is kept.
+    /// The build has a valid mark.
     Mark,
     /// The operations above the mark created no REC that is RUNNING.
     AboveRests,

@@ -1,4 +1,4 @@
-//! The evaluated checks of a step that is refused, and words for the one that fails.
+//! The evaluated checks of a refused step, and the words for the failed check.
 //!
 //! A `Check` of a step's turn has the fact that it requires, whether it fails on the host as it is, and the refusal
 //! that it gives then. `step_checks` makes the checks of a step in their order. `law` says for which refusals the first

@@ -1,11 +1,11 @@
-//! Refusals and states by their names. RMM 1.0 names the states and the RMI results.
+//! The names of refusals and states. RMM 1.0 names the states and the RMI results.
 use crate::phrase::Value::Number;
 use crate::phrase::{Phrase, one, plain};
 use realm_host::{EntryState, GranuleState, RealmState, RecState, Refusal, Rmi};
 use realm_model::Status;
 use realm_plan::{realm_word, state_word};
 
-// The result of an RMI command, and with RMI_ERROR_RTT its index.
+// The name of an RMI result, with the index if the result is RMI_ERROR_RTT.
 fn rmi_name(rmi: Rmi) -> Phrase {
     match rmi.status {
         Status::Input => plain("RMI_ERROR_INPUT"),
@@ -15,7 +15,7 @@ fn rmi_name(rmi: Rmi) -> Phrase {
     }
 }
 
-/// A refusal by its name: that of the host, or the result of the RMI command.
+/// The name of a refusal by the host, or of the result of an RMI command.
 pub(crate) fn refusal_name(refusal: Refusal) -> Phrase {
     match refusal {
         Refusal::NoBuild => plain("NoBuild"),

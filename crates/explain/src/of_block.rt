@@ -1,4 +1,4 @@
-//! The check that a block is free: refusal 11.
+//! The check for refusal 11: a block is free.
 ghost use Rattle.std.specs.Prelude.{◌≡◌, ◌+◌, ◌<◌, ◌≤◌};
 ghost use Rattle.explain.specs.OfBlock.{is_unleased, are_unleased, is_free_at, has_block, block_check};
 
@@ -8,11 +8,11 @@ use granule_addr::{Gran, Order};
 use page_arena::PageStore;
 use realm_host::{Host, Refusal};
 
-// Whether the granule of that number is one of the machine, and nobody leases it.
+// Whether the machine has granule `number`, and nobody leases it.
 fn is_unleased<S: PageStore>(host: &Host<S>, number: u16) -> bool
     ensures { result ≡ is_unleased host.now number }
 {
-    // (no machine has more pages than granules have numbers)
+    // (the contract of `history` says that the machine has at most 4,096 pages)
     let _history = host.history();
     match Gran::new(number, host.pages()) {
         Some(granule) => host.ledger().holder(granule).is_none(),
@@ -20,7 +20,7 @@ fn is_unleased<S: PageStore>(host: &Host<S>, number: u16) -> bool
     }
 }
 
-// Whether the `count` granules from `first` on are inside the machine, and nobody leases one.
+// Whether the machine has the `count` granules from `first` on, and nobody leases any of them.
 fn are_unleased<S: PageStore>(host: &Host<S>, first: u16, count: u16) -> bool
     requires { first + count ≤ 65536 }
     ensures { result ≡ are_unleased host.now first count }
@@ -55,7 +55,7 @@ pub(crate) fn has_block<S: PageStore>(host: &Host<S>, order: Order) -> bool
     false
 }
 
-/// Refusal 11: an aligned block of the order is free.
+/// The check for refusal 11: an aligned block of the order is free.
 pub(crate) fn block_check<S: PageStore>(host: &Host<S>, order: Order) -> Check
     ensures { result ≡ block_check host.now order }
 {

@@ -1,4 +1,4 @@
-//! The checks that the host makes of a build: refusals 1 to 10 and 12, as far as they apply to a command.
+//! The checks that the host makes of a build, for refusals 1 to 6, 9, 10 and 12.
 ghost use Rattle.std.specs.Prelude.{◌≡◌, ◌++◌, [], OnOk, map};
 ghost use Rattle.std.specs.List.{cons_option};
 ghost use Rattle.explain.specs.OfBuild.{build_there, not_aborting, checks_of_build, checks_of_order, page_there, checks_of_realm, checks_of_journal, room_left, room_check, checks_of_vmid, needs_checks};
@@ -12,7 +12,7 @@ use realm_host::{Cmd, Host, Refusal};
 use realm_model::JOURNAL_ROOM;
 use std::alloc::AllocError;
 
-/// Refusal 1: there is such a build.
+/// The check for refusal 1: the build exists.
 pub(crate) fn build_there<S: PageStore>(host: &Host<S>, build: BuildId) -> Check
     ensures { result ≡ build_there host.now build }
 {
@@ -24,7 +24,7 @@ pub(crate) fn build_there<S: PageStore>(host: &Host<S>, build: BuildId) -> Check
     }
 }
 
-/// Refusal 2: the build is not in abort.
+/// The check for refusal 2: the build is not in abort.
 pub(crate) fn not_aborting<S: PageStore>(host: &Host<S>, build: BuildId) -> Check
     ensures { result ≡ not_aborting host.now build }
 {
@@ -35,14 +35,14 @@ pub(crate) fn not_aborting<S: PageStore>(host: &Host<S>, build: BuildId) -> Chec
     }
 }
 
-/// Refusals 1 and 2: the build is there, and it is not in abort.
+/// The checks for refusals 1 and 2: the build exists, and is not in abort.
 pub(crate) fn checks_of_build<S: PageStore>(host: &Host<S>, build: BuildId) -> [Check; 2]
     ensures { result ≡ checks_of_build host.now build }
 {
     [build_there(host, build), not_aborting(host, build)]
 }
 
-// Refusal 3: a block is not too large.
+// The check of a take for refusal 3: the order of the block is at most 9.
 fn order_check(cmd: &Cmd) -> Option<Check>
     ensures { cons_option result [] ≡ checks_of_order cmd.now }
 {
@@ -56,7 +56,7 @@ fn order_check(cmd: &Cmd) -> Option<Check>
     }
 }
 
-// Refusal 4: the build has the page.
+// The check for refusal 4: the build has the page.
 fn page_there<S: PageStore>(host: &Host<S>, build: BuildId, page: u16) -> Check
     ensures { result ≡ page_there host.now build page }
 {
@@ -68,7 +68,7 @@ fn page_there<S: PageStore>(host: &Host<S>, build: BuildId, page: u16) -> Check
     }
 }
 
-// Adds the checks of refusal 4: the build has all pages.
+// Adds a check for refusal 4 for each of the pages: the build has the page.
 fn add_pages<S: PageStore>(
     host: &Host<S>,
     build: BuildId,
@@ -83,7 +83,7 @@ fn add_pages<S: PageStore>(
     Ok(())
 }
 
-// Refusals 5 and 6: the build has a realm, or none.
+// The check for refusal 5 or 6: the build has no realm, or has one, as the command requires.
 fn realm_check<S: PageStore>(
     host: &Host<S>,
     build: BuildId,
@@ -107,7 +107,7 @@ fn realm_check<S: PageStore>(
     }
 }
 
-// Refusal 9: one more operation may be open.
+// The check of an operation with a reverse, for refusal 9: one more operation can be open.
 fn journal_check<S: PageStore>(host: &Host<S>, build: BuildId, paired: bool) -> Option<Check>
     ensures { cons_option result [] ≡ checks_of_journal host.now build paired }
 {
@@ -122,7 +122,7 @@ fn journal_check<S: PageStore>(host: &Host<S>, build: BuildId, paired: bool) -> 
     })
 }
 
-// The room of the history that a build has left; 0 if there is no such build.
+// The room that a build has left in the history; 0 if the build does not exist.
 fn room_left<S: PageStore>(host: &Host<S>, build: BuildId) -> u16
     ensures { result ≡ room_left host.now build }
 {
@@ -133,7 +133,7 @@ fn room_left<S: PageStore>(host: &Host<S>, build: BuildId) -> u16
     }
 }
 
-// Refusal 10: the build has `needed` entries of its room left.
+// The check for refusal 10: the build has `needed` entries of its room left.
 fn room_check<S: PageStore>(host: &Host<S>, build: BuildId, needed: u16) -> Check
     ensures { result ≡ room_check host.now build needed }
 {
@@ -145,7 +145,7 @@ fn room_check<S: PageStore>(host: &Host<S>, build: BuildId, needed: u16) -> Chec
     }
 }
 
-// Refusal 12: a VMID is free.
+// The check for refusal 12, if `wanted` is set: a VMID is free.
 fn vmid_check<S: PageStore>(host: &Host<S>, wanted: bool) -> Option<Check>
     ensures { cons_option result [] ≡ checks_of_vmid host.now wanted }
 {
@@ -160,7 +160,7 @@ fn vmid_check<S: PageStore>(host: &Host<S>, wanted: bool) -> Option<Check>
     })
 }
 
-/// Adds the checks of a command by its needs: 1 to 6, 9, 10 and 12, as far as they apply to it.
+/// Adds the host's checks that apply to a command, among those of refusals 1 to 6, 9, 10 and 12.
 pub(crate) fn add_needs<S: PageStore>(
     host: &Host<S>,
     build: BuildId,

@@ -1,4 +1,4 @@
-//! The checks of the commands, each in its order. RMM 1.0, RMI commands.
+//! The checks of each command, in sequence. RMM 1.0, RMI commands.
 ghost use Rattle.std.specs.Prelude.{◌≡◌, ◌++◌, ◌≤◌, OnOk, length};
 ghost use Rattle.explain.specs.Commands.{above_of, take_checks, rtt_create_checks, init_ripas_checks, data_create_checks, unknown_checks};
 ghost use Rattle.explain.specs.Commands.{guest_write_checks, enter_checks, tables_checks, monitor_checks, command_checks};
@@ -47,7 +47,7 @@ fn guest_write<S: PageStore>(host: &Host<S>, build: BuildId, rec: RecNo, ipa: u3
     ]
 }
 
-// RMI_REC_ENTER.
+// The checks of RMI_REC_ENTER.
 fn enter<S: PageStore>(host: &Host<S>, build: BuildId, number: RecNo) -> [Check; 3]
     ensures { result ≡ enter_checks host.now build number }
 {
@@ -69,7 +69,7 @@ fn above_of(level: u8) -> Level
     }
 }
 
-// RMI_RTT_CREATE.
+// The checks of RMI_RTT_CREATE.
 fn rtt_create<S: PageStore>(
     host: &Host<S>,
     build: BuildId,
@@ -90,7 +90,7 @@ fn rtt_create<S: PageStore>(
     ]
 }
 
-// RMI_RTT_INIT_RIPAS.
+// The checks of RMI_RTT_INIT_RIPAS.
 fn init_ripas<S: PageStore>(host: &Host<S>, build: BuildId, ipa: u32, count: u16) -> [Check; 6]
     ensures { result ≡ init_ripas_checks host.now build ipa count }
 {
@@ -104,7 +104,7 @@ fn init_ripas<S: PageStore>(host: &Host<S>, build: BuildId, ipa: u32, count: u16
     ]
 }
 
-// RMI_DATA_CREATE.
+// The checks of RMI_DATA_CREATE.
 fn data_create<S: PageStore>(
     host: &Host<S>,
     build: BuildId,
@@ -124,7 +124,7 @@ fn data_create<S: PageStore>(
     ]
 }
 
-// RMI_DATA_CREATE_UNKNOWN.
+// The checks of RMI_DATA_CREATE_UNKNOWN.
 fn unknown<S: PageStore>(host: &Host<S>, build: BuildId, page: u16, ipa: u32) -> [Check; 4]
     ensures { result ≡ unknown_checks host.now build page ipa }
 {
@@ -136,7 +136,7 @@ fn unknown<S: PageStore>(host: &Host<S>, build: BuildId, page: u16, ipa: u32) ->
     ]
 }
 
-// Adds the checks of the commands on a realm that is there: on its tables, its pages, its state and its RECs.
+// Adds the checks of a command on an existing realm: on its tables, its pages, its state or its RECs.
 fn add_there<S: PageStore>(
     host: &Host<S>,
     build: BuildId,
@@ -169,7 +169,7 @@ fn add_there<S: PageStore>(
     }
 }
 
-// Adds the checks of the store or of the RMM.
+// Adds the checks that the store or the RMM makes of a command.
 fn add_monitor<S: PageStore>(
     host: &Host<S>,
     build: BuildId,

@@ -11,7 +11,7 @@ use realm_host::{GranuleState, Host, Refusal, Rmi};
 use realm_model::GranuleState::{Delegated, Undelegated};
 use std::alloc::AllocError;
 
-/// A check of an input.
+/// A check whose refusal is RMI_ERROR_INPUT.
 pub(crate) fn input_check(fact: Fact, fails: bool) -> Check
     ensures { result ≡ input_check fact fails }
 {
@@ -22,7 +22,7 @@ pub(crate) fn input_check(fact: Fact, fails: bool) -> Check
     }
 }
 
-// A check of the state of a page's granule that was found, against the one that is required.
+// A check of the found state of a page's granule against the required state.
 fn page_check(page: u16, found: Option<GranuleState>, wanted: GranuleState, fails: bool) -> Check
     ensures { result ≡ page_check page found wanted fails }
 {
@@ -71,7 +71,7 @@ fn width_of<S: PageStore>(host: &Host<S>, build: BuildId) -> u8
     }
 }
 
-// Whether an IPA granule lies in the protected half of an address space of that width.
+// Whether an IPA granule lies in the protected half of an address space of `width` bits.
 fn is_protected_at(ipa: u32, width: u8) -> bool
     ensures { result ≡ is_protected_at ipa width }
 {

@@ -1,4 +1,4 @@
-//! Checks of a realm that is to be made, and of the state of one that is there. RMM 1.0, RMI_REALM_CREATE, Realm
+//! Checks of a realm that is to be created, and of the state of an existing realm. RMM 1.0, RMI_REALM_CREATE, Realm
 //! attributes.
 ghost use Rattle.std.specs.Prelude.{◌≡◌, ◌++◌, ◌∷◌, ◌≤◌, OnOk, length};
 ghost use Rattle.explain.specs.OfRealm.{state_of_realm, state_check, realm_new, realm_active, follow, are_adjacent, begins_right, width_check, apart_check, start_checks, realm_create_checks};
@@ -22,7 +22,7 @@ fn state_of_realm<S: PageStore>(host: &Host<S>, build: BuildId) -> Option<RealmS
     }
 }
 
-// A check of the state that was found, against the one that is required.
+// A check of the found state of a realm against the required state.
 fn state_check(found: Option<RealmState>, wanted: RealmState, fails: bool) -> Check
     ensures { result ≡ state_check found wanted fails }
 {
@@ -46,7 +46,7 @@ pub(crate) fn realm_active<S: PageStore>(host: &Host<S>, build: BuildId) -> Chec
     state_check(found, Active, !matches!(found, Some(Active)))
 }
 
-// Whether the granules are the one with number `first` and those after it, in rising sequence.
+// Whether the granules have the numbers from `first` on, in sequence.
 fn follow(first: u16, granules: &[Gran]) -> bool
     requires { first ≤ 4096 }
     ensures { result ≡ follow first granules.now }
@@ -63,7 +63,7 @@ fn follow(first: u16, granules: &[Gran]) -> bool
     true
 }
 
-// Whether each granule is the next one after the one before it.
+// Whether the granules have successive numbers.
 fn are_adjacent(tables: &[Gran]) -> bool
     ensures { result ≡ are_adjacent tables.now }
 {
@@ -73,7 +73,7 @@ fn are_adjacent(tables: &[Gran]) -> bool
     }
 }
 
-// Whether the first of the granules is a multiple of their count.
+// Whether the number of the first granule is a multiple of the count of granules.
 fn begins_right(tables: &[Gran]) -> bool
     ensures { result ≡ begins_right tables.now }
 {
@@ -83,7 +83,7 @@ fn begins_right(tables: &[Gran]) -> bool
     }
 }
 
-// The check that a realm may have that IPA width.
+// The check that `width` is an IPA width that a realm may have.
 fn width_check(width: u8) -> Check
     ensures { result ≡ width_check width }
 {
@@ -100,7 +100,7 @@ fn apart_check(rd: Gran, tables: &[Gran]) -> Check
     input_check(Fact::Realm(RealmFact::Apart), tables.contains(&rd))
 }
 
-// The checks of the starting tables, but for their states.
+// Adds the checks of the starting tables, except the checks of their states.
 fn add_tables(rd: Gran, tables: &[Gran], checks: &mut Vec<Check>) -> Result<(), AllocError>
     ensures { OnOk result (checks.new.items ≡ checks.old.items ++ start_checks rd tables.now) }
 {
@@ -114,7 +114,7 @@ fn add_tables(rd: Gran, tables: &[Gran], checks: &mut Vec<Check>) -> Result<(), 
     ])
 }
 
-/// Adds the checks of RMI_REALM_CREATE, of an RD page, starting tables from a page on, and the granules of all of them.
+/// Adds the checks of RMI_REALM_CREATE for an RD and its starting tables, given by their pages and granules.
 #[tactic(auto, unfolding(crate::specs::OfRealm::realm_create_checks))]
 pub(crate) fn add_realm_create<S: PageStore>(
     host: &Host<S>,

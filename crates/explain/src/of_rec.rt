@@ -1,4 +1,5 @@
-//! Checks of a REC that is to be made, and of one that is there. RMM 1.0, RMI_REC_CREATE, REC attributes.
+//! Checks of a REC that is to be created, and of the existence and the state of a REC. RMM 1.0, RMI_REC_CREATE, REC
+//! attributes.
 ghost use Rattle.std.specs.Prelude.{◌≡◌, ◌++◌, ◌∷◌, ◌≤◌, OnOk, length};
 ghost use Rattle.realm_model.specs.Command.Check.{are_distinct};
 ghost use Rattle.explain.specs.OfRec.{state_of_rec, rec_check, rec_there, rec_ready, rec_is_running, rec_create_checks};
@@ -27,7 +28,7 @@ fn are_distinct(granules: &[Gran]) -> bool
     true
 }
 
-/// Adds the checks of RMI_REC_CREATE, of the REC's page with its auxiliaries, and their granules.
+/// Adds the checks of RMI_REC_CREATE for a REC and its auxiliaries, given by their pages and granules.
 #[tactic(auto, unfolding(crate::specs::OfRec::rec_create_checks))]
 pub(crate) fn add_rec_create<S: PageStore>(
     host: &Host<S>,
@@ -61,7 +62,7 @@ fn state_of_rec<S: PageStore>(host: &Host<S>, build: BuildId, number: RecNo) -> 
     }
 }
 
-/// The check that the realm of a build has a REC of that number.
+/// The check that the realm of a build has REC `number`.
 pub(crate) fn rec_there<S: PageStore>(host: &Host<S>, build: BuildId, number: RecNo) -> Check
     ensures { result ≡ rec_there host.now build number }
 {
@@ -69,7 +70,7 @@ pub(crate) fn rec_there<S: PageStore>(host: &Host<S>, build: BuildId, number: Re
     input_check(Fact::Rec(RecFact::There(number)), found.is_none())
 }
 
-// A check of the state of a REC that was found, against the one that is required.
+// A check of the found state of a REC against the required state.
 fn rec_check(number: RecNo, found: Option<RecState>, wanted: RecState, fails: bool) -> Check
     ensures { result ≡ rec_check number found wanted fails }
 {

@@ -13,7 +13,7 @@ use plan_replay::PlanCursor;
 use realm_host::{Host, Mark, Refusal};
 use std::alloc::{AllocError, Global};
 
-// Refusals 1, 7 and 8 of an undo.
+// The checks of an undo, for refusals 1, 7 and 8.
 fn undo<S: PageStore>(host: &Host<S>, build: BuildId) -> [Check; 3]
     ensures { result ≡ undo_checks host.now build }
 {
@@ -33,7 +33,7 @@ fn undo<S: PageStore>(host: &Host<S>, build: BuildId) -> [Check; 3]
     ]
 }
 
-// The number of RECs of a build that run; 0 if there is no such build.
+// The number of running RECs of a build; 0 if the build does not exist.
 fn running_of<S: PageStore>(host: &Host<S>, build: BuildId) -> u16
     ensures { result ≡ running_of host.now build }
 {
@@ -44,7 +44,7 @@ fn running_of<S: PageStore>(host: &Host<S>, build: BuildId) -> u16
     }
 }
 
-// Refusals 1, 2 and 8 of an abort that begins.
+// The checks of the first turn of an abort, for refusals 1, 2 and 8.
 fn begin<S: PageStore>(host: &Host<S>, build: BuildId) -> [Check; 3]
     ensures { result ≡ begin_checks host.now build }
 {
@@ -60,7 +60,7 @@ fn begin<S: PageStore>(host: &Host<S>, build: BuildId) -> [Check; 3]
     ]
 }
 
-// Refusal 7 of a way back: the build has a mark, and it is still kept.
+// The check of a step `back` for refusal 7: the build has a valid mark.
 fn has_mark(fails: bool) -> Check
     ensures { result ∷ [] ≡ mark_checks fails }
 {
@@ -71,7 +71,7 @@ fn has_mark(fails: bool) -> Check
     }
 }
 
-// Refusals 1, 2, 7 and 8 of a way back to a mark.
+// The checks of a step `back` to a mark, for refusals 1, 2, 7 and 8.
 fn back<S: PageStore>(host: &Host<S>, build: BuildId, mark: Mark) -> [Check; 4]
     ensures { result ≡ back_checks host.now build (Some mark) }
 {
@@ -88,7 +88,7 @@ fn back<S: PageStore>(host: &Host<S>, build: BuildId, mark: Mark) -> [Check; 4]
     ]
 }
 
-// Adds the checks of a way back to the build's mark, if it has one.
+// Adds the checks of a step `back` to a mark, or the one failed check if the build has no mark.
 fn add_back<S: PageStore>(
     host: &Host<S>,
     build: BuildId,
@@ -123,8 +123,8 @@ fn add_step<S: PageStore>(
     }
 }
 
-/// The checks of the next turn of a build's step, in their order. The place says whether undos are left of the step,
-/// and which mark the build has.
+/// Returns the checks of the next turn of a build's step, in their order. The cursor `place` has the number of undos
+/// that are left of the step, and the build's mark.
 pub fn step_checks<S: PageStore>(
     alloc: Global,
     host: &Host<S>,

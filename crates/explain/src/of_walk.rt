@@ -12,7 +12,7 @@ use page_arena::PageStore;
 use realm_host::{EntryState, Host, Refusal, Rmi, RowView};
 use realm_model::Status;
 
-// A check of tables, and the level that it is refused with.
+// A check of tables, whose refusal is RMI_ERROR_RTT with a level.
 fn rtt_check(fact: WalkFact, fails: bool, level: u8) -> Check
     ensures { result ≡ rtt_check fact fails level }
 {
@@ -26,7 +26,7 @@ fn rtt_check(fact: WalkFact, fails: bool, level: u8) -> Check
     }
 }
 
-// The level of the row where a walk ends; 0 if there is no such row.
+// The level of the row at which a walk ends; 0 if there is no row.
 fn level_of(row: Option<RowView>) -> u8
     ensures { result ≡ level_of row }
 {

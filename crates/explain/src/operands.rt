@@ -10,7 +10,7 @@ use host_commands::tables_named;
 use page_arena::PageStore;
 use realm_host::{Cmd, Host};
 
-// The number of starting tables that a command names; 1 if the last of them would be beyond all page numbers.
+// The number of starting tables that a command names; 1 if the last table would have a page number above 65,535.
 fn tables_within(root: u16, width: u8) -> u16
     ensures value { result ≡ tables_within root width }
     ensures few { result ≤ 16 }
@@ -76,7 +76,7 @@ pub(crate) fn pages_named(cmd: &Cmd) -> ArrayVec<u16, 17>
     pages
 }
 
-// Adds a granule that was found.
+// Adds a granule, unless it is `None`.
 fn push_found(granules: &mut ArrayVec<Gran, 17>, found: Option<Gran>)
     requires { length granules.old.items < 17 }
     ensures { granules.new.items ≡ granules.old.items ++ cons_option found [] }
@@ -86,7 +86,7 @@ fn push_found(granules: &mut ArrayVec<Gran, 17>, found: Option<Gran>)
     }
 }
 
-/// The granules of the pages that the build has, among the given ones.
+/// The granules of the given pages, without the pages that the build lacks.
 pub(crate) fn granules_of<S: PageStore>(
     host: &Host<S>,
     build: BuildId,

@@ -1,4 +1,4 @@
-//! Phrases: words with a `{}` for each number, word or page that they name.
+//! Phrases: words with a `{}` in place of each value.
 //!
 //! A function that chooses words returns a phrase, and `Phrase::push` writes it. So the choice is an expression over
 //! the numbers of a check, and cannot fail.
@@ -12,11 +12,11 @@ use std::alloc::AllocError;
 pub(crate) enum Value {
     Number(u64),
     Word(&'static str),
-    /// A number of things: the number, the noun for one and the noun for more.
+    /// A count: the number, the singular noun and the plural noun.
     Many(usize, &'static str, &'static str),
-    /// A page of a build, as `data page 5`: its role, with a space after it, and its number.
+    /// A page of a build, as `data page 5`: the role, which ends with a space, and the number.
     Page(&'static str, u16),
-    /// A granule, as `data granule 5`: its role, with a space after it, and its number.
+    /// A granule, as `data granule 5`: the role, which ends with a space, and the number.
     Granule(&'static str, u16),
 }
 
@@ -61,7 +61,7 @@ pub(crate) fn pages(count: u16) -> Value {
     Value::Many(count as usize, "page", "pages")
 }
 
-/// The number of a page, or the letter in its place.
+/// The number of a page, or a letter if there is no page.
 pub(crate) fn page_or(page: Option<u16>, letter: &'static str) -> Value {
     match page {
         Some(page) => Value::Number(page as u64),
@@ -73,14 +73,14 @@ fn push_number(text: &mut String, number: u64) -> Result<(), AllocError> {
     write!(text, "{number}")
 }
 
-// Appends a number, and the noun of what is counted.
+// Appends a count and its noun.
 fn push_many(text: &mut String, count: usize, noun: &str) -> Result<(), AllocError> {
     push_number(text, count as u64)?;
     text.push_str(" ")?;
     text.push_str(noun)
 }
 
-// Appends a role, the noun of what has it, and its number.
+// Appends a role, a noun (`page` or `granule`) and a number.
 fn push_named(text: &mut String, role: &str, noun: &str, number: u16) -> Result<(), AllocError> {
     text.push_str(role)?;
     text.push_str(noun)?;
@@ -88,7 +88,7 @@ fn push_named(text: &mut String, role: &str, noun: &str, number: u16) -> Result<
 }
 
 impl Value {
-    /// The granule of a page that the build has, and any other value as it is.
+    /// The granule in place of a page that the build has, and any other value unchanged.
     pub(crate) fn in_granules<S: PageStore>(self, host: &Host<S>, build: BuildId) -> Value {
         let Value::Page(role, page) = self else {
             return self;
@@ -111,7 +111,7 @@ impl Value {
     }
 }
 
-// Appends words, with the next of the values for each `{}`.
+// Appends words, with each `{}` replaced by the next value.
 fn fill(text: &mut String, words: &str, values: &[Value]) -> Result<(), AllocError> {
     let mut rest = values;
     for (place, part) in words.split("{}").enumerate() {

@@ -1,4 +1,4 @@
-//! Readings of a host that the words need beside the numbers of a check.
+//! Facts read from a host for messages, beside the values of a check.
 use crate::of_block::has_block;
 use crate::operands::pages_named;
 use arrayvec::ArrayVec;
@@ -27,7 +27,7 @@ pub(crate) fn named_pages(step: &Step) -> ArrayVec<u16, 17> {
     }
 }
 
-/// The first 17 pages of a build that are in a state and that a step does not name.
+/// The first pages of a build, 17 at most, that are in a state and that a step does not name.
 pub(crate) fn other_pages<S: PageStore>(
     host: &Host<S>,
     build: BuildId,
@@ -47,8 +47,8 @@ pub(crate) fn other_pages<S: PageStore>(
     pages
 }
 
-// Whether `count` pages of a build from `first` on are DELEGATED, in adjacent granules from a multiple of `count` on,
-// and not the page `rd`.
+// Whether the `count` pages of a build from `first` on can be the starting tables of a realm with the RD page `rd`. The
+// pages have to be DELEGATED, in adjacent granules from a multiple of `count` on, and without the page `rd`.
 fn are_tables<S: PageStore>(
     host: &Host<S>,
     build: BuildId,
@@ -77,7 +77,7 @@ fn are_tables<S: PageStore>(
     true
 }
 
-/// The first page of a build from which on `count` pages can be the starting tables of a realm with the RD `rd`.
+/// The first of `count` pages of a build that can be the starting tables of a realm with the RD page `rd`.
 pub(crate) fn first_of_tables<S: PageStore>(
     host: &Host<S>,
     build: BuildId,
@@ -102,7 +102,7 @@ pub(crate) fn page_of<S: PageStore>(host: &Host<S>, build: BuildId, granule: Gra
     None
 }
 
-/// The largest order of which a block is free.
+/// The order of the largest free block.
 pub(crate) fn largest_free<S: PageStore>(host: &Host<S>) -> Option<Order> {
     let mut largest = None;
     for number in 0..10 {
@@ -115,7 +115,7 @@ pub(crate) fn largest_free<S: PageStore>(host: &Host<S>) -> Option<Order> {
     largest
 }
 
-/// The number of pages of a block; 1 if there is no such order.
+/// The number of pages in a block of an order; 1 if no block has the order.
 pub(crate) fn size_of_order(order: u8) -> u16 {
     match Order::new(order) {
         Some(order) => order.size(),
@@ -123,7 +123,7 @@ pub(crate) fn size_of_order(order: u8) -> u16 {
     }
 }
 
-/// The least order of which a block has that many pages.
+/// The least order whose blocks have at least `count` pages.
 pub(crate) fn order_for(count: u16) -> Option<Order> {
     for number in 0..10 {
         if let Some(order) = Order::new(number) {
@@ -135,7 +135,7 @@ pub(crate) fn order_for(count: u16) -> Option<Order> {
     None
 }
 
-/// The number of undos that reverse the delegation of a build's page, or none if it is not open.
+/// The number of undos up to and including the reverse of a page's delegation, or `None` if the delegation is not open.
 pub(crate) fn undos_of_delegation<S: PageStore>(
     host: &Host<S>,
     build: BuildId,
@@ -153,7 +153,7 @@ pub(crate) fn undos_of_delegation<S: PageStore>(
     None
 }
 
-/// The number of undos that reverse the creation of a build's realm, or none if it is not open.
+/// The number of undos up to and including the reverse of a realm's creation, or `None` if the creation is not open.
 pub(crate) fn undos_of_realm<S: PageStore>(host: &Host<S>, build: BuildId) -> Option<usize> {
     let open = host.open_acts(build);
     for (place, act) in open.iter().enumerate() {
@@ -180,7 +180,7 @@ pub(crate) fn next_rec<S: PageStore>(host: &Host<S>, build: BuildId) -> u16 {
     }
 }
 
-/// Whether the realm of a build has a REC of that number, and, if asked, one that is RUNNING.
+/// Whether the realm of a build has REC `number`, in the state RUNNING if `only_running` is set.
 pub(crate) fn has_rec<S: PageStore>(
     host: &Host<S>,
     build: BuildId,
@@ -193,7 +193,8 @@ pub(crate) fn has_rec<S: PageStore>(
     }
 }
 
-/// The number of the RECs of a build's realm, all or those that are RUNNING, and the last of these.
+/// The number of RECs of a build's realm and the highest of their numbers, for RUNNING RECs alone if `only_running` is
+/// set.
 pub(crate) fn count_of_recs<S: PageStore>(
     host: &Host<S>,
     build: BuildId,
@@ -217,8 +218,8 @@ pub(crate) fn is_unassigned<S: PageStore>(host: &Host<S>, build: BuildId, ipa: u
     }
 }
 
-/// The first IPA granule from `from` on, in its table of level 3, whose entry is UNASSIGNED or not, as `unassigned`
-/// asks.
+/// The first IPA granule from `from` on whose entry is UNASSIGNED, or is not if `unassigned` is `false`. Only the table
+/// of level 3 that serves `from` is searched.
 pub(crate) fn first_entry<S: PageStore>(
     host: &Host<S>,
     build: BuildId,

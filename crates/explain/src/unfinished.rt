@@ -11,14 +11,14 @@ use page_arena::PageStore;
 use realm_host::Host;
 use std::alloc::{AllocError, Global};
 
-/// An abort that is under way: its build, and how many operations are still open, each of which needs a turn.
+/// An unfinished abort: its build, and the number of turns that it still needs, one for each open operation.
 #[derive(Clone, Copy)]
 pub struct UnfinishedAbort {
     pub build: BuildId,
     pub turns: usize,
 }
 
-// The abort of a build, if it is under way.
+// The abort of a build, if the build is in abort.
 fn unfinished_abort<S: PageStore>(host: &Host<S>, build: BuildId) -> Option<UnfinishedAbort>
     ensures { result ≡ unfinished_abort host.now build }
 {
@@ -31,7 +31,7 @@ fn unfinished_abort<S: PageStore>(host: &Host<S>, build: BuildId) -> Option<Unfi
     })
 }
 
-// Adds an abort to others, if it is under way.
+// Appends an abort to a list of aborts, unless the abort is `None`.
 fn add_if(
     aborts: &mut Vec<UnfinishedAbort>,
     abort: Option<UnfinishedAbort>,
@@ -44,7 +44,7 @@ fn add_if(
     }
 }
 
-/// The aborts that are under way, in the order of their builds.
+/// Returns the aborts that are under way, in the order of their builds.
 pub fn unfinished_aborts<S: PageStore>(
     alloc: Global,
     host: &Host<S>,
@@ -58,7 +58,7 @@ pub fn unfinished_aborts<S: PageStore>(
     Ok(aborts)
 }
 
-/// The lines of aborts that are under way: what each lacks, and what helps.
+/// Returns the lines for unfinished aborts: the turns that each abort lacks in `order`, and the help to add them.
 pub fn unfinished_lines(alloc: Global, aborts: &[UnfinishedAbort]) -> Result<String, AllocError> {
     let mut text = String::new(alloc);
     for abort in aborts {

@@ -12,8 +12,7 @@ use page_arena::PageStore;
 use realm_host::Host;
 use std::alloc::{AllocError, Global};
 
-/// The words for a refused step: the check that fails, which is the last, and what helps; the second is empty if
-/// nothing does.
+/// Returns the words for a refused step: the error of the failed check, which is the last, and the help, if any.
 pub(crate) fn words_of<S: PageStore>(
     alloc: Global,
     host: &Host<S>,
@@ -31,7 +30,7 @@ pub(crate) fn words_of<S: PageStore>(
     Ok((error, help))
 }
 
-// Appends a line of a kind, `error` or `help`, four spaces further in than the line of a turn; none if it has no words.
+// Appends an indented line of a kind, `error` or `help`, unless its words are empty.
 fn push_line(text: &mut String, kind: &str, words: &str) -> Result<(), AllocError> {
     if words.is_empty() {
         return Ok(());
@@ -46,8 +45,8 @@ fn push_passed(text: &mut String, step: &Step, check: &Check) -> Result<(), Allo
     text.push_str("\n")
 }
 
-/// The lines below that of a refused turn: the check that fails, the help, and the number of checks that passed before.
-/// If `all`, each of these has a line too.
+/// Returns the lines below a refused turn: the failed check, the help, and the number of checks that passed before. If
+/// `all` is set, each passed check has a line too.
 pub fn reason_lines(alloc: Global, reason: &Explanation, all: bool) -> Result<String, AllocError> {
     let mut text = String::new(alloc);
     push_line(&mut text, "error", &reason.error)?;

@@ -4,7 +4,7 @@ ghost use Rattle.std.specs.Prelude.{◌≡◌, ◌*◌, ◌/◌, ◌^◌, ◌<�
 use crate::Gran;
 use std::marker::Model;
 
-/// The order of a block, 0 to 9: the block has 2^order granules, and its first number is a multiple of that.
+/// The order of a block, 0 to 9: the block has 2^order granules, and begins at a multiple of 2^order.
 #[derive(Clone, Copy, Debug, PartialEq, Eq)]
 pub struct Order(u8);
 
@@ -53,7 +53,8 @@ pub fn align_down(number: u16, order: Order) -> u16
     number / size * size
 }
 
-/// The number that differs from that of `first` in bit `order` alone. A machine may lack that granule.
+/// The number of the buddy of `first`, which differs from the number of `first` in bit `order` alone. A machine may
+/// lack that granule.
 pub fn buddy_of(first: Gran, order: Order) -> u16
     ensures { result ≡ bit_xor first (2 ^ order) }
 {

@@ -3,7 +3,7 @@ ghost use Rattle.std.specs.Prelude.{◌≡◌, ◌<◌, ◌&&◌, nat_lt, Some, 
 
 use std::marker::Model;
 
-/// The most pages that a machine has.
+/// The largest number of granules that a machine can have.
 pub const MOST_PAGES: u16 = 4096;
 
 /// The number of a granule: its address is the number times 4,096. RMM 1.0, Granule.
@@ -23,7 +23,7 @@ impl Model for Gran {
 }
 
 impl Gran {
-    /// The granule of that number, if a machine of `pages` pages has it.
+    /// Granule `number`, if a machine of `pages` granules has it.
     pub fn new(number: u16, pages: u16) -> Option<Gran>
         ensures { result ≡ (if nat_lt number 4096 && nat_lt number pages then Some number else None) }
     {

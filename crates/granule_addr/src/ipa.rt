@@ -23,7 +23,7 @@ impl Model for IpaGran {
 }
 
 impl IpaGran {
-    /// The IPA granule of that number, if an address space of that width has it.
+    /// IPA granule `number`, if an address space of `width` bits has it.
     pub fn new(number: u32, width: u8) -> Option<IpaGran>
         ensures { result ≡ (if is_width width && is_in_space number width then Some number else None) }
     {
@@ -43,14 +43,14 @@ impl IpaGran {
     }
 }
 
-/// Whether the IPA is protected: the top bit of the realm's IPA width is 0. RMM 1.0, Protected IPA.
+/// Whether the IPA is protected: it is in the lower half of the realm's address space. RMM 1.0, Protected IPA.
 pub fn is_protected(ipa: IpaGran, width: IpaWidth) -> bool
     ensures { result ≡ is_protected_at ipa width }
 {
     ipa.number() < 1 << (width.number() - 13)
 }
 
-/// The index of a table's entry that covers the IPA granule, among 512.
+/// The index, 0 to 511, of the entry that covers the IPA granule in a table of the level.
 pub fn index_at(ipa: IpaGran, level: Level) -> u16
     ensures value { result ≡ entry_index level ipa }
     ensures below { result < 512 }

@@ -44,7 +44,7 @@ impl Level {
         Level(3)
     }
 
-    /// The level of the tables that entries of this one lead to.
+    /// The level of the tables that entries of this level lead to.
     pub fn below(self) -> Level
         requires { self < 3 }
         ensures { result ≡ self + 1 }
@@ -52,7 +52,7 @@ impl Level {
         Level(self.0 + 1)
     }
 
-    /// The level whose entries lead to tables of this one.
+    /// The level whose entries lead to tables of this level.
     pub fn above(self) -> Level
         requires { 1 < self }
         ensures { result + 1 ≡ self }

@@ -11,7 +11,7 @@ pub enum HostAction {
         granules: u16,
         value: u8,
     },
-    /// The host reads a word, each byte of which has a value.
+    /// The host reads a word of which each byte is `byte`.
     Load {
         address: u64,
         byte: u8,
@@ -30,12 +30,12 @@ pub enum HostAction {
         mpidr: u64,
         auxiliaries: ArrayVec<u64, 16>,
     },
-    /// A call that succeeds, with X1 if the command has an output there that is known.
+    /// A call that succeeds, with the value of X1 if the command has a known output in X1.
     Call {
         call: Call,
         x1: Option<u64>,
     },
-    /// RMI_REC_ENTER of a REC whose guest runs on.
+    /// RMI_REC_ENTER of a REC whose guest keeps running.
     Enter {
         rec: u64,
         run: u64,

@@ -1,4 +1,4 @@
-//! The operations of a host for an event.
+//! The operations on an RMM by which a host performs an event of its history.
 ghost use Rattle.std.specs.Prelude.{◌≡◌, ◌<◌, ◌-◌, ◌^◌, ◌++◌, [], ◌∷◌, map, length};
 ghost use Rattle.std.specs.Option.{unwrap_or};
 ghost use Rattle.history_calls.specs.declared.action.HostAction.TheVariants.{Fill, RealmParams, RecParams};
@@ -11,13 +11,13 @@ use granule_addr::{Gran, IpaGran, RecNo, Root, Vmid};
 use realm_model::{Act, RealmAndRec};
 use rmi_abi::Call;
 
-/// The most operations of a host for one event.
+/// The largest number of operations by which a host performs one event.
 pub const MOST_ACTIONS: usize = 5;
 
-/// The operations of a host for one event.
+/// The operations by which a host performs one event.
 pub type Actions = ArrayVec<HostAction, MOST_ACTIONS>;
 
-// The address of a page of a realm's address space, in bytes.
+// The address of an IPA granule, in bytes.
 fn ipa_of(ipa: IpaGran) -> u64
     ensures value { result ≡ specs.ipa_of ipa }
     ensures below { result < 2 ^ 55 }
@@ -25,7 +25,7 @@ fn ipa_of(ipa: IpaGran) -> u64
     4096 * ipa.number() as u64
 }
 
-// The affinity of the REC of a number.
+// The MPIDR of the REC with a number.
 fn mpidr_of(number: RecNo) -> u64
     ensures { result ≡ specs.mpidr_of number }
 {
@@ -33,7 +33,7 @@ fn mpidr_of(number: RecNo) -> u64
     number % 16 + number / 16 * 256
 }
 
-// The address of a granule, or of granule 0.
+// The address of a granule, or of granule 0 if there is none.
 fn address_or_base(frame: Frame, granule: Option<Gran>) -> u64
     ensures { result ≡ frames.address frame (unwrap_or granule 0) }
 {
@@ -62,14 +62,14 @@ fn push(actions: &mut Actions, action: HostAction)
     actions.push(action);
 }
 
-// A call without an output that is known.
+// A call without a known output in X1.
 fn plain_call(call: Call) -> HostAction
     ensures { result ≡ specs.plain_call call }
 {
     HostAction::Call { call, x1: None }
 }
 
-// A call with X1.
+// A call with a known output in X1.
 fn with_x1(call: Call, x1: u64) -> HostAction
     ensures { result ≡ specs.with_x1 call x1 }
 {
@@ -86,7 +86,7 @@ fn fill(frame: Frame, first: Gran, granules: u16, value: u8) -> HostAction
     }
 }
 
-// The parameters of a realm.
+// The operation that writes the parameters of a realm.
 fn realm_params(frame: Frame, root: Root, vmid: Vmid) -> HostAction
     ensures { result ≡ RealmParams (frames.realm_params frame) root.width vmid (frames.address frame root.first) (2 ^ (root.width - 39)) }
 {
@@ -99,7 +99,7 @@ fn realm_params(frame: Frame, root: Root, vmid: Vmid) -> HostAction
     }
 }
 
-// The parameters of a REC.
+// The operation that writes the parameters of a REC.
 fn rec_params(frame: Frame, number: RecNo, auxiliaries: &ArrayVec<Gran, 16>) -> HostAction
     ensures { result ≡ RecParams (frames.rec_params frame) (specs.mpidr_of number) (record { items = map (frames.address frame) auxiliaries.now.items }) }
 {
@@ -150,7 +150,7 @@ fn push_on_granules(actions: &mut Actions, frame: Frame, act: &Act)
     }
 }
 
-// A call for an event about a realm's tables or memory.
+// The call for an event about a realm's tables, memory or activation; `None` for any other event.
 fn call_in_realm(frame: Frame, rd: u64, act: &Act) -> Option<HostAction>
     ensures { result ≡ specs.call_in_realm frame rd act.now }
 {
@@ -255,8 +255,8 @@ fn push_on_rec(actions: &mut Actions, rec: u64, run: u64, act: &Act)
     }
 }
 
-/// The operations of a host for an event that is about a realm and a REC there. The exits of a run go to the page of a
-/// number below `MOST_RUNS`.
+/// The operations by which a host performs an event of a realm and a REC. The exits of a run go to the page with the
+/// number `run`, which is below `MOST_RUNS`.
 ///
 /// A take and its reverse are the host's own: a take needs no operation, and what is given back is cleared.
 pub fn actions_of(frame: Frame, subject: RealmAndRec, run: u16, act: &Act) -> Actions

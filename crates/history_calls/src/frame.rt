@@ -5,7 +5,7 @@ ghost use Rattle.history_calls.specs.Frame as frames;
 use granule_addr::Gran;
 use std::marker::Model;
 
-/// The number of pages for the exits of runs: as many RECs run at a time with a page of their own.
+/// The number of pages for the exits of runs, which is also the number of running RECs with a page of their own.
 pub const MOST_RUNS: u16 = 64;
 
 /// The number of the host's granules, which follow those of the history's machine.
@@ -31,7 +31,7 @@ impl Model for Frame {
 }
 
 impl Frame {
-    /// The frame of a machine of `pages` pages, whose granule 0 is at an address in bytes.
+    /// The frame of a machine with `pages` pages and with granule 0 at the address `base`.
     pub fn new(base: u64, pages: u16) -> Frame
         requires granule { base % 4096 ≡ 0 }
         requires low { base < 2 ^ 46 }

@@ -12,11 +12,11 @@ use granule_addr::{BuildId, Gran, Order};
 use page_arena::PageStore;
 use realm_host::{Host, Refusal};
 
-// Whether the granule of that number is one of the machine, and nobody leases it.
+// Whether the machine has granule `number`, and nobody leases it.
 fn is_free<S: PageStore>(host: &Host<S>, number: u16) -> bool
     ensures { result ≡ is_leased_to None (world_of host.now).leases number }
 {
-    // (no machine has more pages than granules have numbers)
+    // (the contract of `history` says that the machine has at most 4,096 pages)
     let _history = host.history();
     match Gran::new(number, host.pages()) {
         Some(granule) => host.ledger().holder(granule).is_none(),

@@ -8,8 +8,8 @@ ghost use Rattle.history_calls.specs.Frame.{Place};
 ghost use Rattle.history_calls.specs.Made.{LeadsToItsMachine};
 ghost use Rattle.history_calls.specs.Prepared.{IsPreparedAsAsked, IsRefusedAsAsked, IsDecidedBefore, IsUndoPrepared};
 
-/// The calls of a history, made in its order on a fresh RMM, are accepted, and lead to the machine of the history's
-/// world. A host's RMM has that machine.
+/// A fresh RMM accepts the calls of a history in sequence, and then has the machine that the history leads to in the
+/// model. A host's RMM has that machine.
 pub fn calls_lead_to_the_machine()
     ensures { (limits : Limits) (history : List Event) → LeadsToItsMachine limits history }
 {}
@@ -25,8 +25,8 @@ pub fn refused_as_asked()
     ensures { (place : Place) (host : HostView) (build run : ℕ) (cmd : Cmd) → IsRefusedAsAsked place host build run cmd }
 {}
 
-/// A Take, a Fill, a Peek or an Exit that is prepared is not refused when it is committed. It makes no call of an RMM, from
-/// which the model could diverge.
+/// A prepared Take, Fill, Peek or Exit is not refused when it is committed. It makes no call of an RMM, from which the
+/// model could diverge.
 pub fn decided_before()
     ensures { (place : Place) (host : HostView) (build run : ℕ) (cmd : Cmd) → IsDecidedBefore place host build run cmd }
 {}

@@ -63,7 +63,7 @@ fn subject<S: PageStore>(host: &Host<S>, build: BuildId, act: &Act) -> RealmAndR
     }
 }
 
-// The operations on an RMM for one operation of a build.
+// The operations on an RMM that perform one operation of a build.
 fn actions_for<S: PageStore>(
     frame: Frame,
     host: &Host<S>,
@@ -78,7 +78,7 @@ fn actions_for<S: PageStore>(
     actions_of(frame, subject(host, build, act), run, act)
 }
 
-// The operations for a command without an operation: none for a Take, and an input error for any other.
+// Returns no operations for a Take, and refuses any other command with RMI_ERROR_INPUT.
 fn without_act(cmd: &Cmd) -> Result<Actions, Refusal>
     ensures { result ≡ prepared.without_act cmd.now }
 {
@@ -88,7 +88,7 @@ fn without_act(cmd: &Cmd) -> Result<Actions, Refusal>
     }
 }
 
-// The refusal of an access to a page whose granule has this state.
+// The refusal of an access to a page, by the state of the page's granule.
 fn access_refusal(state: Option<GranuleState>) -> Option<Refusal>
     ensures { result ≡ prepared.access_refusal state }
 {
@@ -98,7 +98,7 @@ fn access_refusal(state: Option<GranuleState>) -> Option<Refusal>
     }
 }
 
-// The refusal of the entry of a REC that does not exist.
+// The refusal of a command on a REC, if the REC does not exist.
 fn entry_refusal<S: PageStore>(host: &Host<S>, build: BuildId, number: RecNo) -> Option<Refusal>
     ensures { result ≡ prepared.entry_refusal (rec_at (world_of host.now) build number) }
 {
@@ -108,7 +108,7 @@ fn entry_refusal<S: PageStore>(host: &Host<S>, build: BuildId, number: RecNo) ->
     }
 }
 
-// The refusal of the exit of a REC that does not run.
+// The refusal of an exit, if the REC does not exist or does not run.
 fn exit_refusal<S: PageStore>(host: &Host<S>, build: BuildId, number: RecNo) -> Option<Refusal>
     ensures { result ≡ prepared.exit_refusal (rec_at (world_of host.now) build number) }
 {
@@ -124,7 +124,7 @@ fn exit_refusal<S: PageStore>(host: &Host<S>, build: BuildId, number: RecNo) -> 
     }
 }
 
-// The model's refusal of a command, if it is decided without an answer of an RMM.
+// The refusal of a command that the model decides before the RMM is called.
 pub(crate) fn refused_before<S: PageStore>(
     host: &Host<S>,
     build: BuildId,
@@ -144,7 +144,7 @@ pub(crate) fn refused_before<S: PageStore>(
     }
 }
 
-// The operations for a command, by its operation, if it has one.
+// Returns the operations on an RMM for a command whose operation is `act`, or the model's refusal.
 fn actions_of_act<S: PageStore>(
     frame: Frame,
     host: &Host<S>,
@@ -167,7 +167,7 @@ fn actions_of_act<S: PageStore>(
     }
 }
 
-/// The operations for a command, or the refusal that comes before the RMM is called.
+/// Returns the operations on an RMM for a command, or the refusal that the host gives before the RMM is called.
 pub fn actions_asked<S: PageStore>(
     frame: Frame,
     host: &Host<S>,
@@ -186,7 +186,7 @@ pub fn actions_asked<S: PageStore>(
     actions_of_act(frame, host, build, run, cmd, act)
 }
 
-// The operations on an RMM for the reverse of an operation. An open operation has a reverse.
+// Returns the operations on an RMM for the reverse of a build's newest open operation. An open operation has a reverse.
 fn actions_of_newest<S: PageStore>(
     frame: Frame,
     host: &Host<S>,
@@ -202,7 +202,7 @@ fn actions_of_newest<S: PageStore>(
     }
 }
 
-/// The operations for an undo, or its refusal.
+/// Returns the operations on an RMM for an undo, or the refusal of the undo.
 pub fn actions_back<S: PageStore>(
     frame: Frame,
     host: &Host<S>,

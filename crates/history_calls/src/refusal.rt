@@ -1,4 +1,4 @@
-//! The refusal of a command that is not performed: the checks of the model, without their effects.
+//! The refusal that a command would get: the checks of the model, without the command's effects.
 ghost use Rattle.std.specs.Prelude.{◌≡◌, ◌+◌, ◌≤◌, None};
 ghost use Rattle.std.specs.List.{list_all};
 ghost use Rattle.realm_model.specs.Command.Check.{error_rtt, are_distinct};
@@ -28,7 +28,7 @@ fn rtt_error(level: Level) -> Rmi
     }
 }
 
-// The refusal of a walk that ends nowhere. Walks of realms end.
+// The refusal if a walk reaches no entry. A walk in a realm always reaches one.
 const NO_END: Rmi = Rmi {
     status: Status::Rtt,
     index: 0,
@@ -46,7 +46,7 @@ fn is_delegated<S: PageStore>(host: &Host<S>, granule: Gran) -> bool
     }
 }
 
-// Whether the page of the host that a command names is UNDELEGATED, if it names one.
+// Whether the host's page that a command names is UNDELEGATED; `true` if the command names none.
 fn is_host_page<S: PageStore>(host: &Host<S>, build: BuildId, cmd: &Cmd) -> bool
     ensures { result ≡ refused.is_host_page host.now build cmd.now }
 {
@@ -138,7 +138,7 @@ fn state_refusal(realm: &RealmDesc) -> Option<Rmi>
 
 // ---- walks
 
-// Whether a table of that level may begin at an IPA granule.
+// Whether a table of a level may begin at an IPA granule.
 fn is_table_place(ipa: IpaGran, level: Level) -> bool
     ensures { result ≡ is_table_place ipa level }
 {
@@ -180,7 +180,7 @@ fn room_refusal<S: PageStore>(
     }
 }
 
-// Whether the entry of level 3 of an IPA granule is there, and UNASSIGNED.
+// Whether an IPA granule has an entry of level 3, and the entry is UNASSIGNED.
 fn is_free<S: PageStore>(host: &Host<S>, build: BuildId, ipa: u32) -> bool
     ensures { result ≡ refused.is_free_row (refused.end_in (row_of (world_of host.now) build) ipa 3) }
 {
@@ -192,7 +192,7 @@ fn is_free<S: PageStore>(host: &Host<S>, build: BuildId, ipa: u32) -> bool
     }
 }
 
-// Whether the entries of level 3 of `count` IPA granules are there, and UNASSIGNED.
+// Whether `count` IPA granules from `first` on have entries of level 3 that are all UNASSIGNED.
 fn are_free<S: PageStore>(host: &Host<S>, build: BuildId, first: u32, count: u16) -> bool
     requires { first + count ≤ 4294967296 }
     ensures { result ≡ refused.are_free_rows (row_of (world_of host.now) build) first count }
@@ -378,7 +378,7 @@ fn call_refusal<S: PageStore>(
 
 // ---- commands
 
-// The refusal of the model, by the operation of a command, if it has one.
+// The model's refusal of a command whose operation is `act`.
 fn model_refusal<S: PageStore>(
     host: &Host<S>,
     build: BuildId,
@@ -406,7 +406,7 @@ fn model_refusal<S: PageStore>(
 pub fn refusal_asked<S: PageStore>(host: &Host<S>, build: BuildId, cmd: &Cmd) -> Option<Refusal>
     ensures { result ≡ refusal_of host.now build (Ask cmd.now) }
 {
-    // (in a legal history each realm has a width that realms may have)
+    // (the contract of `history` says that the history is legal, so each realm has a width that realms may have)
     let _history = host.history();
     let granules = match check_needs(host.ledger(), build, cmd) {
         Ok(granules) => granules,

@@ -23,7 +23,7 @@ impl Model for RunPages {
     ghost view = { λ pages. pages.recs };
 }
 
-// The place of a value among values.
+// The index of the first element of `recs` that equals `rec`.
 fn place_of(recs: &[Option<Gran>], rec: Option<Gran>) -> Option<usize>
     ensures { result ≡ position_from (runs.is_same rec) 0 recs.now }
 {
@@ -43,7 +43,7 @@ impl RunPages {
         RunPages { recs: [None; 64] }
     }
 
-    // The page of a REC, or a page that is in no use.
+    // The page of a REC, or a free page for `None`; page 63 if there is neither.
     fn page_of(&self, rec: Option<Gran>) -> u16
         ensures value { result ≡ runs.run_page_of rec self.now }
         ensures below { result < 64 }
@@ -54,8 +54,8 @@ impl RunPages {
         }
     }
 
-    /// The number of the page for an event that is about a REC. After an entry the page is in use, and after an exit it
-    /// is free again.
+    /// Returns the number of the page for an event of a REC, and updates which pages are in use. After an entry the
+    /// page is in use, and after an exit it is free again.
     pub fn page_for(&mut self, rec: Option<Gran>, act: &Act) -> u16
         ensures value { result ≡ runs.run_page_for rec act.now self.old }
         ensures below { result < 64 }

@@ -1,4 +1,4 @@
-//! The text of operations, as lines of a trace by registers with their answers.
+//! The text of operations and their answers, as lines of a trace by registers.
 use crate::{Frame, HostAction};
 use realm_model::{Rmi, Status};
 use rmi_abi::Call;
@@ -18,13 +18,13 @@ fn push_number(text: &mut String, number: u64) -> Result<(), AllocError> {
     write!(text, " {number}")
 }
 
-// Appends a field of a page, in decimal.
+// Appends a name and a number in decimal.
 fn push_field(text: &mut String, name: &str, number: u64) -> Result<(), AllocError> {
     text.push_str(name)?;
     push_number(text, number)
 }
 
-// Appends a call of a command with one operand, or about a realm and no table.
+// Appends a call of a command on a granule, a realm or a REC.
 fn push_plain_call(text: &mut String, call: Call) -> Result<(), AllocError> {
     match call {
         Call::GranuleDelegate { address } => push_words(text, "rmi_granule_delegate", &[address]),
@@ -77,7 +77,7 @@ fn push_call(text: &mut String, call: Call) -> Result<(), AllocError> {
     }
 }
 
-// The name of the output in X1 of a command.
+// The name of a command's output in X1, after a comma.
 fn name_of_x1(call: Call) -> &'static str {
     match call {
         Call::RttDestroy { .. } => ", rtt",
@@ -96,7 +96,7 @@ fn push_answered(text: &mut String, call: Call, x1: Option<u64>) -> Result<(), A
     }
 }
 
-// Appends the filling of granules.
+// Appends the operation that fills granules.
 fn push_fill(text: &mut String, address: u64, granules: u16, value: u8) -> Result<(), AllocError> {
     if granules == 1 {
         push_words(text, "fill", &[address])?;
@@ -109,7 +109,7 @@ fn push_fill(text: &mut String, address: u64, granules: u16, value: u8) -> Resul
     text.push_str(" = done")
 }
 
-// Appends the writing of a realm's parameters.
+// Appends the operation that writes a realm's parameters.
 fn push_realm_params(
     text: &mut String,
     page: u64,
@@ -127,7 +127,7 @@ fn push_realm_params(
     text.push_str(" = done")
 }
 
-// Appends the writing of a REC's parameters.
+// Appends the operation that writes a REC's parameters.
 fn push_rec_params(
     text: &mut String,
     page: u64,
@@ -142,7 +142,7 @@ fn push_rec_params(
     text.push_str(" = done")
 }
 
-// Appends an operation of the guest of a REC, or about its run.
+// Appends an operation of a REC's guest, or an operation that begins or ends the run of a REC.
 fn push_of_rec(text: &mut String, action: &HostAction) -> Result<(), AllocError> {
     match action {
         HostAction::Enter { rec, run } => {
@@ -235,8 +235,8 @@ pub fn push_action(
     text.push_str("\n")
 }
 
-/// Appends the line that opens the machine of a frame: all granules are UNDELEGATED, and the host's follow those of the
-/// history.
+/// Appends the `platform` line of a trace, for the machine of a frame. All granules are UNDELEGATED, and the host's
+/// granules follow those of the history's machine.
 pub fn push_platform(text: &mut String, frame: Frame, auxiliaries: u8) -> Result<(), AllocError> {
     push_words(text, "platform", &[frame.base()])?;
     push_number(text, frame.granules() as u64)?;

@@ -12,7 +12,7 @@ use decimal_text::{at_most, cut_at_space, made_of, numbers_of};
 use granule_addr::{Gran, IpaGran, IpaWidth, Level, Order, PageOff, RecNo, Root, Vmid};
 use realm_model::Act;
 
-// The greatest number of each operand.
+// The largest value of each kind of operand.
 const ORDER: u32 = 9;
 
 const OFFSET: u32 = 4095;
@@ -25,7 +25,7 @@ const U8: u32 = 255;
 
 const U16: u32 = 65_535;
 
-/// The largest count of numbers of an operation: a REC's granule, its number, and its auxiliary granules.
+/// The most numbers that an operation has: the granule and the number of a REC, and 16 auxiliary granules.
 const MOST_NUMBERS: usize = 18;
 
 fn order_of(number: u32) -> Order
@@ -57,7 +57,7 @@ fn one_granule(numbers: &[u32]) -> Option<Gran>
     Some(granule_of(granule))
 }
 
-// A granule, and the value of each byte.
+// A granule, and the value that all its bytes get.
 fn filled(numbers: &[u32]) -> Option<(Gran, u8)>
     ensures { result ≡ two granule u8 (λ g value. (g, value)) numbers.now }
 {
@@ -121,7 +121,7 @@ fn realm_act(word: &str, numbers: &[u32]) -> Option<Act>
     }
 }
 
-// The granule of a table, an IPA granule, and the level.
+// The granule of a table, an IPA granule, and the table's level.
 fn table(numbers: &[u32]) -> Option<(Gran, IpaGran, Level)>
     ensures { result ≡ table_row (λ g i l. (g, i, l)) numbers.now }
 {

@@ -6,10 +6,10 @@ ghost use Rattle.history_text.specs.Written.{granule, ipa};
 use arrayvec::ArrayVec;
 use granule_addr::{Gran, IpaGran, MOST_PAGES};
 
-/// The greatest number of a granule.
+/// The largest granule number.
 pub const GRANULE: u32 = 4095;
 
-/// The greatest IPA granule.
+/// The largest IPA granule number.
 pub const IPA: u32 = 2_147_483_647;
 
 /// The largest number of auxiliary granules of a REC.
@@ -32,7 +32,7 @@ pub fn ipa_of(number: u32) -> IpaGran
     IpaGran::new(number, WIDEST).unwrap()
 }
 
-/// The granules of these numbers, if there are at most 16 and each is in range.
+/// The granules with these numbers, if there are at most 16 numbers and each is in range.
 pub fn granules_of(numbers: &[u32]) -> Option<ArrayVec<Gran, MOST_AUXILIARIES>>
     ensures { result ≡ up_to 16 granule numbers.now }
 {

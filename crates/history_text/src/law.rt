@@ -33,7 +33,7 @@ fn granules_in_range(granules: &[Gran])
     }
 }
 
-// Shows the range of a number's type, by reading it.
+// Reads numbers, which shows the prover the ranges of their types.
 fn read<T: Copy>(_numbers: T) {}
 
 fn act_in_range(act: &Act)

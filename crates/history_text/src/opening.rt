@@ -7,7 +7,7 @@ ghost use Rattle.history_text.specs.Histories.{opening_numbers, opening_maxima, 
 use decimal_text::{SpelledText, at_most, numbers_of};
 use std::fmt;
 
-/// The greatest number of each: pages, VMIDs, auxiliary granules of a REC, events of a build, builds.
+/// The largest numbers of pages, VMIDs, auxiliary granules of a REC, events of a build, and builds.
 const MAXIMA: [u32; 5] = [4096, 255, 16, 16_384, 8];
 
 /// The size of the machine of a history: pages, VMIDs, auxiliary granules of each REC, each build's room in the
@@ -58,9 +58,9 @@ impl Opening {
     }
 }
 
-/// The opening whose text the line is, if there is one and a machine can have its size. A machine has 1 to 4,096 pages,
-/// 1 to 255 VMIDs and up to 16 auxiliary granules. The room is 16 to 16,384, and there are 1 to 8 builds. No memory is
-/// taken.
+/// The opening that the line spells, if the line spells one whose size a machine can have. A machine has 1 to 4,096
+/// pages, 1 to 255 VMIDs and up to 16 auxiliary granules. The room is 16 to 16,384, and there are 1 to 8 builds. No
+/// memory is taken.
 pub fn parse_opening(line: &[u8]) -> Option<Opening>
     // The opening that is returned has this text.
     ensures found { IfSome result (λ opening. IsOpeningText line.now opening) }

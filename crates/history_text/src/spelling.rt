@@ -6,7 +6,7 @@ use arrayvec::ArrayVec;
 use granule_addr::{Gran, IpaGran, PageOff, RecNo, Root, Vmid};
 use realm_model::Act;
 
-/// The largest count of numbers of an operation: the granule of a REC, its number, and 16 auxiliary granules.
+/// The most numbers that an operation has: the granule and the number of a REC, and 16 auxiliary granules.
 const MOST_NUMBERS: usize = 18;
 
 /// The word of an operation.
@@ -80,7 +80,7 @@ fn realm_numbers(rd: Gran, root: Root, vmid: Vmid) -> ArrayVec<u32, MOST_NUMBERS
     numbers(&[rd, first, width, vmid])
 }
 
-// The granule of a REC, its number, and its auxiliary granules.
+// The numbers of a REC's operation: the REC's granule, its number, and its auxiliary granules.
 fn rec_numbers(granule: Gran, number: RecNo, auxiliaries: &[Gran]) -> ArrayVec<u32, MOST_NUMBERS>
     requires { length auxiliaries.now ≤ 16 }
     ensures { result.items ≡ granule ∷ number ∷ auxiliaries.now }

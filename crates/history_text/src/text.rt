@@ -8,8 +8,8 @@ use granule_addr::BuildId;
 use realm_model::Event;
 use std::alloc::AllocError;
 
-/// Appends a history: the line of its opening and a line for each event, but for those of a build that is left out. At
-/// an `Err` allocation failed, and the text may have a part of it.
+/// Appends a history: its opening, and a line for each event that is not of the build `erase`. At an `Err` allocation
+/// failed, and the text may have a part of it.
 pub fn push_history(
     text: &mut String,
     opening: &Opening,

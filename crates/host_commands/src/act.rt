@@ -13,7 +13,7 @@ use realm_model::Act;
 // The widest address space that a realm may have, in bits.
 const WIDEST: u8 = 43;
 
-// The IPA granule of that number, if the widest address space has it.
+// IPA granule `number`, if the widest address space has it.
 fn ipa_of(number: u32) -> Option<IpaGran>
     ensures { result ≡ (if is_ipa number then Some number else None) }
 {
@@ -26,7 +26,7 @@ fn granule_at(granules: &[Gran], place: usize) -> Option<Gran>
     granules.get(place).copied()
 }
 
-// The granules but the first.
+// The auxiliary granules of a REC: all granules but the first.
 fn auxiliaries_of(granules: &[Gran]) -> ArrayVec<Gran, 16>
     requires some { 1 ≤ length granules.now }
     requires few { length granules.now ≤ 17 }
@@ -39,7 +39,8 @@ fn auxiliaries_of(granules: &[Gran]) -> ArrayVec<Gran, 16>
     auxiliaries
 }
 
-// The starting tables of a realm of that width, if realms may have it and the granules are adjacent, in sequence.
+// The starting tables of a realm, if `width` is valid, and `tables` are the right number of adjacent granules, in
+// sequence.
 fn starting_tables(width: u8, tables: &[Gran]) -> Option<Root>
     ensures { result ≡ root_of width tables.now }
 {
@@ -131,7 +132,7 @@ fn act_on_pages(cmd: &Cmd, granules: &[Gran], allocated: Allocated) -> Option<Ac
     }
 }
 
-/// The operation that a command asks for, with the granules of its operands and with what was allocated for it.
+/// The operation that a command asks for, made from the granules of its operands and from the allocated values.
 ///
 /// `None` comes if a number of the command can be in no operation. That is an IPA granule from 2^31 on, a level outside
 /// 1 to 3, a width outside 39 to 43, or starting tables that are not adjacent granules. The command is then refused

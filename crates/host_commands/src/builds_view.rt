@@ -8,7 +8,7 @@ use granule_addr::{BuildId, Gran};
 pub trait BuildsView {
     ghost seen: { Self → BuildsSummary };
 
-    /// Whether there is such a build.
+    /// Whether the host has the build.
     fn has_build(&self, build: BuildId) -> bool
         ensures { result ≡ nat_lt build (seen self.now).builds };
 
@@ -33,7 +33,7 @@ pub trait BuildsView {
         requires { build < (seen self.now).builds }
         ensures { result ≡ (seen self.now).opened build };
 
-    /// The room that the build has left.
+    /// The room that is left for the build in the history.
     fn room_left(&self, build: BuildId) -> u16
         requires { build < (seen self.now).builds }
         ensures { result ≡ (seen self.now).room_left build };

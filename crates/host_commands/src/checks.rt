@@ -21,7 +21,7 @@ pub fn check_build<D: BuildsView>(view: &D, build: BuildId) -> Result<(), Refusa
     Ok(())
 }
 
-// Refusal 3: a block is too large.
+// Checks that the order of a block to take is at most 9: refusal 3.
 fn check_order(cmd: &Cmd) -> Result<(), Refusal>
     ensures { result ≡ checked (order_checks cmd.now) }
 {
@@ -31,7 +31,7 @@ fn check_order(cmd: &Cmd) -> Result<(), Refusal>
     }
 }
 
-// Refusals 5 and 6: the build has a realm, or has none.
+// Checks that the build has a realm, or has none, as the command requires: refusals 5 and 6.
 fn check_realm<D: BuildsView>(
     view: &D,
     build: BuildId,
@@ -47,7 +47,7 @@ fn check_realm<D: BuildsView>(
     }
 }
 
-// Refusal 9: no more operations can be open.
+// Checks that the build's journal has an entry left, if the command needs one: refusal 9.
 fn check_journal<D: BuildsView>(view: &D, build: BuildId, paired: bool) -> Result<(), Refusal>
     requires { build < (D.seen view.now).builds }
     ensures { result ≡ checked (journal_checks (D.seen view.now) build paired) }
@@ -58,7 +58,7 @@ fn check_journal<D: BuildsView>(view: &D, build: BuildId, paired: bool) -> Resul
     Ok(())
 }
 
-// Refusal 10: the build has less than `needed` entries of its room left.
+// Checks that the build has at least `needed` entries of its room left: refusal 10.
 fn check_room<D: BuildsView>(view: &D, build: BuildId, needed: u16) -> Result<(), Refusal>
     requires { build < (D.seen view.now).builds }
     ensures { result ≡ checked (room_checks (D.seen view.now) build needed) }
@@ -69,7 +69,7 @@ fn check_room<D: BuildsView>(view: &D, build: BuildId, needed: u16) -> Result<()
     Ok(())
 }
 
-// Refusal 12: no VMID is free.
+// Checks that a VMID is free, if the command needs one: refusal 12.
 fn check_vmid<D: BuildsView>(view: &D, wanted: bool) -> Result<(), Refusal>
     ensures { result ≡ checked (vmid_checks (D.seen view.now) wanted) }
 {
@@ -79,7 +79,7 @@ fn check_vmid<D: BuildsView>(view: &D, wanted: bool) -> Result<(), Refusal>
     Ok(())
 }
 
-// Refusals 5 to 12: the requirements on the build's state.
+// Checks the requirements of a command on the state of its build: refusals 5, 6, 9, 10 and 12.
 fn check_state<D: BuildsView>(view: &D, build: BuildId, needs: &Needs) -> Result<(), Refusal>
     requires { build < (D.seen view.now).builds }
     ensures { result ≡ checked (state_checks (D.seen view.now) build needs.now) }
@@ -90,8 +90,9 @@ fn check_state<D: BuildsView>(view: &D, build: BuildId, needs: &Needs) -> Result
     check_vmid(view, needs.vmid)
 }
 
-/// The granules of the pages that a command names, in sequence; or, of the refusals that apply and hold, the one with
-/// the lowest number. The refusals of the store and of the RMM, 11 and 13, are not among them.
+/// Checks a command's requirements on its build, and returns the granules of the command's pages in sequence. An error
+/// is the refusal with the lowest number of those that hold. Refusals 11 and 13, of the store and of the RMM, are not
+/// checked here.
 pub fn check_needs<D: BuildsView>(
     view: &D,
     build: BuildId,

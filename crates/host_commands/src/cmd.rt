@@ -40,7 +40,7 @@ pub enum Cmd {
         ipa: u32,
         level: u8,
     },
-    /// Sets the RIPAS of the `count` pages of the realm's memory from `ipa` on to RAM. RMI_RTT_INIT_RIPAS
+    /// Sets the RIPAS of `count` IPA granules, from `ipa` on, to RAM. RMI_RTT_INIT_RIPAS
     Ripas {
         ipa: u32,
         count: u16,
@@ -71,7 +71,7 @@ pub enum Cmd {
     Exit {
         number: RecNo,
     },
-    /// Writes a byte of the realm's memory, by a running REC.
+    /// Lets a running REC write a byte of the realm's memory.
     Poke {
         number: RecNo,
         ipa: u32,
@@ -80,7 +80,7 @@ pub enum Cmd {
     },
 }
 
-/// The next action of a builder on its build.
+/// A step of a build: a command, an undo, an abort, a mark, or the step `back`.
 #[derive(Drop)]
 pub enum Step {
     Ask(Cmd),
@@ -88,7 +88,7 @@ pub enum Step {
     Undo,
     /// Reverses all open operations of the build, the newest first.
     Abort,
-    /// Keeps the build's point as a mark, to which the build can go back.
+    /// Sets the build's mark, to which the build can go back.
     Mark,
     /// Reverses the operations that the build has opened since its last mark, the newest first.
     Back,

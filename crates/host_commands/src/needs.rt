@@ -5,7 +5,7 @@ ghost use Rattle.host_commands.specs.Needs.{needs_of, needs_but_vmid, tables_nam
 use crate::Cmd;
 use granule_addr::IpaWidth;
 
-/// The requirement of a command on its build's realm: that there is one, that there is none, or neither.
+/// The requirement of a command on its build: to have a realm, to have none, or either.
 #[derive(Clone, Copy)]
 pub enum RealmRequirement {
     Either,
@@ -16,19 +16,18 @@ pub enum RealmRequirement {
 /// The requirements of a command on its build: a row of the table.
 #[derive(Clone, Copy)]
 pub struct Needs {
-    /// Whether the build has to have a realm, or none.
+    /// The requirement on the build's realm.
     pub realm: RealmRequirement,
     /// Whether the operation stays open, and so needs an entry in the journal.
     pub paired: bool,
-    /// The number of entries of the build's room that the command takes: for its event, and for the reverse or exit
-    /// that it will need.
+    /// The number of entries of the build's room that the command takes: for its event, and for a later reverse or
+    /// exit.
     pub room: u16,
     /// Whether the command needs a VMID.
     pub vmid: bool,
 }
 
-/// The number of starting tables that a command of this width names: that of a realm, or one if no realm has that
-/// width.
+/// The number of starting tables that a command with this width names, which is 1 if no realm has the width.
 pub fn tables_named(width: u8) -> u16
     ensures value { result ≡ tables_named width }
     ensures few { result ≤ 16 }

@@ -10,7 +10,7 @@ use crate::{BuildsView, Cmd, Refusal};
 use arrayvec::ArrayVec;
 use granule_addr::{BuildId, Gran};
 
-// Appends the granule of one page to those that were found.
+// Appends the granule of one page to `found`, or returns the refusal `NotLeased`.
 fn find<D: BuildsView>(
     view: &D,
     build: BuildId,
@@ -29,7 +29,7 @@ fn find<D: BuildsView>(
     Ok(())
 }
 
-// Appends the granules of the pages of a list to those that were found.
+// Appends the granules of a list of pages to `found`.
 fn find_all<D: BuildsView>(
     view: &D,
     build: BuildId,
@@ -46,7 +46,7 @@ fn find_all<D: BuildsView>(
     Ok(())
 }
 
-// Appends the granules of `count` pages, with numbers from `first` on, to those that were found.
+// Appends the granules of `count` pages, from page `first` on, to `found`.
 fn find_run<D: BuildsView>(
     view: &D,
     build: BuildId,
@@ -100,7 +100,8 @@ fn find_operands<D: BuildsView>(
     }
 }
 
-// The granules of the pages that a command names, or the refusal of the first that the build does not have.
+// Returns the granules of the pages that a command names, or the refusal of the first page that the build does not
+// have.
 pub(crate) fn granules_of<D: BuildsView>(
     view: &D,
     build: BuildId,

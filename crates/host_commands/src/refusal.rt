@@ -3,47 +3,47 @@ use granule_addr::Order;
 use realm_model::Rmi;
 use thiserror::Error;
 
-/// A refusal, by its number. Of the refusals that apply and hold, the one with the lowest number is given, and nothing
-/// changes.
+/// The reason why the host refuses a command or an undo. Of several refusals that hold, the one with the lowest number
+/// is given, and nothing changes.
 #[derive(Clone, Copy, Debug, PartialEq, Eq, Error)]
 pub enum Refusal {
-    /// 1: a build that the host does not have.
+    /// Refusal 1: a build that the host does not have.
     #[error("there is no such build")]
     NoBuild,
-    /// 2: a build that is in abort.
+    /// Refusal 2: a build that is in abort.
     #[error("the build is being aborted")]
     Aborting,
-    /// 3: an order of a block above 9.
+    /// Refusal 3: an order of a block above 9.
     #[error("a block has at most 512 pages")]
     BadOrder,
-    /// 4: a page that the build does not have.
+    /// Refusal 4: a page that the build does not have.
     #[error("the build has no page {0}")]
     NotLeased(u16),
-    /// 5: a build that has a realm.
+    /// Refusal 5: a build that has a realm already.
     #[error("the build has a realm")]
     RealmThere,
-    /// 6: a build that has no realm.
+    /// Refusal 6: a build that has no realm.
     #[error("the build has no realm")]
     NoRealm,
-    /// 7: a build that has nothing open.
+    /// Refusal 7: a build with nothing to undo.
     #[error("there is nothing to undo")]
     NothingToUndo,
-    /// 8: a running REC that would have to go.
+    /// Refusal 8: a running REC that an undo or an abort would destroy.
     #[error("a REC is running")]
     RecRunning,
-    /// 9: a build that has 512 operations open.
+    /// Refusal 9: a build that has 512 operations open.
     #[error("the journal is full")]
     JournalFull,
-    /// 10: a command that would take room that the build's reverses and exits need.
+    /// Refusal 10: a command that would take room that the build's reverses and exits need.
     #[error("the history is full")]
     HistoryFull,
-    /// 11: a lack of a free aligned block of that order.
+    /// Refusal 11: a lack of a free aligned block of the order.
     #[error("no block of order {} is free", .0.number())]
     NoBlock(Order),
-    /// 12: a lack of a free VMID.
+    /// Refusal 12: a lack of a free VMID.
     #[error("no VMID is free")]
     NoVmid,
-    /// 13: a refusal by the RMM.
+    /// Refusal 13: a refusal by the RMM.
     #[error("the monitor refused: {:?}, index {}", .0.status, .0.index)]
     Rmi(Rmi),
 }

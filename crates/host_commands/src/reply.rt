@@ -1,4 +1,4 @@
-//! The replies to accepted commands and undos, and what the allocators choose for them.
+//! The replies to accepted commands and undos, and the values that the allocators choose.
 ghost use Rattle.std.specs.Prelude.{◌≡◌};
 ghost use Rattle.host_commands.specs.Replies.{reply_of};
 
@@ -19,7 +19,7 @@ pub enum Reply {
     Number(RecNo),
 }
 
-/// The reply to an operation of a build that had `page_count` pages before it.
+/// The reply to an operation of a build that had `page_count` pages before the operation.
 pub fn reply_of(page_count: u16, act: &Act) -> Reply
     ensures { result ≡ reply_of page_count act.now }
 {
@@ -36,16 +36,16 @@ pub fn reply_of(page_count: u16, act: &Act) -> Reply
 /// get it, and may be anything for the others.
 #[derive(Clone, Copy)]
 pub struct Allocated {
-    /// For a realm that is created, the lowest VMID that no realm has.
+    /// The lowest VMID that no realm has, for a command that creates a realm.
     pub vmid: Vmid,
-    /// For a REC that is created, the next number of its realm.
+    /// The next REC number of the realm, for a command that creates a REC.
     pub number: RecNo,
-    /// For a byte that is read, the byte.
+    /// The byte that was read, for a command that reads one.
     pub byte: u8,
 }
 
-/// The result of an undo: the kind of the operation that was reversed, and the number of those that the build has open
-/// after it.
+/// The result of an undo: the kind of the reversed operation, and the number of operations that the build has open
+/// afterwards.
 #[derive(Clone, Copy, Debug, PartialEq, Eq)]
 pub struct Undone {
     pub kind: Kind,

@@ -23,7 +23,7 @@ pub(crate) struct Build {
 }
 
 impl Build {
-    /// A build that has no events.
+    /// Returns the record of a build that has no events.
     pub(crate) fn build(alloc: Global) -> Result<Build, AllocError>
         ensures { IfOk result (λ build. build ≡ new_build) }
     {

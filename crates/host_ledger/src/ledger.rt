@@ -1,4 +1,4 @@
-//! The ledger of a host: its history, and the records beside it.
+//! The ledger of a host: the history, and records that are derived from the history.
 ghost use Rattle.std.specs.Prelude.{◌≡◌, ℕ, ◌<◌, ◌≤◌, [], length, drop, replicate, true, false, nat_lt, Some, None, IfOk, IfSome, option_map, slice_index_or};
 ghost use Rattle.std.specs.Bool.{OnFalse};
 ghost use Rattle.std.specs.List.{last_or};
@@ -49,7 +49,7 @@ impl Model for HostLedger {
     ghost invariant = { λ b. IsKept (ledger_of b.builds.items b.leases b.vmids b.aux b.capacity b.history.items) b.builds.items b.leases b.holders b.vmids b.history };
 }
 
-// The records of `count` builds that have no events.
+// Returns the records of `count` builds that have no events.
 fn new_builds(alloc: Global, count: u8) -> Result<Vec<Build>, AllocError>
     ensures { IfOk result (λ builds. builds.items ≡ replicate count new_build) }
 {
@@ -60,8 +60,8 @@ fn new_builds(alloc: Global, count: u8) -> Result<Vec<Build>, AllocError>
     Ok(builds)
 }
 
-// Updates the pages of a build for an operation: pages of a taken block go on top, those of a block given back are
-// removed.
+// Updates the pages of a build for an operation. The pages of a taken block follow the build's other pages, and the
+// pages of a block that is given back are removed.
 fn follow_pages(leases: &mut Leases, build: BuildId, act: &Act)
     requires there { build < length leases.old.stacks }
     requires can_follow { CanFollowPages leases.old build act.now }
@@ -87,7 +87,8 @@ fn follow_holders(holders: &mut Holders, build: BuildId, act: &Act)
     }
 }
 
-// Updates the VMIDs in use for an operation: a created realm's VMID is in use, and that of a realm that ends is free.
+// Updates the VMIDs in use for an operation. The VMID of a created realm comes into use, and the VMID of a destroyed
+// realm becomes free.
 fn follow_vmids(vmids: &mut VmidPool, act: &Act)
     requires { CanFollowVmids vmids.old act.now }
     ensures { IsVmidsAfter act.now vmids.old vmids.new }
@@ -162,7 +163,7 @@ impl HostLedger {
         self.builds.len() as u8
     }
 
-    /// Whether there is such a build.
+    /// Whether the host has the build.
     pub fn has_build(&self, build: BuildId) -> bool
         ensures there { result ≡ nat_lt build self.now.limits.builds }
         ensures none { OnFalse result (acts_of build self.now.history ≡ []) }
@@ -233,7 +234,7 @@ impl HostLedger {
         self.builds[build.number() as usize].realm
     }
 
-    /// The granule of the REC of that number in a build's realm.
+    /// The granule of REC `number` in a build's realm.
     pub fn rec(&self, build: BuildId, number: RecNo) -> Option<Gran>
         requires { build < self.now.limits.builds }
         ensures { result ≡ rec_granule (realm_of build (world_of self.now)) number }
@@ -242,8 +243,7 @@ impl HostLedger {
         kept.recs.granule(number)
     }
 
-    /// The realm and the REC of an operation of a build: the RD of the build's realm, and the REC there that the
-    /// operation names.
+    /// The RD of a build's realm, and the granule of the REC in the realm that an operation names.
     pub fn place(&self, build: BuildId, act: &Act) -> RealmAndRec
         requires { build < self.now.limits.builds }
         ensures { IsPlaceOf (world_of self.now) build act.now result }
@@ -261,7 +261,7 @@ impl HostLedger {
         }
     }
 
-    /// The number of RECs of a build's realm that run.
+    /// The number of running RECs of a build's realm.
     pub fn running(&self, build: BuildId) -> u16
         requires { build < self.now.limits.builds }
         ensures { result ≡ running_count (realm_of build (world_of self.now)) }
@@ -269,7 +269,7 @@ impl HostLedger {
         self.builds[build.number() as usize].running
     }
 
-    /// Returns the lowest VMID that no realm has, or `None` if each is a realm's.
+    /// Returns the lowest VMID that no realm has, or `None` if all VMIDs are in use.
     pub fn lowest_vmid(&self) -> Option<Vmid>
         ensures { result ≡ lowest_vmid self.now }
     {
@@ -300,7 +300,7 @@ impl HostLedger {
         self.holders.is_held_by(granule, build)
     }
 
-    /// The build that leases the granule; `None` if nobody does, or if the machine has no such granule.
+    /// The build that leases the granule; `None` if nobody does, or if the machine does not have the granule.
     pub fn holder(&self, granule: Gran) -> Option<BuildId>
         ensures { result ≡ slice_index_or (world_of self.now).leases granule None }
     {
@@ -316,7 +316,7 @@ impl HostLedger {
         self.builds[build.number() as usize].begin_abort();
     }
 
-    /// The mark of the point at which a build is now.
+    /// The mark of a build at the present end of the history.
     pub fn mark_now(&self, build: BuildId) -> Mark
         requires { build < self.now.limits.builds }
         ensures { result ≡ mark_now self.now build }
@@ -328,7 +328,7 @@ impl HostLedger {
         }
     }
 
-    /// Keeps a mark of the point at which a build is now, in place of an older mark.
+    /// Keeps the mark of a build at the present end of the history, in place of an older mark.
     pub fn keep_mark(&mut self, build: BuildId, mark: &Mark)
         requires there { build < self.old.limits.builds }
         requires now { mark.now ≡ mark_now self.old build }

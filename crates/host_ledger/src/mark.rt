@@ -1,10 +1,10 @@
-//! Marks: points of a build.
+//! Marks, to which builds can be rolled back.
 ghost use Rattle.std.specs.Prelude.{◌≡◌};
 ghost use Rattle.host_ledger.specs.Marks.{is_same_mark};
 
 use granule_addr::BuildId;
 
-/// A point of a build to which it can go back: the number of operations it had open, and the place in the history.
+/// A mark to which a build can be rolled back: a number of open operations, and a place in the history.
 #[derive(Clone, Copy)]
 pub struct Mark {
     pub(crate) build: BuildId,
@@ -13,21 +13,21 @@ pub struct Mark {
 }
 
 impl Mark {
-    /// The number of operations that the build had open.
+    /// The number of operations that the build had open at the mark.
     pub fn length(&self) -> u16
         ensures { result ≡ self.now.length }
     {
         self.length
     }
 
-    /// The number of events that the history had.
+    /// The number of events that the history had at the mark.
     pub fn place(&self) -> u32
         ensures { result ≡ self.now.place }
     {
         self.place
     }
 
-    /// Whether the two are the same point of the same build.
+    /// Whether the two marks are the same.
     pub fn is(self, other: Mark) -> bool
         ensures { result ≡ is_same_mark self other }
     {

@@ -27,7 +27,7 @@ impl Model for Recs {
 }
 
 impl Recs {
-    /// An empty list of RECs.
+    /// Returns an empty list of RECs.
     pub(crate) fn build(alloc: Global) -> Result<Recs, AllocError>
         ensures { IfOk result (λ recs. recs ≡ []) }
     {
@@ -51,7 +51,7 @@ impl Recs {
         self.entries.pop();
     }
 
-    /// The granule of the REC with that number.
+    /// The granule of REC `number`.
     pub(crate) fn granule(&self, number: RecNo) -> Option<Gran>
         ensures { result ≡ granule_in self.now number }
     {

@@ -14,8 +14,8 @@ use granule_addr::MOST_PAGES;
 use std::alloc::{AllocError, Global};
 use std::marker::Model;
 
-/// All pages of a machine, of 4,096 bytes each, in one allocation that is given back at the end. The bytes of a page
-/// are in its slot. The slots that are used come first, and nothing is written yet after them.
+/// All pages of a machine, of 4,096 bytes each, in one allocation that is freed on drop. The bytes of a page are in its
+/// slot. The slots that are used come first, and nothing is written yet after them.
 pub struct RawPages {
     start: Start<[u8; 4096]>,
     slots: Slots,
@@ -132,7 +132,7 @@ fn zero_pages(alloc: Global, pages: usize) -> Result<RawPages, AllocError>
     })
 }
 
-// A page's own slot. A page that has none gets the next one, with zeros.
+// Returns a page's own slot. A page without one gets the next slot, with zeros.
 fn own_slot(
     slots: &mut Slots,
     row: &mut Row<[u8; 4096], Global>,

@@ -14,7 +14,7 @@ use granule_addr::{Gran, MOST_PAGES, Order, PageOff};
 use pages::{clear_run, copy_page, fill_page, zero_pages};
 use std::alloc::Global;
 
-/// A store that keeps pages and flags each in a vector, and takes the lowest free block.
+/// A store that keeps the pages in one vector and the flags in another, and takes the lowest free block.
 #[derive(Drop)]
 pub struct PlainStore {
     pages: Vec<[u8; 4096]>,

@@ -47,7 +47,7 @@ impl<T, A: Allocator> Model for Row<T, A> {
 
 unsafe impl<T: Send, A: Allocator + Send> Send for Row<T, A> {}
 
-/// A row with capacity for `room` items, and none yet.
+/// Allocates an empty row with capacity for `room` items.
 pub(crate) fn allocate<T, A: Allocator>(
     alloc: &A,
     room: usize,

@@ -4,8 +4,8 @@ ghost use Rattle.page_arena.specs.Slots.{IsSlots};
 
 use std::alloc::{AllocError, Global};
 
-/// The slot of each page's bytes: slot 0, which has the zeros of all pages never written, or a slot of the page's own.
-/// A page gets its own when it is first written: the next one that is not used yet.
+/// The slot of each page's bytes. All pages that were never written share slot 0, which has zeros. A page gets the next
+/// unused slot when it is first written.
 #[derive(Drop)]
 pub(crate) struct Slots {
     of: Vec<u16>,
@@ -39,7 +39,7 @@ impl Slots {
         self.of[page] as usize
     }
 
-    /// Gives a page that shares slot 0 the next slot. There is one for each page.
+    /// Gives the next unused slot to a page that shares slot 0. There is a slot for each page.
     pub(crate) fn own(&mut self, page: usize) -> usize
         requires inside { page < length self.old.of.items }
         requires shared { get_or self.old.of.items page 0 ≡ 0 }

@@ -10,7 +10,7 @@ use granule_addr::{Gran, Order, PageOff};
 use std::alloc::AllocError;
 use thiserror::Error;
 
-/// The pages of a machine, of 4,096 bytes each, and which of them are free. RMM 1.0, Granule.
+/// The pages of a machine, of 4,096 bytes each, and the set of free pages. RMM 1.0, Granule.
 ///
 /// A block of order k is 2^k pages from a multiple of 2^k on. No call takes memory, and none fails.
 pub trait PageStore {
@@ -31,7 +31,7 @@ pub trait PageStore {
     fn free_count(&self) -> u16
         ensures { result ≡ length (filter (λ flag. flag) (free_flags self.now)) };
 
-    /// Takes a free block: the store's choice. `None` comes exactly when there is none.
+    /// Takes a free block of the store's choice. `None` comes exactly when there is no free block of the order.
     fn take(&mut self, order: Order) -> Option<Gran>
         ensures first { result ≡ choice self.old order }
         ensures block { IfSome result (IsFreeBlock (free_flags self.old) order) }
@@ -42,8 +42,8 @@ pub trait PageStore {
         ensures unchanged { IfNone result (free_flags self.new ≡ free_flags self.old) }
         ensures bytes { page_bytes self.new ≡ page_bytes self.old };
 
-    /// Takes the block at that granule. `false`, with nothing changed, comes exactly when it is not aligned, not inside
-    /// the machine, or not free.
+    /// Takes the block that begins at granule `first`. `false`, with nothing changed, comes exactly when the block is
+    /// not aligned, not inside the machine, or not free.
     fn take_at(&mut self, order: Order, first: Gran) -> bool
         ensures answer { IsTrue result ↔ IsFreeBlock (free_flags self.old) order first }
         ensures taken { OnTrue result
@@ -124,11 +124,11 @@ pub trait PageStore {
             ≡ slice_set (page_bytes self.old) granule (bytes_of_words 512 (rising_word kind first step)) }
         ensures flags { free_flags self.new ≡ free_flags self.old };
 
-    /// There are 1 to 4,096 pages, each has 4,096 bytes, and there is a flag for each.
+    /// A store has 1 to 4,096 pages of 4,096 bytes each, and a flag for each page.
     ghost sized: { (store : Self) → IsSized (page_bytes store) (free_flags store) };
 }
 
-/// The reason why a store is not built: the size is not 1 to 4,096 pages, or there is no memory for it.
+/// The reason why a store is not built: a size other than 1 to 4,096 pages, or a failed allocation.
 #[derive(Clone, Copy, Debug, Error)]
 pub enum BuildError {
     #[error("a machine has 1 to 4096 pages")]

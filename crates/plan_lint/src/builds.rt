@@ -15,7 +15,7 @@ pub(crate) fn count_of_builds(outline: &Outline) -> Option<usize> {
     }
 }
 
-/// Finds what is wrong with the builds.
+/// Finds the mistakes in the builds of a plan.
 pub(crate) fn builds(text: &str, outline: &Outline, meant: Meant, found: &mut Findings) {
     let has_builds = !outline.builds.is_empty();
     match outline.value("build") {
@@ -94,7 +94,7 @@ fn no_steps(value: &Value, found: &mut Findings) {
     }
 }
 
-// Finds the mistakes in the steps of a build, which are strings.
+// Finds the mistakes in the steps of a build. Each step has to be a string.
 fn steps(text: &str, number: usize, build: &Build, found: &mut Findings) {
     for (step, value) in build.steps.iter().enumerate() {
         let fault = PlanFault::Step {
@@ -115,7 +115,7 @@ fn one_step(text: &str, value: &Value, fault: PlanFault, found: &mut Findings) {
         return of_kind(value, "a string", found);
     };
     if step_from_text(written).is_none() {
-        // (the text of a string follows its quote as it is, unless it has an escape)
+        // (unless a string has an escape, its text follows the opening quote unchanged)
         let inside = match text.as_bytes().get(value.span.start.saturating_add(1)..) {
             Some(after) => after.starts_with(written.as_bytes()),
             None => false,

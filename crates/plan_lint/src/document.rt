@@ -10,7 +10,7 @@ use realm_plan::{MOST_BYTES, PlanFault};
 use std::alloc::{AllocError, Global};
 use std::str::from_utf8;
 
-/// Finds what is wrong with bytes that have this fault. The one error is that allocation failed.
+/// Finds the mistakes in bytes that are no plan because of a given fault. The one error is that allocation failed.
 pub(crate) fn errors_in(
     alloc: Global,
     bytes: &[u8],
@@ -44,7 +44,7 @@ fn in_text(alloc: Global, text: &str, found: &mut Findings) -> Result<(), AllocE
     }
     let meant = unknown_keys(&outline, found);
     numbers(&outline, meant, found);
-    // (builds under another key are not counted)
+    // (builds are not counted if an unknown key was probably meant as `build`)
     let count = match count_of_builds(&outline) {
         Some(count) if count > 0 && !meant.build => Some(count),
         _ => None,

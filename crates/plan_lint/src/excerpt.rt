@@ -1,10 +1,10 @@
-//! Places of a text, and a line of it with carets under a stretch.
+//! Places in a text, and excerpts: a line of the text, with carets under a part of the line.
 use std::alloc::{AllocError, Global};
 
-/// The most bytes that are shown before the first caret, and from it on.
+/// The largest number of bytes that are shown before the first caret, and from the first caret on.
 const MOST: usize = 80;
 
-/// The number of bytes that are shown before the first caret, or from it on, if the line is cut there.
+/// The number of bytes that are shown on a side of the first caret if the line is cut on that side.
 const LESS: usize = 78;
 
 /// A place of a text, with its line and its column, both from 1.
@@ -25,7 +25,7 @@ pub const FIRST: Cursor = Cursor {
     start: 0,
 };
 
-// Whether the byte begins a character: it is not one inside a character.
+// Whether a byte is the first byte of a UTF-8 character.
 fn begins_char(byte: u8) -> bool {
     byte < 128 || byte >= 192
 }
@@ -46,7 +46,7 @@ pub(crate) fn place_at(text: &[u8], from: Cursor, at: usize) -> Cursor {
     place
 }
 
-/// The bytes as a text of one line: a space for each control character, and U+FFFD for what is no UTF-8.
+/// The bytes as one line of text, with a space for each control character, and U+FFFD for invalid UTF-8.
 pub(crate) fn plain_text(alloc: Global, bytes: &[u8]) -> Result<String, AllocError> {
     let mut shown = Vec::with_capacity(alloc, bytes.len())?;
     for byte in bytes {
@@ -56,7 +56,7 @@ pub(crate) fn plain_text(alloc: Global, bytes: &[u8]) -> Result<String, AllocErr
     String::from_utf8_lossy(alloc, &shown)
 }
 
-// The end of the line before a place, as far as it is shown.
+// The shown part of a line before a place: the whole part, or two dots and its end if it is too long.
 fn shown_front(alloc: Global, front: &[u8]) -> Result<Vec<u8>, AllocError> {
     let mut line = Vec::new(alloc);
     if front.len() <= MOST {
@@ -68,7 +68,7 @@ fn shown_front(alloc: Global, front: &[u8]) -> Result<Vec<u8>, AllocError> {
     Ok(line)
 }
 
-// The beginning of the line after a place, as far as it is shown.
+// The shown part of a line after a place: the whole part, or its beginning and two dots if it is too long.
 fn shown_back(alloc: Global, back: &[u8]) -> Result<Vec<u8>, AllocError> {
     let mut line = Vec::new(alloc);
     if back.len() <= MOST {
@@ -94,7 +94,7 @@ fn char_count(text: &str) -> usize {
     count
 }
 
-// Appends carets after `before` spaces, one at least.
+// Appends `before` spaces, and then `count` carets, or one caret if `count` is 0.
 fn push_carets(text: &mut String, before: usize, count: usize) -> Result<(), AllocError> {
     for _ in 0..before {
         text.push(' ')?;
@@ -105,7 +105,7 @@ fn push_carets(text: &mut String, before: usize, count: usize) -> Result<(), All
     text.push('\n')
 }
 
-/// Appends the line before and after a place, and carets under its first `len` bytes after the place.
+/// Appends the line that contains a place, and carets under the first `len` bytes after the place.
 pub(crate) fn push_excerpt(
     alloc: Global,
     text: &mut String,

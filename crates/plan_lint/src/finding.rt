@@ -4,7 +4,7 @@ use crate::nearest::nearest;
 use realm_plan::PlanFault;
 use std::alloc::{AllocError, Global};
 
-/// A stretch of a text, by the number of bytes before each of its ends.
+/// A stretch of a text, by the offsets in bytes of its start and its end.
 #[derive(Clone, Copy)]
 pub struct Span {
     pub start: usize,
@@ -22,8 +22,7 @@ impl Span {
 /// The severity of a finding.
 #[derive(Clone, Copy, PartialEq, Eq)]
 pub enum Severity {
-    /// A mistake in bytes that are no plan: one of their faults, and a second fault if it follows from the same
-    /// mistake.
+    /// A mistake in bytes that are no plan, with its fault, and a second fault if the same mistake causes one.
     Error(PlanFault, Option<PlanFault>),
     /// A likely slip in a plan.
     Warning,
@@ -106,7 +105,7 @@ impl Findings {
         self.note("help: ", words, pieces);
     }
 
-    /// Adds a line with this beginning to the last finding.
+    /// Adds a line, which starts with `beginning`, to the notes of the last finding.
     pub(crate) fn note(&mut self, beginning: &str, words: &str, pieces: &[Piece<'_>]) {
         let Ok(line) = filled(self.alloc, beginning, words, pieces) else {
             self.has_failed = true;
@@ -117,7 +116,7 @@ impl Findings {
         }
     }
 
-    /// The name that was probably meant by a word.
+    /// The name, if any, that a misspelled word probably means.
     pub(crate) fn nearest(&mut self, names: &[&'static str], word: &str) -> Option<&'static str> {
         let Ok(near) = nearest(self.alloc, names, word) else {
             self.has_failed = true;

@@ -15,7 +15,7 @@ pub enum OperandKind {
 }
 
 impl OperandKind {
-    /// The name of the operand, and the greatest number that a step may have there.
+    /// The name of the operand, and the greatest number that the operand may be.
     pub(crate) fn limits(self) -> (&'static str, u64) {
         match self {
             OperandKind::Order => ("the order of a block", 255),
@@ -31,7 +31,7 @@ impl OperandKind {
     }
 }
 
-/// The form of a step.
+/// The form of a step: its word, its arguments, and its other names.
 #[derive(Clone, Copy)]
 pub struct Form {
     pub word: &'static str,
@@ -41,11 +41,11 @@ pub struct Form {
     pub kinds: &'static [OperandKind],
     /// The greatest number of arguments.
     pub most: usize,
-    /// The names of the step in the RMI, in traces and in histories, with a space between two.
+    /// The names of the step in the RMI, in traces and in histories, separated by spaces.
     other_names: &'static str,
 }
 
-/// The words of steps.
+/// The first words of all kinds of steps.
 pub const WORDS: [&str; 18] = [
     "take", "fill", "peek", "delegate", "realm", "activate", "rtt", "ripas", "data", "unknown",
     "rec", "enter", "exit", "poke", "undo", "abort", "mark", "back",

@@ -1,4 +1,4 @@
-//! The findings on bytes: the errors of those that are no plan, or the likely slips of a plan.
+//! The findings on a document: its errors if it is no plan, or else its likely slips.
 ghost use Rattle.std.specs.Prelude.{◌≡◌, ◌≤◌, ℕ, true, map, sum_by, All, Any, IfOk, length, vec_len};
 ghost use Rattle.std.specs.List.Sorted.{IsPermutation, IsNonDecreasingBy};
 ghost use Rattle.realm_plan.specs.PlanView.{plan_view};
@@ -10,7 +10,7 @@ use crate::lints::slips_in;
 use realm_plan::{Plan, PlanError, PlanFault, PlanStep};
 use std::alloc::{AllocError, Global};
 
-/// The size of a plan.
+/// The size of a plan: its numbers of builds, steps and turns.
 #[derive(Clone, Copy)]
 pub struct Size {
     pub builds: usize,
@@ -18,12 +18,12 @@ pub struct Size {
     pub turns: usize,
 }
 
-/// The findings on bytes.
+/// The findings on the bytes of a document, and the size of the plan if the document is one.
 #[derive(Drop)]
 pub struct Judged {
     /// The findings in the order of their places.
     pub findings: Vec<Finding>,
-    /// The size of the plan, if the bytes are one.
+    /// The size of the plan, or `None` if the bytes are no plan.
     pub size: Option<Size>,
 }
 
@@ -49,7 +49,7 @@ fn size_of(plan: &Plan) -> Size
     }
 }
 
-// A fault in general words, for bytes on which nothing else is found.
+// The description of a fault in general words, for bytes on which nothing else is found.
 fn general_words(fault: PlanFault) -> &'static str {
     match fault {
         PlanFault::Syntax => "this is no TOML",
@@ -118,7 +118,7 @@ fn tells(findings: &[Finding], fault: PlanFault) -> bool
     false
 }
 
-// A fault in general words.
+// A finding that describes a fault in general words.
 fn general_finding(alloc: Global, fault: PlanFault) -> Result<Finding, AllocError>
     ensures severity { IfOk result (λ f. IsErrorOf fault f.severity) }
     ensures inside { IfOk result (λ f. (end : ℕ) → IsStretchIn end f) }
@@ -132,7 +132,8 @@ fn general_finding(alloc: Global, fault: PlanFault) -> Result<Finding, AllocErro
     })
 }
 
-// The errors of bytes with this fault. It is reported in general words if no other error reports it.
+// The errors in bytes that are no plan because of a given fault. The fault is reported in general words if no other
+// error reports it.
 fn errors_of(alloc: Global, bytes: &[u8], fault: PlanFault) -> Result<Vec<Finding>, AllocError>
     ensures errors { IfOk result (λ v. AreErrors fault v.items) }
     ensures inside { IfOk result (λ v. AreInside (length bytes.now) v.items) }

@@ -4,7 +4,7 @@ use crate::message_text::Piece::{Quoted, Whole, Words};
 use crate::outline::{Build, KeyValue, Outline, PLAN_KEYS, Value, is_among};
 use realm_plan::PlanFault;
 
-/// Whether an unknown key means the missing key `pages`, and whether one means `build`.
+/// Whether unknown keys were probably meant as the missing keys `pages` and `build`.
 #[derive(Clone, Copy)]
 pub struct Meant {
     pub pages: bool,
@@ -18,8 +18,8 @@ impl Meant {
     }
 }
 
-/// Finds the keys that neither a plan nor a build has. One that is there several times in a row, as in `[machine.cpu]`
-/// below `[machine]`, is found once.
+/// Reports unknown and misplaced keys, and returns which missing keys were probably meant. A key that is there several
+/// times in a row, as in `[machine.cpu]` below `[machine]`, is reported once.
 pub(crate) fn unknown_keys(outline: &Outline, found: &mut Findings) -> Meant {
     let mut meant = Meant {
         pages: outline.has_deeper_pages,
@@ -95,7 +95,7 @@ fn is_near_steps(key: &KeyValue, found: &mut Findings) -> bool {
     found.nearest(&["steps"], key.name.as_str()).is_some()
 }
 
-/// Whether an unknown key of a build without steps means `steps`.
+/// Whether some unknown key of a build without the key `steps` was probably meant as that key.
 pub(crate) fn means_steps(build: &Build, found: &mut Findings) -> bool {
     for key in &build.keys {
         if is_near_steps(key, found) {
@@ -117,7 +117,7 @@ fn no_such_key(key: &KeyValue, all: &str, found: &mut Findings) {
     found.help(all, &[]);
 }
 
-/// The numbers of a plan, each with its least and its greatest value.
+/// The keys of a plan whose values are numbers, each with its least and its greatest value.
 const NUMBERS: [(&str, i64, i64); 4] = [
     ("pages", 1, 4096),
     ("vmids", 1, 255),
@@ -125,7 +125,7 @@ const NUMBERS: [(&str, i64, i64); 4] = [
     ("history", 16, 16384),
 ];
 
-/// Finds what is wrong with the numbers of a plan.
+/// Finds the mistakes in the numbers of a plan.
 pub(crate) fn numbers(outline: &Outline, meant: Meant, found: &mut Findings) {
     for (name, low, high) in &NUMBERS {
         if let Some(value) = outline.value(name) {

@@ -9,7 +9,7 @@ use realm_plan::{Plan, PlanStep};
 use std::alloc::{AllocError, Global};
 use std::str::from_utf8;
 
-/// Finds the likely slips of the plan that the bytes are. The one error is that allocation failed.
+/// Finds the likely slips in a plan, given its bytes and the parsed plan. The one error is that allocation failed.
 pub(crate) fn slips_in(
     alloc: Global,
     bytes: &[u8],
@@ -37,7 +37,7 @@ pub(crate) fn slips_in(
     found.finish()
 }
 
-/// A build of a plan.
+/// A build of a plan, with the outline that gives the places of its steps.
 #[derive(Clone, Copy)]
 struct PlannedBuild<'a> {
     plan: &'a Plan,
@@ -52,7 +52,7 @@ impl PlannedBuild<'_> {
         self.outline.step_span(self.number, step)
     }
 
-    // Reports the takes that no machine of this size can serve.
+    // Reports each `take` that a machine of the plan's size cannot serve.
     fn takes(&self, found: &mut Findings) {
         let pages = self.plan.pages as usize;
         for (place, step) in self.steps.iter().enumerate() {
@@ -71,7 +71,7 @@ impl PlannedBuild<'_> {
         }
     }
 
-    // Reports the first step that names a page which no take before it can have given.
+    // Reports the first step that names a page beyond the pages that the `take` steps before it can give.
     fn pages(&self, found: &mut Findings) {
         let mut given: usize = 0;
         for (place, step) in self.steps.iter().enumerate() {
@@ -111,7 +111,7 @@ impl PlannedBuild<'_> {
         Ok(())
     }
 
-    // The number of turns of the build, and the place of the one that follows `most` of them.
+    // The number of turns of the build, and the place of its first turn beyond `most` turns.
     fn own_turns(&self, most: usize) -> (usize, Option<usize>) {
         let (mut count, mut further) = (0usize, None);
         for (place, turn) in self.plan.order.iter().enumerate() {
@@ -136,8 +136,8 @@ impl PlannedBuild<'_> {
         ]
     }
 
-    // Reports the step that no turn reaches, or the abort or way back that cannot end, and returns whether there is
-    // one.
+    // Reports the first step that no turn reaches, or that lacks turns to finish, and returns whether there is such a
+    // step.
     fn is_short(&self, turns: usize, found: &mut Findings) -> Result<bool, AllocError> {
         let mut known = KnownState::new(found.alloc, self.plan, self.steps);
         let mut left = turns;
@@ -168,7 +168,7 @@ impl PlannedBuild<'_> {
         found.warning(self.span(place), words, &pieces);
     }
 
-    // Reports an abort or a way back that lacks turns.
+    // Reports an `abort` or a `back` that lacks turns.
     fn cut_off(
         &self,
         place: usize,
@@ -218,7 +218,8 @@ fn highest_page(step: &PlanStep) -> Option<u16> {
     }
 }
 
-// The most turns that the steps of a build can take. A way back takes one for each operation that it reverses.
+// The largest number of turns that the steps of a build can take. An `abort` or a `back` takes a turn for each
+// operation that it reverses.
 fn most_turns(steps: &[PlanStep]) -> usize {
     let (mut opening, mut has_way_back) = (0usize, false);
     for step in steps {

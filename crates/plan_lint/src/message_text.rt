@@ -1,10 +1,10 @@
-//! Words with gaps for names and numbers.
+//! Message templates with gaps for names and numbers.
 use std::alloc::{AllocError, Global};
 
-/// The most characters of a text that is quoted.
+/// The largest number of characters of a quoted text that are shown.
 const LONGEST: usize = 40;
 
-/// The content of a gap.
+/// The content of a gap in a message template.
 #[derive(Clone, Copy)]
 pub enum Piece<'a> {
     Words(&'a str),
@@ -17,7 +17,7 @@ pub enum Piece<'a> {
     Plural(usize),
 }
 
-/// Appends the words with a piece in the place of each `{}`, in their order.
+/// Appends the words, with each `{}` replaced by the next piece.
 pub(crate) fn push_filled(
     text: &mut String,
     words: &str,
@@ -33,7 +33,7 @@ pub(crate) fn push_filled(
     text.push_str(rest)
 }
 
-/// A beginning, and the words with their pieces after it.
+/// The text `beginning`, followed by the words with each `{}` replaced by the next piece.
 pub(crate) fn filled(
     alloc: Global,
     beginning: &str,

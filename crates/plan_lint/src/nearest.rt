@@ -1,12 +1,12 @@
-//! The name that was probably meant.
+//! The search for the name that a misspelled word probably means.
 use std::alloc::{AllocError, Global};
 use strsim::osa_distance;
 
-/// The most bytes of a word that is looked up.
+/// The greatest length, in bytes, of a word that is looked up.
 const LONGEST: usize = 32;
 
-/// The name that is the nearest to the word, if one is near. A near name is the same but for capital letters, or
-/// differs in up to a third of the longer of the two. Of several, the first.
+/// The name nearest to a word, if any name is near. A near name is the same but for capital letters, or differs in up
+/// to a third of the longer of the two. Of several, the first.
 pub(crate) fn nearest(
     alloc: Global,
     names: &[&'static str],

@@ -7,7 +7,7 @@ use host_commands::{Cmd, Step};
 use realm_plan::{Plan, PlanStep};
 use std::alloc::{AllocError, Global};
 
-/// The most operations of a build that can be open.
+/// The largest number of operations that a build can have open.
 const MOST_OPEN: usize = 512;
 
 /// The greatest order of a block.
@@ -21,21 +21,21 @@ pub(crate) fn block_len(order: u8) -> usize {
 /// The state that a build surely has after the steps so far.
 #[derive(Drop)]
 pub struct KnownState {
-    /// The number of operations that are surely open, and how many of them were opened since the mark.
+    /// The number of operations that are surely open; `since_mark` is the number of those opened since the mark.
     open: usize,
     since_mark: usize,
     has_mark: bool,
-    /// The number of pages that the build surely has, and the pages that are surely delegated.
+    /// The number of pages that the build surely has; `delegated` has the pages that are surely delegated.
     pages: usize,
     delegated: Vec<u16>,
-    /// Whether a realm is surely made if its pages are there.
+    /// Whether a `realm` step surely succeeds once its pages are delegated.
     can_have_realm: bool,
-    /// Whether takes are surely served, nothing was reversed yet, and no REC was entered.
+    /// Whether each `take` is surely served, nothing was reversed yet, and no REC was entered.
     is_plain: bool,
 }
 
 impl KnownState {
-    /// The state of a build with these steps before the first of them.
+    /// The state of a build before the first of its steps.
     pub(crate) fn new(alloc: Global, plan: &Plan, steps: &[PlanStep]) -> KnownState {
         let (mut pages, mut realms) = (0usize, 0usize);
         for steps in &plan.builds {
@@ -63,7 +63,7 @@ impl KnownState {
         }
     }
 
-    /// The turns that the next step takes at least.
+    /// The least number of turns that the next step takes.
     pub(crate) fn turns_of(&mut self, step: Step) -> Result<usize, AllocError> {
         let reversed = match step {
             Step::Ask(cmd) => {
@@ -103,7 +103,11 @@ impl KnownState {
                 self.delegated.push(page)?;
                 self.open();
             }
-            Cmd::Realm { rd, root, width } if self.can_make_realm(rd, root, width) => {
+            Cmd::Realm { width, .. } if width != IpaWidth::least().number() => {
+                // (the realm may be made, and then the build gets no other)
+                self.can_have_realm = false;
+            }
+            Cmd::Realm { rd, root, .. } if self.can_make_realm(rd, root) => {
                 self.can_have_realm = false;
                 self.open();
             }
@@ -121,10 +125,9 @@ impl KnownState {
         self.delegated.as_slice().contains(&page)
     }
 
-    // Whether a realm of the least width, which has one starting table, is surely made in these pages.
-    fn can_make_realm(&self, rd: u16, root: u16, width: u8) -> bool {
-        let is_least = width == IpaWidth::least().number();
+    // Whether a realm of the least width, which has one starting table, is surely made with these operands.
+    fn can_make_realm(&self, rd: u16, root: u16) -> bool {
         let has_both = rd != root && self.is_delegated(rd) && self.is_delegated(root);
-        self.can_have_realm && is_least && has_both
+        self.can_have_realm && has_both
     }
 }

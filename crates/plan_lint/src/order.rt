@@ -7,7 +7,7 @@ use realm_plan::{MOST_TURNS, PlanFault};
 use std::alloc::AllocError;
 use std::collections::BTreeMap;
 
-/// The turns with one number that names no build: the first of them, and their count.
+/// The turns that all name the same missing build: the place of the first turn, and their count.
 #[derive(Clone, Copy)]
 struct Stray {
     /// The index of the first turn with the number.
@@ -15,7 +15,7 @@ struct Stray {
     count: usize,
 }
 
-/// Finds the mistakes in `order`, in a plan of `builds` builds, if their number is known.
+/// Finds the mistakes in the key `order` of a plan. The number of builds is `None` if it is unknown.
 pub(crate) fn order(
     outline: &Outline,
     builds: Option<usize>,
@@ -55,7 +55,7 @@ fn of_turns(
     Ok(())
 }
 
-// Reports the turns that name no build, each number once.
+// Reports the turns that name missing builds, each missing build once.
 fn strays(turns: &[Value], builds: usize, found: &mut Findings) -> Result<(), AllocError> {
     let mut numbers = BTreeMap::new(found.alloc);
     for (place, turn) in turns.iter().enumerate() {
@@ -78,7 +78,7 @@ fn strays(turns: &[Value], builds: usize, found: &mut Findings) -> Result<(), Al
     Ok(())
 }
 
-// Whether the number is that of one of `count` builds.
+// Whether a number is that of a build, in a plan of `count` builds.
 fn is_build(number: i64, count: usize) -> bool {
     match usize::try_from(number) {
         Ok(build) => build < count,
@@ -97,7 +97,7 @@ fn counts_from_1(turns: &[Value], builds: usize) -> bool {
     builds > 0
 }
 
-// Reports the turns with one number that names no build.
+// Reports the turns that all name the same missing build.
 fn of_stray(turn: &Value, number: i64, stray: Stray, builds: usize, found: &mut Findings) {
     let fault = PlanFault::Order { place: stray.place };
     let verb = if builds == 1 { "is" } else { "are" };

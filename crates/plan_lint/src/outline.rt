@@ -5,7 +5,7 @@ use toml_parser::Scalar;
 /// The keys of a plan.
 pub const PLAN_KEYS: [&str; 6] = ["pages", "vmids", "aux", "history", "order", "build"];
 
-/// The kind of a value, with its content where a plan has use for it.
+/// The kind of a value, with its content if a plan uses values of that kind.
 #[derive(Drop)]
 pub enum Content {
     Text(String),
@@ -71,7 +71,7 @@ pub struct KeyValue {
     pub value: Value,
 }
 
-/// A build.
+/// A build in the text of a plan: its value, its keys, and its steps.
 #[derive(Drop)]
 pub struct Build {
     /// The header of the build, or its item in an array.
@@ -97,7 +97,7 @@ pub struct Outline {
     pub turns: Vec<Value>,
     /// The keys of a plan that the text lacks.
     pub missing: Vec<&'static str>,
-    /// Whether a table that no plan has contains the key `pages`.
+    /// Whether the key `pages` is in a table that no plan has.
     pub has_deeper_pages: bool,
 }
 

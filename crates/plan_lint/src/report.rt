@@ -1,4 +1,5 @@
-//! The text of the findings on bytes: each with its line, and the size of the plan. Stored texts compare it.
+//! The report on a document: each finding with its line of the text, and the size if the document is a plan. Tests
+//! compare reports with stored texts.
 ghost use Rattle.std.specs.Prelude.{IfOk};
 
 use crate::excerpt::{Cursor, FIRST, first_of, place_at, plain_text, push_excerpt};
@@ -8,10 +9,10 @@ use crate::message_text::Piece::{Count, Plural, Words};
 use crate::message_text::push_filled;
 use std::alloc::{AllocError, Global};
 
-/// The most bytes of the text after a place that are looked at.
+/// The largest number of bytes after a place that are searched for the end of the line.
 const AHEAD: usize = 81;
 
-/// The findings on bytes as text.
+/// The findings on a document, as a text.
 #[derive(Drop)]
 pub struct LintReport {
     pub text: String,
@@ -19,7 +20,7 @@ pub struct LintReport {
     pub is_plan: bool,
 }
 
-// The rest of the line after a place, as far as it is looked at.
+// The rest of a line from a place on, cut after `AHEAD` bytes.
 fn back_of(bytes: &[u8], at: usize) -> &[u8] {
     let ahead = first_of(bytes.get(at..).unwrap_or(&[]), AHEAD);
     for (len, byte) in ahead.iter().enumerate() {
@@ -53,7 +54,7 @@ fn push_head(
     push_filled(text, "{}:{}:{}: {}: {}\n", &pieces)
 }
 
-// Appends a finding at its place, its line and its notes.
+// Appends a finding: its place and words, an excerpt of its line, and its notes.
 fn push_finding(
     alloc: Global,
     text: &mut String,
@@ -106,7 +107,8 @@ fn push_size(text: &mut String, source: &str, size: Size) -> Result<(), AllocErr
 impl LintReport {
     ghost use Rattle.plan_lint.specs.Texts.{IsReport};
 
-    /// The report on bytes that come from this source, made whole in memory. The one error is that allocation failed.
+    /// The report on bytes that were read from `source`, made as a whole in memory. The one error is that allocation
+    /// failed.
     pub fn on(alloc: Global, source: &str, bytes: &[u8]) -> Result<LintReport, AllocError>
         ensures { IfOk result (IsReport source.now bytes.now) }
     {

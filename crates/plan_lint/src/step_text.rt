@@ -8,22 +8,22 @@ use realm_plan::PlanFault;
 /// The number of bytes of a page.
 const PAGE: u64 = 4096;
 
-/// The most bytes of a number that is shown whole.
+/// The greatest length, in bytes, of a number that is shown whole.
 const LONGEST: usize = 20;
 
-/// A text that is no step.
+/// A string in a plan that should be a step and is none, with its fault and its place.
 #[derive(Clone, Copy)]
 pub struct InvalidStep<'a> {
     pub written: &'a str,
     pub fault: PlanFault,
-    /// The string with its quotes.
+    /// The place of the string with its quotes.
     pub whole: Span,
-    /// Whether the text follows its quote as it is, with no escape.
+    /// Whether the text directly follows the opening quote, without an escape.
     pub inside: bool,
 }
 
 impl InvalidStep<'_> {
-    // Adds an error on `len` bytes of the text, or on the string.
+    // Adds an error on `len` bytes of the text, or on the whole string if the string has an escape.
     fn error(
         &self,
         at: usize,
@@ -41,7 +41,7 @@ impl InvalidStep<'_> {
         found.error(self.fault, span, words, pieces);
     }
 
-    // Adds an error on an argument, whose text is the one piece.
+    // Adds an error on an argument, and quotes the text of the argument in the words.
     fn error_on(&self, argument: &Argument<'_>, words: &str, found: &mut Findings) {
         let text = argument.text;
         self.error(argument.at, text.len(), words, &[Quoted(text)], found);
@@ -56,7 +56,7 @@ struct Argument<'a> {
     text: &'a str,
 }
 
-/// Finds the first thing that is wrong with the text.
+/// Finds the first mistake in a text that is no step.
 pub(crate) fn of_step(step: &InvalidStep<'_>, found: &mut Findings) {
     if step.written.is_empty() {
         let words = "expected a step, found an empty string";
@@ -72,7 +72,7 @@ pub(crate) fn of_step(step: &InvalidStep<'_>, found: &mut Findings) {
     }
 }
 
-// The first misplaced space or tab of a text, and the words on it.
+// The index of the first misplaced space or tab of a text, and the message about it.
 fn stray_blank(bytes: &[u8]) -> Option<(usize, &'static str)> {
     let mut is_after_space = true;
     for (at, byte) in bytes.iter().enumerate() {
@@ -111,7 +111,7 @@ fn of_word(step: &InvalidStep<'_>, word: &str, found: &mut Findings) {
     }
 }
 
-// Finds the first mistake in the arguments after the word, each after a space.
+// Finds the first mistake in the arguments of a step, which are separated by single spaces.
 fn of_arguments(step: &InvalidStep<'_>, form: &Form, rest: &str, found: &mut Findings) {
     let mut at = form.word.len();
     for (place, text) in rest.split(' ').skip(1).enumerate() {
@@ -186,7 +186,7 @@ fn of_argument(step: &InvalidStep<'_>, argument: &Argument<'_>, found: &mut Find
     }
 }
 
-// The number of a hexadecimal.
+// The value of a hexadecimal number.
 fn hexadecimal(text: &str) -> Option<u64> {
     let digits = text.strip_prefix("0x").or(text.strip_prefix("0X"))?;
     u64::from_str_radix(digits, 16).ok()

@@ -84,7 +84,7 @@ fn other_header(at: usize, before: &str, after: &str, found: &mut Findings) {
     found.help("each build begins with a line `[[build]]`", &[]);
 }
 
-// Reports a string that its line does not close.
+// Reports a string that is not closed on its line.
 fn unclosed_string(at: usize, before: &str, found: &mut Findings) {
     let len = match before.rsplit_once(['"', '\'']) {
         Some((front, _)) => before.len().saturating_sub(front.len()),
@@ -95,7 +95,7 @@ fn unclosed_string(at: usize, before: &str, found: &mut Findings) {
     found.help("close it by the quote that it began with", &[]);
 }
 
-// Reports what is no item of an array: a step without quotes, the end of the text, or something else.
+// Reports an invalid item of an array: a step without quotes, the end of the text, or another text.
 fn in_array(span: Span, message: &str, after: &str, found: &mut Findings) {
     let item = match after.split_once([',', ']', '#', '"']) {
         Some((item, _)) => item.trim_end(),

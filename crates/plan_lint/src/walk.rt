@@ -25,7 +25,7 @@ enum Part {
 }
 
 impl Part {
-    // The part that is in the value of a key, or in an item.
+    // The part that the keys or items inside a value belong to.
     fn below(self, name: &str, content: &Content) -> Part {
         match (self, name, content) {
             (Part::Plan, "order", Content::Array) => Part::Turns,
@@ -40,13 +40,13 @@ impl Part {
 /// An array or an inline table that is still open.
 #[derive(Clone, Copy)]
 struct Open {
-    /// The part that the array or table belongs to, and the part that it is.
+    /// The part that the array or table belongs to; `part` is the part that it is.
     owner: Part,
     part: Part,
     is_table: bool,
 }
 
-/// The walk at a place of the text.
+/// The state of the walk at a place of the text.
 #[derive(Drop)]
 struct Walk<'a> {
     alloc: Global,
@@ -111,7 +111,7 @@ impl<'a> Walk<'a> {
             b',' => self.skip_byte(),
             b']' | b'}' => self.close(),
             _ if is_in_table => self.pair(),
-            // (an item of an array, up to its own first item)
+            // (reads an item of an array; of an item that is an array or a table, only the opening bracket)
             _ => {
                 let (owner, key) = (self.owner(), Span::new(self.at(), 0));
                 self.value(owner, String::new(self.alloc), key)
@@ -119,12 +119,12 @@ impl<'a> Walk<'a> {
         }
     }
 
-    // The bytes before the rest of the text.
+    // The number of bytes before the rest of the text.
     fn at(&self) -> usize {
         self.whole.saturating_sub(self.rest.len())
     }
 
-    // The text from a place to the rest.
+    // The span from a place to the start of the rest of the text.
     fn span_from(&self, start: usize) -> Span {
         let end = self.at();
         Span { start, end }
@@ -138,7 +138,7 @@ impl<'a> Walk<'a> {
         }
     }
 
-    // Goes over a byte that is a character.
+    // Skips one byte, which has to be an ASCII character.
     fn skip_byte(&mut self) -> Result<(), ParseError> {
         let byte = first(self.rest);
         if byte == 0 || byte >= 128 {
@@ -148,7 +148,7 @@ impl<'a> Walk<'a> {
         Ok(())
     }
 
-    // Goes over the one or the two brackets that begin or end a header.
+    // Skips the brackets that begin or end a header: two for an array of tables, or else one.
     fn skip_brackets(&mut self, is_array: bool) -> Result<(), ParseError> {
         if is_array {
             self.skip_byte()?;
@@ -168,7 +168,7 @@ impl<'a> Walk<'a> {
         self.add_header(key, span, is_array)
     }
 
-    // Adds the part that a header is, which owns the keys below it.
+    // Adds the part that a header opens, and makes that part the owner of the keys below.
     fn add_header(&mut self, key: Key, span: Span, is_array: bool) -> Result<(), ParseError> {
         let Key { path, last } = key;
         let content = if is_array {
@@ -193,7 +193,7 @@ impl<'a> Walk<'a> {
         self.add(Part::Plan, name, span, Value { span, content })
     }
 
-    // Reads a key, and its value up to its first item. A value below a key with dots is no part of a plan.
+    // Reads a key, and its value up to the first item of the value. A value below a key with dots is no part of a plan.
     fn pair(&mut self) -> Result<(), ParseError> {
         let (owner, start, from) = (self.owner(), self.at(), self.rest);
         let (key, rest) = dotted_key(self.alloc, from)?;
@@ -217,7 +217,7 @@ impl<'a> Walk<'a> {
         self.value(Part::Other, last, span)
     }
 
-    // Reads a value, or the bracket that it begins with.
+    // Reads a value, or only the opening bracket of an array or an inline table.
     fn value(&mut self, owner: Part, name: String, key: Span) -> Result<(), ParseError> {
         let start = self.at();
         let content = self.content()?;

@@ -9,18 +9,18 @@ use realm_plan::{KindWord, Plan, PlanStep, RefusalText, ReplyText, StepText};
 use std::alloc::{AllocError, Global};
 use std::fmt;
 
-/// The answer of a turn to its step.
+/// The answer to the step of a turn.
 #[derive(Clone, Copy)]
 pub enum TurnAnswer {
     /// The reply to an accepted command.
     Replied(Reply),
-    /// A mark that is kept of the build's point, with that many operations open.
+    /// A mark that was set, with the number of operations open at the mark.
     Marked(u16),
-    /// An operation that was undone; in an abort or a way back, more are to come.
+    /// The kind of an operation that was undone. In an abort or a `back`, more are left to undo.
     Undone(Kind),
-    /// The last operation that an abort or a way back has undone.
+    /// The kind of the last operation that an abort, or a `back` to a mark, had to undo.
     Ended(Kind),
-    /// An abort or a way back with nothing to undo.
+    /// An abort or a `back` with nothing to undo.
     Nothing,
     Refused(Refusal),
 }
@@ -28,7 +28,7 @@ pub enum TurnAnswer {
 impl TurnAnswer {
     ghost use Rattle.plan_replay.specs.Place.{is_refusal};
 
-    /// Whether the host refused what was asked for.
+    /// Whether the answer is a refusal.
     pub fn is_refusal(&self) -> bool
         ensures { result ≡ is_refusal self.now }
     {
@@ -67,7 +67,7 @@ pub fn push_turn(
     writeln!(text, "{} {} = {answer}", build.number(), StepText(step))
 }
 
-/// The number of bytes that are kept ready for the line of a turn or of a page. Most lines have fewer.
+/// The number of bytes that are reserved for each line of a turn or of a page. Most lines have fewer.
 const BYTES_A_LINE: usize = 24;
 
 /// An empty text, with capacity for the output of a run of the plan. A text that grows is copied, and takes the memory

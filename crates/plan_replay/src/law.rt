@@ -10,8 +10,7 @@ ghost use Rattle.plan_replay.specs.Aborts.{ReportsOfAbort};
 ghost use Rattle.plan_replay.specs.Run.{Position, Turn, start, IsTurn, AreTurns, map_text};
 ghost use Rattle.plan_replay.specs.declared.answer.TurnAnswer.{TurnAnswer};
 
-/// Hosts of the same machine in which each build did the same have the same map, in whatever schedule the builds did
-/// it.
+/// Two hosts with equal machines have the same map if each build did the same on both, whatever the schedules.
 pub fn no_map_reveals_the_schedule()
     ensures { (host twin : HostView) → DidTheSame host twin → map_text twin ≡ map_text host }
 {}

@@ -25,7 +25,7 @@ fn push_pages<S: PageStore>(
     Ok(())
 }
 
-// Appends the lines of a build's pages, and that of its realm.
+// Appends the lines of a build's pages, and the line of its realm.
 fn push_build<S: PageStore>(
     text: &mut String,
     host: &Host<S>,

@@ -6,10 +6,10 @@ use crate::answer::TurnAnswer;
 use realm_host::Mark;
 use realm_plan::MOST_STEPS;
 
-/// The number of the abort of a build that gives up. Those of a plan's steps are lower.
+/// The step number of the abort that a build performs when it gives up. The numbers of a plan's steps are lower.
 pub const GIVING_UP: usize = MOST_STEPS + 1;
 
-/// The number of the step after one that is used up. A refused step of a plan that gives up leads to the abort.
+/// The number of the step that follows a finished one. A refused step of a plan that gives up leads to the abort.
 pub fn number_after(gives_up: bool, is_refused: bool, done: usize) -> usize
     requires { done < 2 ^ 32 }
     ensures { result ≡ number_after gives_up is_refused done }
@@ -42,7 +42,7 @@ impl PlanCursor {
         }
     }
 
-    /// Moves on after a turn with this answer: its step is used up, unless undos of it are left.
+    /// Moves to the next step after a turn with this answer, unless the step has undos left.
     pub fn move_on(&mut self, gives_up: bool, answer: &TurnAnswer)
         requires { self.old.done ≤ giving_up }
         ensures { self.new ≡ moved_on gives_up answer.now self.old }

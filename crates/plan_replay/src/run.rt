@@ -23,7 +23,7 @@ fn given_up(plan: &Plan, number: usize) -> Option<&PlanStep>
     }
 }
 
-// The step of this number among those of a build; None if there is none.
+// The step with a given number among the steps of a build, or `None` if there is none.
 fn step_numbered<'a>(plan: &'a Plan, steps: &'a [PlanStep], number: usize) -> Option<&'a PlanStep>
     ensures { option_map (λ step. step.now) result ≡ step_numbered plan.now.gives_up steps.now number }
 {
@@ -34,8 +34,8 @@ fn step_numbered<'a>(plan: &'a Plan, steps: &'a [PlanStep], number: usize) -> Op
     }
 }
 
-/// The step of a build that comes after `done` others; None if it has no more. After a refusal of a build that gives
-/// up this is an abort.
+/// The step of a build that follows its first `done` steps, or `None` if no step is left. After a refusal of a build
+/// that gives up this is an abort.
 pub fn step_after(plan: &Plan, build: usize, done: usize) -> Option<&PlanStep>
     ensures value { option_map (λ step. step.now) result ≡ nth_step (plan_view plan.now) build done }
     ensures few { IfSome result (λ _. done ≤ giving_up) }
@@ -46,7 +46,7 @@ pub fn step_after(plan: &Plan, build: usize, done: usize) -> Option<&PlanStep>
     }
 }
 
-/// Takes one turn of a build, and returns its next step, if one is left, with the host's answer.
+/// Takes one turn of a build, and returns the step that was taken, if one was left, with the host's answer.
 pub fn take_turn<'a, S: PageStore>(
     host: &mut Host<S>,
     plan: &'a Plan,

@@ -66,7 +66,7 @@ fn one_of_many<S: PageStore>(
     }
 }
 
-// Takes the turn of a step that has `count` operations to undo, or is refused.
+// Takes a turn of a step that undoes `count` operations, or is refused if `count` is an error.
 fn turn_of_many<S: PageStore>(
     host: &mut Host<S>,
     build: BuildId,
@@ -82,7 +82,7 @@ fn turn_of_many<S: PageStore>(
     }
 }
 
-// Begins an abort if this is its first turn, and returns the number of operations that it has to undo.
+// Begins an abort at its first turn, and returns the number of operations that are left to undo.
 fn to_abort<S: PageStore>(
     host: &mut Host<S>,
     build: BuildId,
@@ -108,7 +108,8 @@ fn abort_turn<S: PageStore>(
     turn_of_many(host, build, place, count)
 }
 
-// The number of operations that a way back has to undo. Its first turn asks for those above the build's last mark.
+// The number of operations that a `back` has left to undo. At its first turn, these are the operations above the
+// build's last mark.
 fn to_go_back<S: PageStore>(
     host: &Host<S>,
     build: BuildId,

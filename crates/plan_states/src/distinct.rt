@@ -1,4 +1,4 @@
-//! The test that each end and each map of a graph has one number.
+//! The test that no outcome of a step and no map of a graph is listed twice.
 ghost use Rattle.std.specs.Prelude.{◌≢◌, ◌<◌, length};
 ghost use Rattle.std.specs.Bool.{OnTrue, OnFalse};
 ghost use Rattle.plan_states.specs.Distinct.{AreEndsDistinct, AreMapsDistinct, IsGraphDistinct, IsNewEnd, IsNewMap};
@@ -6,7 +6,7 @@ ghost use Rattle.plan_states.specs.Distinct.{AreEndsDistinct, AreMapsDistinct, I
 use crate::graph::Graph;
 use crate::step_end::EndOfStep;
 
-// Whether two ends are the same.
+// Whether two outcomes of steps are the same.
 fn is_same_end(one: &EndOfStep, other: &EndOfStep) -> bool
     ensures { OnFalse result (one.now ≢ other.now) }
 {
@@ -20,7 +20,7 @@ fn is_same_map(one: &str, other: &str) -> bool
     one == other
 }
 
-// Whether no end before a place is the one there.
+// Whether no outcome of a step before `place` is the same as the outcome at `place`.
 fn is_new_end(ends: &[EndOfStep], place: usize) -> bool
     requires { place < length ends.now }
     ensures { OnTrue result (IsNewEnd ends.now place) }
@@ -33,7 +33,7 @@ fn is_new_end(ends: &[EndOfStep], place: usize) -> bool
     true
 }
 
-// Whether no map before a place is the one there.
+// Whether no map before `place` is the same as the map at `place`.
 fn is_new_map(maps: &[String], place: usize) -> bool
     requires { place < length maps.now }
     ensures { OnTrue result (IsNewMap maps.now place) }
@@ -46,7 +46,7 @@ fn is_new_map(maps: &[String], place: usize) -> bool
     true
 }
 
-// Whether no two ends are the same.
+// Whether no two outcomes of steps are the same.
 fn are_ends_distinct(ends: &[EndOfStep]) -> bool
     ensures { OnTrue result (AreEndsDistinct ends.now) }
 {
@@ -70,7 +70,7 @@ fn are_maps_distinct(maps: &[String]) -> bool
     true
 }
 
-/// Whether no two ends and no two maps of a graph are the same.
+/// Whether no two outcomes of steps and no two maps of a graph are the same.
 pub(crate) fn is_distinct(graph: &Graph) -> bool
     ensures { OnTrue result (IsGraphDistinct graph.now) }
 {

@@ -32,11 +32,11 @@ pub struct Graph {
     pub layers: Vec<Layer>,
     /// The number of steps that each build has done, for each state of each layer.
     pub progress: Vec<Vec<StepsDone>>,
-    /// The ends of steps.
+    /// The outcomes of steps.
     pub ends: Vec<EndOfStep>,
     /// The numbers of pages that builds hold after turns.
     pub held: Vec<PagesHeld>,
-    /// The maps in the end.
+    /// The final maps.
     pub maps: Vec<String>,
 }
 
@@ -48,14 +48,14 @@ pub enum Exploration {
     TooMany,
 }
 
-// The first way to a state: the place of the state before, and the build of the turn.
+// The turn by which a state was first reached: the place of the previous state, and the turn's build.
 #[derive(Clone, Copy)]
 struct Came {
     from: usize,
     build: usize,
 }
 
-// The place of a state in its layer, the number of its holdings, and that of its map if schedules end in it.
+// A state of a layer: its place, the index of the pages held, and the index of the map if schedules end in the state.
 #[derive(Clone, Copy)]
 struct Target {
     to: usize,
@@ -63,7 +63,7 @@ struct Target {
     map: Option<usize>,
 }
 
-// The states of a layer, and the first way to each.
+// The states of a layer, with the turn by which each was first reached.
 #[derive(Drop)]
 struct Front {
     states: Vec<State>,
@@ -71,7 +71,8 @@ struct Front {
     targets: HashMap<State, Target>,
 }
 
-// The graph as far as it is known. `came` has, of each layer, the first way to each state.
+// The exploration of a graph so far. `came` has, for each state of each layer, the turn by which the state was first
+// reached.
 #[derive(Drop)]
 struct Explorer {
     turns: Turns,
@@ -118,7 +119,7 @@ impl Front {
     }
 }
 
-// The progress of each state of a layer.
+// The numbers of steps that builds have done, for each state of a layer.
 fn progress_of(alloc: Global, states: &[State]) -> Result<Vec<StepsDone>, AllocError> {
     states.iter().map(|state| state.progress()).collect(alloc)
 }
@@ -140,7 +141,8 @@ fn order_to(alloc: Global, came: &[Vec<Came>], place: usize) -> Result<Vec<usize
     Ok(order)
 }
 
-// The map after a schedule that ends. `Mismatch`: some turn has no step left, or a build has one in the end.
+// The final map of a schedule after which no build has a step left. `Mismatch`: some turn is of a build without a step
+// left, or a build has a step left after the last turn.
 fn map_after(alloc: Global, plan: &Plan, order: &[usize]) -> Result<String, Fault>
     ensures ok { IfOk result (λ map. IsMapOfRun (plan_view plan.now) (string_bytes map)) }
     ensures err { IfErr result HasNoGraph }
@@ -158,7 +160,7 @@ fn map_after(alloc: Global, plan: &Plan, order: &[usize]) -> Result<String, Faul
     Ok(map)
 }
 
-// The number of a map among those that are known; it is added if it is new.
+// Finds or adds a map, and returns its index.
 fn number_of_map(maps: &mut Vec<String>, map: String) -> Result<usize, AllocError>
     ensures { OnOk result (AreWith maps.old.items (Some map) maps.new.items) }
 {
@@ -173,7 +175,7 @@ fn number_of_map(maps: &mut Vec<String>, map: String) -> Result<usize, AllocErro
 }
 
 impl Explorer {
-    // The number of the map after a schedule that ends.
+    // Runs a schedule after which no build has a step left, and returns the index of its final map.
     fn map_of(&mut self, alloc: Global, plan: &Plan, order: &[usize]) -> Result<usize, Fault>
         requires { AreOfRuns (plan_view plan.now) self.old.turns.ends.items self.old.maps.items }
         ensures ok { OnOk result (AreOfRuns (plan_view plan.now) self.new.turns.ends.items self.new.maps.items) }
@@ -183,7 +185,7 @@ impl Explorer {
         Ok(number_of_map(&mut self.maps, map)?)
     }
 
-    // The turn of a build in the state at a place of the last layer.
+    // Finds or runs the turn of a build in a state of the last layer, and returns the turn's outcome.
     fn turn(
         &mut self,
         alloc: Global,
@@ -203,7 +205,7 @@ impl Explorer {
         self.turns.run(alloc, plan, before, &order, build)
     }
 
-    // The place of a state in the next layer. It is added if it is new.
+    // Finds or adds a state of the next layer, and returns its place.
     fn target(
         &mut self,
         alloc: Global,
@@ -229,7 +231,7 @@ impl Explorer {
         Ok(next.add(state, came, held, Some(map))?)
     }
 
-    // The edges of the state at a place of the last layer.
+    // Returns the edges of a state of the last layer, and adds the states that they lead to.
     fn edges_of(
         &mut self,
         alloc: Global,
@@ -262,7 +264,7 @@ impl Explorer {
         Ok(edges)
     }
 
-    // The edges of the states of the last layer, and the states of the next; None if there are more than `room`.
+    // Returns the edges of the last layer and the states of the next layer, or None if those are more than `room`.
     fn layer(
         &mut self,
         alloc: Global,
@@ -344,7 +346,8 @@ fn search(alloc: Global, plan: &Plan, most: usize) -> Result<Option<Graph>, Faul
     }))
 }
 
-/// A whole graph of a plan with at most `most` states, each path of which is a run of the plan, or `TooMany`.
+/// Explores all schedules of a plan, and returns the whole graph, or `TooMany` if it has more than `most` states. Each
+/// path of the graph is a run of the plan.
 ///
 /// Errors. `Memory`: allocation failed. `Mismatch`: a run does not go on as another run said, a turn is missing in the
 /// graph, or an end or a map is there twice. None happens on a host that gives the same answers to the same calls.

@@ -1,4 +1,4 @@
-//! The numbers of what builds hold.
+//! The table of the numbers of pages that builds hold.
 ghost use Rattle.std.specs.Prelude.{◌≡◌, IfOk, IfSome, OnOk, Some, slice_get};
 ghost use Rattle.plan_states.specs.Turned.{AreWith};
 
@@ -6,7 +6,7 @@ use crate::question::PagesHeld;
 use std::alloc::{AllocError, Global};
 use std::collections::HashMap;
 
-/// The holdings of builds after turns, each with its number.
+/// The table of the numbers of pages that builds hold after turns, each entry with its index.
 #[derive(Drop)]
 pub(crate) struct Holdings {
     numbers: HashMap<PagesHeld, usize>,
@@ -14,7 +14,7 @@ pub(crate) struct Holdings {
 }
 
 impl Holdings {
-    /// An empty table of holdings.
+    /// An empty table.
     pub(crate) fn new(alloc: Global) -> Holdings {
         Holdings {
             numbers: HashMap::new(alloc),
@@ -22,7 +22,7 @@ impl Holdings {
         }
     }
 
-    // The number of what builds hold, if it is known.
+    // The index of `held` in the table, if the table has it.
     fn known(&self, held: &PagesHeld) -> Option<usize>
         ensures { IfSome result (λ number. slice_get self.now.all.items number ≡ Some held.now) }
     {
@@ -33,7 +33,7 @@ impl Holdings {
         }
     }
 
-    /// The number of what builds hold. It is added if it is new.
+    /// Finds or adds `held` in the table, and returns its index.
     pub(crate) fn number_of(&mut self, held: PagesHeld) -> Result<usize, AllocError>
         ensures number { IfOk result (λ number. slice_get self.new.all.items number ≡ Some held) }
         ensures all { OnOk result (AreWith self.old.all.items (Some held) self.new.all.items) }
@@ -47,7 +47,7 @@ impl Holdings {
         Ok(number)
     }
 
-    /// All holdings, in the sequence of their numbers.
+    /// All entries of the table, in the sequence of their indices.
     pub(crate) fn into_all(self) -> Vec<PagesHeld>
         ensures { result ≡ self.all }
     {

@@ -11,9 +11,9 @@ ghost use Rattle.plan_states.specs.Whole.{IsWholeGraph};
 ghost use Rattle.plan_states.specs.declared.edges.Label.{Label};
 ghost use Rattle.plan_states.specs.declared.graph.Graph.{Graph};
 
-/// The paths of a whole graph have all schedules by a rule that agrees with them, and no other sequence of builds. A
-/// rule says which of eight builds have a step left after which turns. Each schedule by it is that of a path, and each
-/// path has one.
+/// The paths of a whole graph have exactly the schedules of each rule that agrees with the paths. A rule says which of
+/// eight builds have a step left after which turns. Each schedule of the rule is the schedule of a path, and each path
+/// has a schedule of the rule.
 pub fn every_schedule_is_a_path()
     ensures found { (plan : Plan) (graph : Graph) (left : List ℕ → ℕ → Bool) → IsWholeGraph plan graph → IsRuleOf plan graph left
         → (order : List ℕ) → IsSchedule left [] order → Contains (map builds_of_path (paths_of graph)) order }
@@ -21,9 +21,9 @@ pub fn every_schedule_is_a_path()
         → All (IsSchedule left []) (map builds_of_path (paths_of graph)) }
 {}
 
-/// The schedules of the paths of a whole graph are the list of all schedules by a rule that agrees with the paths. That
-/// list may have schedules of more turns than the graph has layers: there are none. So a sum over the paths is the sum
-/// over all schedules.
+/// For a rule that agrees with the paths of a whole graph, the list of all schedules equals the list of the paths'
+/// schedules. That list may have schedules of more turns than the graph has layers: there are none. So a sum over the
+/// paths is the sum over all schedules.
 pub fn paths_are_all_schedules()
     ensures { (plan : Plan) (graph : Graph) (left : List ℕ → ℕ → Bool) → IsWholeGraph plan graph → IsRuleOf plan graph left
         → (most : ℕ) → length graph.layers.items ≤ most + 1 → map builds_of_path (paths_of graph) ≡ schedules_after left most [] }
@@ -49,9 +49,9 @@ pub fn steps_are_counted()
     ensures { (plan : Plan) (graph : Graph) (path : Path Label) (build : ℕ) → plan.gives_up ≡ false → done_by plan graph path build ≡ used_by path build }
 {}
 
-/// Each step takes one turn in a plan that has no abort and no way back, and does not give up. Then the rule needs no
-/// graph: a build has a step left if it had fewer turns than steps. So the paths of a whole graph are all interleavings
-/// of the builds' steps.
+/// Each step takes one turn if a plan has no step `abort` or `back`, and its builds do not give up. Then the rule needs
+/// no graph: a build has a step left if it had fewer turns than steps. So the paths of a whole graph are all
+/// interleavings of the builds' steps.
 pub fn single_turns_make_a_rule()
     ensures { (plan : Plan) (graph : Graph) → IsWholeGraph plan graph → HasSingleTurns plan → IsRuleOf plan graph (by_turns plan) }
 {}
@@ -63,22 +63,22 @@ pub fn paths_end_each_step()
         (paths_of graph) }
 {}
 
-/// Each path of a whole graph of any plan ends the steps of each build in sequence, and goes on until none is left. In
-/// a plan that gives up, a step that is refused is followed by the build's abort, and nothing comes after that.
+/// Each path of a whole graph of any plan ends the steps of each build in sequence, until no step is left. In a plan
+/// that gives up, a step that is refused is followed by the build's abort, and nothing comes after that.
 pub fn paths_end_steps_in_sequence()
     ensures { (plan : Plan) (graph : Graph) → IsWholeGraph plan graph
         → All (λ (path : Path Label). (build : ℕ) → build < 8 → AreInSequence plan build 0 (ends_of graph.ends.items build path)) (paths_of graph) }
 {}
 
-/// Each schedule by a rule that agrees with a whole graph's paths is that of a path along which the plan is run from
-/// boot. Each turn ends its step as the path says, and the map in the end is the path's own.
+/// Each schedule of a rule that agrees with a whole graph's paths is run from boot along a path of the graph. Each turn
+/// ends its step as the path says, and the final map is the path's own.
 pub fn every_schedule_is_run()
     ensures { (plan : Plan) (graph : Graph) (left : List ℕ → ℕ → Bool) → IsWholeGraph plan graph → ArePathsRuns plan graph → IsRuleOf plan graph left
         → (order : List ℕ) → IsSchedule left [] order → IsRunOnPath plan graph order }
 {}
 
-/// A path along which the plan is run is a run of the plan in the path's schedule. If its last turn names a map, no build
-/// has a step left in the end, and the map is that one.
+/// A run of a plan along a path from boot is a run in the path's schedule. If the path's last turn names a map, no
+/// build has a step left after that turn, and the map is the final map.
 pub fn runs_on_paths_are_runs()
     ensures { (plan : Plan) (graph : Graph) (path : Path Label) → IsRunFromBoot plan graph path → IsRunOf plan graph path }
 {}

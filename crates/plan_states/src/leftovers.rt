@@ -12,7 +12,7 @@ use realm_plan::Plan;
 use realm_program::map_without;
 use std::alloc::{AllocError, Global};
 
-// Whether a map is that of the history without a build.
+// Whether a map is the same as the map of the history without one build.
 fn is_unseen(
     alloc: Global,
     plan: &Plan,
@@ -29,8 +29,8 @@ fn is_unseen(
     Ok(without.as_str() == map)
 }
 
-/// Whether a host's map is that of its history without any one build that has nothing open, as it has to be. The one
-/// error is that allocation failed.
+/// Whether a host's map stays the same if any one build that has nothing open is left out of the history. A theorem
+/// says that it always does. The one error is that allocation failed.
 pub fn leave_nothing(
     alloc: Global,
     plan: &Plan,

@@ -1,4 +1,4 @@
-//! The lines of the outcomes of schedules.
+//! The lines that print the outcomes of schedules.
 ghost use Rattle.std.specs.Prelude.{◌≡◌, ◌++◌, OnOk, string_bytes};
 ghost use Rattle.std.specs.List.{flat_map};
 ghost use Rattle.realm_plan.specs.PlanView.{plan_view};
@@ -14,7 +14,7 @@ use schedule_graph::Count;
 use std::alloc::AllocError;
 use std::fmt;
 
-/// The end of a step: accepted, or refused.
+/// The outcome of a step as text: `ok`, or `no` and the refusal.
 #[derive(Clone, Copy)]
 struct EndWords(Option<Refusal>);
 
@@ -32,7 +32,7 @@ impl fmt::Display for EndWords {
     }
 }
 
-/// Appends the line of the number of schedules.
+/// Appends the line with the number of schedules.
 pub(crate) fn push_count(text: &mut String, orders: &Count) -> Result<(), AllocError>
     ensures { OnOk result (string_bytes text.new ≡ string_bytes text.old ++ orders_line orders.now) }
 {
@@ -41,7 +41,8 @@ pub(crate) fn push_count(text: &mut String, orders: &Count) -> Result<(), AllocE
     text.push_str("\n")
 }
 
-// Appends how many of `orders` schedules have an outcome, and the first of them if not all do.
+// Appends the number of schedules with an outcome and the first of these schedules, or `in all` if all `orders` have
+// it.
 fn push_shown(
     text: &mut String,
     orders: &Count,
@@ -58,7 +59,7 @@ fn push_shown(
     writeln!(text, ", {}", ScheduleText(first))
 }
 
-// The words for the outcome of whole schedules.
+// The words for whether some step of a schedule was refused.
 fn refusal_words(is_refused: bool) -> &'static str
     ensures { result.now ≡ refusal_words is_refused }
 {
@@ -69,7 +70,7 @@ fn refusal_words(is_refused: bool) -> &'static str
     }
 }
 
-/// Appends the lines of the number of schedules with a step that was refused, and with none.
+/// Appends the lines that count the schedules with a refused step, and the schedules without one.
 pub(crate) fn push_wholes(
     text: &mut String,
     orders: &Count,
@@ -84,7 +85,7 @@ pub(crate) fn push_wholes(
     Ok(())
 }
 
-// Appends the line of an end of a build's step.
+// Appends the line for one outcome of a build's step.
 fn push_end(
     text: &mut String,
     orders: &Count,
@@ -105,7 +106,7 @@ fn push_end(
     push_shown(text, orders, &tally.count, &tally.first)
 }
 
-/// Appends the lines of the ends of a build's step, if the plan has it.
+/// Appends the lines for the outcomes of a build's step, if the plan has the step.
 pub(crate) fn push_step(
     text: &mut String,
     plan: &Plan,
@@ -126,7 +127,7 @@ pub(crate) fn push_step(
     Ok(())
 }
 
-// Appends the line of an end of a build's giving up.
+// Appends the line for one outcome of the abort of a build that gives up.
 fn push_give_up(
     text: &mut String,
     orders: &Count,
@@ -139,7 +140,7 @@ fn push_give_up(
     push_shown(text, orders, &tally.count, &tally.first)
 }
 
-/// Appends the lines of the ends of a build's giving up, if the plan gives up.
+/// Appends the lines for the outcomes of the abort of a build that gives up, if the plan's builds give up.
 pub(crate) fn push_give_ups(
     text: &mut String,
     plan: &Plan,
@@ -159,7 +160,7 @@ pub(crate) fn push_give_ups(
     Ok(())
 }
 
-// Appends the line of a build that was never refused in some schedules.
+// Appends the line of a tally that counts the schedules in which a build was never refused.
 fn push_never_refused(
     text: &mut String,
     orders: &Count,
@@ -172,7 +173,7 @@ fn push_never_refused(
     Ok(())
 }
 
-/// Appends the line of the number of schedules in which a build was never refused.
+/// Appends the line that counts the schedules in which a build was never refused; the count may be 0.
 pub(crate) fn push_smooth(
     text: &mut String,
     orders: &Count,
@@ -190,7 +191,7 @@ pub(crate) fn push_smooth(
     Ok(())
 }
 
-/// Appends the line of how many of `orders` schedules have a map in the end, and the map.
+/// Appends a final map, after a line with the number of schedules that end with it.
 pub fn push_map<K>(
     text: &mut String,
     orders: &Count,

@@ -1,4 +1,4 @@
-//! The counting of outcomes, as paths of the graph.
+//! The outcomes of schedules, counted as paths of the graph.
 ghost use Rattle.std.specs.Prelude.{◌≡◌, ◌≤◌, Bool, List, [], length, map, option_map, slice_index_or, OnOk, IfOk};
 ghost use Rattle.schedule_graph.specs.First.{any_path, layers_in, path_numbers_in, shows_none, ArePathNumbers};
 ghost use Rattle.schedule_graph.specs.Paths.{paths, shows, count_at};
@@ -15,7 +15,7 @@ use schedule_graph::{
 };
 use std::alloc::{AllocError, Global};
 
-// The numbers of the first layer; none if there is no layer.
+// The path counts of the first layer's states; empty if there is no layer.
 fn first_numbers(counts: &[Vec<PathNumber>]) -> &[PathNumber]
     ensures { result.now ≡ slice_index_or (path_numbers_in counts.now) 0 [] }
 {
@@ -42,7 +42,7 @@ fn builds_of_path(alloc: Global, path: &[Label]) -> Result<Vec<usize>, AllocErro
     path.iter().map(|label| label.build).collect(alloc)
 }
 
-// The tally of the paths that show the sign, if any does.
+// The tally of the paths that show the property `sign`, if there are any.
 pub(crate) fn tally_with<K: Drop, S: Sign<Label>>(
     alloc: Global,
     layers: &[Layer],
@@ -66,7 +66,7 @@ pub(crate) fn tally_with<K: Drop, S: Sign<Label>>(
     }))
 }
 
-// The tally of the paths that do not show the sign, if there are any.
+// The tally of the paths that do not show the property `sign`, if there are any.
 fn tally_without<K: Drop, S: Sign<Label>>(
     alloc: Global,
     layers: &[Layer],
@@ -100,7 +100,7 @@ fn is_before(one: &[usize], other: &[usize]) -> bool
     false
 }
 
-// The place after the tallies whose first schedules do not come after this one.
+// The place of the first tally whose first schedule comes after the schedule `first`; the end if there is none.
 fn place_for<K>(tallies: &[PathTally<K>], first: &[usize]) -> usize
     ensures { result ≡ place_for first.now (map count_of_tally tallies.now) }
 {
@@ -112,7 +112,7 @@ fn place_for<K>(tallies: &[PathTally<K>], first: &[usize]) -> usize
     tallies.len()
 }
 
-// Adds a tally, if there is one, in the order of first schedules.
+// Inserts a tally, if there is one, in the order of the tallies' first schedules.
 fn add<K: Drop>(
     tallies: &mut Vec<PathTally<K>>,
     tally: Option<PathTally<K>>,
@@ -127,7 +127,7 @@ fn add<K: Drop>(
     Ok(())
 }
 
-// The tallies of whole schedules: with a refused step, and with none.
+// The tallies of the schedules with a refused step, and of the schedules without one.
 fn wholes_of(
     alloc: Global,
     graph: &Graph,
@@ -148,7 +148,7 @@ fn wholes_of(
     Ok(wholes)
 }
 
-// The tally of an end of a step.
+// The tally of an outcome of a step.
 fn end_tally(
     alloc: Global,
     graph: &Graph,
@@ -164,7 +164,7 @@ fn end_tally(
     }
 }
 
-// The tallies of the ends of steps.
+// The tallies of the outcomes of steps.
 fn step_ends(
     alloc: Global,
     graph: &Graph,
@@ -196,7 +196,7 @@ fn smooth_tally(
     tally_without(alloc, &graph.layers, &sign, build)
 }
 
-// The tallies of the builds that are never refused.
+// The tallies of the schedules in which a build is never refused, for each build.
 fn smooth_of(
     alloc: Global,
     graph: &Graph,
@@ -212,7 +212,7 @@ fn smooth_of(
     Ok(smooth)
 }
 
-// The tally of a map in the end.
+// The tally of a final map.
 fn map_tally(
     alloc: Global,
     graph: &Graph,
@@ -225,7 +225,7 @@ fn map_tally(
     tally_with(alloc, &graph.layers, all, &MapSign(map), map)
 }
 
-// The one tally of a plan without a step: one schedule, and the map after no turn.
+// The tally of the only map of a plan without steps: one schedule, which has no turn.
 fn only_map(alloc: Global) -> Result<PathTally<usize>, AllocError>
     ensures { IfOk result (λ tally. count_of_tally tally ≡ record { thing = 0; count = 1; first = [] }) }
 {
@@ -236,7 +236,7 @@ fn only_map(alloc: Global) -> Result<PathTally<usize>, AllocError>
     })
 }
 
-// The tallies of the maps in the end.
+// The tallies of the final maps.
 fn maps_of(
     alloc: Global,
     graph: &Graph,
@@ -258,7 +258,7 @@ fn maps_of(
     Ok(maps)
 }
 
-/// The outcomes of the paths of a graph, of a plan of `builds` builds. The one error is that allocation failed.
+/// The outcomes of the paths in the graph of a plan with `builds` builds. The one error is that allocation failed.
 pub fn outcomes_of(alloc: Global, builds: usize, graph: &Graph) -> Result<Outcomes, AllocError>
     ensures { IfOk result (AreOutcomes builds graph.now) }
 {

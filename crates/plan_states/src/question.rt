@@ -1,4 +1,4 @@
-//! The questions for a schedule, and the turns that answer them.
+//! Questions about schedules, and the turns that answer them.
 ghost use Rattle.std.specs.Prelude.{◌≡◌, sum};
 ghost use Rattle.plan_states.specs.Questions.{is_answer, is_at_rest, is_of_shared, has_other_at_rest, pages_of_builds, waits, end_numbered};
 ghost use Rattle.plan_states.specs.Signs.{refuses_step};
@@ -17,11 +17,11 @@ pub type PagesHeld = [u16; 8];
 /// The property that the last turn of a schedule is to show.
 #[derive(Clone, Copy, Drop)]
 pub enum TurnQuestion {
-    /// This step of a build is refused.
+    /// A refusal of step `step` of build `build`.
     Refused { build: usize, step: usize },
-    /// A build waits while another holds no page: a step of the first is refused for want of a block or a VMID.
+    /// A refusal of a step of the build, for want of a block or a VMID, while another build holds no page.
     Waiting { build: usize },
-    /// At least that many granules are leased after the turn, by all builds together.
+    /// A total of at least `granules` granules that all builds together lease after the turn.
     Leased { granules: usize },
 }
 
@@ -36,7 +36,7 @@ fn is_of_shared(refusal: Option<Refusal>) -> bool
     }
 }
 
-// Whether a turn uses up this step of this build, and is refused.
+// Whether a turn uses up step `step` of build `build`, and is refused.
 fn refuses_step(end: Option<EndOfStep>, build: usize, step: usize) -> bool
     ensures { result ≡ refuses_step build step end }
 {
@@ -46,7 +46,7 @@ fn refuses_step(end: Option<EndOfStep>, build: usize, step: usize) -> bool
     }
 }
 
-// Whether a turn uses up a step of this build, and is refused for want of what builds share.
+// Whether a turn uses up a step of build `build`, and is refused for want of a block or a VMID.
 fn waits(end: Option<EndOfStep>, build: usize) -> bool
     ensures { result ≡ waits build end }
 {
@@ -66,7 +66,7 @@ fn is_at_rest(held: &PagesHeld, build: usize, other: usize) -> bool
     }
 }
 
-// Whether one of the first `builds` builds is not `build`, and holds nothing.
+// Whether some build other than `build`, among the first `builds` builds, holds no page.
 fn has_other_at_rest(held: &PagesHeld, builds: usize, build: usize) -> bool
     ensures { result ≡ has_other_at_rest builds build held.now }
 {
@@ -85,7 +85,8 @@ fn all_held(held: &PagesHeld) -> usize
 }
 
 impl TurnQuestion {
-    /// Whether a turn answers the question, by the end of its step and by what each of `builds` builds holds after it.
+    /// Whether a turn answers the question, by its outcome and by the pages that each of `builds` builds holds after
+    /// the turn.
     pub(crate) fn is_answer(&self, builds: usize, end: Option<EndOfStep>, held: &PagesHeld) -> bool
         ensures { result ≡ is_answer builds self.now end held.now }
     {
@@ -99,14 +100,14 @@ impl TurnQuestion {
     }
 }
 
-// The end of that number, if there is one.
+// The outcome of a step at the index `number`, if there is one.
 fn end_numbered(ends: &[EndOfStep], number: Option<usize>) -> Option<EndOfStep>
     ensures { result ≡ end_numbered ends.now number }
 {
     ends.get(number?).copied()
 }
 
-/// The sign that a turn answers a question, by the ends and holdings whose numbers its label has.
+/// A test of an edge label: whether the label's turn answers `question`. A label has indices into `ends` and `held`.
 #[derive(Clone, Copy)]
 pub(crate) struct AnswerSign<'a> {
     pub(crate) ends: &'a [EndOfStep],

@@ -22,7 +22,7 @@ use realm_plan::Plan;
 use realm_program::Fault;
 use std::alloc::{AllocError, Global};
 
-/// A turn that was run, by its label, and the numbers of the snapshots before and after it.
+/// A turn that was run: its label, and the numbers of the snapshots before and after it.
 #[derive(Clone, Copy)]
 pub(crate) struct LoggedTurn {
     pub(crate) label: Label,
@@ -37,14 +37,14 @@ pub(crate) struct RunLog {
     pub(crate) turns: Vec<LoggedTurn>,
 }
 
-// Whether two ends are the same.
+// Whether two outcomes of steps are the same.
 fn is_same_end(one: &EndOfStep, other: &EndOfStep) -> bool
     ensures { OnTrue result (one.now ≡ other.now) }
 {
     one == other
 }
 
-// Whether a turn has the end that its label names.
+// Whether a turn has the outcome that its label names.
 fn has_end(ends: &[EndOfStep], build: usize, taken: &TurnTaken, end: Option<usize>) -> bool
     ensures { OnTrue result (end_taken build taken.now ≡ end_named ends.now end) }
 {
@@ -65,14 +65,14 @@ fn has_end(ends: &[EndOfStep], build: usize, taken: &TurnTaken, end: Option<usiz
     is_same_end(&end, named)
 }
 
-// Whether builds hold the same.
+// Whether builds hold the same numbers of pages.
 fn is_same_held(one: &PagesHeld, other: &PagesHeld) -> bool
     ensures { OnTrue result (one.now ≡ other.now) }
 {
     one == other
 }
 
-// Whether builds hold what a label names.
+// Whether builds hold the numbers of pages that a label names.
 fn has_held(all: &[PagesHeld], running: &Running, held: usize) -> bool
     ensures { OnTrue result (slice_get all.now held ≡ Some (pages_of_builds running.now.host)) }
 {
@@ -129,7 +129,7 @@ fn take_labelled(
 }
 
 impl RunLog {
-    /// The log of no turn, with the snapshot at boot.
+    /// A log without turns, with the snapshot at boot.
     pub(crate) fn boot(alloc: Global, plan: &Plan) -> Result<RunLog, Fault>
         ensures ok { IfOk result (λ log. (ends : List EndOfStep) (held : List (List ℕ)) (maps : List (String Global)) → IsLog (plan_view plan.now) ends held maps log) }
         ensures err { IfErr result HasNoGraph }
@@ -144,7 +144,7 @@ impl RunLog {
         })
     }
 
-    // Whether the snapshot of a number is the same as another.
+    // Whether the snapshot at the index `number` is the same as `snapshot`.
     fn has_snapshot(&self, number: usize, snapshot: &Snapshot) -> bool
         ensures { OnTrue result (IsSnapshotNumber self.now.snapshots.items number snapshot.now) }
     {
@@ -154,8 +154,8 @@ impl RunLog {
         }
     }
 
-    // The number of a snapshot: the known number of its state, or a new one if none is known. `Mismatch`: the known
-    // snapshot is another one.
+    // Returns the known index of a snapshot, or adds the snapshot if no index is known. `Mismatch`: the known index is
+    // of another snapshot.
     fn number_of(&mut self, snapshot: Snapshot, known: Option<usize>) -> Result<usize, Fault>
         ensures turns { self.new.turns ≡ self.old.turns }
         ensures more { OnOk result (AreWith self.old.snapshots.items (Some snapshot) self.new.snapshots.items) }

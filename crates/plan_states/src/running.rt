@@ -20,15 +20,15 @@ use realm_plan::Plan;
 use realm_program::{Fault, boot};
 use std::alloc::Global;
 
-/// A host, and the cursors of the builds.
+/// A run of a plan: a host, and the cursors of the builds.
 #[derive(Drop)]
 pub(crate) struct Running {
     pub(crate) host: Host<BuddyArena>,
     pub(crate) places: [PlanCursor; 8],
 }
 
-/// One turn: how many steps its build had done before and after it, its refusal, and the block that it moved. After it
-/// the build's realm has this VMID, and the build has so many pages.
+/// The result of a turn: the steps done before and after the turn, the refusal, and the block that was moved. After the
+/// turn, the build's realm has the VMID, and the build has `pages` pages.
 #[derive(Clone, Copy)]
 pub(crate) struct TurnTaken {
     pub(crate) before: usize,
@@ -58,7 +58,7 @@ fn moved_by(act: &Act) -> Option<Moved>
     }
 }
 
-// The block that was moved by the event after `before` others, if there is one.
+// The block that the event at the index `before` moved, if there is one.
 fn moved_after<S: PageStore>(host: &Host<S>, before: usize) -> Option<Moved>
     ensures { result ≡ moved_after before host.now.history }
 {
@@ -68,7 +68,7 @@ fn moved_after<S: PageStore>(host: &Host<S>, before: usize) -> Option<Moved>
     }
 }
 
-// The reason of a refusal.
+// The refusal that an answer has, if the turn was refused.
 fn told_refusal(answer: TurnAnswer) -> Option<Refusal>
     ensures { result ≡ told_refusal answer }
 {

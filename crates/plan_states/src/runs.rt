@@ -1,4 +1,4 @@
-//! The test that each path of a graph is a run of the plan, with the ends and the map of the path.
+//! The test that each path of a graph is a run of the plan, with the outcomes and the map that the path names.
 ghost use Rattle.std.specs.Prelude.{◌≡◌, ◌+◌, ◌<◌, ◌^◌, ℕ, [], IfOk, IfErr, OnOk, length, map, slice_index_or, vec_items};
 ghost use Rattle.std.specs.Bool.{OnTrue};
 ghost use Rattle.realm_plan.specs.PlanView.{plan_view};
@@ -16,7 +16,7 @@ use realm_program::Fault;
 use schedule_graph::Edge;
 use std::alloc::{AllocError, Global};
 
-// A state of the graph: its snapshot's number, the first way to it, and the numbers of the turns logged for its edges.
+// A state of the graph: the index of its snapshot, the turn that first reached it, and the logged turns of its edges.
 // Edges are logged from the first on.
 #[derive(Drop)]
 struct Visit {
@@ -33,7 +33,7 @@ struct Walk {
     visits: Vec<Vec<Visit>>,
 }
 
-// Whether two numbers are the same, or there is neither.
+// Whether two optional numbers are the same.
 fn is_same_number(one: Option<usize>, other: Option<usize>) -> bool
     ensures { OnTrue result (one ≡ other) }
 {
@@ -56,7 +56,7 @@ fn is_same_label(one: &Label, other: &Label) -> bool
         && is_same_number(one.map, other.map)
 }
 
-// Whether a turn of this number was logged, with this label and between these snapshots.
+// Whether turn `number` was logged, with the label `label` and between the snapshots `from` and `to`.
 fn is_logged(
     turns: &[LoggedTurn],
     number: Option<usize>,
@@ -128,7 +128,7 @@ impl Walk {
         }
     }
 
-    // The number of the edges of a state that were run.
+    // The number of a state's edges that were run.
     fn run_count(&self, depth: usize, state: usize) -> usize {
         match self.visits_at(depth).get(state) {
             Some(visit) => visit.turns.len(),
@@ -136,7 +136,7 @@ impl Walk {
         }
     }
 
-    // Notes that a state has a snapshot, to which a turn of a build has led. The first way stays.
+    // Notes the snapshot of a state and the turn that led to the state, unless the state has a snapshot.
     fn come(&mut self, depth: usize, state: usize, snapshot: usize, from: usize, build: usize)
         ensures { self.new.log ≡ self.old.log }
     {
@@ -151,7 +151,7 @@ impl Walk {
         }
     }
 
-    // Notes that the next edge of a state was run, as the last turn of the log.
+    // Notes that turn `turn` of the log ran the next edge of a state.
     fn leave(&mut self, depth: usize, state: usize, turn: usize) -> Result<(), AllocError>
         ensures { self.new.log ≡ self.old.log }
     {
@@ -182,7 +182,7 @@ impl Walk {
         Ok(order)
     }
 
-    // Goes on along edges that no run has taken, from a state in which a run is.
+    // Continues a run from a state along edges that no run has taken.
     fn go_on(
         &mut self,
         alloc: Global,
@@ -217,7 +217,7 @@ impl Walk {
         Ok(())
     }
 
-    // Runs to a state by the first schedule that has led there, and goes on.
+    // Runs to a state by the first schedule that has led there, and continues along new edges.
     fn run_from(
         &mut self,
         alloc: Global,
@@ -256,7 +256,7 @@ impl Walk {
         Ok(())
     }
 
-    // The number of the turn that was logged for an edge of a state, by its place.
+    // The index of the logged turn of a state's edge at `place`.
     fn turn_at(&self, depth: usize, state: usize, place: usize) -> Option<usize> {
         self.visits_at(depth).get(state)?.turns.get(place).copied()
     }

@@ -19,7 +19,7 @@ impl fmt::Display for MoreTurns<'_> {
     }
 }
 
-/// The builds of turns, as the line of a plan that gives it this schedule.
+/// A schedule as the line `order = [..]` of a plan.
 #[derive(Clone, Copy)]
 pub(crate) struct ScheduleText<'a>(pub &'a [usize]);
 

@@ -32,35 +32,35 @@ pub enum Witness {
     TooMany,
 }
 
-// Whether an edge shows the sign.
+// Whether some edge has the property `sign`.
 fn edges_show(edges: &[Edge<Label>], sign: &AnswerSign) -> bool
     ensures { result ≡ shows (is_answer_at sign.now.ends.now sign.now.held.now sign.now.builds sign.now.question) edges.now }
 {
     edges.iter().any(|edge| sign.is_on(&edge.label))
 }
 
-// Whether an edge of a layer shows the sign.
+// Whether some edge of a layer has the property `sign`.
 fn layer_shows(layer: &[Vec<Edge<Label>>], sign: &AnswerSign) -> bool
     ensures { result ≡ layer_shows (is_answer_at sign.now.ends.now sign.now.held.now sign.now.builds sign.now.question) layer.now }
 {
     layer.iter().any(|edges| edges_show(edges, sign))
 }
 
-// The first layer with an edge that shows the sign.
+// The index of the first layer that has an edge with the property `sign`.
 fn first_layer(layers: &[Layer], sign: &AnswerSign) -> Option<usize>
     ensures { result ≡ first_layer (is_answer_at sign.now.ends.now sign.now.held.now sign.now.builds sign.now.question) layers.now }
 {
     layers.iter().position(|layer| layer_shows(layer, sign))
 }
 
-// Whether an edge of some layer shows the sign.
+// Whether some layer has an edge with the property `sign`.
 fn any_layer_shows(layers: &[Layer], sign: &AnswerSign) -> bool
     ensures { result ≡ any_layer_shows (is_answer_at sign.now.ends.now sign.now.held.now sign.now.builds sign.now.question) layers.now }
 {
     layers.iter().any(|layer| layer_shows(layer, sign))
 }
 
-// Whether some turn of a graph answers a question, of a plan of `builds` builds.
+// Whether some turn in the graph of a plan with `builds` builds answers a question.
 fn is_answered(graph: &Graph, builds: usize, question: TurnQuestion) -> bool
     ensures { result ≡ is_answered graph.now builds question }
 {
@@ -94,7 +94,7 @@ fn without_edges(alloc: Global, layer: &[Vec<Edge<Label>>]) -> Result<Layer, All
     Ok(bare)
 }
 
-// The layers up to one, and the states of the next, without edges.
+// The layers up to layer `depth`, and the states of the next layer without edges.
 fn cut_after(alloc: Global, layers: Vec<Layer>, depth: usize) -> Result<Vec<Layer>, AllocError>
     requires { depth < length layers.items }
     ensures { IfOk result (λ cut. layers_in cut.items ≡ cut_after depth (layers_in layers.items)) }
@@ -106,7 +106,8 @@ fn cut_after(alloc: Global, layers: Vec<Layer>, depth: usize) -> Result<Vec<Laye
     Ok(layers)
 }
 
-// The tally of the shortest paths that answer a question, of a plan of `builds` builds, if any does.
+// The tally of the shortest paths that answer a question, in the graph of a plan with `builds` builds, if there are
+// any.
 fn shortest_tally(
     alloc: Global,
     graph: Graph,
@@ -136,7 +137,7 @@ fn shortest_tally(
     tally_with(alloc, &layers, &all, &sign, question)
 }
 
-// The end of the step that a turn of `build` used up, if it did.
+// The outcome of the step that a turn of `build` used up, if the turn used one up.
 fn end_of(taken: &TurnTaken, build: usize) -> Option<EndOfStep>
     ensures { result ≡ end_taken build taken.now }
 {
@@ -174,7 +175,7 @@ pub fn answers(
     Ok(question.is_answer(plan.builds.len(), end, &held))
 }
 
-/// The first of the shortest schedules whose last turn answers a question, if the plan's graph has at most `most`
+/// Finds the first of the shortest schedules whose last turn answers a question, if the graph has at most `most`
 /// states.
 ///
 /// Errors. `Memory`: allocation failed. `Mismatch`: a run does not go on as another run said, which never happens on a

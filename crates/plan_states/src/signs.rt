@@ -1,4 +1,4 @@
-//! The outcomes that a turn shows.
+//! Tests of edge labels for the outcomes that are counted.
 ghost use Rattle.std.specs.Prelude.{◌≡◌, option_map};
 ghost use Rattle.plan_states.specs.Signs.{has_number, is_asked, refuses_asked};
 
@@ -6,7 +6,7 @@ use crate::edges::Label;
 use crate::step_end::EndOfStep;
 use schedule_graph::Sign;
 
-// Whether there is a number, and it is this one.
+// Whether there is a number `other`, and it equals `number`.
 fn has_number(number: usize, other: Option<usize>) -> bool
     ensures { result ≡ has_number number other }
 {
@@ -16,7 +16,7 @@ fn has_number(number: usize, other: Option<usize>) -> bool
     }
 }
 
-/// An end of a step, by its number.
+/// A test of an edge label: whether the label has the outcome of a step with this index.
 #[derive(Clone, Copy)]
 pub(crate) struct EndSign(pub(crate) usize);
 
@@ -30,7 +30,7 @@ impl Sign<Label> for EndSign {
     }
 }
 
-/// A map in the end, by its number.
+/// A test of an edge label: whether the label has the final map with this index.
 #[derive(Clone, Copy)]
 pub(crate) struct MapSign(pub(crate) usize);
 
@@ -44,14 +44,14 @@ impl Sign<Label> for MapSign {
     }
 }
 
-/// A refused step of a build, or of any.
+/// A test of an edge label: whether the turn refuses a step of `build`, or of any build if `build` is `None`.
 #[derive(Clone, Copy)]
 pub(crate) struct RefusalSign<'a> {
     pub(crate) ends: &'a [EndOfStep],
     pub(crate) build: Option<usize>,
 }
 
-// Whether a build is asked for: it is the one named, or none is named.
+// Whether a test is about a build: the test names that build, or no build.
 fn is_asked(asked: Option<usize>, build: usize) -> bool
     ensures { result ≡ is_asked asked build }
 {

@@ -14,7 +14,7 @@ use realm_host::{Host, Mark};
 use realm_model::Event;
 use std::alloc::{AllocError, Global};
 
-/// The point at which a build is: its cursor, and what the host keeps of it beside its events. A mark is the number of
+/// The state of a build without its events: its cursor, its marks, and whether it is in abort. A mark is the number of
 /// operations that were open at it.
 #[derive(Clone, Copy)]
 pub(crate) struct BuildPoint {
@@ -26,7 +26,7 @@ pub(crate) struct BuildPoint {
     pub(crate) kept: Option<u16>,
 }
 
-/// The point of a build, and its events.
+/// The snapshot of a build: its cursor, marks and abort flag, and its events.
 #[derive(Drop)]
 pub(crate) struct BuildSnapshot {
     pub(crate) point: BuildPoint,
@@ -49,7 +49,7 @@ fn length_of(mark: &Option<Mark>) -> Option<u16>
     }
 }
 
-// Whether there is a mark, and it is the one that is kept.
+// Whether there is a mark, and the host keeps that mark.
 fn is_kept_mark(kept: &Option<Mark>, mark: &Option<Mark>) -> bool
     ensures { result ≡ is_kept_mark kept.now mark.now }
 {
@@ -90,7 +90,7 @@ fn is_aborting<S: PageStore>(host: &Host<S>, build: usize) -> bool
     }
 }
 
-// The point at which a build is.
+// The cursor, the marks and the abort flag of a build.
 fn point_of<S: PageStore>(host: &Host<S>, places: &[PlanCursor; 8], build: usize) -> BuildPoint
     requires { build < 8 }
     ensures { result ≡ point_at (record { host = host.now; places = places.now }) build }
@@ -143,7 +143,7 @@ pub(crate) fn snapshot_of<S: PageStore>(
     Ok(Snapshot { builds })
 }
 
-// Whether two numbers are the same, or there is neither.
+// Whether two optional numbers are the same.
 fn is_same_length(one: Option<u16>, other: Option<u16>) -> bool
     ensures { OnTrue result (one ≡ other) }
 {
@@ -156,7 +156,7 @@ fn is_same_length(one: Option<u16>, other: Option<u16>) -> bool
     }
 }
 
-// Whether two points are the same.
+// Whether the cursors, marks and abort flags of two snapshots are the same.
 fn is_same_point(one: &BuildPoint, other: &BuildPoint) -> bool
     ensures { OnTrue result (one.now ≡ other.now) }
 {

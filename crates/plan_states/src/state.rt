@@ -9,7 +9,8 @@ use crate::whole::StepsDone;
 use plan_replay::step_after;
 use realm_plan::Plan;
 
-/// The state of a build: the number of what it did, its steps done, its realm's VMID, and its number of pages.
+/// The state of a build: an index for its past turns, its number of steps done, its realm's VMID, and its number of
+/// pages.
 #[derive(Clone, Copy, PartialEq, Eq, Hash)]
 pub(crate) struct BuildState {
     pub(crate) did: usize,
@@ -18,7 +19,7 @@ pub(crate) struct BuildState {
     pub(crate) pages: u16,
 }
 
-/// The state of a run: that of each build, and the blocks that were leased and given back, as a number.
+/// The state of a run: the state of each build, and an index for the blocks that were leased and given back.
 #[derive(Clone, Copy, PartialEq, Eq, Hash)]
 pub(crate) struct State {
     pub(crate) builds: [BuildState; 8],
@@ -26,7 +27,7 @@ pub(crate) struct State {
 }
 
 impl BuildState {
-    // The state of a build that did nothing. The number of that is the build's own.
+    // The state of a build that did nothing. The index for its past turns is the build's number.
     fn at_rest(build: usize) -> BuildState
         ensures { result ≡ at_rest build }
     {

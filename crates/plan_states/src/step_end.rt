@@ -1,7 +1,7 @@
-//! The end of a step.
+//! The outcome of a step.
 use host_commands::Refusal;
 
-/// A build's step that is used up, and the reason of its refusal, if it was refused.
+/// The outcome of a build's step that was used up: accepted, or refused with a reason.
 #[derive(Clone, Copy, PartialEq, Eq)]
 pub struct EndOfStep {
     pub build: usize,

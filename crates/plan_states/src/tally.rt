@@ -1,8 +1,8 @@
-//! The outcomes of schedules, with their numbers.
+//! The outcomes of schedules, each with the number of schedules that have it.
 use crate::step_end::EndOfStep;
 use schedule_graph::Count;
 
-/// An outcome of schedules, how many have it, and the builds of the first one's turns.
+/// An outcome, the number of schedules that have it, and the first of these schedules.
 #[derive(Drop)]
 pub struct PathTally<K> {
     pub thing: K,
@@ -15,11 +15,11 @@ pub struct PathTally<K> {
 pub struct StepOutcomes {
     /// The number of schedules.
     pub orders: Count,
-    /// Whether any step of a schedule was refused.
+    /// The tallies of the schedules with a refused step, and of the schedules without one.
     pub wholes: Vec<PathTally<bool>>,
-    /// The ends of steps.
+    /// The tallies of the outcomes of steps.
     pub ends: Vec<PathTally<EndOfStep>>,
-    /// The builds that were never refused.
+    /// The tallies of the schedules in which a build was never refused, for each build.
     pub smooth: Vec<PathTally<usize>>,
 }
 
@@ -27,6 +27,6 @@ pub struct StepOutcomes {
 #[derive(Drop)]
 pub struct Outcomes {
     pub steps: StepOutcomes,
-    /// The maps in the end, by their numbers.
+    /// The tallies of the final maps, by the indices of the maps.
     pub maps: Vec<PathTally<usize>>,
 }

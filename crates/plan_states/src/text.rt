@@ -25,7 +25,7 @@ fn step_number(plan: &Plan, build: usize) -> usize
     }
 }
 
-// Appends the lines of the ends of a build's steps, and of its giving up.
+// Appends the lines for the outcomes of a build's steps, and of its abort if it gives up.
 fn push_build(
     text: &mut String,
     plan: &Plan,
@@ -40,7 +40,7 @@ fn push_build(
     push_give_ups(text, plan, outcomes, build)
 }
 
-// Appends the lines of the ends of the steps of the first `builds` builds.
+// Appends the lines for the outcomes of the steps of the first `builds` builds.
 fn push_builds(
     text: &mut String,
     plan: &Plan,
@@ -55,7 +55,7 @@ fn push_builds(
     Ok(())
 }
 
-// Appends the lines that say how often each of the first `builds` builds was never refused.
+// Appends a line for each of the first `builds` builds, with the number of schedules in which it was never refused.
 fn push_smooths(
     text: &mut String,
     orders: &Count,
@@ -70,7 +70,7 @@ fn push_smooths(
     Ok(())
 }
 
-// Appends the lines of a map in the end, if there is a map of that number.
+// Appends the final map of a tally, and the number of schedules with it, if `maps` has the map.
 fn push_map_of(
     text: &mut String,
     orders: &Count,
@@ -85,7 +85,7 @@ fn push_map_of(
     }
 }
 
-// Appends the maps.
+// Appends the final maps, each with the number of its schedules.
 fn push_maps(
     text: &mut String,
     orders: &Count,
@@ -118,8 +118,8 @@ pub fn push_step_outcomes(
     Ok(())
 }
 
-/// Appends the outcomes of all schedules of a plan: how many there are, the outcomes of their steps, and the maps in
-/// the end. At an `Err` allocation failed, and the text may have a part of it.
+/// Appends the outcomes of all schedules of a plan: the number of schedules, the outcomes of steps, and the final maps.
+/// At an `Err` allocation failed, and the text may have a part of it.
 pub fn push_outcomes(
     text: &mut String,
     plan: &Plan,
@@ -154,7 +154,7 @@ pub fn too_many_text(alloc: Global, most: usize) -> Result<String, AllocError>
     Ok(text)
 }
 
-/// The text of the outcomes of a whole graph of a plan with at most `most` states, or a line that there are more.
+/// Returns the text of the outcomes of a plan's schedules, or a line that the graph has more than `most` states.
 ///
 /// Errors. `Memory`: allocation failed. `Mismatch`: a run does not go on as another one said, or a turn is missing in the
 /// graph. Neither happens on a host that gives the same answers to the same calls.

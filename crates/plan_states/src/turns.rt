@@ -31,8 +31,8 @@ enum Shared {
     Vmids,
 }
 
-/// A build's turns so far: what it did before, by number, and the end, block and VMID of its last turn. All else
-/// follows from these.
+/// A build's turns so far: an index for the turns before the last, and the last turn's outcome, block and VMID. All
+/// else follows from these.
 #[derive(Clone, Copy, PartialEq, Eq, Hash)]
 struct Did {
     before: usize,
@@ -41,7 +41,7 @@ struct Did {
     vmid: Option<u8>,
 }
 
-/// The blocks that were leased and given back, with one more.
+/// A sequence of blocks that were leased or given back: an index for the earlier blocks, and the last block.
 #[derive(Clone, Copy, PartialEq, Eq, Hash)]
 struct Moves {
     before: usize,
@@ -55,7 +55,7 @@ pub(crate) struct Before {
     shared: usize,
 }
 
-/// The outcome of a turn: the state of its build after it, the block that it moved, and the end of its step.
+/// The outcome of a turn: the state of its build afterwards, the block that it moved, and the outcome of the step.
 #[derive(Clone, Copy)]
 pub(crate) struct After {
     build: BuildState,
@@ -63,7 +63,7 @@ pub(crate) struct After {
     pub(crate) end: Option<usize>,
 }
 
-/// A table of what builds did in any schedule, and of the turns that they had.
+/// The tables of what builds did in any schedule, and of the outcomes of their turns.
 #[derive(Drop)]
 pub(crate) struct Turns {
     builds: HashMap<Did, usize>,
@@ -121,12 +121,12 @@ fn first_of(moved: Option<Moved>) -> Option<u16> {
     }
 }
 
-// The place of an end among those that are known.
+// The index of an outcome of a step, if the outcome is known.
 fn known_end(ends: &[EndOfStep], end: &EndOfStep) -> Option<usize> {
     ends.iter().position(|known| *known == *end)
 }
 
-// The place of an end among those that are known; it is added if it is new.
+// Finds or adds an outcome of a step, and returns its index.
 fn place_of_end(ends: &mut Vec<EndOfStep>, end: EndOfStep) -> Result<usize, AllocError>
     ensures { OnOk result (AreWith ends.old.items (Some end) ends.new.items) }
 {
@@ -151,7 +151,8 @@ impl Turns {
         }
     }
 
-    // The number of what a build did. Numbers below 8 are those of builds that did nothing.
+    // Finds or adds the turns of a build, and returns their index. Indices below 8 are those of builds that did
+    // nothing.
     fn number_of(&mut self, did: Did) -> Result<usize, AllocError>
         ensures { self.new.ends ≡ self.old.ends }
     {
@@ -163,7 +164,7 @@ impl Turns {
         Ok(number)
     }
 
-    // The number of the blocks that were leased and given back. If none was, it is 0.
+    // Finds or adds a sequence of leased and returned blocks, and returns its index. Index 0 is the empty sequence.
     fn number_of_moves(&mut self, moves: Moves) -> Result<usize, AllocError>
         ensures { self.new.ends ≡ self.old.ends }
     {
@@ -175,7 +176,7 @@ impl Turns {
         Ok(number)
     }
 
-    // Notes a turn.
+    // Notes the outcome of a turn with these inputs.
     fn note(&mut self, before: Before, after: After) -> Result<(), AllocError>
         ensures { self.new.ends ≡ self.old.ends }
     {
@@ -183,7 +184,7 @@ impl Turns {
         Ok(())
     }
 
-    // The place of the end of the step that a turn used up, if it did.
+    // Finds or adds the outcome of the step that a turn used up, if it used one up, and returns the outcome's index.
     fn place_for(&mut self, build: usize, taken: &TurnTaken) -> Result<Option<usize>, AllocError>
         ensures { OnOk result (AreWith self.old.ends.items (end_taken build taken.now) self.new.ends.items) }
     {
@@ -245,7 +246,7 @@ impl Turns {
         Ok(after)
     }
 
-    /// The state after a turn of a build.
+    /// Returns the state after a turn of a build, and notes a block that the turn moved.
     pub(crate) fn state_after(
         &mut self,
         state: &State,
@@ -265,7 +266,7 @@ impl Turns {
         Ok(state.with(build, after.build, blocks))
     }
 
-    /// The ends of the steps.
+    /// The outcomes of steps.
     pub(crate) fn into_ends(self) -> Vec<EndOfStep>
         ensures { result ≡ self.ends }
     {

@@ -1,4 +1,5 @@
-//! The test that a graph is whole: each state has a turn of each build that has a step left, and each turn leads on.
+//! The test that a graph is whole: each state has an edge for each build that has a step left. Each edge leads to a
+//! state of the next layer that fits the edge's turn.
 ghost use Rattle.std.specs.Prelude.{◌≡◌, ◌<◌, ◌^◌, [], map, filter, vec_items, slice_get, slice_index_or};
 ghost use Rattle.std.specs.Bool.{OnTrue};
 ghost use Rattle.std.specs.List.{list_all, range_with_len};
@@ -15,7 +16,7 @@ use plan_replay::{number_after, step_after};
 use realm_plan::{Plan, PlanStep};
 use schedule_graph::Edge;
 
-/// The number of steps that each build has done; for a build that gave up, a number beyond those of steps.
+/// The number of steps that each build has done, or a number above those of all steps if the build gave up.
 pub type StepsDone = [u16; 8];
 
 // The eight builds.
@@ -43,7 +44,7 @@ fn has_step_left(plan: &Plan, done: &StepsDone, build: usize) -> bool
     step_after(plan, build, done_of(done, build)).is_some()
 }
 
-// Whether there is an edge at a place, and it is a turn of this build.
+// Whether there is an edge at the place `at`, and it is a turn of build `build`.
 fn is_of_build(edges: &[Edge<Label>], at: usize, build: usize) -> bool
     ensures { result ≡ is_of_build build (slice_get edges.now at) }
 {
@@ -53,7 +54,7 @@ fn is_of_build(edges: &[Edge<Label>], at: usize, build: usize) -> bool
     }
 }
 
-// Whether the edges are those of the builds with a step left, one each.
+// Whether the edges are exactly one turn of each build with a step left, in sequence.
 fn are_of_left(plan: &Plan, done: &StepsDone, builds: &[usize], edges: &[Edge<Label>]) -> bool
     ensures { OnTrue result (map (λ edge. edge.label.build) edges.now ≡ filter (has_step_left (plan_view plan.now) done.now) builds.now) }
 {
@@ -86,7 +87,7 @@ fn takes_many(plan: &Plan, build: usize, done: usize) -> bool
     }
 }
 
-// Whether a turn of a build that has done so many steps uses up the next one, or none if that may take more turns.
+// Whether a turn after `done` steps uses up the next step, or none if the next step may take several turns.
 fn uses_next(plan: &Plan, ends: &[EndOfStep], done: usize, label: &Label) -> bool
     ensures { result ≡ uses_next (plan_view plan.now) ends.now label.now.build done label.now.end }
 {
@@ -99,7 +100,7 @@ fn uses_next(plan: &Plan, ends: &[EndOfStep], done: usize, label: &Label) -> boo
     }
 }
 
-// Whether there is an end of this number, and it is a refusal.
+// Whether there is an outcome of a step at the index `number`, and it is a refusal.
 fn is_end_refused(ends: &[EndOfStep], number: usize) -> bool
     ensures { result ≡ is_end_refused (slice_get ends.now number) }
 {
@@ -109,7 +110,7 @@ fn is_end_refused(ends: &[EndOfStep], number: usize) -> bool
     }
 }
 
-// The number of steps done after a turn with this end, or with none.
+// The number of steps done after a turn that used up a step with this outcome, or used up none.
 fn number_with(plan: &Plan, ends: &[EndOfStep], done: usize, end: Option<usize>) -> usize
     requires { done < 2 ^ 32 }
     ensures { result ≡ number_with (plan_view plan.now) ends.now done end }
@@ -138,7 +139,7 @@ fn done_after(
     }
 }
 
-// Whether so many steps of each build are done after a turn.
+// Whether `then` has the number of steps that each build has done after a turn.
 fn are_done_after(
     plan: &Plan,
     ends: &[EndOfStep],
@@ -162,7 +163,7 @@ fn are_over(plan: &Plan, done: &StepsDone) -> bool
         .all(|build| !has_step_left(plan, done, *build))
 }
 
-// Whether a turn has a map, with a number below `maps`, exactly if schedules end with the turn.
+// Whether a turn has a map with an index below `maps` if schedules end with the turn, and no map otherwise.
 fn has_map(maps: usize, over: bool, map: Option<usize>) -> bool
     ensures { result ≡ has_map maps over map }
 {
@@ -172,7 +173,7 @@ fn has_map(maps: usize, over: bool, map: Option<usize>) -> bool
     }
 }
 
-// Whether a turn leads to a state with this progress.
+// Whether a turn leads to a state in which builds have done the steps `then`.
 fn leads_to_state(
     plan: &Plan,
     ends: &[EndOfStep],
@@ -188,7 +189,7 @@ fn leads_to_state(
         && has_map(maps, are_over(plan, then), label.map)
 }
 
-// Whether an edge leads to a state of the next layer that fits its turn.
+// Whether an edge leads to a state of the next layer, and the state fits the edge's turn.
 fn leads_on(
     plan: &Plan,
     ends: &[EndOfStep],
@@ -205,7 +206,7 @@ fn leads_on(
     }
 }
 
-// Whether each edge leads to a state of the next layer that fits its turn.
+// Whether each edge leads to a state of the next layer, and the state fits the edge's turn.
 fn all_lead_on(
     plan: &Plan,
     ends: &[EndOfStep],
@@ -221,7 +222,7 @@ fn all_lead_on(
         .all(|edge| leads_on(plan, ends, maps, done, next, edge))
 }
 
-// Whether a state has a turn of each build that has a step left, and each leads on.
+// Whether a state has an edge for each build with a step left, and each edge leads to a state that fits its turn.
 fn is_state_whole(
     plan: &Plan,
     ends: &[EndOfStep],
@@ -272,7 +273,7 @@ fn is_layer_whole(
     true
 }
 
-// The states of a layer, by their progress; none if there is no such layer.
+// The states of a layer, as the steps that builds have done; none if there is no such layer.
 fn states_at(graph: &Graph, depth: usize) -> &[StepsDone]
     ensures { result.now ≡ states_at graph.now depth }
 {
@@ -292,7 +293,7 @@ pub(crate) fn layer_at(graph: &Graph, depth: usize) -> &[Vec<Edge<Label>>]
     }
 }
 
-// The ends of steps.
+// The outcomes of steps.
 fn ends_of(graph: &Graph) -> &[EndOfStep]
     ensures { result.now ≡ graph.now.ends.items }
 {

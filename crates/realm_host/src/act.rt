@@ -1,4 +1,4 @@
-//! The operation of any command but a Take, or its reverse, performed and recorded.
+//! Operations other than Take and its reverse: each is performed and recorded.
 ghost use Rattle.realm_host.specs.Acting.{CanAct, IsActed};
 
 use crate::Host;

@@ -15,7 +15,7 @@ use page_arena::PageStore;
 use realm_model::Rmi;
 
 impl<S: PageStore> Host<S> {
-    // The values that are allocated for a command with these granules. Refused if the RMM refuses to read a byte.
+    // Returns the values that are allocated for a command with these granules, or the RMM's refusal to read a byte.
     pub(crate) fn allocated_for(
         &self,
         build: BuildId,
@@ -38,7 +38,7 @@ impl<S: PageStore> Host<S> {
         })
     }
 
-    // The byte that a Peek reads; 0 for any other command.
+    // Returns the byte that a Peek reads, or the RMM's refusal to read it; 0 for any other command.
     #[tactic(auto, unfolding(host_commands::specs::Needs::operands))]
     fn byte_read(&self, build: BuildId, cmd: &Cmd, granules: &[Gran]) -> Result<u8, Rmi>
         requires leased { All (λ g. slice_get (world_of self.now).leases g ≡ Some (Some build)) granules.now }
@@ -52,7 +52,7 @@ impl<S: PageStore> Host<S> {
         }
     }
 
-    // The lowest VMID that no realm has; 1 if there is none.
+    // The lowest VMID that no realm has; 1 if realms have all VMIDs.
     fn vmid(&self) -> Vmid
         ensures { result ≡ unwrap_or (lowest_vmid self.now) 1 }
     {
@@ -62,7 +62,7 @@ impl<S: PageStore> Host<S> {
         }
     }
 
-    // The number that the next REC of a build's realm gets; 0 if it has none.
+    // The number that the next REC of a build's realm gets; 0 if the build has no realm.
     fn number(&self, build: BuildId) -> RecNo
         ensures { result ≡ next_number (realm_of build (world_of self.now)) }
     {

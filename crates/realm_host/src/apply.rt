@@ -1,4 +1,4 @@
-//! Recorded events, applied again with the block, the VMID or the number that they have.
+//! Recorded events that are applied again, each with the block, the VMID or the REC number that it has.
 ghost use Rattle.std.specs.Prelude.{◌≡◌, ◌↔◌, ◌<◌, Some, true, false};
 ghost use Rattle.std.specs.Bool.{OnTrue, OnFalse};
 ghost use Rattle.std.specs.List.{list_all};
@@ -20,7 +20,7 @@ use granule_addr::{BuildId, Gran, Order, Root};
 use page_arena::PageStore;
 use realm_model::{Act, Event, JOURNAL_ROOM};
 
-// The number of entries of its build's room that an operation takes.
+// The number of entries that an operation takes of its build's room.
 #[tactic(auto, unfolding(realm_model::specs::Room::room_taken, realm_model::specs::Act::reverse_of, realm_model::specs::Act::is_reverse))]
 fn room_taken(act: &Act) -> u16
     ensures { result ≡ room_taken act.now }
@@ -34,7 +34,7 @@ fn room_taken(act: &Act) -> u16
     }
 }
 
-// Shows that the numbers of a command that the RMM does not check are in range: reading one shows the range of its
+// Shows the ranges of those numbers of a command that the RMM does not check. Reading a number shows the range of its
 // type.
 fn check_ranges(act: &Act)
     requires { is_command act.now ≡ true }
@@ -82,7 +82,8 @@ impl<S: PageStore> Host<S> {
         }
     }
 
-    // Whether a build has the room that an operation takes, and can have one more operation open if it has a reverse.
+    // Whether a build has the room that an operation takes, and can open one more operation if the operation has a
+    // reverse.
     pub(crate) fn has_room_for(&self, build: BuildId, act: &Act) -> bool
         requires { build < self.now.limits.builds }
         ensures { (result ≡ true) ↔ HasRoomFor self.now build act.now }
@@ -126,7 +127,8 @@ impl<S: PageStore> Host<S> {
         true
     }
 
-    // Performs a command, if the build leases the granules that it names, and its answers agree with the machine.
+    // Performs a command, if the build leases the granules that the command names, and the recorded answers agree with
+    // the machine.
     fn apply_forward(&mut self, build: BuildId, act: &Act) -> bool
         requires there { build < self.old.limits.builds }
         requires legal { IsLegal self.old.limits self.old.history }
@@ -145,7 +147,7 @@ impl<S: PageStore> Host<S> {
         self.act(build, act.clone()).is_ok()
     }
 
-    // Whether a build leases granules.
+    // Whether a build leases all of the granules.
     fn leases_all(&self, build: BuildId, granules: &[Gran]) -> bool
         ensures { result ≡ list_all (is_leased_to (Some build) (world_of self.now).leases) granules.now }
     {
@@ -157,7 +159,7 @@ impl<S: PageStore> Host<S> {
         true
     }
 
-    // Whether a build leases the granule of that number, if there is one.
+    // Whether granule `number` exists and the build leases it.
     fn leases_number(&self, build: BuildId, number: u16) -> bool
         ensures { result ≡ is_leased_to (Some build) (world_of self.now).leases number }
     {
@@ -167,7 +169,7 @@ impl<S: PageStore> Host<S> {
         }
     }
 
-    // Whether a build leases starting tables.
+    // Whether a build leases all the starting tables of a realm.
     fn leases_tables(&self, build: BuildId, root: Root) -> bool
         ensures { result ≡ list_all (is_leased_to (Some build) (world_of self.now).leases) (starting_tables root) }
     {

@@ -11,7 +11,7 @@ use page_arena::PageStore;
 use realm_model::Act;
 
 impl<S: PageStore> Host<S> {
-    // Leases a free block; None if there is none of that order.
+    // Leases a free block of an order and returns its first granule, or None if no block of the order is free.
     pub(crate) fn take_block(&mut self, build: BuildId, order: Order) -> Option<Gran>
         requires there { build < self.old.limits.builds }
         requires low { order ≤ 9 }

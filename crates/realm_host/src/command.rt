@@ -24,8 +24,8 @@ impl<S: PageStore> Host<S> {
         self.ask(build, &cmd)
     }
 
-    /// Performs a command of a build, as `command` does, and only borrows it: a plan asks for its commands without a
-    /// copy.
+    /// Performs a command of a build as `command` does, and only borrows the command. So a plan asks for its commands
+    /// without a copy.
     pub fn ask(&mut self, build: BuildId, cmd: &Cmd) -> Result<Reply, Refusal>
         ensures { IsAnswer self.old build (Ask cmd.now) (replied result) self.new }
     {
@@ -37,7 +37,7 @@ impl<S: PageStore> Host<S> {
             Ok(allocated) => allocated,
             Err(rmi) => return Err(Refusal::Rmi(rmi)),
         };
-        // (a number that no operation can hold is an input error at once)
+        // (refuses the command with RMI_ERROR_INPUT if one of its numbers fits no operation)
         let Some(act) = act_of(cmd, &granules, allocated) else {
             return Err(Refusal::Rmi(Rmi::INPUT));
         };

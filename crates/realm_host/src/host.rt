@@ -86,7 +86,7 @@ impl<S: PageStore> Host<S> {
         self.ledger.history()
     }
 
-    /// Returns the ledger of the host: all that contracts see of it, and the view that the checks of a command need. It
+    /// Returns the ledger of the host: all that contracts see of the host, and the view for the checks of a command. It
     /// has none of the machine's memory.
     pub fn ledger(&self) -> &HostLedger
         ensures { result.now ≡ self.now }
@@ -136,7 +136,7 @@ impl<S: PageStore> Host<S> {
         Some(self.monitor.byte_sum(granule))
     }
 
-    /// Returns the state and the VMID of a build's realm, or None if it has none.
+    /// Returns the state and the VMID of a build's realm, or None if the build has no realm.
     pub fn realm_view(&self, build: BuildId) -> Option<(RealmState, Vmid)>
         ensures { result ≡ realm_at (world_of self.now) build }
     {
@@ -144,7 +144,8 @@ impl<S: PageStore> Host<S> {
         Some((realm.state(), realm.vmid()))
     }
 
-    /// Returns the measurement of a build's realm, or None if it has none. RMM 1.0, Realm Initial Measurement.
+    /// Returns the measurement of a build's realm, or None if the build has no realm. RMM 1.0, Realm Initial
+    /// Measurement.
     pub fn measurement(&self, build: BuildId) -> Option<[u8; 32]>
         ensures { result ≡ measurement_at (world_of self.now) build }
     {
@@ -171,9 +172,9 @@ impl<S: PageStore> Host<S> {
         }
     }
 
-    /// Returns the realm of a build, or None if it has none. It has the realm's state, its VMID, its starting tables
-    /// with the width of its IPAs, the number of its next REC, and its measurement. A walk of its tables begins at
-    /// level 1.
+    /// Returns the realm of a build, or None if the build has no realm. It has the realm's state, its VMID, its
+    /// starting tables with the width of its IPAs, the number of its next REC, and its measurement. A walk of its
+    /// tables begins at level 1.
     pub fn realm(&self, build: BuildId) -> Option<&RealmDesc>
         ensures { option_copied result ≡ option_map attributes_of (row_of (world_of self.now) build) }
     {

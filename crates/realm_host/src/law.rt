@@ -9,7 +9,8 @@ ghost use Rattle.realm_host.specs.Sharing.{AnsweredCall, AreWhileAborting, IsInA
 ghost use Rattle.realm_host.specs.declared.command.HostAnswer.{HostAnswer};
 ghost use Rattle.realm_model.specs.History.{IsLegal};
 
-/// Hosts of the same machine in which each build did the same have the same world, and the same record of each build.
+/// Two hosts of the same machine agree on the model's world and on each build's record if each build did the same on
+/// both.
 pub fn schedule_is_not_observed()
     ensures { (host twin : HostView) → DidTheSame host twin → AreIndistinguishable host twin }
 {}
@@ -23,10 +24,10 @@ pub fn no_call_reveals_the_schedule()
     ensures abort { (host twin : HostView) (build : ℕ) (result : Result ℕ Refusal) (new : HostView) → DifferInInterleaving host twin → AbortRevealsNothing host twin build result new }
 {}
 
-/// An abort during which other builds go on. `old` is a host at which `begin_abort` began one, and `calls` are all
-/// calls since, of any builds, each as its contract lets it be answered. While the build has something open, its events
-/// are reverses alone: any other request of it is refused, and none of its undos is. Once it has nothing open, it has
-/// left nothing behind.
+/// An abort leaves nothing behind once it is done, even if other builds go on during it. `old` is a host at which
+/// `begin_abort` began one, and `calls` are all calls since, of any builds, each as its contract lets it be answered.
+/// While the build has something open, its events are reverses alone: any other request of it is refused, and none of
+/// its undos is. Once it has nothing open, it has left nothing behind.
 ///
 /// `apply_recorded` is a call of other builds alone: it applies any legal event for which there is room, even one of a
 /// build in abort.

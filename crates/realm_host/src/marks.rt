@@ -1,4 +1,4 @@
-//! Marks: points of a build to which it can go back.
+//! Marks of what a build has open, to which the build can go back.
 ghost use Rattle.std.specs.Prelude.{◌≡◌, ◌<◌};
 ghost use Rattle.std.specs.Bool.{OnTrue};
 ghost use Rattle.std.specs.List.{list_any};
@@ -18,8 +18,8 @@ use page_arena::PageStore;
 use realm_model::Act;
 
 impl<S: PageStore> Host<S> {
-    /// Keeps the point of a build, in place of an older mark, and returns it as a mark. The mark is dropped by the
-    /// reverse that leaves the build with fewer operations open than it has now.
+    /// Keeps a mark at the operations that a build has open now, in place of an older mark, and returns the new mark.
+    /// The mark is dropped by the reverse that leaves the build with fewer operations open than it has now.
     ///
     /// Refused with NoBuild or with Aborting. This is no event.
     pub fn mark(&mut self, build: BuildId) -> Result<Mark, Refusal>
@@ -63,7 +63,7 @@ impl<S: PageStore> Host<S> {
         Ok(count)
     }
 
-    // Whether this is the mark that is kept for a build.
+    // Whether a mark is the one that is kept for a build.
     fn is_kept(&self, build: BuildId, mark: Mark) -> bool
         requires { build < self.now.limits.builds }
         ensures value { result ≡ is_kept self.now build mark }

@@ -51,7 +51,7 @@ fn covered_count(level: Level) -> u32
     }
 }
 
-// The first IPA granule of the level's row that covers the IPA granule of that number.
+// The first IPA granule of the row that covers IPA granule `ipa` at a level.
 fn first_covered(ipa: u32, level: Level) -> IpaGran
     requires { ipa < widest_space }
     ensures { result ≡ first_covered level ipa }
@@ -90,7 +90,7 @@ impl<S: PageStore> Host<S> {
         })
     }
 
-    /// The RD of a build's realm; None if it has none.
+    /// The RD of a build's realm; None if the build has no realm.
     pub fn rd(&self, build: BuildId) -> Option<Gran>
         ensures value { result ≡ rd_of build (world_of self.now) }
         ensures inside { IfSome result (λ rd. rd < self.now.limits.pages) }
@@ -102,8 +102,8 @@ impl<S: PageStore> Host<S> {
         }
     }
 
-    /// Returns the granule of the REC of that number in a build's realm, and its state and auxiliaries. Returns None if
-    /// there is no such REC. Each number is below that of the realm's next REC.
+    /// Returns the granule, the state and the auxiliaries of REC `number` of a build's realm. Returns None if there is
+    /// no such REC. Each number is below that of the realm's next REC.
     pub fn rec(&self, build: BuildId, number: RecNo) -> Option<(Gran, &Rec)>
         ensures { option_map (λ rec. (rec.0, rec.1.now)) result ≡ rec_at (world_of self.now) build number }
     {
@@ -115,7 +115,7 @@ impl<S: PageStore> Host<S> {
         Some((granule, rec))
     }
 
-    /// Returns the row at which the walk of an IPA granule towards a level ends in a build's realm. That is the first
+    /// Returns the row of a build's realm at which the walk of an IPA granule towards a level ends. That is the first
     /// row on the way that is not TABLE, or the one of that level. Returns None if the build has no realm, or if the
     /// IPA granule is not in the realm's address space.
     ///

@@ -1,4 +1,4 @@
-//! The size of a host.
+//! The settings that a host is booted with.
 ghost use Rattle.std.specs.Prelude.{◌≡◌, ◌≤◌, ◌↔◌, IsSome, IfSome};
 
 use realm_model::{LEAST_HISTORY, MOST_HISTORY};
@@ -22,8 +22,8 @@ pub struct Settings {
 impl Settings {
     ghost use Rattle.realm_host.specs.Settings.{AreSettings};
 
-    /// Returns the settings of these numbers, or None if one of them is out of range. The ranges are 1 to 255 VMIDs, 0
-    /// to 16 auxiliaries, 16 to 16,384 events, and 1 to 8 builds.
+    /// Returns the settings with these numbers, or None if one of the numbers is out of range. The ranges are 1 to 255
+    /// VMIDs, 0 to 16 auxiliaries, 16 to 16,384 events, and 1 to 8 builds.
     pub fn new(vmids: u8, aux: u8, history: u16, builds: u8) -> Option<Settings>
         ensures valid { IsSome result ↔ AreSettings vmids aux history builds }
         ensures value { IfSome result (λ s. (s.vmids ≡ vmids) × (s.aux ≡ aux) × (s.history ≡ history) × (s.builds ≡ builds)) }

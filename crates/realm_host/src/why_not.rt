@@ -13,10 +13,10 @@ pub enum WhyNot {
     /// operation.
     #[error("its build has not the room that it takes")]
     NoRoom,
-    /// A reverse that is not that of its build's newest open operation, or whose operation created a REC that runs.
+    /// A reverse of an operation that is not its build's newest open operation, or that created a REC that runs.
     #[error("it is not the reverse of the newest act that its build has open")]
     NotNewest,
-    /// An event that the rules do not allow here.
+    /// An event that the rules do not allow at its place in the history.
     #[error("it is no step of the rules")]
     NoStep,
 }

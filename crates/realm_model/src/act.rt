@@ -1,4 +1,4 @@
-//! Operations and their kinds, and events: the accepted ones of builds.
+//! Operations, their kinds, and events, which are accepted operations of builds.
 ghost use Rattle.std.specs.Prelude.{◌≡◌, ◌↔◌, true};
 ghost use Rattle.realm_model.specs.Kind.{act_kind};
 
@@ -16,7 +16,7 @@ pub enum Act {
         order: Order,
         first: Gran,
     },
-    /// The block is given back, cleared.
+    /// A block is cleared and given back.
     UnTake {
         order: Order,
         first: Gran,
@@ -116,7 +116,7 @@ pub enum Act {
     },
 }
 
-/// An operation of a build.
+/// An accepted operation and its build.
 #[derive(PartialEq, Eq, Drop)]
 pub struct Event {
     pub build: BuildId,
@@ -281,7 +281,7 @@ impl Act {
     }
 }
 
-/// The RD of a build's realm, and the granule of the REC whose number an operation names: `None` if there is none. So
+/// The RD of a build's realm, and the granule of the REC that an operation names; each is `None` if there is none. So
 /// the RMM searches for neither. The value of `rec` does not matter to an operation that names no REC.
 #[derive(Clone, Copy)]
 pub struct RealmAndRec {

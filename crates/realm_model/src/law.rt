@@ -20,17 +20,17 @@ ghost use Rattle.realm_model.specs.Undoing.{NewestCanBeUndone, AllCanBeUndone, N
 ghost use Rattle.realm_model.specs.RecsOpen.{RecsAreOpen};
 ghost use Rattle.realm_model.specs.VmidsUsed.{VmidsFollowSteps};
 
-/// A legal history without the events of a build is legal, and gives the world without that build's part.
+/// Without the events of a build, a legal history is still legal, and the model's world lacks only that build's part.
 pub fn builds_can_be_left_out()
     ensures { (limits : Limits) (history : List Event) (build : ℕ) → IsLegal limits history → Noninterference limits history build }
 {}
 
-/// The events of one build of a legal history are legal alone, and lead to that build's part of the world.
+/// The events of one build of a legal history are legal alone, and lead to that build's part of the model's world.
 pub fn builds_can_be_taken_alone()
     ensures { (limits : Limits) (history : List Event) (build : ℕ) → IsLegal limits history → IsLegalAlone limits history build }
 {}
 
-/// Two legal histories with the same events of each build, each build's in the same order, lead to the same world.
+/// Two legal histories in which each build has the same sequence of events lead to the same world of the model.
 pub fn schedule_does_not_matter()
     ensures { (limits : Limits) (history other : List Event) → IsLegal limits history → IsLegal limits other → HasSameEvents history other → replay limits history ≡ replay limits other }
 {}
@@ -41,12 +41,13 @@ pub fn events_of_two_builds_commute()
     ensures { (limits : Limits) (history : List Event) (one other : Event) → EventsCommute limits history one other }
 {}
 
-/// A step is exact: it asks no more than `IsStep` does, in any world that a history leads to.
+/// From any world of the model that a history leads to, `step` leads exactly to the worlds that `IsStep` allows.
 pub fn step_is_exact()
     ensures { (limits : Limits) (history : List Event) (world : World) (event : Event) → replay limits history ≡ Some world → StepIsExact limits world event }
 {}
 
-/// The paired operations without a matching reverse are those that are left on a stack of them.
+/// If paired operations are pushed on a stack and reverses pop it, exactly the operations without a matching reverse
+/// remain.
 pub fn matching_is_a_stack()
     ensures { (acts : List Act) → MatchingIsAStack acts }
 {}
@@ -56,7 +57,7 @@ pub fn pages_are_leased()
     ensures { (limits : Limits) (history : List Event) (world : World) (build : ℕ) → IsLegal limits history → replay limits history ≡ Some world → PagesAreLeased limits history build world }
 {}
 
-/// Every world that a history leads to is sound.
+/// Every world of the model that a history leads to satisfies the invariant `IsReachable`.
 pub fn reached_worlds_are_sound()
     ensures { (limits : Limits) (history : List Event) (world : World) → replay limits history ≡ Some world → IsReachable limits world }
 {}
@@ -82,19 +83,19 @@ pub fn room_is_a_sum()
     ensures { (limits : Limits) (history : List Event) (world : World) (build : ℕ) → IsLegal limits history → replay limits history ≡ Some world → RoomIsSum history world build }
 {}
 
-/// A build has the same operations open, and has used as much of its room, in a history without another build.
+/// In a history without another build, a build has the same operations open, and has used the same amount of room.
 pub fn others_keep_their_room()
     ensures { (limits : Limits) (history : List Event) (world : World) (build other : ℕ) → IsLegal limits history → replay limits history ≡ Some world → OthersKeepTheirRoom history world build other }
 {}
 
-/// Each event of a history without a build is accepted in turn, from the empty history on. The machine has the same
-/// limits and room, and each build can have as many operations open.
+/// Each event that remains in a history without a build is accepted in sequence, from the empty history on. The machine
+/// has the same limits and room, and each build can have as many operations open.
 pub fn what_is_left_is_accepted()
     ensures { (limits : Limits) (capacity most : ℕ) (history : List Event) (world : World) (build : ℕ)
         → IsLegal limits history → replay limits history ≡ Some world → WhatIsLeftIsAccepted limits capacity most history world build }
 {}
 
-/// The realm of a build is that of its open Realm operation.
+/// The realm of a build is the one that the build's open Realm operation created.
 pub fn realms_are_open_acts()
     ensures { (limits : Limits) (history : List Event) (world : World) (build : ℕ) → IsLegal limits history → replay limits history ≡ Some world → RealmIsOpen history world build }
 {}
@@ -104,13 +105,13 @@ pub fn vmids_are_of_open_acts()
     ensures { (limits : Limits) (history : List Event) (world : World) (vmid : ℕ) → IsLegal limits history → replay limits history ≡ Some world → VmidIsOpen history world vmid }
 {}
 
-/// A paired operation can be reversed right after it, which leads back to a world that owns the same.
+/// The reverse of a paired operation is accepted right after the operation, and restores the ownership before both.
 pub fn pairs_lead_back()
     ensures { (limits : Limits) (history : List Event) (world : World) (build : ℕ) (act back : Act) (middle : World)
         → replay limits history ≡ Some world → PairLeadsBack limits build world act back middle }
 {}
 
-/// An operation that has no reverse, and is no reverse, leads to a world that owns the same.
+/// An operation that neither has a reverse nor is a reverse does not change the ownership.
 pub fn other_acts_own_the_same()
     ensures { (limits : Limits) (world : World) (build : ℕ) (act : Act) (next : World) → OtherActOwnsSame limits build world act next }
 {}
@@ -122,28 +123,29 @@ pub fn ownership_follows()
         → replay limits history ≡ Some world → replay limits past ≡ Some twin → OwnershipFollows limits build act world twin next other }
 {}
 
-/// The newest open operation of a build can be undone, whatever others did since, unless it created a REC that runs.
+/// The newest open operation of a build can be undone, whatever other builds did since, unless the operation created a
+/// running REC.
 pub fn newest_can_be_undone()
     ensures { (limits : Limits) (history : List Event) (world : World) (build : ℕ) (act : Act)
         → IsLegal limits history → replay limits history ≡ Some world → NewestCanBeUndone limits history build world act }
 {}
 
-/// The world is that of the history without a build if the build has nothing open.
+/// If a build has nothing open, the model's world is that of the history without the build.
 pub fn nothing_open_is_noninterference()
     ensures { (limits : Limits) (history : List Event) (world : World) (build : ℕ) → IsLegal limits history → replay limits history ≡ Some world → NothingOpenIsNoninterference limits history build world }
 {}
 
-/// All that a build has open can be undone, newest first, and leaves nothing, if no REC of the build runs.
+/// If no REC of a build runs, all its open operations can be undone, the newest first, and leave nothing behind.
 pub fn all_can_be_undone()
     ensures { (limits : Limits) (history : List Event) (world : World) (build : ℕ) → IsLegal limits history → replay limits history ≡ Some world → AllCanBeUndone limits history build world }
 {}
 
-/// A build of which no REC runs stays at rest after an event of another build or a reverse.
+/// A build without running RECs still has none after an event of another build, or after a reverse.
 pub fn builds_stay_at_rest()
     ensures { (limits : Limits) (history : List Event) (world : World) (build : ℕ) (event : Event) (next : World) → replay limits history ≡ Some world → StaysAtRest limits world build event next }
 {}
 
-/// Each undo of an abort is accepted, whatever others do, and at the end of the abort the build leaves nothing behind.
+/// Each undo of an abort is accepted, whatever other builds do, and the finished abort leaves nothing behind.
 pub fn aborts_go_on()
     ensures { (limits : Limits) (history later : List Event) (build : ℕ) (begun world : World)
         → IsLegal limits (history ++ later) → replay limits history ≡ Some begun → replay limits (history ++ later) ≡ Some world
@@ -155,12 +157,12 @@ pub fn new_marks_stand()
     ensures { (build : ℕ) (history : List Event) → IsValidMark (mark_at build history) history }
 {}
 
-/// A mark remains valid until the build has less open than at the mark.
+/// A mark remains valid until the build has fewer operations open than at the mark.
 pub fn marks_stand_on()
     ensures { (mark : Mark) (history : List Event) (event : Event) → StaysValid mark history event }
 {}
 
-/// A build can be rolled back to a valid mark, if no REC that it created since runs.
+/// A build can be rolled back to a valid mark if no REC that the build created since the mark runs.
 pub fn marks_can_be_rolled_back_to()
     ensures { (limits : Limits) (history : List Event) (world : World) (mark : Mark) → IsLegal limits history → replay limits history ≡ Some world → CanRollBack limits history mark world }
 {}

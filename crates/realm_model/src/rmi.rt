@@ -13,7 +13,7 @@ pub enum Status {
 impl Status {
     ghost use Rattle.realm_model.specs.Rmi.{status_code};
 
-    /// The code in the result word: RMI_SUCCESS is 0, and no refusal has it.
+    /// The code of the status in the result word; never 0, which is RMI_SUCCESS.
     pub fn code(self) -> u8
         ensures { result ≡ status_code self }
     {
@@ -26,7 +26,7 @@ impl Status {
     }
 }
 
-/// A refusal by the RMM: a status, and an index that is a table's level with RMI_ERROR_RTT and else 0.
+/// A refusal by the RMM: a status and an index, which is a table's level for RMI_ERROR_RTT and 0 otherwise.
 #[derive(Clone, Copy, Debug, PartialEq, Eq)]
 pub struct Rmi {
     pub status: Status,
@@ -36,19 +36,19 @@ pub struct Rmi {
 impl Rmi {
     ghost use Rattle.realm_model.specs.Rmi.{result_word};
 
-    /// The refusal of an input.
+    /// The refusal RMI_ERROR_INPUT, because of an input.
     pub const INPUT: Rmi = Rmi {
         status: Status::Input,
         index: 0,
     };
 
-    /// The refusal by the state of a realm.
+    /// The refusal RMI_ERROR_REALM, because of the state of a realm.
     pub const REALM: Rmi = Rmi {
         status: Status::Realm,
         index: 0,
     };
 
-    /// The refusal by the state of a REC.
+    /// The refusal RMI_ERROR_REC, because of the state of a REC.
     pub const REC: Rmi = Rmi {
         status: Status::Rec,
         index: 0,

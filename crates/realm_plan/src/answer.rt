@@ -13,11 +13,11 @@ use std::fmt;
 #[derive(Clone, Copy)]
 pub struct KindWord(pub Kind);
 
-/// The number and the name of a refusal, and the numbers that it names.
+/// The text of a refusal: its number and its name, and the numbers that the refusal has.
 #[derive(Clone, Copy)]
 pub struct RefusalText(pub Refusal);
 
-/// The reply to an accepted command.
+/// The text of the reply to an accepted command.
 #[derive(Clone, Copy)]
 pub struct ReplyText(pub Reply);
 

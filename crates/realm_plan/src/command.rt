@@ -16,7 +16,7 @@ use host_commands::{Cmd, Step};
 /// The most auxiliary pages of a REC.
 const MOST_AUXILIARIES: usize = 16;
 
-// The step that asks for the command.
+// The step that asks the host for a command.
 macro_rules! ask {
     ($kind:ident { $($field:tt)* }) => {
         PlanStep::Whole(Step::Ask(Cmd::$kind { $($field)* }))
@@ -37,7 +37,7 @@ fn page_step(word: &str, numbers: &[u32]) -> Option<PlanStep>
     }
 }
 
-// A realm without a width.
+// The step `realm` without a width.
 fn short_realm(numbers: &[u32]) -> Option<PlanStep>
     ensures { result ≡ short_realm_at numbers.now }
 {
@@ -81,7 +81,7 @@ fn table_step(word: &str, numbers: &[u32]) -> Option<PlanStep>
     }
 }
 
-// A REC, and its auxiliary pages.
+// The step `rec`: the page of a REC, and the REC's auxiliary pages.
 fn rec(numbers: &[u32]) -> Option<PlanStep>
     ensures { result ≡ rec_of_numbers numbers.now }
 {
@@ -144,7 +144,7 @@ fn way_back_step(word: &str, numbers: &[u32]) -> Option<PlanStep>
     }
 }
 
-/// The step that the word and its numbers are.
+/// The step that the word and its numbers spell.
 pub fn step(word: &str, numbers: &[u32]) -> Option<PlanStep>
     ensures { result ≡ step_at word.now numbers.now }
 {

@@ -112,7 +112,7 @@ fn has_only_keys(table: &Table, names: &[&str]) -> bool
     true
 }
 
-/// The texts of the steps of a build: a table with the one key `steps`, an array of texts.
+/// The texts of a build's steps, from a table whose one key `steps` has an array of texts.
 fn steps_of<'a>(alloc: Global, value: &'a Value) -> Result<Option<Vec<&'a str>>, AllocError>
     ensures { IfOk result (λ r. option_map (λ v. map (λ t. t.now) v.items) r ≡ step_texts_of (view value.now)) }
 {

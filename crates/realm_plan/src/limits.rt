@@ -20,7 +20,7 @@ pub const MOST_STEPS: usize = 1024;
 /// The most turns of a plan.
 pub const MOST_TURNS: usize = 16384;
 
-/// The numbers of a plan.
+/// The numbers of a plan, each within its limits.
 #[derive(Clone, Copy)]
 pub struct Numbers {
     pub pages: u16,
@@ -29,7 +29,7 @@ pub struct Numbers {
     pub history: u16,
 }
 
-/// The number, if it is one from `low` to `high`.
+/// Returns the number, or the fault `Limit` unless the number is from `low` to `high`.
 fn between(low: u16, high: u16, whole: i64) -> Result<u16, PlanError>
     ensures value { Gives (λ n. n) result (between_at low high whole) }
     ensures low { IfOk result (λ n. low ≤ n) }
@@ -41,7 +41,7 @@ fn between(low: u16, high: u16, whole: i64) -> Result<u16, PlanError>
     }
 }
 
-/// The fault of a length that is outside its limits.
+/// Returns the fault `Limit` unless `holds`, which says that a length is within its limits.
 fn within(holds: bool) -> Result<(), PlanError>
     ensures value { Gives (λ n. n) result (within_at holds) }
 {
@@ -52,7 +52,7 @@ fn within(holds: bool) -> Result<(), PlanError>
     }
 }
 
-/// The numbers, if each is within its limits.
+/// Returns the numbers of a plan, or the fault `Limit` if one is outside its limits.
 #[tactic(auto, unfolding(crate::specs::Plan::plan_numbers_of))]
 pub fn numbers_of(contents: &Contents<'_>) -> Result<Numbers, PlanError>
     ensures value { Gives (λ n. n) result (plan_numbers_of (contents_view contents.now)) }
@@ -73,14 +73,14 @@ pub fn numbers_of(contents: &Contents<'_>) -> Result<Numbers, PlanError>
     })
 }
 
-/// Whether no build has more steps than it may.
+/// Whether each build has at most `MOST_STEPS` steps.
 fn are_short(builds: &[Vec<PlanStep>]) -> bool
     ensures { result ≡ list_all (λ steps. nat_le (vec_len steps) 1024) builds.now }
 {
     builds.iter().all(|steps| steps.len() <= MOST_STEPS)
 }
 
-/// The fault of lengths that are outside their limits.
+/// Returns the fault `Limit` unless the numbers of builds, steps and turns are within their limits.
 #[tactic(auto, using(crate::proofs::Views::item_views), unfolding(crate::specs::Plan::lengths_of))]
 pub(crate) fn lengths_of(builds: &[Vec<PlanStep>], order: &[usize]) -> Result<(), PlanError>
     ensures value { Gives (λ n. n) result (lengths_of (map (λ b. b.items) builds.now) order.now) }

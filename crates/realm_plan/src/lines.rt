@@ -1,4 +1,5 @@
-//! Lines of an output that have no answer. Each is appended whole; at an `Err` the text may have a part of it.
+//! Lines of a run's text that have no answer: those of idle turns, and of the map. Each is appended whole; at an `Err`
+//! the text may have a part of it.
 ghost use Rattle.std.specs.Prelude.{◌≡◌, ◌++◌, OnOk, string_bytes};
 ghost use Rattle.realm_plan.specs.Lines.{state_word, sum_numbers, realm_word, idle_line, page_line, realm_line, free_line};
 
@@ -24,7 +25,7 @@ pub fn state_word(state: GranuleState) -> &'static str
     }
 }
 
-// The sum of a granule's bytes, if its line has it.
+// The sum of a granule's bytes, if the granule's line in the map has the sum.
 fn sum_numbers(state: GranuleState, sum: u32) -> ArrayVec<u32, MOST_NUMBERS>
     ensures { result.items ≡ sum_numbers state sum }
 {
@@ -85,7 +86,7 @@ pub fn push_realm(
     writeln!(text, "{build} realm {word} vmid {}", vmid.number())
 }
 
-/// Appends the last line of the map: the number of pages that nobody leases.
+/// Appends the last line of the map: the number of granules that no build leases.
 pub fn push_free(text: &mut String, count: u16) -> Result<(), AllocError>
     ensures { OnOk result (string_bytes text.new ≡ string_bytes text.old ++ free_line count) }
 {

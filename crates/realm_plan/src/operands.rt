@@ -5,7 +5,7 @@ use arrayvec::ArrayVec;
 use decimal_text::Operand;
 use granule_addr::PageOff;
 
-/// The greatest number of a build's page: there are as many as the largest machine has.
+/// The highest page number of a build. Numbers begin at 0, and the largest machine has 4096 pages.
 pub const MOST_PAGE: u16 = 4095;
 
 /// The greatest offset in a page.
@@ -49,7 +49,7 @@ impl Operand for Offset {
     }
 }
 
-/// The most numbers of a word: the page of a REC, and 16 auxiliaries.
+/// The most numbers that follow a word: the page of a REC, and 16 auxiliary pages.
 pub const MOST_NUMBERS: usize = 17;
 
 pub fn one(first: u32) -> ArrayVec<u32, MOST_NUMBERS>

@@ -54,7 +54,7 @@ impl Plan {
     ghost use Rattle.realm_plan.specs.PlanView.{plan_view};
     ghost use Rattle.realm_plan.specs.Written.{written_steps};
 
-    /// The document that the bytes are.
+    /// Parses bytes as a TOML document.
     fn document_of(alloc: Global, bytes: &[u8]) -> Result<Table, PlanError>
         ensures { Gives table_view result (or_fault Syntax (document_of bytes.now)) }
     {
@@ -70,7 +70,7 @@ impl Plan {
         }
     }
 
-    /// The plan of a document's contents, or the fault.
+    /// Returns the plan of a document's contents, or the contents' fault.
     #[tactic(auto, unfolding(crate::specs::Plan::plan_of_contents))]
     fn from_contents(alloc: Global, contents: &Contents<'_>) -> Result<Plan, PlanError>
         ensures { Gives plan_view result (plan_of_contents (contents_view contents.now)) }
@@ -92,7 +92,7 @@ impl Plan {
         })
     }
 
-    /// The plan that the bytes are, or their one fault. `Memory` comes only if allocation failed.
+    /// Returns the plan that the bytes spell, or the one fault of the bytes. `Memory` comes only if allocation failed.
     #[tactic(auto, unfolding(crate::specs::Plan::plan_of))]
     pub fn from_bytes(alloc: Global, bytes: &[u8]) -> Result<Plan, PlanError>
         ensures value { Gives plan_view result (plan_of bytes.now) }
@@ -110,7 +110,7 @@ impl Plan {
         Plan::from_contents(alloc, &contents)
     }
 
-    /// The same plan, but one that gives up. The bytes of a plan never say so.
+    /// The same plan with builds that give up. The bytes of a plan never say so.
     pub fn giving_up(self) -> Plan
         ensures { plan_view result ≡ record (plan_view self) { gives_up = true } }
     {

@@ -8,7 +8,7 @@ use decimal_text::SpelledText;
 use host_commands::{Cmd, Step};
 use std::fmt;
 
-// The page of a REC, and its auxiliaries.
+// The numbers of the step `rec`: the page of a REC, and its auxiliary pages.
 fn rec_numbers(page: u16, auxiliaries: &[u16]) -> ArrayVec<u32, MOST_NUMBERS>
     requires { length auxiliaries.now ≤ 16 }
     ensures { result.items ≡ page ∷ auxiliaries.now }

@@ -16,7 +16,7 @@ use host_commands::{Cmd, Step};
 pub enum PlanStep {
     /// A step with every number written.
     Whole(Step),
-    /// A realm without a width, which has the least one: 39. RMI_REALM_CREATE
+    /// A realm whose width is left out, and is the least one, 39. RMI_REALM_CREATE
     WidthLeftOut { rd: u16, root: u16 },
 }
 
@@ -40,8 +40,8 @@ impl PlanStep {
     }
 }
 
-/// The step that the text is: a word and its numbers, one space before each number and nothing else. The numbers are in
-/// decimal, without a sign and without leading zeros, and each in its range. No memory is taken.
+/// The step that the text spells: a word and its numbers, one space before each number and nothing else. The numbers
+/// are in decimal, without a sign and without leading zeros, and each in its range. No memory is taken.
 pub fn step_from_text(text: &str) -> Option<PlanStep>
     // The step that is returned is the one that the text spells.
     ensures found { IfSome result (λ step. IsStepText text.now step) }

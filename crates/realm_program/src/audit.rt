@@ -70,7 +70,7 @@ pub fn fits(
     Ok(next == history.len())
 }
 
-/// Whether `fits` holds for each of these reports, with the steps of its build's plan.
+/// Whether each report fits the history, as `fits` says for the steps of the report's build.
 pub fn fit_all(
     alloc: Global,
     history: &[Event],

@@ -1,4 +1,4 @@
-//! The boot of hosts over pages that are all free, and the stores that can be built for them.
+//! The boot of hosts on stores whose pages are all free, and the trait of stores that can be built.
 ghost use Rattle.std.specs.Prelude.{◌≡◌, ◌≤◌, IfOk, ◌⊎◌, ◌<◌, ◌↔◌, true, replicate, IsErrOf};
 ghost use Rattle.realm_host.specs.Host.{booted_by};
 ghost use Rattle.realm_plan.specs.PlanView.{plan_view};
@@ -11,7 +11,7 @@ use realm_host::{Host, Settings};
 use realm_plan::Plan;
 use std::alloc::{AllocError, Global};
 
-/// A host with these settings, over `pages` pages that are all free.
+/// Boots a host with the given settings on a new store of `pages` free pages.
 pub fn boot_by<S: BuildableStore>(
     alloc: Global,
     settings: Settings,
@@ -32,7 +32,7 @@ pub fn boot_by<S: BuildableStore>(
     }
 }
 
-/// A host of the plan's size, over pages that are all free.
+/// Boots a host of the plan's size on a new store of free pages.
 pub fn boot<S: BuildableStore>(alloc: Global, plan: &Plan) -> Result<Host<S>, AllocError>
     ensures { IfOk result (λ host. host ≡ opening_host (plan_view plan.now)) }
 {
@@ -47,8 +47,8 @@ pub fn boot<S: BuildableStore>(alloc: Global, plan: &Plan) -> Result<Host<S>, Al
 
 /// A store that can be built of any number of pages that a machine can have.
 pub trait BuildableStore: PageStore + Drop {
-    /// A store of `pages` pages, all free and zero. `BadSize` comes exactly when `pages` is not 1 to 4,096; the only
-    /// other error is `Memory`.
+    /// Returns a store of `pages` pages, all free and zero. `BadSize` comes exactly when `pages` is not 1 to 4,096; the
+    /// only other error is `Memory`.
     fn built(alloc: Global, pages: u16) -> Result<Self, BuildError>
         ensures bad_size { IsErrOf result BuildError.BadSize ↔ ((pages < 1) ⊎ (4096 < pages)) }
         ensures zero { IfOk result (λ store. Self.page_bytes store ≡ replicate pages zero_page) }

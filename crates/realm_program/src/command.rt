@@ -29,7 +29,7 @@ fn allocated_for(act: &Act) -> Allocated
     allocated
 }
 
-// Whether an operation is a command's, of the granules of its pages.
+// Whether `act` is the operation of `cmd` on the granules of the pages that `cmd` names.
 fn is_made_of(opened: &[Act], cmd: &Cmd, act: &Act) -> bool
     ensures { IsTrue result ↔ IsMadeOf (flat_map pages_held opened.now) cmd.now act.now }
 {
@@ -42,7 +42,7 @@ fn is_made_of(opened: &[Act], cmd: &Cmd, act: &Act) -> bool
     }
 }
 
-// Whether an operation is a command's. The block of a Take may be any.
+// Whether `act` is an operation that `cmd` can perform. A Take may get any block of its order.
 fn is_act_of(opened: &[Act], cmd: &Cmd, act: &Act) -> bool
     ensures { IsTrue result ↔ IsFittingAct (flat_map pages_held opened.now) cmd.now act.now }
 {
@@ -53,7 +53,8 @@ fn is_act_of(opened: &[Act], cmd: &Cmd, act: &Act) -> bool
     }
 }
 
-// Whether a reply is that to an operation. The reply to a Take is the number of pages before it.
+// Whether `reply` is the reply to the operation `act`. The reply to a Take is the number of pages that the build had
+// before.
 fn is_reply_to(opened: &[Act], reply: &Reply, act: &Act) -> bool
     ensures { IsTrue result ↔ (reply.now ≡ reply_of (length (flat_map pages_held opened.now)) act.now) }
 {
@@ -64,7 +65,7 @@ fn is_reply_to(opened: &[Act], reply: &Reply, act: &Act) -> bool
     }
 }
 
-/// Whether a command of a build that has these operations open performed this operation, and got this reply to it.
+/// Whether `act` and `reply` fit a command of a build whose open operations are `opened`.
 pub(crate) fn is_replied(opened: &[Act], cmd: &Cmd, reply: &Reply, act: &Act) -> bool
     ensures { IsTrue result ↔ IsFittingReply (flat_map pages_held opened.now) cmd.now reply.now act.now }
 {

@@ -1,4 +1,4 @@
-//! The faults of a run that is not printed whole.
+//! The faults because of which the text of a run is printed only in part or not at all.
 ghost use Rattle.std.specs.Prelude.{◌≡◌};
 ghost use Rattle.realm_program.specs.declared.fault.Fault.TheVariants.{Memory, Device};
 
@@ -15,7 +15,7 @@ pub enum Fault {
     /// An input that is no plan.
     #[error(transparent)]
     Plan(PlanFault),
-    /// A build to be left out that is not one of the plan's.
+    /// A build to be left out that the plan does not have.
     #[error("erase names no build")]
     EraseNamesNoBuild,
     /// A failed allocation.
@@ -24,7 +24,7 @@ pub enum Fault {
     /// A build's worker that waited in vain for a turn.
     #[error("thread")]
     Stuck(BuildId),
-    /// Workers' reports, or trails of their seats, that do not fit the history of a run in threads. In runs of many
+    /// Workers' reports, or the events of their seats, that do not fit the history of a run in threads. In runs of many
     /// schedules: a schedule that cannot begin as the run before it says.
     #[error("mismatch")]
     Mismatch,

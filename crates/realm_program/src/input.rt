@@ -1,4 +1,4 @@
-//! The whole of an input, up to the greatest length of a plan.
+//! The reading of a whole input, up to one byte more than a plan may have.
 ghost use Rattle.std.specs.Prelude.{◌≡◌, ◌+◌, ◌≤◌, ◌↔◌, [], false, true, IfOk, IfSome, Err};
 ghost use Rattle.realm_program.specs.Whole.{kept_of};
 ghost use Rattle.checked_io.specs.declared.told.ReadError.TheVariants.{Device};
@@ -10,7 +10,7 @@ use std::io::Read;
 /// The number of bytes that are kept of an input: one more than a plan may have.
 pub const KEPT: usize = 1_048_577;
 
-/// The most reads of one input.
+/// The largest number of reads of one input.
 pub const MOST_READS: usize = 1_048_578;
 
 // An empty list of bytes with capacity for all that is kept, if there is memory for it. A list that grows is copied,
@@ -24,7 +24,7 @@ fn room(alloc: Global) -> Vec<u8>
     }
 }
 
-/// All bytes of the reader, or its first 1,048,577 bytes if there are more.
+/// Reads and returns all bytes of the reader, or the first 1,048,577 bytes if there are more.
 ///
 /// `Device` comes if a read failed, and `Memory` only if allocation failed.
 pub fn read_whole<R: Read>(alloc: Global, input: &mut Told<R>) -> Result<Vec<u8>, ReadError>

@@ -13,15 +13,14 @@ use builders::{Answer, Asked, ReportLine};
 use host_commands::{Cmd, Step};
 use realm_model::{Act, Event};
 
-/// Whether a line with this answer has an event.
+/// Whether an answer is to an accepted command or undo, and so has an event.
 pub(crate) fn is_done(answer: &Answer) -> bool
     ensures { result ≡ is_done answer.now }
 {
     matches!(answer, Answer::Replied(_) | Answer::Undone(_))
 }
 
-// Whether the answer to a command matches a build that has these operations open, and its next event at an index of the
-// history.
+// Whether the answer to a command matches the open operations `opened` and the event at index `next` of the history.
 fn command_fits(opened: &[Act], history: &[Event], next: usize, cmd: &Cmd, answer: &Answer) -> bool
     ensures { IsTrue result ↔ AnswerFits (flat_map pages_held opened.now) opened.now (slice_get history.now next) (question.Do cmd.now) answer.now }
 {
@@ -35,7 +34,7 @@ fn command_fits(opened: &[Act], history: &[Event], next: usize, cmd: &Cmd, answe
     }
 }
 
-// Whether the answer to an undo matches.
+// Whether the answer to an undo matches the open operations `opened` and the event at index `next` of the history.
 fn undo_fits(opened: &[Act], history: &[Event], next: usize, answer: &Answer) -> bool
     ensures { IsTrue result ↔ AnswerFits (flat_map pages_held opened.now) opened.now (slice_get history.now next) question.Undo answer.now }
 {
@@ -49,7 +48,7 @@ fn undo_fits(opened: &[Act], history: &[Event], next: usize, answer: &Answer) ->
     }
 }
 
-// Whether the answer to a mark matches, whatever event is the next.
+// Whether the answer to a mark matches the open operations `opened`, whatever event is the next.
 fn mark_fits(opened: &[Act], answer: &Answer) -> bool
     ensures { (next : Option Event) → IsTrue result ↔ AnswerFits (flat_map pages_held opened.now) opened.now next question.Mark answer.now }
 {
@@ -60,7 +59,7 @@ fn mark_fits(opened: &[Act], answer: &Answer) -> bool
     }
 }
 
-// Whether the answer to a step's question matches.
+// Whether the answer to a step matches the open operations `opened` and the event at index `next` of the history.
 fn step_fits(opened: &[Act], history: &[Event], next: usize, step: &Step, answer: &Answer) -> bool
     ensures { IsTrue result ↔ AnswerFits (flat_map pages_held opened.now) opened.now (slice_get history.now next) (question_of_step step.now) answer.now }
 {
@@ -71,8 +70,8 @@ fn step_fits(opened: &[Act], history: &[Event], next: usize, step: &Step, answer
     }
 }
 
-/// Whether a line of a build that has these operations open has a question, and its answer matches. The build's next
-/// event is at that index of the history.
+/// Whether the answer in a report's line matches the open operations and the build's next event. The event is at index
+/// `next` of the history. A line of a step that the plan does not have matches nothing.
 pub(crate) fn line_fits(
     opened: &[Act],
     history: &[Event],

@@ -11,7 +11,7 @@ use host_commands::Step;
 use realm_plan::{Plan, PlanStep};
 use std::alloc::{AllocError, Global};
 
-// The questions of the steps of a plan.
+// Returns the requests to the host that the steps of a plan make.
 fn asked_of(alloc: Global, steps: &[PlanStep]) -> Result<Vec<Step>, AllocError>
     ensures { IfOk result (λ asks. asks.items ≡ map asked steps.now) }
 {
@@ -22,7 +22,7 @@ fn asked_of(alloc: Global, steps: &[PlanStep]) -> Result<Vec<Step>, AllocError>
     Ok(asks)
 }
 
-// The worker of a new seat, with the steps of its build.
+// Returns the worker of a new seat, with the steps of the seat's build.
 fn worker_of<L: Ledgers>(
     alloc: Global,
     plan: &Plan,
@@ -40,7 +40,7 @@ fn worker_of<L: Ledgers>(
     }
 }
 
-/// The workers of all builds in sequence, none of which has asked anything.
+/// Returns a new worker for each build, in sequence.
 pub fn workers_of<L: Ledgers>(
     alloc: Global,
     plan: &Plan,

@@ -33,7 +33,7 @@ fn held_granule(act: &Act, place: u16) -> Option<Gran>
     }
 }
 
-// The granule of a page of a build that has these operations open.
+// The granule of a page of a build whose open operations are `opened`.
 fn granule_at(opened: &[Act], page: usize) -> Option<Gran>
     ensures { result ≡ granule_of_number (flat_map pages_held opened.now) page }
 {
@@ -48,7 +48,7 @@ fn granule_at(opened: &[Act], page: usize) -> Option<Gran>
     None
 }
 
-/// Whether a build that has these operations open has `count` pages.
+/// Whether a build whose open operations are `opened` has exactly `count` pages.
 pub(crate) fn has_pages(opened: &[Act], count: u16) -> bool
     ensures { IsTrue result ↔ (length (flat_map pages_held opened.now) ≡ count) }
 {
@@ -63,7 +63,7 @@ pub(crate) fn has_pages(opened: &[Act], count: u16) -> bool
     left == 0
 }
 
-// Appends the granules of these pages. None if one of them is not there, or is no granule of a machine.
+// Appends the granules of pages. Returns `None` if the build lacks a page, or if a page is no granule of a machine.
 fn push_granules(granules: &mut ArrayVec<Gran, 17>, opened: &[Act], pages: &[u16]) -> Option<()>
     requires room { length granules.old.items + length pages.now ≤ 17 }
     ensures some { IfSome result (λ _. ArePushed (flat_map pages_held opened.now) pages.now granules.old.items granules.new.items) }
@@ -88,8 +88,8 @@ fn push_run(granules: &mut ArrayVec<Gran, 17>, opened: &[Act], first: u16, count
     Some(())
 }
 
-/// The granules of the pages that a command names, for a build that has these operations open. None if one of the pages
-/// is not there, or is no granule of a machine.
+/// The granules of the pages that a command names, for a build whose open operations are `opened`. None if one of the
+/// pages is not there, or is no granule of a machine.
 #[tactic(auto, unfolding(host_commands::specs::Needs::operands))]
 pub(crate) fn granules_of(opened: &[Act], cmd: &Cmd) -> Option<ArrayVec<Gran, 17>>
     ensures some { IfSome result (λ granules. AreGranules (flat_map pages_held opened.now) (operands cmd.now) granules.items) }

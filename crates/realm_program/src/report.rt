@@ -30,7 +30,7 @@ fn ends_step(asked: Asked, next: Option<ReportLine>) -> bool
     }
 }
 
-// The answer in a line; for an undo, it says whether an abort or a step back ends with it.
+// The answer of a turn for the answer of a report's line; an undo with `ends` is the last of its step.
 fn answer_of_line(answer: Answer, ends: bool) -> TurnAnswer
     ensures { result ≡ answer_of_line answer ends }
 {
@@ -81,9 +81,9 @@ fn push_line(
     }
 }
 
-/// Appends the lines of a report, each as the line of a turn: the build, the step as in the plan, and the answer. An
-/// undo is `done` in the last line of an abort or a step back, also if the worker was stopped there. A line whose index
-/// the plan does not have is left out: no report of the plan has one. At an `Err` the text may have a part.
+/// Appends the lines of a report as lines of turns, each with the build, the plan's step and the answer. An undo is
+/// `done` in the last line of an abort or a step back, also if the worker was stopped there. A line whose index the
+/// plan does not have is left out: no report of the plan has one. At an `Err` the text may have a part.
 pub(crate) fn push_report(
     text: &mut String,
     steps: &[PlanStep],

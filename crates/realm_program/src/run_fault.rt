@@ -12,7 +12,7 @@ pub enum RunFault {
     /// A failed allocation.
     #[error("memory")]
     Memory,
-    /// A worker that waited in vain for a turn: the lowest build that has one.
+    /// The lowest build whose worker waited in vain for a turn.
     #[error("thread")]
     Stuck(BuildId),
     /// The list of events of a build's seat, or a line of its report, that does not fit the history.

@@ -28,7 +28,7 @@ fn fault_of(fault: RunFault) -> Fault
     }
 }
 
-// The text of a run of the plan in threads.
+// Runs the plan in threads, and returns the text of the run.
 fn threads_text_of<H: Threads + Wait + Sync, G: Gate + Sync>(
     rt: &H,
     alloc: Global,
@@ -42,8 +42,8 @@ fn threads_text_of<H: Threads + Wait + Sync, G: Gate + Sync>(
     run_text(rt, alloc, plan, host, gate).map_err(fault_of)
 }
 
-/// Reads a plan, and runs each of its builds by a worker in a thread of its own, with its turns from the gate. Writes
-/// the text of the run. The plan's schedule plays no part. The sequence in which the builds took the lock is not
+/// Reads a plan, runs a worker for each build in a thread of its own, and writes the text of the run. The workers get
+/// their turns from the gate. The plan's schedule plays no part. The sequence in which the builds took the lock is not
 /// printed. Runs of a plan in which each build got the same answers, with the same allocations, have the same text.
 ///
 /// The text is complete before any of it is written. Errors: the fault of a plan. `Stuck`: the worker of this build,

@@ -20,7 +20,7 @@ use realm_plan::Plan;
 use std::alloc::{AllocError, Global};
 use std::io::{Read, Write};
 
-// The host after a run of the plan. The lines of its turns are appended.
+// Runs the plan, appends the lines of the turns, and returns the host.
 fn run_plan<S: BuildableStore>(
     alloc: Global,
     plan: &Plan,
@@ -33,7 +33,7 @@ fn run_plan<S: BuildableStore>(
     Ok(host)
 }
 
-// Appends the text of a run of the plan.
+// Runs the plan, and appends the text of the run.
 fn push_text<S: BuildableStore>(
     alloc: Global,
     plan: &Plan,
@@ -46,7 +46,7 @@ fn push_text<S: BuildableStore>(
     push_map(text, &host)
 }
 
-/// The text of a run of the plan, complete in memory. The one error is that allocation failed.
+/// Runs the plan, and returns the text of the run, complete in memory. The one error is that allocation failed.
 pub fn text_of<S: BuildableStore>(alloc: Global, plan: &Plan) -> Result<String, AllocError>
     ensures { IfOk result (λ text. IsText (plan_view plan.now) (string_bytes text)) }
 {
@@ -55,7 +55,8 @@ pub fn text_of<S: BuildableStore>(alloc: Global, plan: &Plan) -> Result<String, 
     Ok(text)
 }
 
-// The ledger after a run of the plan. Its lines are dropped, and the memory of its machine is given back.
+// Runs the plan, and returns the host's ledger alone. The lines of the turns are dropped, and the memory of the machine
+// is given back.
 fn ledger_of(alloc: Global, plan: &Plan) -> Result<HostLedger, AllocError>
     ensures { IfOk result (RunLeadsTo (plan_view plan.now)) }
 {
@@ -64,8 +65,8 @@ fn ledger_of(alloc: Global, plan: &Plan) -> Result<HostLedger, AllocError>
     Ok(host.into_ledger())
 }
 
-/// The map of a host's history without the build's events. The history is applied to a fresh host of the plan. The one
-/// error is that allocation failed.
+/// Returns the map that a host's history leads to without the events of a build. The history is applied to a fresh host
+/// of the plan. The one error is that allocation failed.
 pub fn map_without(
     alloc: Global,
     plan: &Plan,
@@ -80,7 +81,7 @@ pub fn map_without(
     map_text(alloc, &fresh)
 }
 
-// The map of a run of the plan with one of its builds left out.
+// Runs the plan, and returns the map without the events of one of the plan's builds.
 fn run_without(alloc: Global, plan: &Plan, build: BuildId) -> Result<String, AllocError>
     requires { build < vec_len plan.now.builds }
     ensures { IfOk result (λ text. IsErasedText (plan_view plan.now) build (string_bytes text)) }
@@ -89,7 +90,7 @@ fn run_without(alloc: Global, plan: &Plan, build: BuildId) -> Result<String, All
     map_without(alloc, plan, &ledger, build)
 }
 
-// The map of a run of the plan with a build left out, if the plan has that build.
+// Runs the plan, and returns the map without the events of a build, if the plan has the build.
 fn erased_text_of(alloc: Global, plan: &Plan, build: BuildId) -> Result<String, Fault>
     ensures ok { IfOk result (λ text. IsErasedText (plan_view plan.now) build (string_bytes text)) }
     ensures err { IfErr result (IsWithoutText (Some build) (plan_view plan.now)) }
@@ -100,7 +101,7 @@ fn erased_text_of(alloc: Global, plan: &Plan, build: BuildId) -> Result<String, 
     Ok(run_without(alloc, plan, build)?)
 }
 
-// The text that is asked for: a build may be left out.
+// Returns the text of a run of the plan, or the map without the build `erase`.
 fn asked_text_of(alloc: Global, plan: &Plan, erase: Option<BuildId>) -> Result<String, Fault>
     ensures ok { IfOk result (λ text. IsAskedText erase (plan_view plan.now) (string_bytes text)) }
     ensures err { IfErr result (IsWithoutText erase (plan_view plan.now)) }
@@ -111,7 +112,7 @@ fn asked_text_of(alloc: Global, plan: &Plan, erase: Option<BuildId>) -> Result<S
     }
 }
 
-// The text of a replay.
+// The text of a replay, or of the map without the build `erase`.
 #[derive(Drop)]
 struct Replayed {
     erase: Option<BuildId>,

@@ -36,8 +36,8 @@ fn push_reports(
     Ok(())
 }
 
-// The lines of the reports, the map of the host, and the line that says that they match. The one error is that
-// allocation failed.
+// Returns the text of a run in threads: the lines of the reports, the map of the host, and `audit ok`. The one error is
+// that allocation failed.
 fn text_of<S: PageStore>(
     alloc: Global,
     plan: &Plan,
@@ -53,8 +53,8 @@ fn text_of<S: PageStore>(
     Ok(text)
 }
 
-/// The text, if each report matches the host's history. Errors: Mismatch, if one does not; Memory, if allocation
-/// failed.
+/// Returns the text of a run in threads, if each report matches the host's history. Errors: Mismatch, if one does not;
+/// Memory, if allocation failed.
 pub fn audited_text_of<S: PageStore>(
     alloc: Global,
     plan: &Plan,

@@ -16,7 +16,7 @@ fn is_of_kind(act: &Act, kind: Kind) -> bool
     }
 }
 
-/// Whether an undo of a build that has these operations open performed this operation, and got this reply to it.
+/// Whether `act` and the reply `undone` fit an undo of a build whose open operations are `opened`.
 pub(crate) fn is_undone(opened: &[Act], undone: &Undone, act: &Act) -> bool
     ensures { IsTrue result ↔ IsFittingUndo opened.now undone.now act.now }
 {

@@ -20,7 +20,7 @@ use std::marker::{Brand, Send, Sync};
 use std::sync::Wait;
 use std::thread::Threads;
 
-// Runs the workers of the plan's builds in new seats of a shared host to their end, and returns their results.
+// Runs a worker in each new seat of a shared host until all have ended, and returns the workers' results.
 fn work_all<
     R: Threads + Wait + Sync,
     S: PageStore + Send,
@@ -46,8 +46,7 @@ fn work_all<
     Ok(ends)
 }
 
-// Runs the workers of the plan's builds in new seats of a shared host, closes the host, and returns the text of the
-// run.
+// Runs a worker in each new seat of a shared host, closes the host, and returns the text of the run.
 fn run_shared<
     R: Threads + Wait + Sync,
     S: PageStore + Drop + Send,
@@ -72,7 +71,7 @@ fn run_shared<
     audited_text_of(alloc, plan, reports.as_slice(), &host)
 }
 
-// Runs a plan as `run_text` does, with ledgers of these names.
+// Runs a plan as `run_text` does, with ledgers that are made from `blanks`.
 fn run_with<
     R: Threads + Wait + Sync,
     S: PageStore + Drop + Send,
@@ -129,7 +128,7 @@ pub struct Ends<L: Ledgers> {
     pub reports: Vec<(Report, Vec<Step>)>,
 }
 
-/// The seat and the report of each worker, in sequence.
+/// Returns the seat and the report of each worker, in sequence.
 pub(crate) fn ends_of<L: Ledgers>(
     alloc: Global,
     workers: Vec<Worker<L>>,

@@ -35,7 +35,7 @@ fn perform<H: Env + AllocGlobal + Threads + Wait + Sync, R: Read, W: Write>(
     Ok(())
 }
 
-/// The exit status. If the program stops, standard error has the reason.
+/// Prints why the program stops, if it does, and returns the exit status.
 fn end(rt: &HostRuntime, outcome: Result<(), Stop<Fault>>) -> ExitCode
     ensures value { exit_status result ≡ status_of_outcome outcome }
     ensures stops { IfErr outcome (λ _. IsStatus (exit_status result)) }

@@ -24,7 +24,7 @@ fn awaited(asked: ViewSubcommand) -> &'static str {
     }
 }
 
-/// The lines of the output that are painted on a terminal.
+/// The lines of the output that are coloured on a terminal.
 fn painting(asked: ViewSubcommand) -> Option<Painting> {
     match asked {
         ViewSubcommand::Check | ViewSubcommand::Why { .. } => Some(Painting::Messages),

@@ -1,13 +1,13 @@
-//! The progress of a sample, on a terminal.
+//! The progress of a sample of schedules, on a terminal.
 use std::cell::Cell;
 use std::io::IsTerminal;
 use std::time::Instant;
 use view_program::schedules::Progress;
 
-/// Milliseconds from one line to the next.
+/// The least number of milliseconds from one progress line to the next.
 const PAUSE: u128 = 200;
 
-/// The line on standard error, if that is a terminal, with the number of schedules that were run. It is written over
+/// A progress line with the number of schedules run so far, on standard error if that is a terminal. It is written over
 /// the one before it, five times a second at most.
 #[derive(Drop)]
 pub struct Meter<'a> {

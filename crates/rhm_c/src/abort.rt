@@ -18,7 +18,7 @@ pub(crate) fn begin(host: &mut PlainHost, build: BuildId) -> CallAnswer
     counted(&host.begin_abort(build))
 }
 
-/// Undoes all that a build has open.
+/// Undoes all open operations of a build.
 pub(crate) fn abort(host: &mut PlainHost, build: BuildId) -> CallAnswer
     ensures { IsAbortedHere host.old build result host.new }
 {
@@ -42,7 +42,8 @@ pub extern "C" fn rhm_begin_abort(
     call_build(alloc, handle, build, BuildCall::BeginAbort, value)
 }
 
-/// Undoes all that a build has open at once, the newest first. Returns 0, with the number of operations in `value`.
+/// Undoes all open operations of a build in one call, the newest first. Returns 0, with the number of operations in
+/// `value`.
 ///
 /// Else nothing changes: 1 and 8 are the refusals, and 14 a closed handle.
 #[unsafe(no_mangle)]

@@ -1,12 +1,12 @@
-//! Operations of a host on an RMM, as C has them.
+//! The C form of a host's operations on an RMM.
 ghost use Rattle.std.specs.Prelude.{◌≡◌, slice_index_or};
 ghost use Rattle.rhm_c.specs.Action as shown;
 
 use history_calls::HostAction;
 use rmi_abi::{Call, Registers, encode_call};
 
-/// An operation of a host on an RMM: its kind, the registers of a call, and its operands. Those that its kind has not
-/// are 0.
+/// The kind, the registers of a call, and the operands of a host's operation on an RMM. Fields that the kind does not
+/// use are 0.
 #[repr(C)]
 #[derive(Clone, Copy)]
 pub struct RawAction {
@@ -29,8 +29,8 @@ pub struct RawAction {
     pub aux: [u64; 16],
 }
 
-/// The operations of a host for a command: how many there are, at most 5, and each. X0 of the model is 0 if it performs
-/// the call, and else the word of its refusal.
+/// The operations of a host for a command, with their number, which is at most 5. `expected` is the model's X0: 0 if
+/// the model performs the call, or else the word of the refusal.
 #[repr(C)]
 #[derive(Clone, Copy)]
 pub struct RawActions {
@@ -39,7 +39,7 @@ pub struct RawActions {
     pub actions: [RawAction; 5],
 }
 
-// The operation of a kind, without operands, and with the registers of a call.
+// An operation of the given kind, with the registers of a call and without operands.
 fn with_registers(kind: u64, r: Registers) -> RawAction
     ensures { result ≡ shown.with_registers kind r }
 {
@@ -64,7 +64,7 @@ fn with_registers(kind: u64, r: Registers) -> RawAction
     }
 }
 
-// The operation of a kind on an address.
+// An operation of the given kind on an address.
 fn plain(kind: u64, address: u64) -> RawAction
     ensures { result ≡ shown.plain_action kind address }
 {
@@ -83,7 +83,7 @@ fn plain(kind: u64, address: u64) -> RawAction
     }
 }
 
-// The address of an auxiliary granule; 0 if there is none.
+// The address of the auxiliary granule at an index; 0 if there is none.
 fn address_at(auxiliaries: &[u64], place: usize) -> u64
     ensures { result ≡ slice_index_or auxiliaries.now place 0 }
 {
@@ -104,7 +104,7 @@ pub(crate) fn padded(auxiliaries: &[u64]) -> [u64; 16]
     aux
 }
 
-// A call, with its output in X1 if that is known.
+// The C form of a call, with the call's output in X1 if the output is known.
 fn call_action(call: Call, x1: Option<u64>) -> RawAction
     ensures { result ≡ shown.call_action call x1 }
 {
@@ -119,7 +119,7 @@ fn call_action(call: Call, x1: Option<u64>) -> RawAction
     }
 }
 
-// The operation as C has it.
+// The C form of an operation.
 fn raw_action(action: &HostAction) -> RawAction
     ensures { result ≡ shown.raw_action action.now }
 {
@@ -166,7 +166,7 @@ fn raw_action(action: &HostAction) -> RawAction
     }
 }
 
-// The operation on a REC as C has it; that of kind 0 for any other.
+// The C form of an operation on a REC; an operation of kind 0 for any other operation.
 fn rec_action(action: &HostAction) -> RawAction
     ensures { result ≡ shown.rec_action action.now }
 {
@@ -190,7 +190,7 @@ fn rec_action(action: &HostAction) -> RawAction
     }
 }
 
-// The operation of a place; that of kind 0 if there is none.
+// The C form of the operation at an index; an operation of kind 0 if there is none.
 fn raw_at(actions: &[HostAction], place: usize) -> RawAction
     ensures { result ≡ shown.raw_at actions.now place }
 {
@@ -200,7 +200,7 @@ fn raw_at(actions: &[HostAction], place: usize) -> RawAction
     }
 }
 
-/// The operations as C has them, with X0 of the model.
+/// The C form of operations, with the model's X0.
 pub(crate) fn raw_actions(actions: &[HostAction], expected: u64) -> RawActions
     ensures { result ≡ shown.raw_actions expected actions.now }
 {

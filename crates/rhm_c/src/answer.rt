@@ -1,10 +1,10 @@
-//! Answers as C has them: a status, and a value.
+//! The C form of answers: a status and a value.
 ghost use Rattle.std.specs.Prelude.{◌≡◌};
 ghost use Rattle.rhm_c.specs.Answer as answers;
 
 use host_commands::{Refusal, Reply};
 
-/// The status of a call, and its value; 0 if it has none.
+/// The status of a call, and a value, which is 0 for a status without one.
 #[derive(Clone, Copy)]
 pub(crate) struct CallAnswer {
     pub(crate) status: u64,
@@ -17,21 +17,21 @@ pub(crate) const NO_BUILD: u64 = 1;
 /// The status of a call on a closed handle.
 pub(crate) const CLOSED: u64 = 14;
 
-/// The answer of a closed handle.
+/// The answer to a call on a closed handle.
 pub(crate) fn closed() -> CallAnswer
     ensures { result ≡ answers.closed }
 {
     only(CLOSED)
 }
 
-/// A status without a value.
+/// An answer with a status and no value.
 pub(crate) fn only(status: u64) -> CallAnswer
     ensures { result ≡ answers.only status }
 {
     CallAnswer { status, value: 0 }
 }
 
-/// An answer that the call is done.
+/// The answer to a call that is done, with a value.
 pub(crate) fn done(value: u64) -> CallAnswer
     ensures { result ≡ answers.done value }
 {

@@ -1,4 +1,4 @@
-//! Commands that are performed at once.
+//! Commands that are performed in one step.
 ghost use Rattle.std.specs.Prelude.{◌≡◌};
 ghost use Rattle.realm_host.specs.Call.{Ask};
 ghost use Rattle.rhm_c.specs.Command as commands;

@@ -1,4 +1,4 @@
-//! Commands as C has them.
+//! The C form of commands.
 ghost use Rattle.std.specs.Prelude.{◌≡◌, ◌≤◌, true, take};
 ghost use Rattle.rhm_c.specs.Command as commands;
 
@@ -7,8 +7,7 @@ use arrayvec::ArrayVec;
 use granule_addr::{BuildId, PageOff, RecNo};
 use host_commands::Cmd;
 
-/// A command of a build: its kind, and its operands. An operand that its kind has not is not used, but it has to be in
-/// its range.
+/// The kind and the operands of a build's command. An operand that the kind does not use has to be in its range, too.
 #[repr(C)]
 #[derive(Drop)]
 pub struct RawCommand {
@@ -79,7 +78,7 @@ impl RawCommand {
         RecNo::new(self.rec as u16)
     }
 
-    // The command of a kind from that of a Take to that of a Rtt.
+    // The command of a kind from 0 (Take) to 5 (Rtt); `None` for any other kind.
     fn first_command(&self) -> Option<Cmd>
         requires { commands.operands_fit self.now ≡ true }
         ensures { result ≡ commands.first_command self.now }
@@ -113,7 +112,7 @@ impl RawCommand {
         }
     }
 
-    // The command of a kind from that of a Ripas to that of a Rec.
+    // The command of a kind from 6 (Ripas) to 9 (Rec); `None` for any other kind, or without valid auxiliaries.
     fn next_command(&self) -> Option<Cmd>
         requires { commands.operands_fit self.now ≡ true }
         ensures { result ≡ commands.next_command self.now }
@@ -140,7 +139,7 @@ impl RawCommand {
         }
     }
 
-    // The command of a kind from that of an Activate to that of a Poke.
+    // The command of a kind from 10 (Activate) to 13 (Poke); `None` for any other kind.
     fn last_command(&self) -> Option<Cmd>
         requires { commands.operands_fit self.now ≡ true }
         ensures { result ≡ commands.last_command self.now }
@@ -163,7 +162,7 @@ impl RawCommand {
         }
     }
 
-    // The command, if it is one.
+    // The command that the kind and the operands encode, if they encode one.
     pub(crate) fn command(&self) -> Option<Cmd>
         ensures { result ≡ commands.command_in self.now }
     {
@@ -179,7 +178,7 @@ impl RawCommand {
     }
 }
 
-// The build of that number. There are at most 8.
+// The build with the given number; `None` for a number above 7.
 pub(crate) fn build_of(number: u64) -> Option<BuildId>
     ensures { result ≡ commands.build_in number }
 {
@@ -193,7 +192,7 @@ pub(crate) fn build_of(number: u64) -> Option<BuildId>
 // The status for operands that are no command.
 const NO_COMMAND: u64 = 15;
 
-// The build and its command; or the status that says why there is none.
+// The build and its command, or the status for a number that is no build or operands that are no command.
 pub(crate) fn asked(build: u64, raw: &RawCommand) -> Result<(BuildId, Cmd), u64>
     ensures { result ≡ commands.command_asked build raw.now }
 {

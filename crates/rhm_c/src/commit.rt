@@ -1,5 +1,5 @@
-//! Commands and undos that are committed: the RMM has answered, and the host performs them if the model's answer is the
-//! same.
+//! Commits of prepared commands and undos. The RMM has answered, and the host performs the command or the undo if the
+//! model's answer is the same.
 ghost use Rattle.std.specs.Prelude.{◌≡◌};
 ghost use Rattle.std.specs.List.{list_all};
 ghost use Rattle.rhm_c.specs.Command as commands;
@@ -24,15 +24,15 @@ pub struct FirmwareAnswer {
     pub x1: u64,
 }
 
-// The X0 after an entry of a REC that runs on, as the RMM by registers of this repository has it.
+// The X0 with which this repository's RMM by registers answers the entry of a REC that runs on.
 const RUNNING: u64 = 0xFFFF_FFFF_FFFF_FFFE;
 
-// The statuses of an X0 that is not the model's, and of another output.
+// The statuses for an X0 that is not the model's, and for an X1 that is not the known output.
 const DIVERGED: u64 = 16;
 
 const OTHER_OUTPUT: u64 = 17;
 
-// The answer to an X0 that is not the model's; `word` is the model's.
+// The answer to an X0 other than `word`, the model's X0.
 fn diverged(word: u64) -> CallAnswer
     ensures { result ≡ commits.diverged word }
 {
@@ -42,7 +42,7 @@ fn diverged(word: u64) -> CallAnswer
     }
 }
 
-// Whether this X0 says that the RMM has performed an operation: its status is RMI_SUCCESS.
+// Whether an RMM that answers with `x0` has performed an operation. An operation that is no call counts as performed.
 fn is_performed(action: &HostAction, x0: u64) -> bool
     ensures { result ≡ commits.is_performed x0 action.now }
 {
@@ -53,7 +53,7 @@ fn is_performed(action: &HostAction, x0: u64) -> bool
     }
 }
 
-// Whether this X1 is the output of an operation, if it has one that is known.
+// Whether `x1` is the known output of an operation, or the operation has no known output.
 fn is_output(action: &HostAction, x1: u64) -> bool
     ensures { result ≡ commits.is_output x1 action.now }
 {
@@ -66,21 +66,21 @@ fn is_output(action: &HostAction, x1: u64) -> bool
     }
 }
 
-// Whether this X0 says that the RMM has performed each of the operations.
+// Whether an RMM that answers with `x0` has performed each of the operations.
 fn are_performed(actions: &[HostAction], x0: u64) -> bool
     ensures { result ≡ list_all (commits.is_performed x0) actions.now }
 {
     actions.iter().all(|action| is_performed(action, x0))
 }
 
-// Whether this X1 is the output of each of the operations that has one.
+// Whether `x1` is the output of each operation that has a known output.
 fn are_outputs(actions: &[HostAction], x1: u64) -> bool
     ensures { result ≡ list_all (commits.is_output x1) actions.now }
 {
     actions.iter().all(|action| is_output(action, x1))
 }
 
-// Checks that the RMM's answer is that of the model, which performs the operations. The error is the call's answer.
+// Checks that the RMM's answer is the model's, for operations that the model performs. The error is the call's answer.
 fn check_performed(actions: &[HostAction], answer: &FirmwareAnswer) -> Result<(), CallAnswer>
     ensures { result ≡ commits.check_performed answer.now actions.now }
 {
@@ -93,7 +93,7 @@ fn check_performed(actions: &[HostAction], answer: &FirmwareAnswer) -> Result<()
     Ok(())
 }
 
-// The answer to the X0 of a call that the model refuses.
+// The answer to the commit of a call that the model refuses, by the RMM's X0.
 fn check_refused(refusal: &Refusal, x0: u64) -> CallAnswer
     ensures { result ≡ commits.check_refused x0 refusal.now }
 {
@@ -103,7 +103,7 @@ fn check_refused(refusal: &Refusal, x0: u64) -> CallAnswer
     }
 }
 
-// Checks that a prepared call can be committed, by the RMM's answer and the host's refusal, if any. The error is the
+// Checks that the RMM's answer and the host's refusal, if any, allow the commit of a prepared call. The error is the
 // call's answer.
 fn check(
     prepared: Result<Actions, Refusal>,
@@ -142,7 +142,7 @@ fn commit(
     }
 }
 
-// Commits an undo of a build that is named by its number.
+// Commits an undo of a build given by number.
 fn commit_undo(
     frame: Frame,
     host: &mut PlainHost,
@@ -160,8 +160,8 @@ fn commit_undo(
     }
 }
 
-/// Commits a command of a build that was prepared: the RMM has answered with these registers. If the model's answer is
-/// the same, does what `rhm_ask` does, and returns what it returns.
+/// Commits a prepared command of a build, with the registers of the RMM's answer. If the model's answer is the same,
+/// does and returns what `rhm_ask` would.
 ///
 /// Else nothing changes. 16: X0 is not the model's, which is `value`: 0 if the model performs the call, and else the word
 /// of its refusal. 17: X0 is the model's, and X1 is not the output that the host knows.
@@ -185,8 +185,8 @@ pub extern "C" fn rhm_commit(
     given(committed, value)
 }
 
-/// Commits an undo of a build that was prepared, as `rhm_commit` does a command. Returns 0, with the number of
-/// operations that are left open in `value`.
+/// Commits a prepared undo of a build, as `rhm_commit` commits a command. Returns 0, with the number of operations that
+/// are left open in `value`.
 #[unsafe(no_mangle)]
 pub extern "C" fn rhm_commit_undo(
     alloc: Global,

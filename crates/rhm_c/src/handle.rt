@@ -1,4 +1,4 @@
-//! Handles: what C keeps of a host.
+//! The handles by which C keeps hosts.
 ghost use Rattle.std.specs.Prelude.{◌≡◌, Some, None, IfSome, IfNone, is_some};
 
 use crate::{HeldHost, PlacedHost};
@@ -6,7 +6,7 @@ use box_parts::BoxParts;
 use std::alloc::Global;
 use std::mem::replace;
 
-/// A host that C keeps, or none, which is a closed handle. A handle whose bytes are all 0 is closed.
+/// The handle by which C keeps a host. A closed handle has no host. A handle whose bytes are all 0 is closed.
 #[repr(C)]
 #[derive(Drop)]
 pub struct HostHandle {
@@ -44,7 +44,7 @@ impl HostHandle {
         };
     }
 
-    // Whether there is a host.
+    // Whether the handle has a host.
     pub(crate) fn is_open(&mut self) -> bool
         ensures answer { result ≡ is_some self.old.held.host }
         ensures same { self.new ≡ self.old }

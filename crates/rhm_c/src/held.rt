@@ -1,4 +1,4 @@
-//! A host on the heap that C keeps. No other file knows its pointer.
+//! A heap-allocated host that C keeps. No other file knows its pointer.
 ghost use Rattle.std.specs.Prelude.{◌≡◌, true, Option, Some, None, is_some};
 ghost use Rattle.std.specs.Coded.{coded_option};
 ghost use Rattle.rhm_c.specs.Codes.{placed_host_code};

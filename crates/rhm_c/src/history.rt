@@ -14,7 +14,7 @@ use history_calls::Frame;
 use realm_model::{Act, Event};
 use std::alloc::Global;
 
-/// An event: its build, its kind, and its operands. Those that its kind has not are 0.
+/// The build, the kind and the operands of an event. Operands that the kind does not have are 0.
 ///
 /// `granule` is the address of the granule that the operation names first, and `second` that of the first starting table
 /// or of the source. `count` is a number of granules or of IPA granules. `aux` has the addresses of a REC's auxiliaries.
@@ -36,7 +36,7 @@ pub struct RawEvent {
     pub aux: [u64; 16],
 }
 
-// An operation of a kind, without operands.
+// An event of the given kind, without build and operands.
 fn plain(kind: u64) -> RawEvent
     ensures { result ≡ histories.plain_event kind }
 {
@@ -57,7 +57,7 @@ fn plain(kind: u64) -> RawEvent
     }
 }
 
-// An operation of a kind on a granule.
+// An event of the given kind on a granule.
 fn on_granule(frame: Frame, kind: u64, granule: Gran) -> RawEvent
     ensures { result ≡ histories.on_granule frame kind granule }
 {
@@ -67,7 +67,7 @@ fn on_granule(frame: Frame, kind: u64, granule: Gran) -> RawEvent
     }
 }
 
-// A realm that is created or removed.
+// The event of a realm that is created or removed.
 fn on_realm(frame: Frame, kind: u64, rd: Gran, root: Root, vmid: Vmid) -> RawEvent
     ensures { result ≡ histories.realm_event frame kind rd root vmid }
 {
@@ -90,7 +90,7 @@ fn addresses(frame: Frame, granules: &ArrayVec<Gran, 16>) -> ArrayVec<u64, 16>
     addresses
 }
 
-// A REC that is created or removed.
+// The event of a REC that is created or removed.
 fn on_rec(
     frame: Frame,
     kind: u64,
@@ -108,7 +108,7 @@ fn on_rec(
     }
 }
 
-// An operation on pages, or on a realm's descriptor.
+// The event of an operation on pages or on a realm's descriptor.
 fn page_event(frame: Frame, act: &Act) -> RawEvent
     ensures { result ≡ histories.page_event frame act.now }
 {
@@ -142,7 +142,7 @@ fn page_event(frame: Frame, act: &Act) -> RawEvent
     }
 }
 
-// An operation on a realm's tables or memory; that of a page for any other.
+// The event of an operation on a realm's tables or memory; the `page_event` of any other operation.
 fn table_event(frame: Frame, act: &Act) -> RawEvent
     ensures { result ≡ histories.table_event frame act.now }
 {
@@ -191,7 +191,7 @@ fn table_event(frame: Frame, act: &Act) -> RawEvent
     }
 }
 
-// An operation, as an event whose build is still to be set.
+// The event of an operation, with the build still to be set.
 fn act_event(frame: Frame, act: &Act) -> RawEvent
     ensures { result ≡ histories.act_event frame act.now }
 {
@@ -230,7 +230,7 @@ fn act_event(frame: Frame, act: &Act) -> RawEvent
     }
 }
 
-// An event of a build.
+// The C form of an event.
 fn raw_event(frame: Frame, event: &Event) -> RawEvent
     ensures { result ≡ histories.raw_event frame event.now }
 {
@@ -240,7 +240,7 @@ fn raw_event(frame: Frame, event: &Event) -> RawEvent
     }
 }
 
-// The event of a number.
+// The C form of the event at an index of the history.
 fn event_at(frame: Frame, host: &PlainHost, number: u64) -> Option<RawEvent>
     ensures { result ≡ histories.event_reading number frame host.now }
 {
@@ -262,8 +262,8 @@ pub extern "C" fn rhm_event_count(alloc: Global, handle: &mut HostHandle) -> u64
     count
 }
 
-/// Writes the event of a number, from 0 on, to `reading`. Returns false, and writes nothing, if there is none, and for
-/// a closed handle.
+/// Writes event `number` of the history, counted from 0, to `reading`. Returns false, and writes nothing, if there is
+/// no such event, and for a closed handle.
 #[unsafe(no_mangle)]
 pub extern "C" fn rhm_read_event(
     alloc: Global,

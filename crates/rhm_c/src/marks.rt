@@ -1,4 +1,4 @@
-//! Marks of builds, and the way back to one.
+//! Marks of builds, and rollbacks to a mark.
 ghost use Rattle.std.specs.Prelude.{◌≡◌};
 ghost use Rattle.rhm_c.specs.Command.{build_in};
 ghost use Rattle.rhm_c.specs.Answer.{IsOnHandle};
@@ -12,7 +12,7 @@ use granule_addr::BuildId;
 use host_commands::{Refusal, check_build};
 use std::alloc::Global;
 
-/// Keeps the point of a build as a mark.
+/// Sets the mark of a build.
 pub(crate) fn mark(host: &mut PlainHost, build: BuildId) -> CallAnswer
     ensures { IsMarkedHere host.old build result host.new }
 {
@@ -22,7 +22,7 @@ pub(crate) fn mark(host: &mut PlainHost, build: BuildId) -> CallAnswer
     }
 }
 
-// The refusal of a way back of a build that has no mark.
+// The refusal of a rollback of a build without a mark.
 fn refusal_without_mark(host: &PlainHost, build: BuildId) -> Refusal
     ensures { result ≡ refusal_without_mark host.now build }
 {
@@ -32,7 +32,7 @@ fn refusal_without_mark(host: &PlainHost, build: BuildId) -> Refusal
     }
 }
 
-/// Undoes what a build has opened above its mark.
+/// Undoes the operations that a build opened after its mark.
 pub(crate) fn roll_back(host: &mut PlainHost, build: BuildId) -> CallAnswer
     ensures { IsBackHere host.old build result host.new }
 {
@@ -42,8 +42,8 @@ pub(crate) fn roll_back(host: &mut PlainHost, build: BuildId) -> CallAnswer
     }
 }
 
-/// Keeps the point of a build as its mark, in place of an older one. Returns 0, with the number of operations that it has
-/// open in `value`.
+/// Sets the mark of a build, in place of an older mark. Returns 0, with the number of the build's open operations in
+/// `value`.
 ///
 /// Else nothing changes: 1 and 2 are the refusals, and 14 a closed handle.
 #[unsafe(no_mangle)]
@@ -59,8 +59,8 @@ pub extern "C" fn rhm_mark(
     call_build(alloc, handle, build, BuildCall::Mark, value)
 }
 
-/// Undoes at once what a build has opened above its mark, the newest first. Returns 0, with the number of operations in
-/// `value`. The mark stays.
+/// Undoes in one call the operations that a build opened after its mark, the newest first. Returns 0, with the number
+/// of operations in `value`. The mark stays.
 ///
 /// Else nothing changes: 1, 2, 7 and 8 are the refusals, of which the first that holds comes, and 14 a closed handle. 7
 /// comes if the build has no mark.

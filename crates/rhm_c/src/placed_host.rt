@@ -19,7 +19,7 @@ pub struct PlacedHost {
 }
 
 impl PlacedHost {
-    /// A host of these settings, at the start. `None` comes if there is no memory.
+    /// Opens a fresh host of these settings. `None` comes if there is no memory.
     pub(crate) fn open(alloc: Global, settings: &HostSettings) -> Option<PlacedHost>
         requires { are_settings settings.now ≡ true }
         ensures { IfSome result (λ placed. placed ≡ opened_host settings.now) }

@@ -1,4 +1,4 @@
-//! Commands and undos that are prepared: the operations that the hypervisor performs on its RMM.
+//! The preparation of commands and undos: the operations that the hypervisor is to perform on its RMM.
 ghost use Rattle.std.specs.Prelude.{◌≡◌};
 ghost use Rattle.rhm_c.specs.Preparing as preparing;
 
@@ -11,7 +11,7 @@ use history_calls::{Actions, Frame, actions_asked, actions_back, refusal_asked};
 use host_commands::Refusal;
 use std::alloc::Global;
 
-// X0 of the model, by its refusal.
+// The model's X0: the word of the refusal, or 0 if there is none.
 fn word_of(refusal: &Option<Refusal>) -> u64
     ensures { result ≡ preparing.word_of refusal.now }
 {
@@ -21,7 +21,7 @@ fn word_of(refusal: &Option<Refusal>) -> u64
     }
 }
 
-// Writes operations, and X0 of the model; or returns the number of the refusal.
+// Writes the operations and the model's X0, or returns the number of the refusal.
 fn write(actions: Result<Actions, Refusal>, refusal: Option<Refusal>, into: &mut RawActions) -> u64
     ensures { (result, into.new) ≡ preparing.prepared_or_refused actions refusal into.old }
 {
@@ -34,7 +34,7 @@ fn write(actions: Result<Actions, Refusal>, refusal: Option<Refusal>, into: &mut
     }
 }
 
-// The operations for the command that C asks for.
+// Writes the operations for the command that C asks for, and returns the status.
 fn prepare(
     frame: Frame,
     host: &PlainHost,
@@ -56,7 +56,7 @@ fn prepare(
     }
 }
 
-// The operations for an undo of a build that is named by its number.
+// Writes the operations for an undo of a build given by number, and returns the status.
 fn prepare_undo(frame: Frame, host: &PlainHost, build: u64, into: &mut RawActions) -> u64
     ensures { (result, into.new) ≡ preparing.prepared_undo build into.old frame host.now }
 {
@@ -90,7 +90,8 @@ pub extern "C" fn rhm_prepare(
     status
 }
 
-/// Prepares an undo of a build, as `rhm_prepare` does a command. 1, 7 and 8 are its refusals, and 14 a closed handle.
+/// Prepares an undo of a build, as `rhm_prepare` does a command. The refusals are 1, 7 and 8, and 14 is a closed
+/// handle.
 #[unsafe(no_mangle)]
 pub extern "C" fn rhm_prepare_undo(
     alloc: Global,

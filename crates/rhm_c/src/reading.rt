@@ -11,8 +11,8 @@ use history_calls::Frame;
 use realm_host::{GranuleState, Mark, RealmState, RecState};
 use std::alloc::Global;
 
-/// A build: the numbers of its pages and of its open operations, and whether it is in abort. `mark` is the number of
-/// operations that were open at its mark, if it has one. A flag is 1 if it holds, and 0 if not.
+/// The state of a build: the count of pages, the count of open operations, and flags for a mark and an abort. `mark` is
+/// the number of operations that were open at the mark, if the build has one. A flag is 1 if it holds, and 0 if not.
 #[repr(C)]
 #[derive(Drop)]
 pub struct BuildReading {
@@ -52,7 +52,7 @@ pub struct RecReading {
     pub state: u64,
 }
 
-// Writes what is read to `into`, which stays as it is if there is nothing. Returns whether there is something.
+// Writes a reading to `into`, if there is one, and returns whether there is one.
 pub(crate) fn report<T: Drop>(read: Option<T>, into: &mut T) -> bool
     ensures { IsRead read into.old result into.new }
 {
@@ -100,7 +100,7 @@ fn rec_state_number(state: RecState) -> u64
     }
 }
 
-// The number of operations at a mark; 0 without one.
+// The number of operations at a mark; 0 without a mark.
 fn mark_length(mark: Option<Mark>) -> u64
     ensures { result ≡ readings.mark_length mark }
 {
@@ -110,14 +110,14 @@ fn mark_length(mark: Option<Mark>) -> u64
     }
 }
 
-// A fact as a number.
+// The number of a flag: 1 if it holds, and 0 if not.
 fn flag(holds: bool) -> u64
     ensures { result ≡ readings.flag holds }
 {
     if holds { 1 } else { 0 }
 }
 
-// The build of that number, if there is one.
+// The state of the build with the given number, if there is one.
 fn build_at(host: &PlainHost, build: u64) -> Option<BuildReading>
     ensures { result ≡ readings.build_reading build host.now }
 {
@@ -135,7 +135,7 @@ fn build_at(host: &PlainHost, build: u64) -> Option<BuildReading>
     })
 }
 
-// A page of a build.
+// The address and state of a build's page, if the build has the page.
 fn page_at(frame: Frame, host: &PlainHost, build: u64, page: u64) -> Option<PageReading>
     ensures { result ≡ readings.page_reading build page frame host.now }
 {
@@ -151,7 +151,7 @@ fn page_at(frame: Frame, host: &PlainHost, build: u64, page: u64) -> Option<Page
     })
 }
 
-// The realm of a build.
+// The attributes of a build's realm, if the build has a realm.
 fn realm_at(frame: Frame, host: &PlainHost, build: u64) -> Option<RealmReading>
     ensures { result ≡ readings.realm_reading build frame host.now }
 {
@@ -169,7 +169,7 @@ fn realm_at(frame: Frame, host: &PlainHost, build: u64) -> Option<RealmReading>
     })
 }
 
-// The REC of a number in the realm of a build.
+// The address and state of REC `number` of a build's realm, if there is one.
 fn rec_at(frame: Frame, host: &PlainHost, build: u64, number: u64) -> Option<RecReading>
     ensures { result ≡ readings.rec_reading build number frame host.now }
 {
@@ -200,7 +200,8 @@ pub extern "C" fn rhm_free_count(alloc: Global, handle: &mut HostHandle) -> u64
     count
 }
 
-/// Writes a build to `reading`. Returns false, and writes nothing, if there is no such build, and for a closed handle.
+/// Writes the state of a build to `reading`. Returns false, and writes nothing, if there is no such build, and for a
+/// closed handle.
 #[unsafe(no_mangle)]
 pub extern "C" fn rhm_read_build(
     alloc: Global,
@@ -219,7 +220,7 @@ pub extern "C" fn rhm_read_build(
     report(found, reading)
 }
 
-/// Writes a page of a build, by its number there, to `reading`. Returns false, and writes nothing, if there is no such
+/// Writes the address and state of a build's page to `reading`. Returns false, and writes nothing, if there is no such
 /// page, and for a closed handle.
 #[unsafe(no_mangle)]
 pub extern "C" fn rhm_read_page(
@@ -260,8 +261,8 @@ pub extern "C" fn rhm_read_realm(
     report(found, reading)
 }
 
-/// Writes the REC of a number in the realm of a build to `reading`. Returns false, and writes nothing, if there is
-/// none, and for a closed handle.
+/// Writes the address and state of REC `number` of a build's realm to `reading`. Returns false, and writes nothing, if
+/// there is no such REC, and for a closed handle.
 #[unsafe(no_mangle)]
 pub extern "C" fn rhm_read_rec(
     alloc: Global,

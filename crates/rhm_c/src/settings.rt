@@ -1,4 +1,4 @@
-//! Settings as C has them.
+//! The C form of settings.
 ghost use Rattle.std.specs.Prelude.{◌≡◌};
 ghost use Rattle.rhm_c.specs.Settings.{are_settings};
 

@@ -1,4 +1,4 @@
-//! Undos that are performed at once.
+//! Undos that are performed in one step.
 ghost use Rattle.std.specs.Prelude.{◌≡◌};
 ghost use Rattle.rhm_c.specs.Command.{build_in};
 ghost use Rattle.rhm_c.specs.Answer.{IsOnHandle};
@@ -21,7 +21,7 @@ pub(crate) fn undo(host: &mut PlainHost, build: BuildId) -> CallAnswer
     }
 }
 
-/// Reverses the newest operation that a build has open, whatever others did since. Returns 0, with the number of
+/// Reverses the newest open operation of a build, whatever other builds did since. Returns 0, with the number of
 /// operations that are left open in `value`.
 ///
 /// Else nothing changes: 1, 7 and 8 are the refusals, and 14 a closed handle.

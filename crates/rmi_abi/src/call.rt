@@ -112,7 +112,7 @@ pub enum Call {
 
 // ---- from registers
 
-// The call of a function identifier up to that of REC_ENTER, if it is one.
+// The call in registers, if its function identifier is that of a command up to REC_ENTER.
 fn decode_first(r: Registers) -> Option<Call>
     ensures { result ≡ calls.first_call_in r }
 {
@@ -156,7 +156,7 @@ fn decode_first(r: Registers) -> Option<Call>
     }
 }
 
-// The call of a function identifier from that of RTT_CREATE on, if it is one.
+// The call in registers, if its function identifier is that of a command from RTT_CREATE on.
 fn decode_last(r: Registers) -> Option<Call>
     ensures { result ≡ calls.last_call_in r }
 {
@@ -228,7 +228,7 @@ pub fn decode_call(r: Registers) -> Option<Call>
 
 // ---- to registers
 
-// The registers of a function identifier and four operands.
+// The registers with a function identifier in X0, four operands in X1 to X4, and zeros after them.
 fn registers(function: u64, x1: u64, x2: u64, x3: u64, x4: u64) -> Registers
     ensures { result ≡ calls.registers function x1 x2 x3 x4 }
 {
@@ -243,7 +243,7 @@ fn registers(function: u64, x1: u64, x2: u64, x3: u64, x4: u64) -> Registers
     }
 }
 
-/// The registers of a call: the function identifier in X0, the operands from X1 on, and zeros.
+/// The registers of a call: the function identifier in X0, the operands from X1 on, and zeros in the rest.
 pub fn encode_call(call: Call) -> Registers
     ensures { result ≡ calls.registers_of call }
 {

@@ -4,7 +4,7 @@ ghost use Rattle.rmi_abi.specs.Gic as gic;
 
 use page_arena::word_in;
 
-/// The GIC fields that a host gives at an entry. RMM 1.0, RmiRecEnter.
+/// Functions that read and check the GIC fields of a run page, which a host gives at an entry. RMM 1.0, RmiRecEnter.
 pub struct GicFields;
 
 impl GicFields {

@@ -7,18 +7,19 @@ ghost use Rattle.rmi_abi.specs.Settings.{is_platform, default_settings};
 
 use crate::RmmSettings;
 
-/// The registers of a call are decoded as the call.
+/// The registers of a call decode to that call.
 pub fn calls_come_back()
     ensures { (call : Call) → call_in (registers_of call) ≡ Some call }
 {}
 
-/// Registers that are decoded as a call are its registers, as far as it has operands.
+/// Registers that decode to a call equal the registers of that call, once the registers after its operands are set to
+/// zero.
 pub fn registers_come_back()
     ensures { (r : Registers) (call : Call) → call_in r ≡ Some call
         → with_operands (operand_count call) r ≡ registers_of call }
 {}
 
-/// The default settings are those of a platform.
+/// The default settings are in range, as those of a platform have to be.
 pub fn defaults_are_a_platform()
     ensures values { RmmSettings.DEFAULT ≡ default_settings }
     ensures in_range { is_platform RmmSettings.DEFAULT ≡ true }

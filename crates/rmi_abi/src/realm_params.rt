@@ -32,7 +32,7 @@ fn byte_in(page: &[u8], index: usize) -> u8
 }
 
 impl RealmParams {
-    /// The parameters that a page has.
+    /// Reads the parameters of a realm from a page.
     #[tactic(auto, unfolding(crate::specs::RealmParams::realm_params_in))]
     pub fn read(page: &[u8]) -> RealmParams
         requires { length page.now ≡ 4096 }

@@ -4,7 +4,7 @@ ghost use Rattle.rmi_abi.specs.RecParams as params;
 
 use page_arena::word_in;
 
-/// The page of parameters that a host gives a REC. RMM 1.0, RmiRecParams.
+/// Functions that read the page of parameters with which a host creates a REC. RMM 1.0, RmiRecParams.
 ///
 /// Flags but RUNNABLE are ignored.
 pub struct RecParams;
@@ -31,7 +31,7 @@ impl RecParams {
         word_in(page, 64)
     }
 
-    /// General-purpose register `k`.
+    /// The initial value of general-purpose register `k`.
     pub fn gpr(page: &[u8], k: u8) -> u64
         requires page { length page.now ≡ 4096 }
         requires below { k < 8 }

@@ -4,7 +4,7 @@ ghost use Rattle.rmi_abi.specs.RecRun as runs;
 
 use page_arena::word_in;
 
-/// The flags of an entry. RMM 1.0, RmiRecEnterFlags.
+/// Functions that read the flags that a host gives at an entry. RMM 1.0, RmiRecEnterFlags.
 pub struct EnterFlags;
 
 impl EnterFlags {
@@ -47,7 +47,7 @@ impl EnterFlags {
     }
 }
 
-/// General-purpose register `k` that a host gives at an entry. RMM 1.0, RmiRecEnter.
+/// The value of general-purpose register `k` that a host gives at an entry. RMM 1.0, RmiRecEnter.
 pub fn entry_gpr(page: &[u8], k: u8) -> u64
     requires page { length page.now ≡ 4096 }
     requires below { k < 31 }
@@ -118,7 +118,7 @@ impl RecExit {
         }
     }
 
-    /// Word `k` of a run page, from 256 on.
+    /// Word `k` of the run page that has this exit, for `k` from 256 on.
     pub fn word(&self, k: u16) -> u64
         ensures { result ≡ runs.exit_word self.now k }
     {

@@ -16,7 +16,7 @@ pub enum Layout {
 pub struct RmmSettings {
     /// The address of the first granule.
     pub base: u64,
-    /// The address of the first granule that cannot be delegated, and the number of such granules.
+    /// The address of the first granule that cannot be delegated; `secure_count` is the number of such granules.
     pub secure_base: u64,
     pub secure_count: u16,
     /// The number of auxiliary granules of a REC.
@@ -27,12 +27,12 @@ pub struct RmmSettings {
     pub max_recs_order: u8,
     /// The least level of a block.
     pub block_level: u8,
-    /// NUM_BPS, NUM_WPS and GICV3_NUM_LRS of feature register 0.
+    /// NUM_BPS of feature register 0; NUM_WPS and GICV3_NUM_LRS are in the next two fields.
     pub bps: u8,
     pub wps: u8,
     pub lrs: u8,
     pub layout: Layout,
-    /// Whether RTT_INIT_RIPAS stops at an entry that is UNASSIGNED, DESTROYED.
+    /// Whether RTT_INIT_RIPAS stops at an UNASSIGNED entry whose RIPAS is DESTROYED.
     pub stops_at_destroyed: bool,
     /// Whether a REC that is not runnable extends the measurement.
     pub measures_all_recs: bool,
@@ -44,9 +44,9 @@ pub struct RmmSettings {
     pub aligns_live_top: bool,
     /// Whether a PSCI exit shows the function and the target alone.
     pub shows_target_alone: bool,
-    /// Whether bits 9:8 of a descriptor are the host's to choose, but for 0b01.
+    /// Whether a host may choose bits 9:8 of a descriptor, except the value 0b01.
     pub takes_shareability: bool,
-    /// Whether fields of RmiRealmParams above those of feature register 0 are refused.
+    /// Whether fields of RmiRealmParams that exceed those of feature register 0 are refused.
     pub checks_params: bool,
     /// Whether REC_ENTER checks gicv3_hcr and gicv3_lrs.
     pub checks_gic: bool,
@@ -132,7 +132,7 @@ impl Model for Platform {
 }
 
 impl Platform {
-    /// The platform of settings; `None` comes if a setting is out of its range.
+    /// The platform with these settings, or `None` if a setting is out of its range.
     pub fn new(settings: RmmSettings) -> Option<Platform>
         ensures { result ≡ (if ranges.is_platform settings then Some settings else None) }
     {

@@ -10,12 +10,13 @@ pub enum Word {
     ErrorRealm(u8),
     ErrorRec,
     ErrorRtt(u8),
-    /// The word of a REC_ENTER that has not returned, since its REC runs on: this RMM's own, and none of the standard.
+    /// The word of a REC_ENTER that has not returned because its REC runs on. It is this RMM's own word, and not one of
+    /// the standard.
     Running,
 }
 
 impl Word {
-    /// The word as X0 has it: the status in bits 7:0, the index in bits 15:8.
+    /// The value of X0 for a word: the status in bits 7:0, the index in bits 15:8.
     pub fn number(self) -> u64
         ensures { result ≡ words.number self }
     {
@@ -29,7 +30,7 @@ impl Word {
         }
     }
 
-    /// The word that X0 is read as; `None` comes if a number is no word.
+    /// The word that a value of X0 encodes, or `None` if the value encodes no word.
     pub fn from_number(number: u64) -> Option<Word>
         ensures { result ≡ words.word_of number }
     {

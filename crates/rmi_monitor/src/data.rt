@@ -97,7 +97,8 @@ impl<S: PageStore> Monitor<S> {
         Ok(())
     }
 
-    /// Removes a page of a realm: it is zero and DELEGATED. If it was RAM, the IPA granule is DESTROYED.
+    /// Removes a page of a realm: the page's granule is zero and DELEGATED from now on. If it was RAM, the IPA granule
+    /// is DESTROYED.
     ///
     /// RMM 1.0, RMI_DATA_DESTROY. RMI_ERROR_INPUT comes if `rd` is no RD, or the IPA granule `ipa` is not protected.
     /// RMI_ERROR_RTT comes with the level at which the walk ended, unless that is 3 and the entry there is ASSIGNED.

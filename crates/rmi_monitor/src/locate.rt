@@ -14,7 +14,7 @@ use page_arena::PageStore;
 use realm_model::Rmi;
 use rtt::Tables;
 
-// The tables of the realm of an RD, and the IPA granule of that number, if it is protected there.
+// The tables of the realm of an RD, and IPA granule `ipa`, if it is protected in that realm.
 pub(crate) fn located(rd: Gran, realm: &RealmDesc, ipa: u32) -> Option<(Tables, IpaGran)>
     ensures some { IfSome result (IsLocated realm.now rd ipa) }
     ensures none { IfNone result (is_protected_at ipa realm.now.root.width ≡ false) }
@@ -23,7 +23,8 @@ pub(crate) fn located(rd: Gran, realm: &RealmDesc, ipa: u32) -> Option<(Tables, 
     Some((tables_of(rd, realm), ipa))
 }
 
-// The tables of the realm of an RD, and the first of `count` protected IPA granules, if they are 1 to 512 of one table.
+// The tables of the realm of an RD, and IPA granule `ipa`, if `protected_run` accepts the `count` granules from `ipa`
+// on.
 pub(crate) fn located_run(
     rd: Gran,
     realm: &RealmDesc,
@@ -38,7 +39,7 @@ pub(crate) fn located_run(
 }
 
 impl<S: PageStore> Monitor<S> {
-    // The tables of the realm whose RD that is, and the IPA granule of that number, if it is protected there.
+    // Returns the tables of the realm with RD `rd` and its protected IPA granule `ipa`, or RMI_ERROR_INPUT.
     pub(crate) fn locate(&self, rd: Gran, ipa: u32) -> Result<(Tables, IpaGran), Rmi>
         requires { IsTaken self.now rd }
         ensures ok { IfOk result (Locates self.now.machine rd ipa) }

@@ -39,8 +39,8 @@ pub fn data_event(ipa: IpaGran, page: &[u8]) -> [u8; 37]
     event
 }
 
-/// The bytes of a RIPAS event: 2, the first IPA granule, and how many IPA granules become RAM. Both numbers are four
-/// bytes, big endian.
+/// The bytes of a RIPAS event: 2, the first IPA granule, and the number of IPA granules that become RAM. Both numbers
+/// are four bytes, big endian.
 ///
 /// RMM 1.0, Realm measurement, RMI_RTT_INIT_RIPAS; the bytes are this profile's own.
 #[tactic(auto, unfolding(realm_model::specs::Measurement::ripas_event))]

@@ -22,11 +22,11 @@ use std::marker::Model;
 pub struct Monitor<S: PageStore> {
     pub(crate) store: S,
     pub(crate) granules: GranuleTable,
-    // For each granule: the realm whose RD it is, the number of RECs of that realm, and the REC that it is.
+    // For each granule: the realm if it is an RD, the number of that realm's RECs, and the REC if it is a REC.
     pub(crate) realms: Vec<Option<RealmDesc>>,
     pub(crate) rec_counts: Vec<u16>,
     pub(crate) recs: Vec<Option<Rec>>,
-    // The VMIDs that realms have, and the greatest that one can have.
+    // The VMIDs that realms have, and the greatest VMID that a realm can have.
     pub(crate) used: VmidSet,
     pub(crate) vmids: u8,
     pub(crate) aux: u8,
@@ -154,7 +154,7 @@ impl<S: PageStore> Monitor<S> {
         &self.store
     }
 
-    /// The sum of the bytes of a granule; that of a table is 0.
+    /// The sum of the bytes of a granule; 0 for a table.
     pub fn byte_sum(&self, granule: Gran) -> u32
         requires { granule < length self.now.machine }
         ensures { result ≡ sum (cell_at self.now.machine granule).bytes }
@@ -166,7 +166,7 @@ impl<S: PageStore> Monitor<S> {
     }
 }
 
-// A list of `count` options, all of them `None`.
+// Returns a list of `count` options, all of them `None`.
 fn nothing<T: Drop>(alloc: Global, count: u16) -> Result<Vec<Option<T>>, AllocError>
     ensures { IfOk result (λ places. places.items ≡ replicate count None) }
 {
@@ -177,7 +177,7 @@ fn nothing<T: Drop>(alloc: Global, count: u16) -> Result<Vec<Option<T>>, AllocEr
     Ok(places)
 }
 
-// The granules of a machine, and the realm and the REC of each.
+// The granules of a machine, with the realm and the REC of each granule.
 struct Places {
     granules: GranuleTable,
     realms: Vec<Option<RealmDesc>>,
@@ -185,7 +185,7 @@ struct Places {
     recs: Vec<Option<Rec>>,
 }
 
-// The granules of a machine of `pages` pages, with no realm and no REC.
+// Returns the granules of a machine of `pages` pages, with no realm and no REC.
 fn empty_places(alloc: Global, pages: u16) -> Result<Places, AllocError>
     requires some { 1 ≤ pages }
     requires few { pages ≤ 4096 }

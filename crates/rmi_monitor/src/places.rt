@@ -1,4 +1,4 @@
-//! The realms and RECs of granules, and the moves of granules between states.
+//! Checks and moves of granules: whether granules can become a page or a REC, and their changes of state.
 ghost use Rattle.std.specs.Prelude.{◌≡◌, ◌<◌, ◌&&◌, ◌∷◌, All, IsTrue, length, Some, None, option_map, slice_set};
 ghost use Rattle.std.specs.List.{list_all};
 ghost use Rattle.granule_addr.specs.Page.{zero_page};
@@ -23,7 +23,7 @@ pub(crate) fn tables_of(rd: Gran, realm: &RealmDesc) -> Tables
     }
 }
 
-// Extends the measurement of a realm, if there is one.
+// Extends the measurement of a realm; changes nothing if there is no realm.
 pub(crate) fn measure(place: &mut Option<RealmDesc>, event: &[u8])
     ensures { place.new ≡ option_map (measured_by event.now) place.old }
 {
@@ -48,7 +48,7 @@ fn is_undelegated(granules: &GranuleTable, granule: Gran) -> bool
     matches!(granules.state(granule), GranuleState::Undelegated)
 }
 
-// Whether the bytes of a granule can be those of a page: it is UNDELEGATED, and the page's granule is DELEGATED.
+// Whether the bytes of `source` can be copied into `page`: `source` is UNDELEGATED, and `page` is DELEGATED.
 pub(crate) fn can_be_copied(granules: &GranuleTable, source: Gran, page: Gran) -> bool
     requires source { source < length granules.now }
     requires page { page < length granules.now }
@@ -70,7 +70,7 @@ pub(crate) fn are_delegated(granules: &GranuleTable, all: &[Gran]) -> bool
     true
 }
 
-// Whether a granule is not one of the others.
+// Whether `granule` is none of `others`.
 pub(crate) fn is_apart(granule: Gran, others: &[Gran]) -> bool
     ensures { result ≡ is_apart_from granule others.now }
 {
@@ -106,7 +106,7 @@ pub(crate) fn can_be_rec(granules: &GranuleTable, first: Gran, others: &[Gran], 
         && are_different(first, others)
 }
 
-// Moves granules, no two the same, from one state to another of a realm.
+// Moves distinct granules from one state to another, as granules of a realm.
 pub(crate) fn shift_all(
     granules: &mut GranuleTable,
     all: &[Gran],
@@ -123,7 +123,7 @@ pub(crate) fn shift_all(
     }
 }
 
-// Clears a granule's page, and moves the granule from its state to DELEGATED, of no realm.
+// Clears a granule's page, and moves the granule from its state to DELEGATED, without a realm.
 pub(crate) fn release<S: PageStore>(
     store: &mut S,
     granules: &mut GranuleTable,
@@ -141,7 +141,7 @@ pub(crate) fn release<S: PageStore>(
     granules.shift(granule, from, GranuleState::Delegated, None);
 }
 
-// Clears the pages of granules, no two the same, and moves the granules from their state to DELEGATED, of no realm.
+// Clears the pages of distinct granules, and moves the granules from their state to DELEGATED, without a realm.
 pub(crate) fn release_all<S: PageStore>(
     store: &mut S,
     granules: &mut GranuleTable,

@@ -30,7 +30,7 @@ impl<S: PageStore> Monitor<S> {
         self.recs[granule.number() as usize].as_ref()
     }
 
-    /// Returns the end of the walk of an IPA granule towards a level in the realm of that RD. Returns `None` if the
+    /// Returns the end of the walk of an IPA granule towards a level, in the realm with RD `rd`. Returns `None` if the
     /// granule is no RD, or if the IPA granule is not in the realm's address space.
     ///
     /// `ipa` is the number of an IPA granule, of either half of the address space. RMM 1.0, RTT walk.

@@ -15,7 +15,7 @@ use page_arena::PageStore;
 use realm_model::{GranuleState, Rmi};
 use rtt::{GranuleTable, Tables};
 
-// Whether a granule of that number can be a starting table beside that RD.
+// Whether granule `number` exists and can be a starting table of a realm with RD `rd`.
 fn can_start(granules: &GranuleTable, rd: Gran, number: u16) -> bool
     ensures { result ≡ is_fit_to_start granules.now rd number }
 {
@@ -25,7 +25,7 @@ fn can_start(granules: &GranuleTable, rd: Gran, number: u16) -> bool
     }
 }
 
-// Whether each of the tables can be a starting table beside their RD.
+// Whether all granules of the starting tables can be starting tables of a realm with their RD.
 fn can_all_start(granules: &GranuleTable, tables: &Tables) -> bool
     ensures { result ≡ list_all (is_fit_to_start granules.now tables.now.rd) (starting_tables tables.now.root) }
 {
@@ -102,7 +102,8 @@ impl<S: PageStore> Monitor<S> {
         Ok(())
     }
 
-    /// Removes a realm that has no REC and no table below its starting tables: these and its RD are zero and DELEGATED.
+    /// Removes a realm that has no REC and no table below its starting tables. The starting tables and the RD are then
+    /// zero and DELEGATED.
     ///
     /// RMM 1.0, RMI_REALM_DESTROY. RMI_ERROR_INPUT comes if the granule is no RD, RMI_ERROR_REALM if the realm has a
     /// REC, or an entry of a starting table is TABLE.

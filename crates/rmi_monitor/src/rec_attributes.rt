@@ -31,7 +31,7 @@ impl Model for Rec {
 }
 
 impl Rec {
-    /// A new REC: READY, with that number in its realm and those auxiliary granules.
+    /// A new REC: READY, with the given number in its realm and the given auxiliary granules.
     ///
     /// RMM 1.0, RMI_REC_CREATE.
     pub fn new(number: RecNo, auxiliaries: ArrayVec<Gran, 16>) -> Rec

@@ -77,7 +77,8 @@ impl<S: PageStore> Monitor<S> {
         Ok(())
     }
 
-    // The tables and the first IPA granule of the pages of a NEW realm that become RAM.
+    // Checks the operands of `rtt_init_ripas`, and returns the realm's tables and the first IPA granule, or the
+    // refusal.
     fn check_run(&self, rd: Gran, ipa: u32, count: u16) -> Result<(Tables, IpaGran), Rmi>
         requires { IsTaken self.now rd }
         ensures ok { IfOk result (λ at. LocatesNew self.now.machine rd ipa at × (is_page_run ipa count ≡ true)) }

@@ -1,4 +1,4 @@
-//! Accesses of guests to the pages that they reach.
+//! Reads and writes of memory by guests.
 ghost use Rattle.std.specs.Prelude.{◌≡◌, ◌+◌, ◌<◌, ◌≤◌, true, false};
 ghost use Rattle.rmm_model.specs.Access as accesses;
 ghost use Rattle.rmm_model.specs.Machine.{granule_count};
@@ -37,7 +37,7 @@ fn set_four_bytes<S: PageStore>(granules: &mut Granules<S>, granule: Gran, offse
     set_two_bytes(granules, granule, offset + 2, value / 0x1_0000);
 }
 
-// Writes a value to a granule, by an access of a size at an address.
+// Writes a value to a granule, as an access of the given size at an address.
 #[tactic(auto, unfolding(rmm_model::specs::Access::with_value))]
 fn set_value<S: PageStore>(
     granules: &mut Granules<S>,

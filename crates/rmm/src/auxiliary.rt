@@ -25,7 +25,7 @@ fn wipe<S: PageStore>(granules: &mut Granules<S>, granule: Gran, kept: &RmmGranu
     granules.fill(granule, 0);
 }
 
-// Auxiliary granule k of a REC, if its page names a granule of the machine.
+// Auxiliary granule k of a REC, if its address in the REC's page is that of a granule of the machine.
 fn aux_granule<S: PageStore>(granules: &Granules<S>, rec: Gran, k: u8) -> Option<Gran>
     requires inside { rec < granule_count granules.now }
     requires below { k < 16 }
@@ -49,7 +49,7 @@ fn set_one<S: PageStore>(granules: &mut Granules<S>, rec: Gran, kept: &RmmGranul
     }
 }
 
-// Gives the first auxiliary granules of a REC other attributes, and wipes them.
+// Gives the first `count` auxiliary granules of a REC other attributes, and wipes them.
 pub fn set_aux<S: PageStore>(granules: &mut Granules<S>, rec: Gran, kept: &RmmGranule, count: u8)
     requires inside { rec < granule_count granules.old }
     requires plain { realm_of kept.now.state ≡ None }

@@ -38,7 +38,7 @@ pub struct Mapped {
 
 // ---- making
 
-// The place of the page that RMI_DATA_CREATE_UNKNOWN maps, if its operands pass.
+// Returns the place of the page that RMI_DATA_CREATE_UNKNOWN maps, or the failed condition.
 #[tactic(auto, unfolding(rmm_model::specs::Command::DataCreateUnknown::data_create_unknown))]
 fn find_vacancy<S: PageStore>(
     granules: &Granules<S>,
@@ -64,7 +64,7 @@ fn find_vacancy<S: PageStore>(
     })
 }
 
-// RMI_DATA_CREATE_UNKNOWN
+// Performs RMI_DATA_CREATE_UNKNOWN.
 #[tactic(auto, unfolding(rmm_model::specs::Command::DataCreateUnknown::data_create_unknown))]
 pub fn data_create_unknown<S: PageStore>(
     granules: &mut Granules<S>,
@@ -95,7 +95,7 @@ pub fn data_create_unknown<S: PageStore>(
 
 // ---- removing
 
-// The RIPAS that is left where memory of a RIPAS was.
+// The RIPAS that an entry has after its page is removed, by its RIPAS before.
 fn left_ripas(ripas: RmmRipas) -> RmmRipas
     ensures { result ≡ destroying.left_ripas ripas }
 {
@@ -133,7 +133,7 @@ fn check_mapped<S: PageStore>(
     }
 }
 
-// The page that RMI_DATA_DESTROY removes, if its operands pass.
+// Returns the page that RMI_DATA_DESTROY removes, or the failed condition.
 #[tactic(auto, unfolding(rmm_model::specs::Command::DataDestroy::data_destroy))]
 fn find_mapped<S: PageStore>(
     granules: &Granules<S>,
@@ -152,7 +152,7 @@ fn find_mapped<S: PageStore>(
     Ok(Mapped { data, found, entry })
 }
 
-// RMI_DATA_DESTROY
+// Performs RMI_DATA_DESTROY.
 #[tactic(auto, unfolding(rmm_model::specs::Command::DataDestroy::data_destroy))]
 pub fn data_destroy<S: PageStore>(granules: &mut Granules<S>, rd: u64, ipa: u64) -> SmcResult
     ensures answer { result

@@ -25,7 +25,7 @@ pub struct Source {
     pub granule: Gran,
 }
 
-// The RD of a new page with its realm, and the table of its entry.
+// The RD and the realm of a new page, and the table of the page's entry.
 #[derive(Clone, Copy)]
 pub struct Target {
     pub owner: Rd,
@@ -43,7 +43,7 @@ pub struct NewPage {
 
 // ---- operands
 
-// Checks that all flags but bit 0 are clear, if the settings say that they are checked.
+// Checks that all flags but bit 0 are clear, if the settings require the check.
 fn check_flags(settings: &RmmSettings, flags: u64) -> Result<(), FailedCondition>
     ensures { refusal_in result ≡ first_failing (flags_checks settings.now flags) }
 {
@@ -53,7 +53,7 @@ fn check_flags(settings: &RmmSettings, flags: u64) -> Result<(), FailedCondition
     Ok(())
 }
 
-// The source and the granule of a page of data, if they pass.
+// Returns the source and the granule of a page of data, or the failed condition.
 #[tactic(auto, unfolding(rmm_model::specs::Command::DataCreate::source_checks), using(crate::proofs::StatesDiffer::delegated_apart))]
 fn find_source<S: PageStore>(
     granules: &Granules<S>,
@@ -89,7 +89,7 @@ fn check_vacant(
     Ok(())
 }
 
-// The realm and the entry of a page of data, if they pass.
+// Returns the realm of a page of data and the table of its entry, or the failed condition.
 #[tactic(auto, unfolding(rmm_model::specs::Command::DataCreate::target_checks))]
 fn find_target<S: PageStore>(
     granules: &Granules<S>,
@@ -107,7 +107,7 @@ fn find_target<S: PageStore>(
     Ok(Target { owner, found })
 }
 
-// The page that RMI_DATA_CREATE makes, if its operands pass.
+// Returns the page that RMI_DATA_CREATE makes, or the failed condition.
 fn find_page<S: PageStore>(
     granules: &Granules<S>,
     rd: u64,
@@ -159,7 +159,7 @@ fn rim_with_data(realm: &RmmRealm, ipa: u64, flags: u64, page: &[u8]) -> [u8; 64
 
 // ---- the command
 
-// Turns a granule into a page of data with the bytes of its source, and writes the entry that leads to it.
+// Makes a granule a page of data with the bytes of a source granule, and writes the entry that leads to the page.
 fn write_page<S: PageStore>(granules: &mut Granules<S>, place: &NewPage, page: u64, ipa: u64)
     requires source { place.now.source < granule_count granules.old }
     requires inside { place.now.granule < granule_count granules.old }
@@ -182,7 +182,7 @@ fn write_page<S: PageStore>(granules: &mut Granules<S>, place: &NewPage, page: u
     );
 }
 
-// RMI_DATA_CREATE
+// Performs RMI_DATA_CREATE.
 #[inline(never)]
 #[tactic(auto, unfolding(rmm_model::specs::Command::DataCreate::data_create))]
 pub fn data_create<S: PageStore>(

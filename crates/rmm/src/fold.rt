@@ -25,7 +25,7 @@ pub struct Foldable {
     pub parent: RmmRttEntry,
 }
 
-// Checks that a walk reached the level above, and that the entry leads to a table that one entry can replace.
+// Checks that a walk reached the level above a table, and that the entry leads to a table that one entry can replace.
 fn check_fold<S: PageStore>(
     granules: &Granules<S>,
     found: &RttWalk,
@@ -56,7 +56,7 @@ fn check_fold<S: PageStore>(
     }
 }
 
-// The table that RMI_RTT_FOLD folds, if its operands pass.
+// Returns the table that RMI_RTT_FOLD folds, or the failed condition.
 #[tactic(auto, unfolding(rmm_model::specs::Command::RttFold::rtt_fold))]
 fn find_foldable<S: PageStore>(
     granules: &Granules<S>,
@@ -80,7 +80,7 @@ fn find_foldable<S: PageStore>(
     })
 }
 
-// RMI_RTT_FOLD
+// Performs RMI_RTT_FOLD.
 #[inline(never)]
 #[tactic(auto, unfolding(rmm_model::specs::Command::RttFold::rtt_fold))]
 pub fn rtt_fold<S: PageStore>(

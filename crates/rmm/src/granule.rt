@@ -13,7 +13,7 @@ use rmi_abi::{SmcResult, Word};
 use rmm_granules::{Granules, OperandConditions};
 use rmm_model::{Condition, FailedCondition, RmmGranule, RmmGranuleState, error_input};
 
-// Gives a granule that state and no realm, and zeros its page.
+// Gives a granule a state and no realm, and zeros its page.
 pub fn blank<S: PageStore>(granules: &mut Granules<S>, granule: Gran, state: RmmGranuleState)
     requires inside { granule < granule_count granules.old }
     requires plain { realm_of state ≡ None }
@@ -23,7 +23,7 @@ pub fn blank<S: PageStore>(granules: &mut Granules<S>, granule: Gran, state: Rmm
     granules.fill(granule, 0);
 }
 
-// The granule that RMI_GRANULE_DELEGATE delegates, if it passes.
+// Returns the granule that RMI_GRANULE_DELEGATE delegates, or the failed condition.
 #[tactic(auto, unfolding(rmm_model::specs::Command::GranuleDelegate::granule_delegate))]
 fn find_undelegated<S: PageStore>(
     granules: &Granules<S>,
@@ -44,7 +44,7 @@ fn find_undelegated<S: PageStore>(
     Ok(granule)
 }
 
-// RMI_GRANULE_DELEGATE
+// Performs RMI_GRANULE_DELEGATE.
 #[tactic(auto, unfolding(rmm_model::specs::Command::GranuleDelegate::granule_delegate))]
 pub fn granule_delegate<S: PageStore>(granules: &mut Granules<S>, address: u64) -> SmcResult
     ensures answer { result ≡ (outcome (delegating address granules.old) granules.old).0 }
@@ -59,7 +59,7 @@ pub fn granule_delegate<S: PageStore>(granules: &mut Granules<S>, address: u64) 
     }
 }
 
-// RMI_GRANULE_UNDELEGATE
+// Performs RMI_GRANULE_UNDELEGATE.
 #[tactic(auto, unfolding(rmm_model::specs::Command::GranuleUndelegate::granule_undelegate))]
 pub fn granule_undelegate<S: PageStore>(granules: &mut Granules<S>, address: u64) -> SmcResult
     ensures answer { result ≡ (outcome (undelegating address granules.old) granules.old).0 }

@@ -10,7 +10,7 @@ use page_arena::PageStore;
 use rmm_granules::{Granules, RecEdit, realm_in};
 use rmm_model::{GuestStep, Queued, RmmRealm, RmmRec, StepResult, StepWords};
 
-// The attributes of a REC; a granule that is none has those of a new one.
+// The attributes of a REC, or those of a new REC if the granule is no REC.
 pub fn rec_in<S: PageStore>(granules: &Granules<S>, g: Gran) -> RmmRec
     requires { g < granule_count granules.now }
     ensures { result ≡ guests.rec_in granules.now g }
@@ -53,7 +53,7 @@ pub fn past_step<S: PageStore>(granules: &mut Granules<S>, g: Gran)
     granules.edit_rec(g, RecEdit::PassStep);
 }
 
-// Adds a result to those of the guest of a REC.
+// Adds a result to the results of a REC's guest.
 #[inline(always)]
 #[tactic(auto, unfolding(rmm_model::specs::Guest::with_result))]
 pub fn push_result<S: PageStore>(granules: &mut Granules<S>, g: Gran, r: &StepResult)
@@ -69,7 +69,7 @@ pub fn push_result<S: PageStore>(granules: &mut Granules<S>, g: Gran, r: &StepRe
 
 // ---- the host's hand
 
-// The REC at an address.
+// The granule of the REC that begins at an address, if a REC begins there.
 pub fn rec_named<S: PageStore>(granules: &Granules<S>, address: u64) -> Option<Gran>
     ensures is { is_some result ≡ guests.is_rec_named granules.now address }
     ensures number { IfSome result (λ g. g ≡ number_of granules.now address) }
@@ -86,7 +86,7 @@ pub fn rec_named<S: PageStore>(granules: &Granules<S>, address: u64) -> Option<G
     }
 }
 
-// Writes the words of a step at a place of the ring.
+// Writes the words of a step at a place of the guest's ring of steps.
 fn write_step<S: PageStore>(granules: &mut Granules<S>, g: Gran, place: u8, words: &StepWords)
     requires inside { g < granule_count granules.old }
     requires below { place < 16 }

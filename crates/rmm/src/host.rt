@@ -11,7 +11,7 @@ use page_arena::{PageStore, word_in};
 use rmm_granules::Granules;
 use rmm_model::RmmGranuleState;
 
-// The granule of a page of the host that an address lies in.
+// The granule in which an address lies, if the granule is a page of the host.
 pub fn host_granule<S: PageStore>(granules: &Granules<S>, address: u64) -> Option<Gran>
     ensures is { is_some result ≡ hosts.is_host_page granules.now address }
     ensures number { IfSome result (λ granule. granule ≡ number_of granules.now address) }
@@ -56,7 +56,7 @@ pub fn load_bytes<S: PageStore>(granules: &Granules<S>, address: u64, count: usi
     }
 }
 
-// The state of the granule that begins at an address; `None` comes if there is none.
+// The state of the granule that begins at an address; `None` if no granule begins there.
 pub fn state<S: PageStore>(granules: &Granules<S>, address: u64) -> Option<RmmGranuleState>
     ensures { result ≡ hosts.state_shown granules.now address }
 {
@@ -67,7 +67,7 @@ pub fn state<S: PageStore>(granules: &Granules<S>, address: u64) -> Option<RmmGr
     }
 }
 
-// Word `index` of the granule that begins at an address; `None` comes if there is none.
+// Word `index` of the granule that begins at an address; `None` if there is no such word.
 pub fn word<S: PageStore>(granules: &Granules<S>, address: u64, index: u16) -> Option<u64>
     ensures { result ≡ word_shown granules.now address index }
 {

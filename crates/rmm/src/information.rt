@@ -13,7 +13,7 @@ use rmm_granules::Granules;
 // Version 1.0, the only one that there is.
 const VERSION: u64 = 0x1_0000;
 
-// RMI_VERSION
+// Performs RMI_VERSION.
 #[tactic(auto, unfolding(rmm_model::specs::Command::Version::version))]
 pub fn version<S: PageStore>(granules: &Granules<S>, requested: u64) -> SmcResult
     ensures answer { result ≡ (outcome (versions requested granules.now) granules.now).0 }
@@ -31,7 +31,7 @@ pub fn version<S: PageStore>(granules: &Granules<S>, requested: u64) -> SmcResul
     }
 }
 
-// RMI_FEATURES
+// Performs RMI_FEATURES.
 #[tactic(auto, unfolding(rmm_model::specs::Command::Features::features))]
 pub fn features<S: PageStore>(granules: &Granules<S>, index: u64) -> SmcResult
     ensures answer { result ≡ (outcome (feature index granules.now) granules.now).0 }
@@ -43,7 +43,7 @@ pub fn features<S: PageStore>(granules: &Granules<S>, index: u64) -> SmcResult
     }
 }
 
-// RMI_REC_AUX_COUNT
+// Performs RMI_REC_AUX_COUNT.
 #[tactic(auto, unfolding(rmm_model::specs::Command::RecAuxCount::rec_aux_count))]
 pub fn rec_aux_count<S: PageStore>(granules: &Granules<S>, rd: u64) -> SmcResult
     ensures answer { result ≡ (outcome (counting rd granules.now) granules.now).0 }

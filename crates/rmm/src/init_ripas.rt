@@ -15,7 +15,7 @@ use rmm_model::{
     error_input, extend,
 };
 
-// The RD of a range with its realm, and the table of its first entry.
+// The RD and the realm of a range, and the table of the range's first entry.
 #[derive(Clone, Copy)]
 pub struct RipasRange {
     pub owner: Rd,
@@ -50,7 +50,7 @@ fn check_range(realm: &RmmRealm, base: u64, top: u64) -> Result<(), FailedCondit
     Ok(())
 }
 
-// The range that RMI_RTT_INIT_RIPAS changes, if its operands pass.
+// Returns the range that RMI_RTT_INIT_RIPAS changes, or the failed condition.
 #[tactic(auto, unfolding(rmm_model::specs::Command::RttInitRipas::rtt_init_ripas))]
 fn find_range<S: PageStore>(
     granules: &Granules<S>,
@@ -79,7 +79,7 @@ fn find_range<S: PageStore>(
 
 // ---- the measurement
 
-// The measurement of a realm after that many entries of a size, from an address on, became RAM.
+// The measurement of a realm after `count` entries of `size` bytes, from `base` on, became RAM.
 fn rim_with_ripas(realm: &RmmRealm, size: u64, base: u64, count: u16) -> [u8; 64]
     requires low { base < 2 ^ 48 }
     requires size { size ≤ 2 ^ 39 }
@@ -99,7 +99,7 @@ fn rim_with_ripas(realm: &RmmRealm, size: u64, base: u64, count: u16) -> [u8; 64
 
 // ---- the command
 
-// RMI_RTT_INIT_RIPAS
+// Performs RMI_RTT_INIT_RIPAS.
 #[inline(never)]
 #[tactic(auto, unfolding(rmm_model::specs::Command::RttInitRipas::rtt_init_ripas))]
 pub fn rtt_init_ripas<S: PageStore>(

@@ -1,4 +1,4 @@
-//! The RMM, and its one call.
+//! The RMM: its call by registers, and the loads and stores of the host.
 ghost use Rattle.std.specs.Prelude.{◌≡◌, length, IfSome};
 ghost use Rattle.std.specs.Option.{option_copied};
 ghost use Rattle.rmm_model.specs.Call.{rmi, performed};
@@ -68,7 +68,7 @@ impl<S: PageStore> Rmm<S> {
         self.granules.settings()
     }
 
-    /// The granules of an RMM, for readings that no host has.
+    /// The granules of an RMM, for reads that no host can make.
     pub fn granules(&self) -> &Granules<S>
         ensures { result.now ≡ self.now }
     {
@@ -82,15 +82,14 @@ impl<S: PageStore> Rmm<S> {
         self.granules
     }
 
-    /// Loads the eight bytes at an address; `None` if the host faults: it has UNDELEGATED granules alone.
+    /// Loads the eight bytes at an address; `None` if the host faults. A host has UNDELEGATED granules alone.
     pub fn load(&self, address: u64) -> Option<u64>
         ensures { result ≡ loaded self.now address }
     {
         load(&self.granules, address)
     }
 
-    /// Loads that many bytes from an address on, within one granule; `None` if the host faults, and for bytes of more
-    /// than one granule.
+    /// Loads `count` bytes from an address on; `None` if the host faults, or if they are not in one granule.
     pub fn load_bytes(&self, address: u64, count: usize) -> Option<&[u8]>
         ensures bytes { option_copied result ≡ loaded_bytes self.now address count }
         ensures count { IfSome result (λ bytes. length bytes.now ≡ count) }
@@ -98,16 +97,16 @@ impl<S: PageStore> Rmm<S> {
         load_bytes(&self.granules, address, count)
     }
 
-    /// The state of the granule that begins at an address, with its realm or its REC; `None` comes if there is none. No
-    /// host sees it.
+    /// The state of the granule that begins at an address, with its realm or its REC; `None` if no granule begins
+    /// there. No host sees it.
     pub fn state(&self, address: u64) -> Option<RmmGranuleState>
         ensures { result ≡ state_shown self.now address }
     {
         state(&self.granules, address)
     }
 
-    /// Word `index` of the granule that begins at an address, whatever its state; `None` comes if there is none. No host
-    /// sees it.
+    /// Word `index` of the granule that begins at an address, whatever its state; `None` if there is no such word. No
+    /// host sees it.
     pub fn word(&self, address: u64, index: u16) -> Option<u64>
         ensures { result ≡ word_shown self.now address index }
     {
@@ -122,8 +121,8 @@ impl<S: PageStore> Rmm<S> {
         store(&mut self.granules, address, word)
     }
 
-    /// Stores bytes from an address on, within one granule; `false`, with nothing changed, if the host faults, and for
-    /// bytes of more than one granule.
+    /// Stores bytes from an address on; `false`, with nothing changed, if the host faults, or if they are not in one
+    /// granule.
     pub fn store_bytes(&mut self, address: u64, bytes: &[u8]) -> bool
         ensures answer { result ≡ can_access_bytes self.old address (length bytes.now) }
         ensures machine { self.new ≡ after_store_bytes self.old address bytes.now }
@@ -146,14 +145,14 @@ impl<S: PageStore> Rmm<S> {
         queue(&mut self.granules, rec, step)
     }
 
-    /// Ends the run of a REC; `None` comes for one that does not run.
+    /// Ends the run of a REC; `None` if there is no such REC, or if it does not run.
     pub fn interrupt(&mut self, rec: u64) -> Option<rmi_abi::Word>
         ensures { (result, self.new) ≡ interrupted self.old rec }
     {
         interrupt(&mut self.granules, rec)
     }
 
-    /// Does what a call by registers asks, and returns the registers after it.
+    /// Performs a call by registers, and returns the registers after the call.
     #[tactic(auto, unfolding(rmm_model::specs::Call::rmi))]
     pub fn smc(&mut self, regs: Registers) -> Registers
         ensures { (result, self.new) ≡ rmi regs self.old }
@@ -165,7 +164,7 @@ impl<S: PageStore> Rmm<S> {
     }
 }
 
-// Does what a call asks, and returns its answer.
+// Performs a call, and returns its answer.
 #[inline(always)]
 #[tactic(auto, unfolding(rmm_model::specs::Call::performed))]
 fn perform<S: PageStore>(granules: &mut Granules<S>, call: Call) -> SmcResult

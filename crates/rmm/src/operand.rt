@@ -24,7 +24,7 @@ pub struct Rd {
 
 // ---- granules
 
-// The granule that an address names.
+// Returns the granule that an address names, or the failed condition.
 pub fn named<S: PageStore>(
     granules: &Granules<S>,
     address: u64,
@@ -44,7 +44,7 @@ pub fn named<S: PageStore>(
     Ok(granules.number_of(address))
 }
 
-// The granule of a page of the host that an address names.
+// Returns the granule of the host's page that an address names, or the failed condition.
 pub fn host_page<S: PageStore>(
     granules: &Granules<S>,
     address: u64,
@@ -64,7 +64,7 @@ pub fn host_page<S: PageStore>(
     }
 }
 
-// The DELEGATED granule that an address names.
+// Returns the DELEGATED granule that an address names, or the failed condition.
 pub fn delegated<S: PageStore>(
     granules: &Granules<S>,
     address: u64,
@@ -84,7 +84,7 @@ pub fn delegated<S: PageStore>(
     }
 }
 
-// The RD that an address names, with its realm.
+// Returns the RD that an address names, with its realm, or the failed condition.
 pub fn realm_of<S: PageStore>(granules: &Granules<S>, address: u64) -> Result<Rd, FailedCondition>
     ensures refusal { refusal_in result ≡ first_failing (operands.rd_checks granules.now address) }
     ensures number { IfOk result (λ rd. rd.granule ≡ number_of granules.now address) }
@@ -202,7 +202,7 @@ pub fn check_unprotected(
 
 // ---- walks
 
-// RMI_ERROR_RTT by a condition, with the level of a table and the next live entry.
+// The refusal RMI_ERROR_RTT for a failed condition, with the level of a table and the next live entry.
 pub fn error_rtt_top(condition: Condition, level: u8, top: u64) -> FailedCondition
     ensures { result ≡ record { condition = condition; answer = with_top top level } }
 {
@@ -215,7 +215,7 @@ pub fn error_rtt_top(condition: Condition, level: u8, top: u64) -> FailedConditi
     }
 }
 
-// Checks that a walk reached a level, and that the entry is as it has to be.
+// Checks that a walk reached a level, and that `fits` holds for its entry.
 pub fn check_entry(found: &RttWalk, level: u8, fits: bool) -> Result<(), FailedCondition>
     ensures { refusal_in result
         ≡ first_failing (operands.entry_checks [] found.now level fits error_rtt) }

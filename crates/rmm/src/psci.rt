@@ -20,10 +20,10 @@ use rmm_model::{Condition, FailedCondition, PsciRequest, error_input};
 
 const PSCI_ALREADY_ON: u64 = 0xFFFF_FFFF_FFFF_FFFC;
 
-// The state of a processor that AFFINITY_INFO gives.
+// The state of a processor that is off, as AFFINITY_INFO reports it.
 const PSCI_OFF: u64 = 1;
 
-// A request that can be complete: the REC that made it, the request, the REC that it names, and whether that one is on.
+// A request that can be completed: the calling REC, the request, its target REC, and whether the target is on.
 #[derive(Clone, Copy)]
 pub struct Completion {
     pub calling: Gran,
@@ -34,7 +34,7 @@ pub struct Completion {
 
 // ---- requests
 
-// The result of a request, whose target is on or not.
+// The result of a request, by whether its target is on and by the host's status.
 fn psci_result(request: PsciRequest, on: bool, status: u64) -> u64
     ensures { result ≡ command.psci_result request on status }
 {
@@ -44,7 +44,8 @@ fn psci_result(request: PsciRequest, on: bool, status: u64) -> u64
     }
 }
 
-// Checks that the first of two RECs of one realm has a request whose target is the second, and that a status fits it.
+// Checks that two RECs belong to one realm, that the first has a request to the second, and that the status fits the
+// request.
 #[tactic(auto, unfolding(rmm_model::specs::Command::PsciComplete::request_checks))]
 fn check_request<S: PageStore>(
     granules: &Granules<S>,
@@ -96,7 +97,7 @@ fn begin_target<S: PageStore>(granules: &mut Granules<S>, granule: Gran, request
     }
 }
 
-// The REC at `calling`, if that is not `target`.
+// Returns the REC at `calling`, which must not be `target`, or the failed condition.
 fn find_caller<S: PageStore>(
     granules: &Granules<S>,
     calling: u64,
@@ -115,7 +116,7 @@ fn find_caller<S: PageStore>(
     rec_of(granules, calling, OperandConditions::CALLING)
 }
 
-// The request that RMI_PSCI_COMPLETE completes, if its operands pass.
+// Returns the request that RMI_PSCI_COMPLETE completes, or the failed condition.
 #[tactic(auto, unfolding(rmm_model::specs::Command::PsciComplete::psci_complete))]
 fn find_request<S: PageStore>(
     granules: &Granules<S>,
@@ -138,7 +139,7 @@ fn find_request<S: PageStore>(
     })
 }
 
-// RMI_PSCI_COMPLETE
+// Performs RMI_PSCI_COMPLETE.
 #[tactic(auto, unfolding(rmm_model::specs::Command::PsciComplete::psci_complete))]
 pub fn psci_complete<S: PageStore>(
     granules: &mut Granules<S>,

@@ -9,7 +9,7 @@ use rmi_abi::{SmcResult, Word};
 use rmm_granules::{Granules, entry_at, walk};
 use rmm_model::FailedCondition;
 
-// The answer of RMI_RTT_READ_ENTRY, if its operands pass.
+// Returns the answer of RMI_RTT_READ_ENTRY, or the failed condition.
 #[tactic(auto, unfolding(rmm_model::specs::Command::RttReadEntry::rtt_read_entry))]
 fn find_entry<S: PageStore>(
     granules: &Granules<S>,
@@ -33,7 +33,7 @@ fn find_entry<S: PageStore>(
     })
 }
 
-// RMI_RTT_READ_ENTRY
+// Performs RMI_RTT_READ_ENTRY.
 #[tactic(auto, unfolding(rmm_model::specs::Command::RttReadEntry::rtt_read_entry))]
 pub fn rtt_read_entry<S: PageStore>(
     granules: &Granules<S>,

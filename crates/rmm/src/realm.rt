@@ -19,7 +19,7 @@ pub fn is_new(realm: &RmmRealm) -> bool
     matches!(realm.state, RmmRealmState::New)
 }
 
-// RMI_ERROR_REALM by a condition.
+// The refusal RMI_ERROR_REALM for a failed condition.
 pub fn error_realm(condition: Condition) -> FailedCondition
     ensures { result ≡ record { condition = condition; answer = error_realm } }
 {
@@ -58,7 +58,7 @@ pub fn set_rim<S: PageStore>(granules: &mut Granules<S>, owner: &Rd, rim: &[u8; 
     granules.set(owner.granule, kept);
 }
 
-// The NEW realm that RMI_REALM_ACTIVATE activates, if it passes.
+// Returns the NEW realm that RMI_REALM_ACTIVATE activates, or the failed condition.
 #[tactic(auto, unfolding(rmm_model::specs::Command::RealmActivate::realm_activate))]
 fn find_new<S: PageStore>(granules: &Granules<S>, rd: u64) -> Result<Rd, FailedCondition>
     ensures refusal { refusal_in result ≡ first_failing (activating rd granules.now).checks }
@@ -72,7 +72,7 @@ fn find_new<S: PageStore>(granules: &Granules<S>, rd: u64) -> Result<Rd, FailedC
     Ok(found)
 }
 
-// RMI_REALM_ACTIVATE
+// Performs RMI_REALM_ACTIVATE.
 #[tactic(auto, unfolding(rmm_model::specs::Command::RealmActivate::realm_activate))]
 pub fn realm_activate<S: PageStore>(granules: &mut Granules<S>, rd: u64) -> SmcResult
     ensures answer { result ≡ (outcome (activating rd granules.old) granules.old).0 }

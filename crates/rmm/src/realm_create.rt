@@ -30,7 +30,7 @@ pub struct NewRealm {
 
 // ---- parameters
 
-// The parameters at an address, if their page is the host's.
+// Returns the parameters in the host's page at an address, or the failed condition.
 #[tactic(auto, unfolding(rmm_model::specs::Command::RealmCreate::params_at))]
 fn read_params<S: PageStore>(
     granules: &Granules<S>,
@@ -175,7 +175,7 @@ fn write_tables<S: PageStore>(granules: &mut Granules<S>, rd: Gran, realm: &RmmR
 
 // ---- the command
 
-// The realm that RMI_REALM_CREATE makes, if its operands pass.
+// Returns the realm that RMI_REALM_CREATE makes, or the failed condition.
 fn find_realm<S: PageStore>(
     granules: &Granules<S>,
     rd: u64,
@@ -195,7 +195,7 @@ fn find_realm<S: PageStore>(
     })
 }
 
-// RMI_REALM_CREATE
+// Performs RMI_REALM_CREATE.
 #[inline(never)]
 #[tactic(auto, unfolding(rmm_model::specs::Command::RealmCreate::realm_create))]
 pub fn realm_create<S: PageStore>(granules: &mut Granules<S>, rd: u64, params: u64) -> SmcResult

@@ -14,7 +14,7 @@ use rmi_abi::{SmcResult, Word};
 use rmm_granules::{Granules, is_realm_live, start_table};
 use rmm_model::{Condition, FailedCondition, RmmGranuleState, RmmRealm};
 
-// The realm that RMI_REALM_DESTROY destroys, if it passes.
+// Returns the realm that RMI_REALM_DESTROY destroys, or the failed condition.
 #[tactic(auto, unfolding(rmm_model::specs::Command::RealmDestroy::realm_destroy))]
 fn find_unused<S: PageStore>(granules: &Granules<S>, rd: u64) -> Result<Rd, FailedCondition>
     ensures refusal { refusal_in result ≡ first_failing (command.realm_destroy rd granules.now).checks }
@@ -43,7 +43,7 @@ fn remove_tables<S: PageStore>(granules: &mut Granules<S>, realm: &RmmRealm)
     }
 }
 
-// RMI_REALM_DESTROY
+// Performs RMI_REALM_DESTROY.
 #[inline(never)]
 #[tactic(auto, unfolding(rmm_model::specs::Command::RealmDestroy::realm_destroy))]
 pub fn realm_destroy<S: PageStore>(granules: &mut Granules<S>, rd: u64) -> SmcResult

@@ -18,7 +18,7 @@ pub struct NamedRec {
     pub rec: RmmRec,
 }
 
-// RMI_ERROR_REC by a condition.
+// The refusal RMI_ERROR_REC for a failed condition.
 pub fn error_rec(condition: Condition) -> FailedCondition
     ensures { result ≡ record { condition = condition; answer = error_rec } }
 {
@@ -28,7 +28,7 @@ pub fn error_rec(condition: Condition) -> FailedCondition
     }
 }
 
-// The REC that an address names.
+// Returns the REC that an address names, or the failed condition.
 pub fn rec_of<S: PageStore>(
     granules: &Granules<S>,
     address: u64,

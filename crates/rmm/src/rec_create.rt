@@ -20,7 +20,7 @@ use rmm_model::{
     error_input, extend, rec_digest,
 };
 
-// A REC that can be made: its granule, that of its parameters, its RD, and its realm.
+// A REC that can be made: its granule, the granule of its parameters, its RD, and its realm.
 #[derive(Clone, Copy)]
 pub struct NewRec {
     pub rec: Gran,
@@ -71,7 +71,7 @@ fn can_have_more(settings: &RmmSettings, realm: &RmmRealm) -> bool
     (realm.rec_count as u64) < 1 << settings.max_recs_order
 }
 
-// Checks that an MPIDR is that of a realm's next REC, and that the realm is NEW and can have one more.
+// Checks that an MPIDR is that of a realm's next REC, and that the realm is NEW and can have one more REC.
 #[tactic(auto, unfolding(rmm_model::specs::Command::RecCreate::number_checks))]
 fn check_number(
     settings: &RmmSettings,
@@ -118,7 +118,7 @@ fn rec_word(page: &[u8], k: u8) -> u64
     }
 }
 
-// Writes the page of a new REC with the parameters of a page.
+// Writes the page of a new REC, with the parameters from the page of `source`.
 fn write_rec_page<S: PageStore>(granules: &mut Granules<S>, rec: Gran, source: Gran)
     requires inside { rec < granule_count granules.old }
     requires source { source < granule_count granules.old }
@@ -133,7 +133,7 @@ fn write_rec_page<S: PageStore>(granules: &mut Granules<S>, rec: Gran, source: G
     }
 }
 
-// Turns a DELEGATED granule into a REC of an RD, with the parameters of a page.
+// Turns a DELEGATED granule into a REC of the realm of an RD, with the parameters from the page of `source`.
 fn write_rec<S: PageStore>(granules: &mut Granules<S>, rd: Gran, rec: Gran, source: Gran)
     requires inside { rec < granule_count granules.old }
     requires source { source < granule_count granules.old }
@@ -152,7 +152,7 @@ fn write_rec<S: PageStore>(granules: &mut Granules<S>, rd: Gran, rec: Gran, sour
 
 // ---- the measurement
 
-// The measurement of a realm after a REC with the parameters of a page.
+// The measurement of a realm after a new REC with the parameters of a page.
 #[tactic(auto, unfolding(rmm_model::specs::Command::RecMeasurement::rim_with_rec))]
 fn rim_with_rec(settings: &RmmSettings, realm: &RmmRealm, page: &[u8]) -> [u8; 64]
     requires { length page.now ≡ 4096 }
@@ -168,7 +168,7 @@ fn rim_with_rec(settings: &RmmSettings, realm: &RmmRealm, page: &[u8]) -> [u8; 6
     }
 }
 
-// The measurement of the realm of a new REC after it.
+// The measurement of a new REC's realm after the REC is made.
 fn measured_rim<S: PageStore>(granules: &Granules<S>, found: &NewRec) -> [u8; 64]
     requires { found.now.source < granule_count granules.now }
     ensures { result
@@ -183,7 +183,7 @@ fn measured_rim<S: PageStore>(granules: &Granules<S>, found: &NewRec) -> [u8; 64
 
 // ---- the command
 
-// The REC that RMI_REC_CREATE makes, if its operands pass.
+// Returns the REC that RMI_REC_CREATE makes, or the failed condition.
 fn find_new<S: PageStore>(
     granules: &Granules<S>,
     rd: u64,
@@ -208,7 +208,7 @@ fn find_new<S: PageStore>(
     })
 }
 
-// RMI_REC_CREATE
+// Performs RMI_REC_CREATE.
 #[inline(never)]
 #[tactic(auto, unfolding(rmm_model::specs::Command::RecCreate::rec_create))]
 pub fn rec_create<S: PageStore>(

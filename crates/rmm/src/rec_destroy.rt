@@ -13,7 +13,7 @@ use rmi_abi::{SmcResult, Word};
 use rmm_granules::{Granules, OperandConditions, RealmEdit};
 use rmm_model::{Condition, FailedCondition, RmmGranule, RmmGranuleState};
 
-// Takes one REC from the count of the realm that owns a REC.
+// Takes one from the REC count of the realm that owns a REC.
 fn leave_realm<S: PageStore>(granules: &mut Granules<S>, owner: Option<Gran>)
     ensures machine { granules.new ≡ command.without_rec granules.old owner }
     ensures count { granule_count granules.new ≡ granule_count granules.old }
@@ -23,7 +23,7 @@ fn leave_realm<S: PageStore>(granules: &mut Granules<S>, owner: Option<Gran>)
     }
 }
 
-// The granule of the REC that RMI_REC_DESTROY destroys, if it passes.
+// Returns the granule of the REC that RMI_REC_DESTROY destroys, or the failed condition.
 #[tactic(auto, unfolding(rmm_model::specs::Command::RecDestroy::rec_destroy))]
 fn find_ready<S: PageStore>(granules: &Granules<S>, rec: u64) -> Result<Gran, FailedCondition>
     ensures refusal { refusal_in result ≡ first_failing (command.rec_destroy rec granules.now).checks }
@@ -38,7 +38,7 @@ fn find_ready<S: PageStore>(granules: &Granules<S>, rec: u64) -> Result<Gran, Fa
     }
 }
 
-// RMI_REC_DESTROY
+// Performs RMI_REC_DESTROY.
 #[inline(never)]
 #[tactic(auto, unfolding(rmm_model::specs::Command::RecDestroy::rec_destroy))]
 pub fn rec_destroy<S: PageStore>(granules: &mut Granules<S>, rec: u64) -> SmcResult

@@ -83,7 +83,7 @@ fn end_step<S: PageStore>(granules: &mut Granules<S>, g: Gran, r: &StepResult)
     push_result(granules, g, r);
 }
 
-// Gives the guest the result of its PSCI request, if that is complete.
+// Gives the guest the result of its PSCI request, if the request is complete.
 fn push_psci<S: PageStore>(granules: &mut Granules<S>, g: Gran, request: PsciRequest)
     requires { g < granule_count granules.old }
     ensures machine { granules.new ≡ command.with_psci_result granules.old g request }
@@ -95,7 +95,7 @@ fn push_psci<S: PageStore>(granules: &mut Granules<S>, g: Gran, request: PsciReq
     }
 }
 
-// Gives the guest the result of a change of RIPAS: how far it came.
+// Gives the guest the result of a change of RIPAS: how far the change came.
 fn push_ripas<S: PageStore>(granules: &mut Granules<S>, g: Gran, flags: u64)
     requires { g < granule_count granules.old }
     ensures machine { granules.new ≡ command.with_host_answer granules.old g RipasChange 0 flags }
@@ -263,14 +263,14 @@ fn perform<S: PageStore>(
     }
 }
 
-// Whether a guest tries a step again that made an exit.
+// Whether a guest retries a step that made an exit.
 fn is_tried_again(reason: ExitReason, last: LastExit) -> bool
     ensures { result ≡ (command.is_sync reason && not (command.is_done last)) }
 {
     matches!(reason, ExitReason::Sync) && !matches!(last, LastExit::SystemRegister)
 }
 
-// Moves the guest past a step, but for one that it tries again.
+// Moves the guest past a step, unless the guest retries the step.
 fn pass_step<S: PageStore>(granules: &mut Granules<S>, g: Gran, outcome: StepOutcome)
     requires { g < granule_count granules.old }
     ensures machine { granules.new ≡ command.with_step_passed granules.old g outcome }
@@ -287,7 +287,7 @@ fn pass_step<S: PageStore>(granules: &mut Granules<S>, g: Gran, outcome: StepOut
     }
 }
 
-// An exit as by a timer of the host's.
+// The outcome if no step can be performed: an exit as by a timer of the host.
 fn no_step() -> StepOutcome
     ensures { result ≡ command.no_step }
 {
@@ -302,7 +302,7 @@ fn is_idle<S: PageStore>(granules: &Granules<S>, g: Gran) -> bool
     rec_in(granules, g).step_count == 0
 }
 
-// Performs the first step of a guest that has one.
+// Performs the first step of a guest that has a step.
 #[tactic(auto, unfolding(rmm_model::specs::Command::RecEnter::first_step_outcome, rmm_model::specs::Command::RecEnter::after_first_step))]
 fn perform_first<S: PageStore>(granules: &mut Granules<S>, g: Gran, flags: u64) -> StepOutcome
     requires inside { g < granule_count granules.old }
@@ -322,7 +322,7 @@ fn perform_first<S: PageStore>(granules: &mut Granules<S>, g: Gran, flags: u64) 
     }
 }
 
-// Performs the steps of a guest, up to one that makes an exit or spins. Returns whether the REC left.
+// Performs the steps of a guest, up to a step that makes an exit or spins. Returns whether the REC left.
 fn perform_steps<S: PageStore>(granules: &mut Granules<S>, g: Gran, flags: u64) -> bool
     requires { g < granule_count granules.old }
     ensures { (result, granules.new) ≡ command.after_steps granules.old g flags 16 }
@@ -351,7 +351,7 @@ fn perform_steps<S: PageStore>(granules: &mut Granules<S>, g: Gran, flags: u64) 
 
 // ---- the command
 
-// Checks that a realm is ACTIVE, and its REC READY and runnable, with nothing pending and GIC fields that are right.
+// Checks that a realm is ACTIVE, and that its REC is READY and runnable, with right GIC fields and nothing pending.
 #[tactic(auto, unfolding(rmm_model::specs::Command::RecEnter::enter_checks))]
 fn check_enter(
     state: RmmRealmState,
@@ -388,7 +388,7 @@ fn check_enter(
     Ok(())
 }
 
-// The REC that RMI_REC_ENTER enters, if its operands pass.
+// Returns the REC that RMI_REC_ENTER enters, with its run page, or the failed condition.
 #[tactic(auto, unfolding(rmm_model::specs::Command::RecEnter::rec_enter))]
 fn find_entry<S: PageStore>(
     granules: &Granules<S>,
@@ -409,7 +409,7 @@ fn find_entry<S: PageStore>(
     })
 }
 
-// RMI_REC_ENTER
+// Performs RMI_REC_ENTER.
 #[inline(never)]
 #[tactic(auto, unfolding(rmm_model::specs::Command::RecEnter::rec_enter))]
 pub fn rec_enter<S: PageStore>(granules: &mut Granules<S>, rec: u64, address: u64) -> SmcResult
@@ -430,7 +430,7 @@ pub fn rec_enter<S: PageStore>(granules: &mut Granules<S>, rec: u64, address: u6
     }
 }
 
-// Ends the run of a REC by an interrupt of the host; `None` comes for a REC that does not run.
+// Ends the run of a REC by an interrupt of the host; `None` if no REC runs at the address.
 #[tactic(auto, unfolding(rmm_model::specs::Command::RecEnter::interrupted))]
 pub fn interrupt<S: PageStore>(granules: &mut Granules<S>, address: u64) -> Option<Word>
     ensures { (result, granules.new) ≡ command.interrupted granules.old address }

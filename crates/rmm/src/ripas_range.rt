@@ -12,7 +12,7 @@ use rmm_model::{
     entry_number, entry_offset, entry_size, error_input, error_rtt, first_fixed,
 };
 
-// Checks that a range has addresses.
+// Checks that a range is not empty.
 pub fn check_size(base: u64, top: u64) -> Result<(), FailedCondition>
     ensures refusal { refusal_in result ≡ first_failing (ranges.size_checks base top) }
     ensures size { OnOk result (base < top) }
@@ -48,7 +48,7 @@ pub fn check_progress<S: PageStore>(
     Ok(())
 }
 
-// The number of entries of a table, from the one of an address on, that lie below a top.
+// The number of entries of a table from the entry of `base` on that lie below `top`.
 #[tactic(auto, unfolding(rmm_model::specs::Command::RipasRange::entries_below))]
 fn entries_below(found: &RttWalk, base: u64, top: u64) -> u16
     requires { base ≤ top }
@@ -64,8 +64,7 @@ fn entries_below(found: &RttWalk, base: u64, top: u64) -> u16
     }
 }
 
-// The number of entries of a table, from the one of an address on and below a top, that can be changed one after
-// another.
+// The number of entries of a table from `base` to `top` that can be changed before the first fixed entry.
 pub fn change_count<S: PageStore>(
     granules: &Granules<S>,
     changeable: Changeable,
@@ -83,7 +82,7 @@ pub fn change_count<S: PageStore>(
     first_fixed(granules.page(found.table), changeable, first, end) - first
 }
 
-// Writes a RIPAS to that many entries of a table, from one on.
+// Writes a RIPAS to `count` entries of a table, from entry `first` on.
 pub fn write_ripas<S: PageStore>(
     granules: &mut Granules<S>,
     found: &RttWalk,

@@ -15,7 +15,7 @@ use rmi_abi::{SmcResult, Word};
 use rmm_granules::{Granules, OperandConditions, entry_at, walk};
 use rmm_model::{FailedCondition, RmmGranule, RmmGranuleState, RmmRttEntry, RttWalk};
 
-// A place for a new table: the RD, the table, and the entry whose place it takes.
+// A place for a new table: the RD, the table, and the entry that the table replaces.
 #[derive(Clone, Copy)]
 pub struct Vacancy {
     pub rd: Gran,
@@ -42,7 +42,7 @@ fn write_mappings<S: PageStore>(
     granules.write_rising(table, kind, parent.descriptor(), step);
 }
 
-// Writes the children of an entry to a table. Those of one that is not mapped are one byte throughout.
+// Writes the children of an entry to a table. The children of an entry that is not mapped are one byte throughout.
 #[tactic(auto, unfolding(rmm_model::specs::Table::children_page))]
 fn write_children<S: PageStore>(
     granules: &mut Granules<S>,
@@ -60,7 +60,7 @@ fn write_children<S: PageStore>(
     }
 }
 
-// The place of the table that RMI_RTT_CREATE makes, if its operands pass.
+// Returns the place of the table that RMI_RTT_CREATE makes, or the failed condition.
 #[tactic(auto, unfolding(rmm_model::specs::Command::RttCreate::rtt_create))]
 fn find_vacancy<S: PageStore>(
     granules: &Granules<S>,
@@ -88,7 +88,7 @@ fn find_vacancy<S: PageStore>(
     })
 }
 
-// RMI_RTT_CREATE
+// Performs RMI_RTT_CREATE.
 #[tactic(auto, unfolding(rmm_model::specs::Command::RttCreate::rtt_create))]
 pub fn rtt_create<S: PageStore>(
     granules: &mut Granules<S>,

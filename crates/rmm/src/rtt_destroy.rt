@@ -61,7 +61,7 @@ fn check_unused<S: PageStore>(
     }
 }
 
-// The table that RMI_RTT_DESTROY destroys, if its operands pass.
+// Returns the table that RMI_RTT_DESTROY destroys, or the failed condition.
 #[tactic(auto, unfolding(rmm_model::specs::Command::RttDestroy::rtt_destroy))]
 fn find_unused<S: PageStore>(
     granules: &Granules<S>,
@@ -86,7 +86,7 @@ fn find_unused<S: PageStore>(
     })
 }
 
-// RMI_RTT_DESTROY
+// Performs RMI_RTT_DESTROY.
 #[inline(never)]
 #[tactic(auto, unfolding(rmm_model::specs::Command::RttDestroy::rtt_destroy))]
 pub fn rtt_destroy<S: PageStore>(

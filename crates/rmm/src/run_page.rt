@@ -10,8 +10,8 @@ use page_arena::{PageStore, word_in};
 use rmi_abi::RecExit;
 use rmm_granules::{Granules, refuses_gic};
 
-// Copies `count` words of a page, from `first` on, to those from `place` on of another page, or of the same one beside
-// them.
+// Copies `count` words, from word `first` of one page to word `place` of another page, or of the same page without
+// overlap.
 fn copy_words<S: PageStore>(
     granules: &mut Granules<S>,
     from: Gran,
@@ -72,7 +72,7 @@ fn write_gic<S: PageStore>(granules: &mut Granules<S>, g: Gran, run: Gran)
     }
 }
 
-// Whether the GIC fields of a granule are checked, and a host may not set them so.
+// Whether the GIC fields of a run page are checked, and have values that a host may not set.
 pub fn is_gic_wrong<S: PageStore>(granules: &Granules<S>, run: Gran) -> bool
     requires { run < granule_count granules.now }
     ensures { result ≡ entering.is_gic_wrong granules.now.settings (page_in granules.now run) }
@@ -115,7 +115,7 @@ fn write_exit<S: PageStore>(granules: &mut Granules<S>, page: Gran, exit: &RecEx
     granules.set_word(page, 256, exit.reason.code());
 }
 
-// Writes an exit of a REC into the run page at an address, if that is a page of the host.
+// Writes an exit of a REC into the run page at an address, if the run page is a page of the host.
 pub fn write_run<S: PageStore>(granules: &mut Granules<S>, g: Gran, run: u64, exit: &RecExit)
     requires { g < granule_count granules.old }
     ensures machine { granules.new ≡ entering.with_exit granules.old g run exit.now }

@@ -34,7 +34,7 @@ fn is_within(realm: &RmmRealm, asking: &RmmRec, is_owner: bool, base: u64, top: 
     top <= asking.ripas.top && (!is_owner || top <= base || is_protected(realm, base))
 }
 
-// Whether a REC is one of the realm of an RD.
+// Whether a REC belongs to the realm of an RD.
 fn is_rec_of<S: PageStore>(
     granules: &Granules<S>,
     owner: &Rd,
@@ -50,7 +50,7 @@ fn is_rec_of<S: PageStore>(
     is_same_owner(granules.owner(asking.granule), Some(owner.granule))
 }
 
-// Checks that a REC is one of the realm and does not run, and that it asked for a range.
+// Checks that a REC belongs to the realm and does not run, and that it asked for a range.
 #[tactic(auto, unfolding(rmm_model::specs::Command::RttSetRipas::ripas_request_checks))]
 fn check_request(
     realm: &RmmRealm,
@@ -84,7 +84,7 @@ fn check_request(
     Ok(())
 }
 
-// The range that RMI_RTT_SET_RIPAS changes, if its operands pass.
+// Returns the range that RMI_RTT_SET_RIPAS changes, or the failed condition.
 fn find_range<S: PageStore>(
     granules: &Granules<S>,
     rd: u64,
@@ -117,7 +117,7 @@ fn find_range<S: PageStore>(
     })
 }
 
-// RMI_RTT_SET_RIPAS
+// Performs RMI_RTT_SET_RIPAS.
 #[inline(never)]
 #[tactic(auto, unfolding(rmm_model::specs::Command::RttSetRipas::rtt_set_ripas))]
 pub fn rtt_set_ripas<S: PageStore>(

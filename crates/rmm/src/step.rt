@@ -59,7 +59,7 @@ fn is_empty(ripas: RmmRipas) -> bool
     matches!(ripas, RmmRipas::Empty)
 }
 
-// The granule that was found, or an SEA if there is none.
+// Returns the granule that was found, or an SEA if there is no granule.
 fn found_or_sea(found: Option<Gran>) -> Result<Gran, StepOutcome>
     ensures { result ≡ steps.found_or_sea found }
 {
@@ -69,7 +69,7 @@ fn found_or_sea(found: Option<Gran>) -> Result<Gran, StepOutcome>
     }
 }
 
-// The granule of a protected address, or the outcome of an access there.
+// Returns the granule of a protected address, or the outcome of an access that fails.
 fn protected_access<S: PageStore>(
     granules: &Granules<S>,
     class: u64,
@@ -93,7 +93,7 @@ fn protected_access<S: PageStore>(
     }
 }
 
-// Whether S2AP of a descriptor lets a guest write, or read.
+// Whether the S2AP field of a descriptor lets a guest write, or read.
 fn may_access(desc: u64, writes: bool) -> bool
     ensures { result ≡ steps.may_access desc writes }
 {
@@ -104,7 +104,7 @@ fn may_access(desc: u64, writes: bool) -> bool
     }
 }
 
-// WnR of a data abort.
+// The WnR bit of a data abort's syndrome.
 fn wnr(writes: bool) -> u64
     ensures value { result ≡ steps.wnr writes }
     ensures below { result ≤ 0x40 }
@@ -112,7 +112,7 @@ fn wnr(writes: bool) -> u64
     if writes { 0x40 } else { 0 }
 }
 
-// The granule of the host at a physical address, or the outcome of an access there.
+// Returns the host's granule at a physical address, or the outcome of an access that fails.
 fn host_access<S: PageStore>(
     granules: &Granules<S>,
     address: u64,
@@ -127,7 +127,7 @@ fn host_access<S: PageStore>(
     }
 }
 
-// The fields of ESR_EL2 that describe the access of a data abort that can be emulated.
+// The fields of ESR_EL2 that describe the access of an emulatable data abort.
 fn of_access(writes: bool, size: AccessSize, level: u8) -> u64
     ensures value { result ≡ steps.of_access writes size level }
     ensures below { result ≤ 0xC0_0140 }
@@ -135,7 +135,7 @@ fn of_access(writes: bool, size: AccessSize, level: u8) -> u64
     size.syndrome() + (wnr(writes) + level as u64)
 }
 
-// The granule of an unprotected address, or the outcome of an access there.
+// Returns the granule of an unprotected address, or the outcome of an access that fails.
 #[inline(always)]
 fn unprotected_access<S: PageStore>(
     granules: &Granules<S>,
@@ -165,7 +165,7 @@ fn unprotected_access<S: PageStore>(
     }
 }
 
-// The granule that an address of a guest is in, or the outcome of an access there.
+// Returns the granule in which an address of a guest lies, or the outcome of an access that fails.
 #[inline(always)]
 #[tactic(auto, unfolding(rmm_model::specs::Step::access))]
 pub fn access<S: PageStore>(
@@ -192,7 +192,7 @@ pub fn access<S: PageStore>(
     }
 }
 
-// The granule that a guest fetches an instruction from, or the outcome of the fetch.
+// Returns the granule from which a guest fetches an instruction, or the outcome of a fetch that fails.
 #[tactic(auto, unfolding(rmm_model::specs::Step::fetched))]
 pub fn fetched<S: PageStore>(
     granules: &Granules<S>,
@@ -222,7 +222,7 @@ pub fn tried(found: Result<Gran, StepOutcome>) -> StepOutcome
 
 // ---- calls
 
-// RSI_HOST_CALL
+// The outcome of RSI_HOST_CALL.
 fn host_call(imm: u64, gpr0: u64, gpr1: u64, gpr2: u64) -> StepOutcome
     ensures { result ≡ steps.host_call imm gpr0 gpr1 gpr2 }
 {
@@ -236,7 +236,7 @@ fn host_call(imm: u64, gpr0: u64, gpr1: u64, gpr2: u64) -> StepOutcome
     StepOutcome::Exit(exit, LastExit::HostCall)
 }
 
-// Whether RSI_IPA_STATE_SET takes a range and a RIPAS.
+// Whether RSI_IPA_STATE_SET accepts a range and a RIPAS.
 fn is_ripas_range(realm: &RmmRealm, base: u64, top: u64, ripas: u64) -> bool
     requires { realm.now.s2sz ≤ 48 }
     ensures { result ≡ steps.is_ripas_range realm.now base top ripas }
@@ -296,14 +296,14 @@ fn psci_gives(value: u64) -> StepOutcome
     StepOutcome::Result(StepResult::Psci(value))
 }
 
-// Whether a REC of the realm was given that MPIDR.
+// Whether a REC of the realm was given the MPIDR `mpidr`.
 fn was_given(realm: &RmmRealm, mpidr: u64) -> bool
     ensures { result ≡ steps.was_given realm.now mpidr }
 {
     is_mpidr(mpidr) && rec_number(mpidr) < realm.next_rec as u64
 }
 
-// PSCI_CPU_ON
+// The outcome of PSCI_CPU_ON.
 fn cpu_on(
     settings: &RmmSettings,
     realm: &RmmRealm,
@@ -326,7 +326,7 @@ fn cpu_on(
     }
 }
 
-// PSCI_AFFINITY_INFO
+// The outcome of PSCI_AFFINITY_INFO.
 fn affinity_info(
     settings: &RmmSettings,
     realm: &RmmRealm,
@@ -345,7 +345,7 @@ fn affinity_info(
     }
 }
 
-// A wait, trapped or not.
+// The outcome of a WFI or a WFE, trapped or not.
 fn wait(traps: bool, esr: u64) -> StepOutcome
     ensures { result ≡ steps.wait traps esr }
 {
@@ -360,7 +360,7 @@ fn wait(traps: bool, esr: u64) -> StepOutcome
     }
 }
 
-// A write of a system register.
+// The outcome of a write of a system register.
 fn system_register(iss: u64, value: u64) -> StepOutcome
     ensures { result ≡ steps.system_register iss value }
 {
@@ -422,7 +422,7 @@ pub fn call_outcome(
     }
 }
 
-// The change of a REC at a step of its guest that makes an exit.
+// The change of a REC when a step of its guest makes an exit.
 #[inline(always)]
 pub fn exit_edit(step: GuestStep) -> RecEdit
     ensures { result ≡ edits.exit_edit step }

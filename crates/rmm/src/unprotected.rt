@@ -17,7 +17,7 @@ use rmm_model::{Condition, FailedCondition, RmmRttEntry, RttWalk, entry_offset, 
 
 // ---- descriptors
 
-// Whether a number is a descriptor of a level.
+// Whether a number is a valid descriptor for an entry of a level.
 #[tactic(auto, unfolding(rmm_model::specs::Command::RttMapUnprotected::is_descriptor))]
 fn is_descriptor(settings: &RmmSettings, level: u8, desc: u64) -> bool
     ensures { result ≡ mapping.is_descriptor settings.now level desc }
@@ -27,7 +27,7 @@ fn is_descriptor(settings: &RmmSettings, level: u8, desc: u64) -> bool
 
 // ---- mapping
 
-// The end of the walk to the entry that RMI_RTT_MAP_UNPROTECTED writes, if its operands pass.
+// Returns the end of the walk to the entry that RMI_RTT_MAP_UNPROTECTED writes, or the failed condition.
 #[tactic(auto, unfolding(rmm_model::specs::Command::RttMapUnprotected::rtt_map_unprotected))]
 fn find_vacancy<S: PageStore>(
     granules: &Granules<S>,
@@ -53,7 +53,7 @@ fn find_vacancy<S: PageStore>(
     Ok(found)
 }
 
-// RMI_RTT_MAP_UNPROTECTED
+// Performs RMI_RTT_MAP_UNPROTECTED.
 #[tactic(auto, unfolding(rmm_model::specs::Command::RttMapUnprotected::rtt_map_unprotected))]
 pub fn rtt_map_unprotected<S: PageStore>(
     granules: &mut Granules<S>,
@@ -78,7 +78,7 @@ pub fn rtt_map_unprotected<S: PageStore>(
 
 // ---- unmapping
 
-// RMI_ERROR_RTT by a condition, with the level of a table and the next live entry in X1.
+// The refusal RMI_ERROR_RTT for a failed condition, with the level of a table and the next live entry in X1.
 fn error_rtt_next(condition: Condition, level: u8, top: u64) -> FailedCondition
     ensures { result ≡ record { condition = condition; answer = unmapping.error_rtt_next top level } }
 {
@@ -114,7 +114,7 @@ fn check_mapped<S: PageStore>(
     Ok(())
 }
 
-// The end of the walk to the entry that RMI_RTT_UNMAP_UNPROTECTED removes, if its operands pass.
+// Returns the end of the walk to the entry that RMI_RTT_UNMAP_UNPROTECTED removes, or the failed condition.
 #[tactic(auto, unfolding(rmm_model::specs::Command::RttUnmapUnprotected::rtt_unmap_unprotected))]
 fn find_mapped<S: PageStore>(
     granules: &Granules<S>,
@@ -133,7 +133,7 @@ fn find_mapped<S: PageStore>(
     Ok(found)
 }
 
-// RMI_RTT_UNMAP_UNPROTECTED
+// Performs RMI_RTT_UNMAP_UNPROTECTED.
 #[tactic(auto, unfolding(rmm_model::specs::Command::RttUnmapUnprotected::rtt_unmap_unprotected))]
 pub fn rtt_unmap_unprotected<S: PageStore>(
     granules: &mut Granules<S>,

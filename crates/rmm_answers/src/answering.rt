@@ -24,7 +24,7 @@ use rmm_trace::place::{
 };
 use rmm_trace::{Atom, Sentence, TraceWord, operand};
 
-// Puts whether fills are done, and how many were before one that faults, if any.
+// Appends whether fills are done, and after a fault also the number of earlier fills, if any.
 fn put_fill(answer: &mut Sentence, round: u64, is_done: bool)
     requires { answer.old.items ≡ [] }
     ensures { answer.new.items ≡ specs.fill_words round is_done }
@@ -35,7 +35,7 @@ fn put_fill(answer: &mut Sentence, round: u64, is_done: bool)
     }
 }
 
-// Answers a call or a fill in one round and up to `more` further rounds.
+// Answers a call or a fill that is performed once and repeated up to `more` times.
 #[tactic(auto, unfolding(crate::specs::Answering::rounds_answered))]
 fn answer_rounds<S: PageStore>(
     reply: &mut TraceReply,
@@ -158,7 +158,7 @@ fn answer_repeat<S: PageStore>(reply: &mut TraceReply, rmm: &mut Rmm<S>, words: 
     answer_rounds(reply, rmm, rest(words), more);
 }
 
-/// Performs a question on an RMM, and answers it. A platform is no command here.
+/// Performs what a question asks of an RMM, and writes the answer to `reply`. A platform is no command here.
 #[tactic(auto, unfolding(crate::specs::Answering::answered_on))]
 pub fn answer_on<S: PageStore>(rmm: &mut Rmm<S>, question: &[TraceWord], reply: &mut TraceReply)
     ensures { (reply.new, rmm.new) ≡ specs.answered_on question.now rmm.old }
@@ -176,7 +176,7 @@ pub fn answer_on<S: PageStore>(rmm: &mut Rmm<S>, question: &[TraceWord], reply: 
     }
 }
 
-// The words of a call, without those that repeat it.
+// The words of a call, without `repeat` and the count before the call.
 fn call_in(question: &[TraceWord]) -> &[TraceWord]
     ensures { result.now ≡ specs.unrepeated question.now }
 {
@@ -187,7 +187,8 @@ fn call_in(question: &[TraceWord]) -> &[TraceWord]
     }
 }
 
-/// The checks of the call that a reply refuses, on the machine at the call, which a refusal leaves unchanged.
+/// The evaluated checks of the call that a reply refuses. The machine is still the one at the call, since a refusal
+/// changes nothing.
 #[tactic(auto, unfolding(crate::specs::Answering::refused_checks))]
 pub fn checks_on<S: PageStore>(
     rmm: &Rmm<S>,

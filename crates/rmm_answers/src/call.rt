@@ -18,7 +18,7 @@ use rmm_model::Condition;
 use rmm_trace::place::{AFTER, FIRST_CHECK, RMI_REC_ENTER};
 use rmm_trace::{Atom, RUNS_ON, Sentence, TraceWord, call_registers};
 
-// The registers of X0 to X6.
+// The registers with the given values of X0 to X6.
 fn registers(x: [u64; 7]) -> Registers
     ensures { result ≡ registers_in (Some x) }
 {
@@ -33,7 +33,7 @@ fn registers(x: [u64; 7]) -> Registers
     }
 }
 
-// The registers of a call in a round; zeros if the words are no call.
+// The registers of a call in a round of a `repeat`; zeros if the words are no call.
 #[tactic(auto, unfolding(crate::specs::Rounds::asked))]
 pub(crate) fn registers_at(call: &[TraceWord], round: u64) -> Registers
     ensures { result ≡ asked call.now round }
@@ -44,14 +44,14 @@ pub(crate) fn registers_at(call: &[TraceWord], round: u64) -> Registers
     }
 }
 
-// Whether X0 refuses a call: it is neither RMI_SUCCESS nor that of a REC that runs on.
+// Whether X0 refuses a call, that is, differs from RMI_SUCCESS and from the X0 of a REC that runs on.
 pub(crate) fn is_refused(x0: u64) -> bool
     ensures { result ≡ calls.is_refused x0 }
 {
     x0 != 0 && x0 != RUNS_ON
 }
 
-// The checks of a call by registers on a machine.
+// The evaluated checks of a call on a machine; `None` if the registers are no call.
 #[tactic(auto, unfolding(crate::specs::Call::checks_at))]
 pub(crate) fn checks_at<S: PageStore>(rmm: &Rmm<S>, asked: Registers) -> Option<EvaluatedChecks>
     ensures { result ≡ calls.checks_at asked rmm.now }
@@ -59,7 +59,7 @@ pub(crate) fn checks_at<S: PageStore>(rmm: &Rmm<S>, asked: Registers) -> Option<
     Some(checks_of(rmm.granules(), decode_call(asked)?))
 }
 
-// The condition by which a call by registers is refused on a machine.
+// The failure condition by which a machine refuses a call, if any.
 #[tactic(auto, unfolding(crate::specs::Call::deciding))]
 fn deciding<S: PageStore>(rmm: &Rmm<S>, asked: Registers) -> Option<Condition>
     ensures { result ≡ calls.deciding asked rmm.now }
@@ -76,7 +76,7 @@ fn check_place(condition: Condition) -> usize
     FIRST_CHECK + condition as usize
 }
 
-// Puts the name of the check that decides a refused call.
+// Appends the name of the check that decides a refused call.
 #[tactic(auto, unfolding(crate::specs::Call::put_check))]
 fn put_check<S: PageStore>(answer: &mut Sentence, rmm: &Rmm<S>, asked: Registers, x0: u64)
     requires { length answer.old.items < 64 }
@@ -91,7 +91,7 @@ fn put_check<S: PageStore>(answer: &mut Sentence, rmm: &Rmm<S>, asked: Registers
     }
 }
 
-// Puts how many rounds were before a refused one, if there were any.
+// Appends the number of rounds of a `repeat` before the first one without RMI_SUCCESS, if any.
 #[tactic(auto, unfolding(crate::specs::Call::put_after))]
 fn put_after(answer: &mut Sentence, x0: u64, round: u64)
     requires { length answer.old.items ≤ 62 }
@@ -102,7 +102,7 @@ fn put_after(answer: &mut Sentence, x0: u64, round: u64)
     }
 }
 
-// The round of a call that is refused.
+// The round of the last call, if that call is refused.
 fn refused_round(last: &LastCall) -> Option<u64>
     ensures { result ≡ calls.refused_round last.now }
 {
@@ -113,7 +113,7 @@ fn refused_round(last: &LastCall) -> Option<u64>
     }
 }
 
-// Puts the exit of a REC that has left.
+// Appends the exit of a REC after an RMI_REC_ENTER with RMI_SUCCESS.
 #[tactic(auto, unfolding(crate::specs::Call::put_exit_of))]
 fn put_exit_of<S: PageStore>(answer: &mut Sentence, rmm: &Rmm<S>, place: usize, x0: u64, run: u64)
     requires { length answer.old.items ≤ 51 }
@@ -125,7 +125,7 @@ fn put_exit_of<S: PageStore>(answer: &mut Sentence, rmm: &Rmm<S>, place: usize, 
     }
 }
 
-// Answers a call with the last of its rounds, by the names of its outputs.
+// Answers a call from its last round, with the outputs by name.
 #[tactic(auto, unfolding(crate::specs::Call::call_reply))]
 pub(crate) fn answer_call<S: PageStore>(
     reply: &mut TraceReply,

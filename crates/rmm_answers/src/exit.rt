@@ -9,14 +9,14 @@ use rmm::Rmm;
 use rmm_trace::place::{EXIT, GPRS, RIPAS_OUTPUT};
 use rmm_trace::{Atom, Sentence};
 
-// The field of RmiRecExit at an offset of the run page at an address; 0 if the page is not the host's.
+// The RmiRecExit field at an offset of a run page; 0 if the page is not the host's.
 fn field<S: PageStore>(rmm: &Rmm<S>, run: u64, offset: u64) -> u64
     ensures { result ≡ exits.field rmm.now run offset }
 {
     rmm.load(run.wrapping_add(offset)).unwrap_or(0)
 }
 
-// Puts a field of an exit.
+// Appends a field of an exit, with its name.
 #[tactic(auto, unfolding(crate::specs::Exit::put_field))]
 fn put_field<S: PageStore>(answer: &mut Sentence, rmm: &Rmm<S>, run: u64, name: usize, offset: u64)
     requires { length answer.old.items ≤ 62 }
@@ -26,7 +26,7 @@ fn put_field<S: PageStore>(answer: &mut Sentence, rmm: &Rmm<S>, run: u64, name: 
     put_output(answer, name, field(rmm, run, offset));
 }
 
-// Puts a general-purpose register if it is shown.
+// Appends a general-purpose register, if it is to be shown.
 #[tactic(auto, unfolding(crate::specs::Exit::put_gpr))]
 fn put_gpr(answer: &mut Sentence, is_shown: bool, value: u64)
     requires { length answer.old.items < 64 }
@@ -45,7 +45,7 @@ fn is_some_set(a: u64, b: u64, c: u64) -> bool
     a != 0 || b != 0 || c != 0
 }
 
-// Puts general-purpose registers 0 to 3 of an exit, without the zeros at their end, but one at least. No exit of this
+// Appends general-purpose registers 0 to 3 of an exit, without trailing zeros, but at least register 0. No exit of this
 // RMM has others.
 #[tactic(auto, unfolding(crate::specs::Exit::put_gprs))]
 fn put_gprs(answer: &mut Sentence, gpr0: u64, gpr1: u64, gpr2: u64, gpr3: u64)
@@ -59,7 +59,7 @@ fn put_gprs(answer: &mut Sentence, gpr0: u64, gpr1: u64, gpr2: u64, gpr3: u64)
     put_gpr(answer, is_some_set(0, 0, gpr3), gpr3);
 }
 
-// Puts the general-purpose registers of an exit.
+// Appends the general-purpose registers of an exit.
 #[tactic(auto, unfolding(crate::specs::Exit::put_gprs_in))]
 fn put_gprs_in<S: PageStore>(answer: &mut Sentence, rmm: &Rmm<S>, run: u64)
     requires { length answer.old.items ≤ 59 }
@@ -73,7 +73,7 @@ fn put_gprs_in<S: PageStore>(answer: &mut Sentence, rmm: &Rmm<S>, run: u64)
     put_gprs(answer, gpr0, gpr1, gpr2, gpr3);
 }
 
-// Puts the fields of an exit by a reason.
+// Appends the fields of an exit that belong to the exit's reason.
 #[tactic(auto, unfolding(crate::specs::Exit::put_fields))]
 fn put_fields<S: PageStore>(answer: &mut Sentence, rmm: &Rmm<S>, run: u64, reason: u64)
     requires { length answer.old.items ≤ 53 }
@@ -101,7 +101,7 @@ fn put_fields<S: PageStore>(answer: &mut Sentence, rmm: &Rmm<S>, run: u64, reaso
     }
 }
 
-// Puts the exit of a REC that the run page at an address has.
+// Appends the exit of a REC, read from the run page at an address.
 #[tactic(auto, unfolding(crate::specs::Exit::put_exit, crate::specs::Exit::put_field))]
 pub(crate) fn put_exit<S: PageStore>(answer: &mut Sentence, rmm: &Rmm<S>, run: u64)
     requires { length answer.old.items ≤ 51 }

@@ -22,7 +22,7 @@ use rmm_trace::place::{
 };
 use rmm_trace::{Atom, Sentence, TraceWord, operand};
 
-/// The steps of a guest by the numbers of their kinds.
+/// The names of a guest's steps, indexed by the number of the step's kind.
 pub const STEPS: [usize; 15] = [
     WRITE,
     READ,
@@ -41,7 +41,7 @@ pub const STEPS: [usize; 15] = [
     SYSREG,
 ];
 
-// The place of a step in a list of steps.
+// The index of a step's name in a list of steps, if the name is there.
 fn kind_in(steps: &[usize], name: usize) -> Option<usize>
     ensures { result ≡ position_from (λ step. step == name) 0 steps.now }
 {
@@ -53,7 +53,7 @@ fn kind_in(steps: &[usize], name: usize) -> Option<usize>
     None
 }
 
-// The number of the kind of a step; 15, which is no kind's, if no step has the name.
+// The number of the kind of the step with a name; 15, which no kind has, if there is no such step.
 #[tactic(auto, unfolding(crate::specs::Guest::step_kind))]
 fn step_kind(name: usize) -> u64
     ensures { result ≡ guests.step_kind name }
@@ -75,7 +75,7 @@ fn last_operand(name: usize, operands: &[TraceWord]) -> u64
     }
 }
 
-// The words of a step of a name.
+// The words of the step with a name and operands.
 #[tactic(auto, unfolding(crate::specs::Guest::step_words))]
 fn step_words(name: usize, operands: &[TraceWord]) -> StepWords
     ensures { result ≡ guests.step_words name operands.now }
@@ -89,7 +89,8 @@ fn step_words(name: usize, operands: &[TraceWord]) -> StepWords
     }
 }
 
-// The step in words, if there is one. A guest here has no call of the host with more than three registers.
+// The step that the words of a question encode, if they encode one. A guest here has no call of the host with more than
+// three registers.
 fn step_in(words: &[TraceWord]) -> Option<StepWords>
     ensures { result ≡ guests.step_in words.now }
 {
@@ -105,7 +106,7 @@ fn step_in(words: &[TraceWord]) -> Option<StepWords>
     Some(step_words(name, operands))
 }
 
-// Puts the answer to a step.
+// Appends the answer to a step.
 fn put_queued(answer: &mut Sentence, queued: Queued)
     requires { answer.old.items ≡ [] }
     ensures { answer.new.items ≡ guests.queued_words queued }
@@ -157,7 +158,7 @@ fn run_of<S: PageStore>(rmm: &Rmm<S>, address: u64) -> u64
     }
 }
 
-// Puts the result word of a REC that has left, and its exit.
+// Appends the result word of a REC's entry, and the exit if the word is RMI_SUCCESS.
 fn put_left<S: PageStore>(answer: &mut Sentence, rmm: &Rmm<S>, x0: u64, run: u64)
     requires { answer.old.items ≡ [] }
     ensures { answer.new.items ≡ guests.left x0 run rmm.now }
@@ -222,7 +223,7 @@ fn result_atom(kind: u64, value: u64) -> Atom
     Atom::Hexadecimal(value)
 }
 
-// Puts a result, which is the first or a further one.
+// Appends a result, with a comma before a further result.
 #[tactic(auto, unfolding(crate::specs::Guest::put_result))]
 fn put_result(answer: &mut Sentence, is_further: bool, kind: u64, value: u64)
     requires { length answer.old.items ≤ 62 }
@@ -235,7 +236,7 @@ fn put_result(answer: &mut Sentence, is_further: bool, kind: u64, value: u64)
     }
 }
 
-// Puts a result of the REC at an address, by its number.
+// Appends result `k` of the REC at an address.
 fn put_result_at<S: PageStore>(answer: &mut Sentence, rmm: &Rmm<S>, rec: u64, k: u16)
     requires few { k < 32 }
     requires room { length answer.old.items ≤ 62 }
@@ -247,7 +248,7 @@ fn put_result_at<S: PageStore>(answer: &mut Sentence, rmm: &Rmm<S>, rec: u64, k:
     put_result(answer, k > 0, kind, value);
 }
 
-// Puts the first `count` results of the REC at an address.
+// Appends the first `count` results of the REC at an address.
 fn put_results<S: PageStore>(answer: &mut Sentence, rmm: &Rmm<S>, rec: u64, count: u16)
     requires few { count < 32 }
     requires empty { answer.old.items ≡ [] }
@@ -258,7 +259,7 @@ fn put_results<S: PageStore>(answer: &mut Sentence, rmm: &Rmm<S>, rec: u64, coun
     }
 }
 
-// Answers which results a guest has seen since the last entry of its REC.
+// Answers with the results that a guest has seen since the last entry of its REC.
 #[tactic(auto, unfolding(crate::specs::Guest::saw_words))]
 pub(crate) fn answer_saw<S: PageStore>(answer: &mut Sentence, rmm: &Rmm<S>, address: u64)
     requires { answer.old.items ≡ [] }

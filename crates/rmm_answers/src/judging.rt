@@ -1,4 +1,4 @@
-//! The verdict on an answer that is written.
+//! The verdict on a written answer.
 ghost use Rattle.std.specs.Prelude.{◌≡◌, ◌<◌};
 ghost use Rattle.std.specs.List.{list_any};
 ghost use Rattle.rmm_answers.specs.Judging as judging;
@@ -9,7 +9,7 @@ use rmm_checks::{CheckOutcome, EvaluatedCheck, EvaluatedChecks};
 use rmm_trace::place::{DASH, RMI_SUCCESS};
 use rmm_trace::{Atom, Sentence, TraceWord, read_words};
 
-/// The verdict on an answer that is written: ours, a refusal by another check, or neither.
+/// The verdict on a written answer: the model's answer, an allowed refusal by another check, or neither.
 #[derive(Clone, Copy)]
 pub enum Verdict {
     Same,
@@ -17,7 +17,7 @@ pub enum Verdict {
     Wrong,
 }
 
-// Whether X0 is the word of the check that decided.
+// Whether X0 is the word of the deciding check.
 fn is_ours(checks: &EvaluatedChecks, x0: u64) -> bool
     ensures { result ≡ judging.is_ours checks.now x0 }
 {
@@ -27,7 +27,7 @@ fn is_ours(checks: &EvaluatedChecks, x0: u64) -> bool
     }
 }
 
-// Whether the checks allow the word that X0 is read as, and it is another one than ours.
+// Whether X0 is a word that the checks allow, other than the word of the deciding check.
 fn allows_number(checks: &EvaluatedChecks, x0: u64) -> bool
     ensures { result ≡ judging.allows_number checks.now x0 }
 {
@@ -37,7 +37,7 @@ fn allows_number(checks: &EvaluatedChecks, x0: u64) -> bool
     }
 }
 
-// Whether a check was made and failed, and its word has a status and is another one than ours.
+// Whether a check failed with a word that has a status and differs from the word of the deciding check.
 fn has_status(checks: &EvaluatedChecks, row: &EvaluatedCheck, status: u64) -> bool
     ensures { result ≡ judging.has_status checks.now status row.now.outcome }
 {
@@ -51,7 +51,7 @@ fn has_status(checks: &EvaluatedChecks, row: &EvaluatedCheck, status: u64) -> bo
     }
 }
 
-// Whether the checks allow a status with any index.
+// Whether the checks allow a word with a status and some index, other than the word of the deciding check.
 fn allows_status(checks: &EvaluatedChecks, rows: &[EvaluatedCheck], status: u64) -> bool
     ensures { result ≡ list_any (λ row. judging.has_status checks.now status row.outcome) rows.now }
 {
@@ -63,7 +63,7 @@ fn allows_status(checks: &EvaluatedChecks, rows: &[EvaluatedCheck], status: u64)
     false
 }
 
-// Whether the checks allow a status with an index.
+// Whether the checks allow the word with a status and an index, other than the word of the deciding check.
 fn allows_index(checks: &EvaluatedChecks, status: u64, index: u64) -> bool
     requires { status < 5 }
     ensures { result ≡ judging.allows_index checks.now status index }
@@ -71,7 +71,8 @@ fn allows_index(checks: &EvaluatedChecks, status: u64, index: u64) -> bool
     index < 0x100 && allows_number(checks, status + 0x100 * index)
 }
 
-// Whether the checks allow a status with what is written after it: an index, `-`, or none, which is 0.
+// Whether the checks allow a status with the index written after it. A written `-` is any index, and a missing index is
+// 0.
 fn allows_written(checks: &EvaluatedChecks, status: u64, rest: &[TraceWord]) -> bool
     requires { status < 5 }
     ensures { result ≡ judging.allows_written checks.now status rest.now }
@@ -92,7 +93,7 @@ fn allows_written(checks: &EvaluatedChecks, status: u64, rest: &[TraceWord]) -> 
     }
 }
 
-// Whether the checks allow a status by the place of its name, if it refuses a call.
+// Whether the name at a place is an error status that the checks allow with the index written after it.
 fn allows_name(checks: &EvaluatedChecks, place: usize, rest: &[TraceWord]) -> bool
     ensures { result ≡ judging.allows_name checks.now place rest.now }
 {
@@ -117,7 +118,7 @@ pub fn is_allowed(written: &[TraceWord], checks: &EvaluatedChecks) -> bool
     }
 }
 
-// Whether the checks, if there are any, allow the answer that a text is.
+// Whether a text is an answer that the checks allow; false if there are no checks.
 fn is_text_allowed(checks: Option<EvaluatedChecks>, written: &[u8]) -> bool
     ensures { result ≡ judging.is_text_allowed written.now checks }
 {
@@ -130,7 +131,8 @@ fn is_text_allowed(checks: Option<EvaluatedChecks>, written: &[u8]) -> bool
     }
 }
 
-/// The verdict on an answer that is written to a question, by our reply and the machine after it.
+/// The verdict on a written answer to a question. `reply` is the model's reply, and `machine` is the machine after
+/// `reply`.
 ///
 /// Both refuse the call if the answer is allowed, so both machines are those before it. A right word with another check
 /// or another output is wrong. Checks are evaluated only if the answer is not ours. The words of the answer are read into

@@ -10,24 +10,25 @@ ghost use Rattle.rmm_answers.specs.Call.{is_refused};
 ghost use Rattle.rmm_answers.specs.Places.{has_name, are_answer_places_named, are_outputs_named};
 ghost use Rattle.rmm_answers.specs.Places.{are_fields_named, are_steps_named};
 
-/// The places that answers have are those of their names.
+/// Each constant for a name in answers is the place of that name in the table of names.
 pub fn answer_places_are_of_their_names()
     ensures { are_answer_places_named ≡ true }
 {}
 
-/// Each command has its outputs, each parameter page its fields at their offsets, and each step its number.
+/// The tables of command outputs, of page fields with their offsets, and of guest steps have the right names at each
+/// place.
 pub fn tables_are_of_their_names()
     ensures outputs { are_outputs_named ≡ true }
     ensures fields { are_fields_named ≡ true }
     ensures steps { are_steps_named ≡ true }
 {}
 
-/// Each check has its name in brackets.
+/// The name of each check in answers is the check's name in brackets.
 pub fn checks_are_of_their_names()
     ensures { (c : Condition) → has_name (179 + condition_number c) (codes "(" ++ (name_of c ++ codes ")")) ≡ true }
 {}
 
-/// A call that is refused changes nothing: the checks that are evaluated after it are those before it.
+/// A refused call leaves the machine unchanged. So the checks of the call are the same before and after it.
 pub fn refusals_change_nothing()
     ensures { (r : Registers) (m : Machine) → is_refused (rmi r m).0.x0 ≡ true → (rmi r m).1 ≡ m }
 {}

@@ -71,8 +71,9 @@ impl TraceMachine {
         }
     }
 
-    /// Performs a question, and answers it. A platform opens a fresh machine, and it alone takes memory: an error
-    /// leaves the machine as it is. Before the first platform any other question is no command.
+    /// Performs what a question asks of the machine, and writes the answer to `reply`. A platform opens a fresh
+    /// machine, and it alone takes memory: an error leaves the machine as it is. Before the first platform any other
+    /// question is no command.
     #[tactic(auto, unfolding(crate::specs::Answering::answered))]
     pub fn answer(
         &mut self,
@@ -90,7 +91,8 @@ impl TraceMachine {
         Ok(())
     }
 
-    /// The checks of the call that a reply refuses, on the machine at the call, which a refusal leaves unchanged.
+    /// The evaluated checks of the call that a reply refuses. The machine is still the one at the call, since a refusal
+    /// changes nothing.
     pub fn checks(&self, question: &[TraceWord], reply: &TraceReply) -> Option<EvaluatedChecks>
         ensures { result ≡ option_and_then (specs.refused_checks question.now reply.now) self.now }
     {

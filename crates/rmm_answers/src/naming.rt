@@ -1,4 +1,4 @@
-//! Raw calls and their answers by names.
+//! The named forms of raw calls and of their answers.
 ghost use Rattle.std.specs.Prelude.{◌≡◌, ◌+◌, ◌<◌, ◌≤◌, length, slice_index_or, option_map};
 ghost use Rattle.rmm_answers.specs.Naming as naming;
 
@@ -8,7 +8,7 @@ use crate::words::rest;
 use rmm_trace::place::{PLATFORM, PSCI_DENIED, PSCI_SUCCESS};
 use rmm_trace::{Atom, Sentence, TraceWord, atom_number, operand};
 
-/// The form of an operand: none, a number by its base, or a status of PSCI.
+/// The form of an operand: absent, a number in decimal or hexadecimal, or a status of PSCI.
 #[derive(Clone, Copy)]
 pub enum OperandForm {
     Absent,
@@ -19,7 +19,8 @@ pub enum OperandForm {
 
 use self::OperandForm::{Absent, Decimal, Hexadecimal, Psci};
 
-/// The forms of the operands X1 to X5 of each command, at the places of their names. RMM 1.0, RMI commands.
+/// The forms of the operands X1 to X5 of each command, indexed by the place of the command's name. RMM 1.0, RMI
+/// commands.
 pub const OPERANDS: [[OperandForm; 5]; 23] = [
     // rmi_version to rmi_granule_undelegate
     [Hexadecimal, Absent, Absent, Absent, Absent],
@@ -57,7 +58,7 @@ pub const OPERANDS: [[OperandForm; 5]; 23] = [
     [Hexadecimal, Hexadecimal, Psci, Absent, Absent],
 ];
 
-// A status of PSCI: its name if it is SUCCESS or DENIED.
+// A status of PSCI as a word: the name of SUCCESS or DENIED, or else a number.
 fn psci_atom(status: u64) -> Atom
     ensures { result ≡ naming.psci_atom status }
 {
@@ -70,7 +71,7 @@ fn psci_atom(status: u64) -> Atom
     Atom::Hexadecimal(status)
 }
 
-// Puts an operand in its form.
+// Appends an operand in its form.
 #[tactic(auto, unfolding(crate::specs::Naming::put_operand))]
 fn put_operand(call: &mut Sentence, form: OperandForm, number: u64)
     requires { length call.old.items < 64 }
@@ -115,7 +116,7 @@ fn named_call(place: usize, words: &[TraceWord]) -> Sentence
     call
 }
 
-/// The named call of a raw call `smc FID X1 ..`; `None` for a function that is no command.
+/// The named form of a raw call `smc FID X1 ..`; `None` for a function that is no command.
 #[tactic(auto, unfolding(crate::specs::Naming::named_question))]
 pub fn named_question(question: &[TraceWord]) -> Option<Sentence>
     ensures { option_map (λ call. call.items) result ≡ naming.named_question question.now }
@@ -131,7 +132,7 @@ pub fn named_question(question: &[TraceWord]) -> Option<Sentence>
 
 // ---- answers
 
-// The number of a written register; `None` if it is not written, or written as `-`.
+// The number of register `k` in a raw answer; `None` if the register is missing, or is `-`.
 fn written_number(words: &[TraceWord], k: usize) -> Option<u64>
     ensures { result ≡ naming.written_number words.now k }
 {
@@ -141,7 +142,7 @@ fn written_number(words: &[TraceWord], k: usize) -> Option<u64>
     }
 }
 
-// Puts an output if it is written, and if the command returns it.
+// Appends an output, if it is written and the command returns it.
 #[tactic(auto, unfolding(crate::specs::Naming::put_written))]
 fn put_written(answer: &mut Sentence, place: usize, x0: u64, name: usize, number: Option<u64>)
     requires { length answer.old.items ≤ 62 }
@@ -153,7 +154,7 @@ fn put_written(answer: &mut Sentence, place: usize, x0: u64, name: usize, number
     }
 }
 
-// The named answer of a command to registers with a result in X0.
+// The named answer of a command, from the result in X0 and the registers of a raw answer.
 #[tactic(auto, unfolding(crate::specs::Naming::answer_by))]
 fn answer_by(place: usize, x0: u64, written: &[TraceWord]) -> Sentence
     ensures { result.items ≡ naming.answer_by place x0 written.now }

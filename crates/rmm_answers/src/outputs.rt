@@ -12,10 +12,11 @@ use rmm_trace::place::{
 };
 use rmm_trace::{Atom, FUNCTIONS, Sentence, index_of, status_of};
 
-// The place that means no output: that of a name which no output has.
+// The place that means no output. No output has the name at this place.
 pub const NO_OUTPUT: usize = 0;
 
-/// The names of the outputs X1 to X4 of each command, at the places of their names; 0 is none. RMM 1.0, RMI commands.
+/// The names of the outputs X1 to X4 of each command, indexed by the place of the command's name; 0 is no output. RMM
+/// 1.0, RMI commands.
 pub const OUTPUTS: [[usize; 4]; 23] = [
     // rmi_version to rmi_granule_undelegate
     [LOWER, HIGHER, 0, 0],
@@ -81,7 +82,7 @@ fn place_in(functions: &[u64], function: u64) -> Option<usize>
     None
 }
 
-// The place of the command of a function identifier; that after the last command for any other number.
+// The place of the command with a function identifier; the place after the last command for any other number.
 #[tactic(auto, unfolding(crate::specs::Outputs::command_place))]
 pub(crate) fn command_place(function: u64) -> usize
     ensures { result ≡ specs.command_place function }
@@ -89,14 +90,14 @@ pub(crate) fn command_place(function: u64) -> usize
     place_in(&FUNCTIONS, function).unwrap_or(PLATFORM)
 }
 
-// Whether a command returns `top` beside RMI_ERROR_RTT.
+// Whether a command returns `top` together with RMI_ERROR_RTT.
 fn has_top(place: usize) -> bool
     ensures { result ≡ specs.has_top place }
 {
     place == RMI_RTT_DESTROY || place == RMI_DATA_DESTROY || place == RMI_RTT_UNMAP_UNPROTECTED
 }
 
-// Whether a command returns an output beside a result in X0.
+// Whether a command returns an output together with a result in X0.
 #[tactic(auto, unfolding(crate::specs::Outputs::is_returned))]
 pub(crate) fn is_returned(place: usize, x0: u64, name: usize) -> bool
     ensures { result ≡ specs.is_returned place x0 name }
@@ -107,7 +108,7 @@ pub(crate) fn is_returned(place: usize, x0: u64, name: usize) -> bool
     x0 == 0 || place == RMI_VERSION || (x0 % 256 == 4 && name == TOP && has_top(place))
 }
 
-// Puts an output if the command returns it.
+// Appends an output, if the command returns it.
 #[tactic(auto, unfolding(crate::specs::Outputs::put_returned))]
 pub(crate) fn put_returned(answer: &mut Sentence, place: usize, x0: u64, name: usize, value: u64)
     requires { length answer.old.items ≤ 62 }
@@ -119,7 +120,7 @@ pub(crate) fn put_returned(answer: &mut Sentence, place: usize, x0: u64, name: u
     }
 }
 
-// Puts the result word of a call, with its index.
+// Appends the result word of a call, with its index.
 #[tactic(auto, unfolding(crate::specs::Outputs::put_status))]
 pub(crate) fn put_status(answer: &mut Sentence, x0: u64)
     requires { length answer.old.items ≤ 62 }
@@ -132,7 +133,7 @@ pub(crate) fn put_status(answer: &mut Sentence, x0: u64)
     }
 }
 
-// Puts the outputs that a command returns.
+// Appends the outputs that a command returns.
 #[tactic(auto, unfolding(crate::specs::Outputs::put_outputs))]
 pub(crate) fn put_outputs(answer: &mut Sentence, place: usize, after: &Registers)
     requires { length answer.old.items ≤ 56 }
@@ -146,7 +147,7 @@ pub(crate) fn put_outputs(answer: &mut Sentence, place: usize, after: &Registers
     put_returned(answer, place, after.x0, names[3], after.x4);
 }
 
-// Puts a register if the command has an output there.
+// Appends a register, if the command has an output in it.
 #[tactic(auto, unfolding(crate::specs::Outputs::put_register))]
 fn put_register(answer: &mut Sentence, name: usize, value: u64)
     requires { length answer.old.items < 64 }
@@ -158,7 +159,7 @@ fn put_register(answer: &mut Sentence, name: usize, value: u64)
     }
 }
 
-// Puts X0 and the outputs of a raw call.
+// Appends X0 and the outputs of a raw call.
 #[tactic(auto, unfolding(crate::specs::Outputs::put_registers))]
 pub(crate) fn put_registers(answer: &mut Sentence, place: usize, after: &Registers)
     requires { length answer.old.items ≤ 56 }

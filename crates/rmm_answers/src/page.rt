@@ -1,4 +1,4 @@
-//! Parameter pages, written by their fields. RMM 1.0, RmiRealmParams, RmiRecParams and RmiRecEnter.
+//! Parameter pages, written field by field. RMM 1.0, RmiRealmParams, RmiRecParams and RmiRecEnter.
 ghost use Rattle.std.specs.Prelude.{◌≡◌};
 ghost use Rattle.rmm_model.specs.Host.{can_fill};
 ghost use Rattle.rmm_trace.specs.Access.{operand_at};
@@ -49,7 +49,7 @@ pub const RUN_FIELDS: [(usize, u64); 4] = [
 // The offset of NUM_AUX in RmiRecParams.
 pub const NUM_AUX: u64 = 0x800;
 
-// The offset of a field; 0 if there is none of the name.
+// The offset of the field with a name; 0 if there is no such field.
 fn offset_in(fields: &[(usize, u64)], name: usize) -> u64
     ensures { result ≡ pages.offset_in name fields.now }
 {
@@ -61,7 +61,7 @@ fn offset_in(fields: &[(usize, u64)], name: usize) -> u64
     0
 }
 
-// The offset after a word: that of a field's name, and after a value that of the next eight bytes.
+// The offset of the next value: that of the field after a field's name, and eight bytes further after a value.
 fn next_offset(fields: &[(usize, u64)], at: u64, atom: Atom) -> u64
     ensures { result ≡ pages.next_offset fields.now at atom }
 {
@@ -87,7 +87,8 @@ fn store_value<S: PageStore>(rmm: &mut Rmm<S>, address: u64, atom: Atom)
     }
 }
 
-// Stores fields of a page: a name moves to its offset, and each value is stored there, one after another.
+// Stores fields of a page. A name moves to the field's offset, and the values after it are stored from there on, one
+// after another.
 #[tactic(auto, unfolding(crate::specs::Page::with_fields))]
 fn store_fields<S: PageStore>(
     rmm: &mut Rmm<S>,
@@ -106,7 +107,7 @@ fn store_fields<S: PageStore>(
     }
 }
 
-// Writes a page with these fields, and else zeros. Returns whether the host may.
+// Writes a page with these fields, and zeros in all other bytes. Returns whether the host may write the page.
 #[tactic(auto, unfolding(crate::specs::Page::after_page))]
 fn write_page<S: PageStore>(rmm: &mut Rmm<S>, fields: &[(usize, u64)], words: &[TraceWord]) -> bool
     ensures answer { result ≡ can_fill rmm.old (operand_at words.now 0 0) }

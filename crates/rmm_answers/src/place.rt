@@ -1,4 +1,5 @@
-//! The places of names that answers have. The theorem `answer_places_are_of_their_names` says whose they are.
+//! The places of the names that occur in answers. The theorem `answer_places_are_of_their_names` says which name is at
+//! each place.
 pub const DONE: usize = 116;
 
 pub const FAULT: usize = 117;

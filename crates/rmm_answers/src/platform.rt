@@ -1,4 +1,4 @@
-//! Platforms: the settings that words are.
+//! Platforms, and their settings in the words of a question.
 ghost use Rattle.std.specs.Prelude.{◌≡◌, ◌<◌, ◌≤◌, ◌==◌, IfOk, Some, replicate};
 ghost use Rattle.granule_addr.specs.Page.{zero_page};
 ghost use Rattle.rmm_granules.specs.Inside.{platform_machine};
@@ -30,7 +30,7 @@ fn number_after(words: &[TraceWord], name: usize, default: u8) -> u8
     }
 }
 
-// Whether the name after a setting's name is the second of its values, which follows the first.
+// Whether a setting has the second of its two values. The name of the second is at the place after `first`.
 fn is_second(words: &[TraceWord], name: usize, first: usize) -> bool
     requires { first < 256 }
     ensures { result ≡ platforms.is_second words.now name first }
@@ -80,7 +80,7 @@ fn settings_in(words: &[TraceWord]) -> RmmSettings
     }
 }
 
-// The RMM of a platform over that many granules.
+// Opens the RMM of a platform over `count` granules.
 fn open_granules(
     alloc: Global,
     platform: Platform,
@@ -100,7 +100,7 @@ fn open_granules(
     }
 }
 
-// The fresh RMM of a platform, by the words after its name.
+// Opens the fresh RMM of a platform, by the words after the name `platform`.
 #[tactic(auto, unfolding(crate::specs::Platform::machine_of_platform))]
 fn open(alloc: Global, words: &[TraceWord]) -> Result<Option<Rmm<PlainStore>>, AllocError>
     ensures { IfOk result (λ rmm. rmm ≡ platforms.machine_of_platform words.now) }
@@ -122,7 +122,8 @@ pub fn is_platform(question: &[TraceWord]) -> bool
     first_place(question) == PLATFORM
 }
 
-/// The fresh RMM of a platform. None comes if this RMM has no such platform: 1 to 4,096 granules below 2^47.
+/// Opens the fresh RMM of a platform. None comes if this RMM has no such platform. A platform has 1 to 4,096 granules
+/// below 2^47.
 pub fn open_platform(
     alloc: Global,
     question: &[TraceWord],

@@ -1,11 +1,11 @@
-//! Words of an answer, put after one another.
+//! The appending of words to an answer.
 ghost use Rattle.std.specs.Prelude.{◌≡◌, ◌+◌, ◌<◌, ◌≤◌, length};
 ghost use Rattle.rmm_trace.specs.Answers.{listed};
 ghost use Rattle.rmm_answers.specs.Put as words;
 
 use rmm_trace::{Atom, Sentence, output_atom, plain, push_word};
 
-// Puts a word after the others, with a comma before it if it is the first of a further part.
+// Appends a word, with a comma before it if it begins a further part.
 pub(crate) fn put_listed(answer: &mut Sentence, is_part: bool, atom: Atom)
     requires { length answer.old.items < 64 }
     ensures items { answer.new.items ≡ words.put_word atom (listed is_part answer.old.items) }
@@ -14,7 +14,7 @@ pub(crate) fn put_listed(answer: &mut Sentence, is_part: bool, atom: Atom)
     push_word(answer, plain(atom), is_part);
 }
 
-// Puts a word after the others.
+// Appends a word.
 pub(crate) fn put(answer: &mut Sentence, atom: Atom)
     requires { length answer.old.items < 64 }
     ensures items { answer.new.items ≡ words.put_word atom answer.old.items }
@@ -23,7 +23,7 @@ pub(crate) fn put(answer: &mut Sentence, atom: Atom)
     put_listed(answer, false, atom);
 }
 
-// Puts the first word of a further part after the others.
+// Appends the first word of a further part.
 pub(crate) fn put_part(answer: &mut Sentence, atom: Atom)
     requires { length answer.old.items < 64 }
     ensures items { answer.new.items ≡ words.put_part atom answer.old.items }
@@ -32,7 +32,7 @@ pub(crate) fn put_part(answer: &mut Sentence, atom: Atom)
     put_listed(answer, true, atom);
 }
 
-// Puts a part: a name.
+// Appends a part that is a name.
 pub(crate) fn put_flag(answer: &mut Sentence, name: usize)
     requires { length answer.old.items < 64 }
     ensures items { answer.new.items ≡ words.put_flag name answer.old.items }
@@ -41,7 +41,7 @@ pub(crate) fn put_flag(answer: &mut Sentence, name: usize)
     put_part(answer, Atom::Name(name));
 }
 
-// Puts a part: a name and its value.
+// Appends a part that is a name with a value.
 #[tactic(auto, unfolding(crate::specs::Put::put_value))]
 pub(crate) fn put_value(answer: &mut Sentence, name: usize, value: Atom)
     requires { length answer.old.items ≤ 62 }
@@ -52,7 +52,7 @@ pub(crate) fn put_value(answer: &mut Sentence, name: usize, value: Atom)
     put(answer, value);
 }
 
-// Puts an output: its name and its value.
+// Appends the name and the value of an output.
 pub(crate) fn put_output(answer: &mut Sentence, name: usize, value: u64)
     requires { length answer.old.items ≤ 62 }
     ensures items { answer.new.items ≡ words.put_output name value answer.old.items }

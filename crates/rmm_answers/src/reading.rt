@@ -1,4 +1,4 @@
-//! Answers to readings of the machine, which no firmware offers a host.
+//! Answers to readings of the machine. No firmware offers a host these readings.
 ghost use Rattle.std.specs.Prelude.{◌≡◌, ◌+◌, ◌<◌, ◌≤◌, length, take, []};
 ghost use Rattle.std.specs.List.{sum};
 ghost use Rattle.rmm_model.specs.Command.PsciComplete as completion;
@@ -38,7 +38,7 @@ fn state_name(state: RmmGranuleState) -> usize
     }
 }
 
-// The state of a granule, if there is one.
+// The name of a granule's state, or `none` if there is no granule.
 pub(crate) fn state_atom(state: Option<RmmGranuleState>) -> Atom
     ensures { result ≡ readings.state_atom state }
 {
@@ -63,7 +63,7 @@ fn is_own(state: RmmGranuleState) -> bool
     }
 }
 
-// The sum of bytes.
+// The sum of the bytes of a page.
 fn sum_of(page: &[u8]) -> u64
     requires { length page.now ≤ 4096 }
     ensures { result ≡ sum page.now }
@@ -86,7 +86,7 @@ fn granule_sum<S: PageStore>(rmm: &Rmm<S>, address: u64, state: RmmGranuleState)
     sum_of(granules.page(granules.number_of(address)))
 }
 
-// The sum of the bytes of the granule at an address.
+// The sum of the bytes of the granule at an address, or `none` if there is no granule.
 pub(crate) fn sum_atom<S: PageStore>(rmm: &Rmm<S>, address: u64) -> Atom
     ensures { result ≡ readings.sum_atom rmm.now address (state_shown rmm.now address) }
 {
@@ -115,7 +115,7 @@ fn realm_at<S: PageStore>(rmm: &Rmm<S>, address: u64) -> Option<RmmRealm>
     rmm.state(address)?.realm()
 }
 
-// Puts a number in decimal with its name.
+// Appends a number in decimal, with its name.
 fn put_number(answer: &mut Sentence, name: usize, number: u64)
     requires { length answer.old.items ≤ 62 }
     ensures items { answer.new.items ≡ put_value name (Decimal number) answer.old.items }
@@ -124,7 +124,7 @@ fn put_number(answer: &mut Sentence, name: usize, number: u64)
     put_value(answer, name, Atom::Decimal(number));
 }
 
-// Puts an address or a register with its name.
+// Appends an address or a register, with its name.
 fn put_word(answer: &mut Sentence, name: usize, word: u64)
     requires { length answer.old.items ≤ 62 }
     ensures items { answer.new.items ≡ put_value name (Hexadecimal word) answer.old.items }
@@ -133,7 +133,7 @@ fn put_word(answer: &mut Sentence, name: usize, word: u64)
     put_value(answer, name, Atom::Hexadecimal(word));
 }
 
-// Puts a realm of a machine from an address on.
+// Appends the attributes of a realm. `base` is the address of the machine's granule 0.
 #[tactic(auto, unfolding(crate::specs::Reading::realm_words))]
 fn put_realm(answer: &mut Sentence, realm: &RmmRealm, base: u64)
     requires { answer.old.items ≡ [] }
@@ -174,7 +174,7 @@ fn first_half(bytes: &[u8]) -> [u8; 32]
     half
 }
 
-// The digest of a measurement by an algorithm. A digest of 32 bytes has zeros after it.
+// The digest that a measurement has with a hash algorithm. In a measurement a digest of 32 bytes has zeros after it.
 fn digest_of(hash: HashAlgorithm, rim: [u8; 64]) -> Digest
     ensures { result ≡ readings.digest_of hash rim }
 {
@@ -225,7 +225,7 @@ fn owner_address<S: PageStore>(rmm: &Rmm<S>, address: u64) -> u64
     }
 }
 
-// Puts that a request is pending, if it is.
+// Appends `pending`, if a request is pending.
 #[tactic(auto, unfolding(crate::specs::Reading::put_pending))]
 fn put_pending(answer: &mut Sentence, is_pending: bool)
     requires { length answer.old.items < 64 }
@@ -237,7 +237,7 @@ fn put_pending(answer: &mut Sentence, is_pending: bool)
     }
 }
 
-// Puts a REC at an address.
+// Appends the attributes of the REC at an address.
 #[tactic(auto, unfolding(crate::specs::Reading::rec_words))]
 fn put_rec<S: PageStore>(answer: &mut Sentence, rmm: &Rmm<S>, address: u64, rec: &RmmRec)
     requires { answer.old.items ≡ [] }

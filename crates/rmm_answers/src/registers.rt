@@ -1,11 +1,11 @@
-//! The registers of a raw answer that is written, compared with ours.
+//! The comparison of a written raw answer with the model's answer, register by register.
 ghost use Rattle.std.specs.Prelude.{◌≡◌};
 ghost use Rattle.rmm_answers.specs.Registers as specs;
 
 use crate::outputs::{NO_OUTPUT, is_returned, outputs_of};
 use rmm_trace::{TraceWord, is_register, is_same_register, operand, split_word};
 
-// The name of the first output, and the others; none if there is no output.
+// The name of the first output, and the names of the other outputs; `NO_OUTPUT` if there is no first output.
 fn split_name(names: &[usize]) -> (usize, &[usize])
     ensures first { result.0 ≡ specs.first_name names.now }
     ensures rest { result.1.now ≡ specs.names_after names.now }
@@ -16,7 +16,7 @@ fn split_name(names: &[usize]) -> (usize, &[usize])
     }
 }
 
-// Whether a register that is written is ours, if the call returns it.
+// Whether a written register agrees with the model's. If the call does not return it, any register agrees.
 fn is_same_output(is_output: bool, written: TraceWord, ours: TraceWord) -> bool
     ensures { result ≡ specs.is_same_output is_output written ours }
 {
@@ -27,7 +27,8 @@ fn is_same_output(is_output: bool, written: TraceWord, ours: TraceWord) -> bool
     }
 }
 
-// Whether the registers that are written from X1 on are ours, by the names of the outputs there.
+// Whether the written registers from X1 on agree with the model's. `names` has the names of the outputs in these
+// registers.
 fn are_outputs_same(
     place: usize,
     x0: u64,
@@ -53,7 +54,7 @@ fn are_outputs_same(
     true
 }
 
-// Whether the registers that are written of a command's answer are ours.
+// Whether the written registers of a command's answer agree with the model's.
 pub(crate) fn are_registers(place: usize, written: &[TraceWord], ours: &[TraceWord]) -> bool
     ensures { result ≡ specs.are_registers place written.now ours.now }
 {

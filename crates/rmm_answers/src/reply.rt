@@ -12,19 +12,19 @@ use rmm_trace::place::SMC;
 use rmm_trace::{Atom, Sentence, TraceWord, is_same, operand, read_into, sha256_text, sha512_text};
 use std::alloc::AllocError;
 
-/// The digest that a realm's initial measurement is.
+/// The digest in a realm's initial measurement.
 #[derive(Clone, Copy)]
 pub enum Digest {
     Sha256([u8; 32]),
     Sha512([u8; 64]),
 }
 
-/// The answer to a question: words, or a measurement. That to a platform is neither.
+/// The answer to a question: words, or a measurement. The answer to a platform is neither.
 #[derive(Drop)]
 pub struct TraceReply {
     pub words: Sentence,
     pub rim: Option<Digest>,
-    /// The round of the call that is refused, which is 0 if it is not repeated. None comes if no call is refused.
+    /// The round of the refused call, which is 0 for a call without `repeat`. None comes if no call is refused.
     pub refused: Option<u64>,
 }
 
@@ -51,7 +51,8 @@ impl Digest {
     }
 }
 
-// Whether an answer that is written to a question is ours: that to a raw call by its registers.
+// Whether a written answer to a question agrees with the model's. The answer to a raw call is compared by its
+// registers.
 fn is_same_answer(question: &[TraceWord], written: &[TraceWord], ours: &[TraceWord]) -> bool
     ensures { result ≡ replies.is_same_answer question.now written.now ours.now }
 {
@@ -62,7 +63,7 @@ fn is_same_answer(question: &[TraceWord], written: &[TraceWord], ours: &[TraceWo
     }
 }
 
-// Whether the words that a text is are the same as ours. They are read into `words`.
+// Whether the words of a text agree with the model's answer to a question. The words are read into `words`.
 fn are_words(
     question: &[TraceWord],
     written: &[u8],
@@ -79,7 +80,7 @@ fn are_words(
 }
 
 impl TraceReply {
-    /// The empty answer, which is that to a platform.
+    /// The empty answer, which is the answer to a platform.
     pub fn new() -> TraceReply
         ensures { result ≡ replies.no_answer }
     {
@@ -99,7 +100,7 @@ impl TraceReply {
         self.refused = None;
     }
 
-    /// Sets the answer that is given to a line which is no command.
+    /// Sets the answer to a line that is no command.
     #[tactic(auto, unfolding(crate::specs::Replies::no_command))]
     pub fn no_command(&mut self)
         ensures { self.new ≡ replies.no_command }
@@ -109,14 +110,15 @@ impl TraceReply {
         put(&mut self.words, Atom::Name(COMMAND));
     }
 
-    /// Whether there is no answer: the line is printed as it is.
+    /// Whether the answer is empty. The line is then printed without an answer.
     pub fn is_empty(&self) -> bool
         ensures { result ≡ replies.is_unanswered self.now }
     {
         self.words.is_empty() && self.rim.is_none()
     }
 
-    /// Whether an answer that is written to a question is this one. Its words are read into `words`.
+    /// Whether a written answer to a question agrees with this reply. The words of the written answer are read into
+    /// `words`.
     #[tactic(auto, unfolding(crate::specs::Replies::is_written))]
     pub fn is_written(&self, question: &[TraceWord], written: &[u8], words: &mut Sentence) -> bool
         ensures { result ≡ replies.is_written question.now written.now self.now }

@@ -1,4 +1,4 @@
-//! Rounds of calls and of fills: a question is repeated up to the first round that is refused.
+//! The rounds of a repeated call or fill, up to the first round that does not succeed.
 ghost use Rattle.std.specs.Prelude.{◌≡◌};
 ghost use Rattle.rmm_answers.specs.Rounds as rounds;
 
@@ -8,14 +8,14 @@ use rmi_abi::Registers;
 use rmm::Rmm;
 use rmm_trace::{TraceWord, operand};
 
-// The last round of a call that was performed, and the registers after it.
+// The last performed round of a call, and the registers after that round.
 #[derive(Clone, Copy)]
 pub struct LastCall {
     pub round: u64,
     pub after: Registers,
 }
 
-// Performs a call in one round and up to `more` further rounds, until one is not RMI_SUCCESS.
+// Performs a call once and up to `more` further times, until X0 is not RMI_SUCCESS.
 #[tactic(auto, unfolding(crate::specs::Rounds::performed_rounds))]
 pub(crate) fn perform_rounds<S: PageStore>(
     rmm: &mut Rmm<S>,
@@ -38,7 +38,7 @@ pub(crate) fn perform_rounds<S: PageStore>(
     LastCall { round, after }
 }
 
-// Fills a page in a round. Returns whether the host may.
+// Fills the page of one round of a `repeat`. Returns whether the host may write the page.
 #[tactic(auto, unfolding(crate::specs::Rounds::filled))]
 fn fill_round<S: PageStore>(rmm: &mut Rmm<S>, operands: &[TraceWord], round: u64) -> bool
     ensures { (result, rmm.new) ≡ rounds.filled operands.now round rmm.old }
@@ -47,7 +47,7 @@ fn fill_round<S: PageStore>(rmm: &mut Rmm<S>, operands: &[TraceWord], round: u64
     rmm.fill(operand(operands, 0, round), value as u8)
 }
 
-// Fills pages in one round and up to `more` further rounds, until one faults. Returns the last round, and whether it is
+// Fills one page and up to `more` further pages, until a fill faults. Returns the last round, and whether its fill is
 // done.
 #[tactic(auto, unfolding(crate::specs::Rounds::filled_rounds))]
 pub(crate) fn fill_rounds<S: PageStore>(

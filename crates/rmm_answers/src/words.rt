@@ -6,7 +6,7 @@ ghost use Rattle.rmm_answers.specs.Words as specs;
 use rmm_trace::place::DASH;
 use rmm_trace::{Atom, TraceWord};
 
-// The place of the name of a question; that of `-`, which is none, if no name is first.
+// The place of the name that a question begins with; the place of `-` if it begins with no name.
 pub(crate) fn first_place(words: &[TraceWord]) -> usize
     ensures { result ≡ specs.first_place words.now }
 {

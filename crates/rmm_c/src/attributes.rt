@@ -1,4 +1,4 @@
-//! Attributes of realms and RECs, as C has them.
+//! The C form of the attributes of realms and RECs.
 ghost use Rattle.std.specs.Prelude.{◌≡◌};
 ghost use Rattle.rmm_model.specs.Command.PsciComplete as completion;
 ghost use Rattle.rmm_c.specs.Reading as shown;
@@ -103,7 +103,7 @@ fn is_pending(psci: PsciRequest) -> bool
     }
 }
 
-// The attributes of a realm of a machine from an address on.
+// The attributes of a realm. `base` is the address of the machine's granule 0.
 pub(crate) fn realm_attributes(base: u64, realm: &RmmRealm) -> RealmAttributes
     ensures { result ≡ shown.realm_attributes base realm.now }
 {

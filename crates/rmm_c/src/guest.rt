@@ -28,7 +28,7 @@ pub struct GuestStepResult {
 }
 
 impl RawStep {
-    // The step as the RMM has it.
+    // The step in the RMM's form.
     fn words(&self) -> StepWords
         ensures { result ≡ words_of self.now }
     {
@@ -71,7 +71,7 @@ pub extern "C" fn rmm_guest(alloc: Global, handle: &mut RmmHandle, rec: u64, ste
     code(queued)
 }
 
-// Ends the run of a REC, and returns the word of its entry; `None` comes if it does not run.
+// Ends the run of a REC, and returns the result word of the REC's entry; `None` if the REC does not run.
 fn interrupt(plain: &mut PlainRmm, rec: u64) -> Option<u64>
     ensures word { result ≡ interrupt_word rec plain.old }
     ensures machine { plain.new ≡ after_interrupt rec plain.old }
@@ -80,8 +80,8 @@ fn interrupt(plain: &mut PlainRmm, rec: u64) -> Option<u64>
     Some(word.number())
 }
 
-/// Ends the run of a REC: `word` is what RMI_REC_ENTER returns now. Returns false, and changes nothing, if the REC does
-/// not run.
+/// Ends the run of a REC, and writes the result word of its RMI_REC_ENTER to `word`. Returns false, and changes
+/// nothing, if the REC does not run.
 #[unsafe(no_mangle)]
 pub extern "C" fn rmm_interrupt(
     alloc: Global,
@@ -100,7 +100,7 @@ pub extern "C" fn rmm_interrupt(
     report(found, word)
 }
 
-// Result `number` of those since the last entry of a REC.
+// Result `number` of the guest's results since the last entry of its REC.
 fn result_of(plain: &PlainRmm, rec: u64, number: u64) -> Option<GuestStepResult>
     ensures { result ≡ result_shown rec number plain.now }
 {
@@ -115,8 +115,8 @@ fn result_of(plain: &PlainRmm, rec: u64, number: u64) -> Option<GuestStepResult>
     })
 }
 
-/// Writes result `number` of those since the last entry of a REC to `outcome`. Returns false, and writes nothing, if
-/// there is none.
+/// Writes result `number` of the guest's results since the last entry of its REC to `outcome`. Returns false, and
+/// writes nothing, if there is no such result.
 #[unsafe(no_mangle)]
 pub extern "C" fn rmm_result(
     alloc: Global,

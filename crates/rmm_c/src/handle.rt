@@ -1,4 +1,4 @@
-//! Handles: what C keeps of an RMM.
+//! The handles by which C keeps RMMs.
 ghost use Rattle.std.specs.Prelude.{◌≡◌, Some, None, IfSome, IfNone, is_some};
 
 use crate::{HeldRmm, PlainRmm};
@@ -6,7 +6,7 @@ use box_parts::BoxParts;
 use std::alloc::Global;
 use std::mem::replace;
 
-/// An RMM that C keeps, or none, which is a closed handle. A handle whose bytes are all 0 is closed.
+/// The handle by which C keeps an RMM. A closed handle has no RMM. A handle whose bytes are all 0 is closed.
 #[repr(C)]
 #[derive(Drop)]
 pub struct RmmHandle {
@@ -44,7 +44,7 @@ impl RmmHandle {
         };
     }
 
-    // Whether there is an RMM.
+    // Whether the handle has an RMM.
     pub(crate) fn is_open(&mut self) -> bool
         ensures answer { result ≡ is_some self.old.held.machine }
         ensures same { self.new ≡ self.old }

@@ -1,4 +1,4 @@
-//! An RMM on the heap that C keeps. No other file knows its pointer.
+//! A heap-allocated RMM that C keeps. No other file knows its pointer.
 ghost use Rattle.std.specs.Prelude.{◌≡◌, true, Option, Some, None, is_some};
 ghost use Rattle.std.specs.Coded.{coded_option};
 ghost use Rattle.rmm_model.specs.Codes.{machine_code};

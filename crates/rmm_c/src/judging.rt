@@ -1,4 +1,4 @@
-//! Judgements of calls: the check that decides, and the words that an RMM may answer.
+//! Judgements of calls: the check that decides, and the words that an RMM may answer with.
 ghost use Rattle.std.specs.Prelude.{◌≡◌};
 ghost use Rattle.std.specs.List.{list_any};
 ghost use Rattle.rmi_abi.specs.Call.{call_in};
@@ -103,7 +103,7 @@ pub extern "C" fn rmm_deciding_check(
     check
 }
 
-/// Whether an RMM may answer a call with this X0, with these registers on the machine as it is. The call is not
+/// Whether an RMM may return this X0 for a call with these registers on the machine as it is. The call is not
 /// performed.
 ///
 /// It may be the word of each check that is made and fails, and RMI_SUCCESS if none does. For a function that is no

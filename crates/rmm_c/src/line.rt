@@ -118,7 +118,7 @@ fn text_of(alloc: Global, reply: &TraceReply) -> Result<Vec<u8>, AllocError>
     Ok(text)
 }
 
-// Puts as much of a text into a buffer as fits before a zero.
+// Copies as much of a text into a buffer as fits with a zero after it.
 fn put_text(text: &[u8], buffer: &mut [u8])
     ensures { buffer.new ≡ lines.put_text text.now buffer.old }
 {

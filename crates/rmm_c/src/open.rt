@@ -1,4 +1,4 @@
-//! Handles that are opened and closed.
+//! The opening and closing of handles.
 ghost use Rattle.std.specs.Prelude.{◌≡◌, ◌≢◌, ◌≤◌, ◌↔◌, true, false, None, Some, is_some};
 ghost use Rattle.rmm_c.specs.Settings.{is_machine, opened_machine};
 
@@ -14,7 +14,7 @@ const NO_MEMORY: u64 = 2;
 
 const ALREADY_OPEN: u64 = 3;
 
-/// Opens a closed handle: a fresh RMM with these settings. Each granule is UNDELEGATED, and its bytes are 0.
+/// Opens a closed handle, with a fresh RMM of these settings. Each granule is UNDELEGATED, and its bytes are 0.
 ///
 /// Returns 0 if the handle is open now; else nothing changes. 3 comes exactly if it was open, and 2 if allocation
 /// failed. 1 comes exactly if it was closed and no machine has these settings.

@@ -28,8 +28,8 @@ impl Model for PlainRmm {
 }
 
 impl PlainRmm {
-    /// An RMM of that many UNDELEGATED granules, whose bytes are 0. `None` comes if there is no memory, or if the
-    /// number is out of range.
+    /// Opens an RMM over `count` UNDELEGATED granules, whose bytes are 0. `None` comes if there is no memory, or if
+    /// `count` is out of range.
     pub(crate) fn open(alloc: Global, platform: Platform, count: u16) -> Option<PlainRmm>
         ensures { IfSome result (λ plain.
             plain ≡ platform_machine platform (replicate count zero_page)) }

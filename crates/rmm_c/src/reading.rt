@@ -1,4 +1,4 @@
-//! Readings of a machine, which no host has.
+//! Readings of a machine. No firmware offers a host these readings.
 ghost use Rattle.std.specs.Prelude.{◌≡◌};
 ghost use Rattle.rmm.specs.Reading.{word_shown};
 ghost use Rattle.rmm_c.specs.Reading as shown;
@@ -8,7 +8,7 @@ use crate::attributes::{granule_state_code, realm_attributes, rec_attributes};
 use crate::{PlainRmm, RealmAttributes, RecAttributes, RmmHandle};
 use std::alloc::Global;
 
-// Writes what is read to `into`, which stays as it is if there is nothing. Returns whether there is something.
+// Writes a reading to `into`, if there is one, and returns whether there is one.
 pub(crate) fn report<T: Drop>(read: Option<T>, into: &mut T) -> bool
     ensures { Reports read into.old result into.new }
 {
@@ -74,8 +74,8 @@ pub extern "C" fn rmm_read_state(
     report(found, state)
 }
 
-/// Writes the eight bytes from 8 * `index` on of the granule at an address to `word`, as little endian. Returns false,
-/// and writes nothing, if there is no such granule, for an index above 511, and on a closed handle.
+/// Writes word `index` of the granule at an address to `word`. A word is eight bytes, little endian. Returns false, and
+/// writes nothing, if there is no such granule, for an index above 511, and on a closed handle.
 #[unsafe(no_mangle)]
 pub extern "C" fn rmm_read_word(
     alloc: Global,

@@ -1,4 +1,4 @@
-//! Settings as C has them.
+//! The C form of settings.
 ghost use Rattle.std.specs.Prelude.{◌≡◌, true};
 ghost use Rattle.rmm_c.specs.Settings as settings;
 
@@ -50,7 +50,7 @@ impl PlatformSettings {
             && self.layout <= 1
     }
 
-    // The settings in fields of fewer bits.
+    // The settings, with each number in the RMM's field of fewer bits.
     fn narrowed(&self) -> RmmSettings
         requires { settings.fit self.now ≡ true }
         ensures { result ≡ settings.settings_of self.now }

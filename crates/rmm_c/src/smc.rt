@@ -20,7 +20,7 @@ pub struct SmcRegisters {
 }
 
 impl SmcRegisters {
-    // The registers as the RMM has them.
+    // The registers in the RMM's form.
     pub(crate) fn call(&self) -> Registers
         ensures { result ≡ call_of self.now }
     {
@@ -35,7 +35,7 @@ impl SmcRegisters {
         }
     }
 
-    // The registers as C has them.
+    // The C form of registers.
     fn of(registers: Registers) -> SmcRegisters
         ensures { result ≡ smc_registers registers }
     {
@@ -51,7 +51,7 @@ impl SmcRegisters {
     }
 }
 
-/// Performs a call: X0 to X6 before it, and X0 to X4 after it.
+/// Performs a call. `registers` has X0 to X6 before the call, and X0 to X4 after it.
 ///
 /// A closed handle is firmware without an RMM: X0 is -1, NOT_SUPPORTED.
 #[unsafe(no_mangle)]

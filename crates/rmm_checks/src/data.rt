@@ -65,14 +65,14 @@ pub fn data_destroy<S: PageStore>(granules: &Granules<S>, rd: u64, ipa: u64) -> 
 
 // ---- RMI_DATA_CREATE
 
-// Whether all flags but bit 0 are clear, if the settings say that they are checked.
+// Whether the flags above bit 0 are clear, or the settings ignore these flags.
 fn are_flags_valid(settings: &RmmSettings, flags: u64) -> bool
     ensures { result ≡ creating.are_flags_valid settings.now flags }
 {
     settings.ignores_data_flags || flags <= 1
 }
 
-// Whether the RIPAS of an entry is RAM, if the settings say that it has to be.
+// Whether the RIPAS of an entry is RAM, or the settings do not require RAM.
 fn is_ripas_right(settings: &RmmSettings, entry: RmmRttEntry) -> bool
     ensures { result ≡ creating.is_ripas_right settings.now entry }
 {

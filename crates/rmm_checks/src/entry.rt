@@ -18,7 +18,7 @@ use rmm_model::{Condition, RmmRttEntry, has_live};
 
 // ---- answers
 
-// RMI_ERROR_RTT with the level of a table, and the next live entry in X2.
+// RMI_ERROR_RTT with the level of a table, and the address of the next live entry in X2.
 pub fn rtt_top(level: u8, top: u64) -> SmcResult
     ensures { result ≡ error_rtt_top top level }
 {
@@ -28,7 +28,7 @@ pub fn rtt_top(level: u8, top: u64) -> SmcResult
     }
 }
 
-// RMI_ERROR_RTT with the level of a table, and the next live entry in X1.
+// RMI_ERROR_RTT with the level of a table, and the address of the next live entry in X1.
 pub fn rtt_next(level: u8, top: u64) -> SmcResult
     ensures { result ≡ error_rtt_next top level }
 {
@@ -68,7 +68,7 @@ pub fn is_live_below<S: PageStore>(granules: &Granules<S>, entry: RmmRttEntry) -
 
 // ---- checks
 
-// Adds the checks of a walk that reaches a level, to an entry that is as it has to be.
+// Adds the checks that a walk reaches a level, and that the entry there is as required.
 pub fn add_entry(
     checks: &mut EvaluatedChecks,
     after: &[Condition],

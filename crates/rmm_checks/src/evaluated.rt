@@ -14,7 +14,7 @@ use std::marker::Model;
 pub enum CheckOutcome {
     NotMade,
     Passed,
-    /// The answer of the command, if this check decides.
+    /// A failed check, with the answer of the command if this check decides.
     Failed(SmcResult),
 }
 
@@ -58,7 +58,7 @@ impl CheckOutcome {
     }
 }
 
-// The number of a condition, by which two are compared.
+// The number of a condition, by which conditions are compared.
 fn number(condition: Condition) -> u8
     ensures { result ≡ condition_number condition }
 {
@@ -73,7 +73,7 @@ fn is_passed(rows: &[EvaluatedCheck], condition: Condition) -> bool
     rows.iter().any(|row| number(row.condition) == number(condition) && row.outcome.is_pass())
 }
 
-// Whether each check that a check comes after was made and passed.
+// Whether a check of each condition in `after` was made and passed.
 #[tactic(auto, unfolding(crate::specs::Evaluated::is_made))]
 fn is_made(rows: &[EvaluatedCheck], after: &[Condition]) -> bool
     ensures { result ≡ is_made rows.now after.now }
@@ -98,8 +98,8 @@ impl EvaluatedChecks {
         self.rows.as_slice()
     }
 
-    // Adds a check, with the answer of the command if this check decides. It is made if each that it comes after was
-    // made and passed.
+    // Adds a check, with the answer of the command if this check decides. The check is made if a check of each
+    // condition in `after` was made and passed.
     #[tactic(auto, unfolding(crate::specs::Evaluated::evaluated_after))]
     pub(crate) fn add(
         &mut self,
@@ -122,7 +122,7 @@ impl EvaluatedChecks {
         self.rows.push(EvaluatedCheck { condition, outcome });
     }
 
-    // Adds a check by which the answer is RMI_ERROR_INPUT.
+    // Adds a check that answers RMI_ERROR_INPUT if it fails.
     pub(crate) fn input(&mut self, condition: Condition, after: &[Condition], fails: bool)
         requires room { length self.old < 18 }
         ensures rows { Adds self.old (check condition after.now fails error_input ∷ []) self.new }
@@ -131,7 +131,7 @@ impl EvaluatedChecks {
         self.add(condition, after, fails, SmcResult::only(Word::ErrorInput));
     }
 
-    // Adds a check by which the answer is RMI_ERROR_REALM.
+    // Adds a check that answers RMI_ERROR_REALM if it fails.
     pub(crate) fn realm(&mut self, condition: Condition, after: &[Condition], fails: bool)
         requires room { length self.old < 18 }
         ensures rows { Adds self.old (check condition after.now fails error_realm ∷ []) self.new }
@@ -145,7 +145,7 @@ impl EvaluatedChecks {
         );
     }
 
-    // Adds a check by which the answer is RMI_ERROR_REC.
+    // Adds a check that answers RMI_ERROR_REC if it fails.
     pub(crate) fn rec(&mut self, condition: Condition, after: &[Condition], fails: bool)
         requires room { length self.old < 18 }
         ensures rows { Adds self.old (check condition after.now fails error_rec ∷ []) self.new }
@@ -154,7 +154,7 @@ impl EvaluatedChecks {
         self.add(condition, after, fails, SmcResult::only(Word::ErrorRec));
     }
 
-    // Adds a check by which the answer is RMI_ERROR_RTT with the level of a table.
+    // Adds a check that answers RMI_ERROR_RTT with the level of a table if it fails.
     pub(crate) fn rtt(&mut self, condition: Condition, after: &[Condition], fails: bool, level: u8)
         requires room { length self.old < 18 }
         ensures rows { Adds self.old (check condition after.now fails (error_rtt level) ∷ []) self.new }

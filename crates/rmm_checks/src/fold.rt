@@ -14,7 +14,7 @@ use rmi_abi::{SmcResult, Word};
 use rmm_granules::{Granules, is_block_too_high, is_homogeneous, table_below};
 use rmm_model::{Condition, RmmRttEntry};
 
-// The level of a table below another one: the number if it is 1 to 3, and 1 otherwise.
+// The level if it is 1 to 3, and 1 otherwise.
 fn lower_level(level: u64) -> u8
     ensures value { nat_le 1 level ≡ true → nat_le level 3 ≡ true → result ≡ level }
     ensures some { 1 ≤ result }
@@ -38,7 +38,7 @@ fn is_homogeneous_below<S: PageStore>(granules: &Granules<S>, entry: RmmRttEntry
     }
 }
 
-// Whether the table that an entry leads to would become a block of a level at which there is none.
+// Whether a fold of the table that an entry leads to would give a block at a level without blocks.
 fn is_too_high_below<S: PageStore>(granules: &Granules<S>, entry: RmmRttEntry, level: u8) -> bool
     ensures { is_some (walks.table_below granules.now entry) ≡ true
         → result ≡ command.is_block_too_high granules.now.settings (page_below granules.now entry) level }

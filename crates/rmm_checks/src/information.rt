@@ -13,17 +13,17 @@ use rmi_abi::{SmcResult, Word};
 use rmm_granules::Granules;
 use rmm_model::Condition;
 
-// Version 1.0.
+// The version of the RMI, 1.0.
 const VERSION: u64 = 0x1_0000;
 
-// Whether a version is the one that there is.
+// Whether a version is the only supported version.
 fn is_version(requested: u64) -> bool
     ensures { result ≡ (requested == 0x10000) }
 {
     requested == VERSION
 }
 
-// RMI_ERROR_INPUT with the lowest and the highest version that there is.
+// RMI_ERROR_INPUT with the lowest and the highest supported version.
 fn refused_versions() -> SmcResult
     ensures { result ≡ versions.versions ErrorInput }
 {

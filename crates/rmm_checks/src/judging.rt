@@ -22,7 +22,7 @@ impl CheckOutcome {
         matches!(self, CheckOutcome::Failed(_))
     }
 
-    // Whether the check was made and failed, and its answer has a word.
+    // Whether the check was made and failed, with the word `word` in its answer.
     fn has_word(&self, word: Word) -> bool
         ensures { result ≡ specs.has_word word self.now }
     {
@@ -66,7 +66,7 @@ fn has_failed(rows: &[EvaluatedCheck]) -> bool
     rows.iter().any(|row| row.outcome.is_failure())
 }
 
-// Whether one of the checks was made and failed, and its answer has a word.
+// Whether one of the checks was made and failed, with the word `word` in its answer.
 fn has_word(rows: &[EvaluatedCheck], word: Word) -> bool
     ensures { result ≡ list_any (λ row. specs.has_word word row.outcome) rows.now }
 {

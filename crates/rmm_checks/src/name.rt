@@ -168,7 +168,7 @@ pub fn condition_name(condition: Condition) -> &'static str
     }
 }
 
-// The first of some conditions whose name is the text.
+// The first of `conditions` that has the name `text`.
 fn find_named(text: &str, conditions: &[Condition]) -> Option<Condition>
     ensures { result ≡ names.find_named text.now conditions.now }
 {
@@ -180,7 +180,7 @@ fn find_named(text: &str, conditions: &[Condition]) -> Option<Condition>
     None
 }
 
-/// The condition of a name; `None` comes for any other text.
+/// The condition with the name `text`, or `None` if no condition has it.
 #[tactic(auto, unfolding(crate::specs::Names::condition_named))]
 pub fn condition_named(text: &str) -> Option<Condition>
     ensures { result ≡ names.condition_named text.now }

@@ -13,14 +13,14 @@ use rmm_model::{Condition, RmmGranuleState};
 
 // ---- granules
 
-// Whether an address is one at which a granule begins.
+// Whether a granule begins at an address.
 pub fn is_aligned(address: u64) -> bool
     ensures { result ≡ machine.is_aligned address }
 {
     address % 4096 == 0
 }
 
-// The number of the granule that an address lies in; an address below the first one counts as in that one.
+// The number of the granule that an address lies in; 0 for an address below the first granule.
 #[tactic(auto, unfolding(rmm_model::specs::Machine::number_of))]
 pub fn number_at<S: PageStore>(granules: &Granules<S>, address: u64) -> u64
     ensures { result ≡ number_of granules.now address }
@@ -42,7 +42,7 @@ pub fn covering<S: PageStore>(granules: &Granules<S>, address: u64) -> Option<Gr
     }
 }
 
-// The state of the granule that an address lies in; one outside the machine counts as UNDELEGATED.
+// The state of the granule that an address lies in; UNDELEGATED for an address outside the machine.
 #[tactic(auto, using(crate::proofs::Outside::outside))]
 pub fn state_at<S: PageStore>(granules: &Granules<S>, address: u64) -> RmmGranuleState
     ensures { result ≡ machine.state_at granules.now address }
@@ -53,7 +53,7 @@ pub fn state_at<S: PageStore>(granules: &Granules<S>, address: u64) -> RmmGranul
     }
 }
 
-// The RD of the realm that owns the granule that an address lies in; one outside the machine has none.
+// The RD of the realm that owns the granule at an address; `None` for an address outside the machine.
 #[tactic(auto, using(crate::proofs::Outside::outside))]
 pub fn owner_at<S: PageStore>(granules: &Granules<S>, address: u64) -> Option<Gran>
     ensures { result ≡ (granule_at granules.now (number_of granules.now address)).owner }
@@ -64,7 +64,7 @@ pub fn owner_at<S: PageStore>(granules: &Granules<S>, address: u64) -> Option<Gr
     }
 }
 
-// Whether the granule at an address is the host's, and not of the secure world.
+// Whether the granule at an address is UNDELEGATED, and not in the Secure physical address space.
 pub fn is_host<S: PageStore>(granules: &Granules<S>, address: u64) -> bool
     ensures { result ≡ operands.is_host_s granules.now address }
 {
@@ -73,7 +73,7 @@ pub fn is_host<S: PageStore>(granules: &Granules<S>, address: u64) -> bool
 
 // ---- checks
 
-// Adds the checks that an address is that of a granule.
+// Adds the checks that a granule of the machine begins at an address.
 pub fn add_address<S: PageStore>(
     checks: &mut EvaluatedChecks,
     granules: &Granules<S>,
@@ -89,7 +89,7 @@ pub fn add_address<S: PageStore>(
     checks.input(bound, &[align], !granules.is_inside(address));
 }
 
-// Adds the checks that an address is that of a DELEGATED granule.
+// Adds the checks that a DELEGATED granule begins at an address.
 pub fn add_delegated<S: PageStore>(
     checks: &mut EvaluatedChecks,
     granules: &Granules<S>,
@@ -112,7 +112,7 @@ pub fn add_delegated<S: PageStore>(
     checks.input(conditions.state, &[conditions.bound], !state.is_delegated());
 }
 
-// Adds the checks that an address is that of a page of the host.
+// Adds the checks that a granule of the host begins at an address.
 pub fn add_host<S: PageStore>(
     checks: &mut EvaluatedChecks,
     granules: &Granules<S>,

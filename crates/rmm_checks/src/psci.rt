@@ -19,7 +19,8 @@ fn is_same(a: u64, b: u64) -> bool
     a == b
 }
 
-// Adds the checks of two RECs of one realm, of which the second is the target of the first's request, and of a status.
+// Adds the checks of a PSCI request and its completion. The request is pending, both RECs belong to one realm, the
+// second is the target, and the status is one that the host may give.
 #[tactic(auto, unfolding(rmm_model::specs::Command::PsciComplete::request_checks))]
 fn add_request<S: PageStore>(
     checks: &mut EvaluatedChecks,

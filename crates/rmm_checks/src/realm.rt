@@ -1,4 +1,4 @@
-//! RDs as operands, and addresses of their realms.
+//! RDs as operands, and IPAs of their realms.
 ghost use Rattle.std.specs.Prelude.{◌≡◌, ◌+◌, ◌<◌, ◌≤◌, ◌&&◌, nat_le, length, IfSome};
 ghost use Rattle.rmm_model.specs.Granule.{realm_of};
 ghost use Rattle.rmm_model.specs.Level as levels;
@@ -30,7 +30,7 @@ pub fn realm_named<S: PageStore>(granules: &Granules<S>, rd: u64) -> Option<RmmR
     }
 }
 
-// The width of the realm at an address; 0 if there is none.
+// The width of the realm at an address; 0 if there is no realm.
 pub fn s2sz_at<S: PageStore>(granules: &Granules<S>, rd: u64) -> u8
     ensures value { result ≡ (realm_at granules.now rd).s2sz }
     ensures narrow { result ≤ 48 }
@@ -41,7 +41,7 @@ pub fn s2sz_at<S: PageStore>(granules: &Granules<S>, rd: u64) -> u8
     }
 }
 
-// The starting level of the realm at an address; 0 if there is none.
+// The starting level of the realm at an address; 0 if there is no realm.
 pub fn start_level_at<S: PageStore>(granules: &Granules<S>, rd: u64) -> u8
     ensures value { result ≡ (realm_at granules.now rd).start_level }
     ensures low { result ≤ 3 }
@@ -52,7 +52,7 @@ pub fn start_level_at<S: PageStore>(granules: &Granules<S>, rd: u64) -> u8
     }
 }
 
-// Whether the realm at an address is NEW; true if there is none.
+// Whether the realm at an address is NEW; `true` if there is no realm.
 pub fn is_new_at<S: PageStore>(granules: &Granules<S>, rd: u64) -> bool
     ensures { result ≡ realms.is_new (realm_at granules.now rd).state }
 {
@@ -85,7 +85,7 @@ pub fn is_unprotected<S: PageStore>(granules: &Granules<S>, rd: u64, ipa: u64) -
 
 // ---- levels
 
-// The bytes that an entry of a level covers; a level above 3 counts as level 0.
+// The number of bytes that an entry of a level covers; a level above 3 counts as level 0.
 #[tactic(auto, unfolding(rmm_model::specs::Level::entry_size))]
 pub fn size_of(level: u64) -> u64
     ensures value { result ≡ levels.entry_size level }
@@ -107,14 +107,14 @@ pub fn is_multiple(ipa: u64, size: u64) -> bool
     ipa % size == 0
 }
 
-// Whether a level is at least one, and at most 3.
+// Whether a level is from `least` to 3.
 pub fn is_level(least: u8, level: u64) -> bool
     ensures { result ≡ operands.is_level least level }
 {
     least as u64 <= level && level <= 3
 }
 
-// Whether there are pages or blocks at a level of an RD's realm.
+// Whether entries at a level of an RD's realm can map pages or blocks.
 fn is_block_level<S: PageStore>(granules: &Granules<S>, rd: u64, level: u64) -> bool
     ensures { result
         ≡ (nat_le granules.now.settings.block_level level
@@ -125,7 +125,7 @@ fn is_block_level<S: PageStore>(granules: &Granules<S>, rd: u64, level: u64) -> 
 
 // ---- checks
 
-// Adds the checks that an address is that of an RD.
+// Adds the checks that an address is the address of an RD.
 pub fn add_rd<S: PageStore>(checks: &mut EvaluatedChecks, granules: &Granules<S>, rd: u64)
     requires room { length checks.old + 3 ≤ 18 }
     ensures rows { Adds checks.old (operands.rd_checks granules.now rd) checks.new }
@@ -136,7 +136,7 @@ pub fn add_rd<S: PageStore>(checks: &mut EvaluatedChecks, granules: &Granules<S>
     checks.input(Condition::RdState, &[Condition::RdBound], realm.is_none());
 }
 
-// Adds the check of a realm that is NEW.
+// Adds the check that a realm is NEW.
 pub fn add_new<S: PageStore>(checks: &mut EvaluatedChecks, granules: &Granules<S>, rd: u64)
     requires room { length checks.old < 18 }
     ensures rows { Adds checks.old (operands.new_checks (realm_at granules.now rd)) checks.new }
@@ -149,8 +149,7 @@ pub fn add_new<S: PageStore>(checks: &mut EvaluatedChecks, granules: &Granules<S
     );
 }
 
-// Adds the checks that a level is at least `least`, and that an entry `above` levels higher begins at an address of the
-// realm.
+// Adds the checks of a level from `least` on, and of an IPA at which an entry `above` levels higher begins.
 pub fn add_ipa<S: PageStore>(
     checks: &mut EvaluatedChecks,
     granules: &Granules<S>,
@@ -183,7 +182,7 @@ pub fn add_ipa<S: PageStore>(
     );
 }
 
-// Adds the checks of an address of a realm's protected half where a page begins.
+// Adds the checks that a page begins at an IPA, and that the IPA is in the protected half of the realm.
 pub fn add_page<S: PageStore>(
     checks: &mut EvaluatedChecks,
     granules: &Granules<S>,
@@ -202,7 +201,7 @@ pub fn add_page<S: PageStore>(
     );
 }
 
-// Adds the checks that there are pages or blocks at a level, and that an entry of it begins at an unprotected address.
+// Adds the checks that a level can have pages or blocks, and that an entry of the level begins at an unprotected IPA.
 pub fn add_unprotected<S: PageStore>(
     checks: &mut EvaluatedChecks,
     granules: &Granules<S>,

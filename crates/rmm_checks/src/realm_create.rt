@@ -19,7 +19,7 @@ use rmm_model::Condition;
 
 // ---- parameters
 
-// The parameters at an address.
+// The parameters of a realm in the page at an address.
 #[tactic(auto, unfolding(rmm_model::specs::Command::RealmCreate::params_at))]
 fn params_at<S: PageStore>(granules: &Granules<S>, params: u64) -> RealmParams
     ensures { is_inside granules.now params ≡ true → result ≡ command.params_at granules.now params }
@@ -49,7 +49,7 @@ fn is_hash(code: u8) -> bool
     code <= 1
 }
 
-// Whether the starting tables of parameters serve their width; false for more than 48 bits.
+// Whether the starting tables in the parameters of a realm serve its IPA width; `false` for more than 48 bits.
 fn is_served(p: &RealmParams) -> bool
     ensures { p.now.s2sz ≤ 48
         → result ≡ can_begin p.now.s2sz p.now.rtt_level_start p.now.rtt_num_start }
@@ -57,7 +57,8 @@ fn is_served(p: &RealmParams) -> bool
     p.s2sz <= 48 && is_start(p.s2sz, p.rtt_level_start, p.rtt_num_start)
 }
 
-// Whether the starting tables of parameters begin at a multiple of their size; false if there are none.
+// Whether the starting tables in the parameters of a realm begin at a multiple of their size; `false` if there are
+// none.
 fn is_base_aligned(p: &RealmParams) -> bool
     ensures { 0 < p.now.rtt_num_start
         → result ≡ (p.now.rtt_base % (p.now.rtt_num_start * 4096) == 0) }
@@ -69,7 +70,7 @@ fn is_base_aligned(p: &RealmParams) -> bool
     p.rtt_base % size == 0
 }
 
-// Adds the checks of parameters of a realm that there can be, whose RD is none of its starting tables.
+// Adds the checks that a realm can have the parameters, and that its RD is none of its starting tables.
 #[tactic(auto, unfolding(rmm_model::specs::Command::RealmCreate::params_checks))]
 fn add_params(checks: &mut EvaluatedChecks, settings: &RmmSettings, p: &RealmParams, rd: u64)
     requires room { length checks.old + 5 ≤ 18 }
@@ -96,7 +97,7 @@ fn add_params(checks: &mut EvaluatedChecks, settings: &RmmSettings, p: &RealmPar
 
 // ---- what the realm takes
 
-// Adds the checks of starting tables that can be used, and of a VMID that is free.
+// Adds the checks that the starting tables can be used, and that the VMID is valid and free.
 fn add_free<S: PageStore>(checks: &mut EvaluatedChecks, granules: &Granules<S>, p: &RealmParams)
     requires room { length checks.old + 2 ≤ 18 }
     ensures rows { (q : Params) → (is_made checks.old (RttAlign ∷ []) ≡ true → p.now ≡ q)

@@ -19,7 +19,7 @@ pub fn rec_named<S: PageStore>(granules: &Granules<S>, address: u64) -> Option<R
     state_at(granules, address).rec()
 }
 
-// The REC at an address, or a new one that is off if there is none.
+// The REC at an address; if there is none, a new REC that is not runnable.
 pub fn rec_at<S: PageStore>(granules: &Granules<S>, address: u64) -> RmmRec
     ensures { result ≡ operands.rec_at granules.now address }
 {
@@ -29,7 +29,7 @@ pub fn rec_at<S: PageStore>(granules: &Granules<S>, address: u64) -> RmmRec
     }
 }
 
-// Adds the checks that an address is that of a REC.
+// Adds the checks that an address is the address of a REC.
 pub fn add_rec<S: PageStore>(
     checks: &mut EvaluatedChecks,
     granules: &Granules<S>,

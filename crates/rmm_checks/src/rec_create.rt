@@ -19,7 +19,7 @@ use rmm_granules::{
 };
 use rmm_model::Condition;
 
-// Facts of the parameters of a REC, as checks ask for them.
+// Facts about the parameters of a REC, for the checks of RMI_REC_CREATE.
 #[derive(Clone, Copy)]
 pub struct RecFacts {
     pub has_count: bool,
@@ -109,8 +109,7 @@ fn is_next<S: PageStore>(granules: &Granules<S>, rd: u64, number: u64) -> bool
 
 // ---- checks
 
-// Adds the checks that there are as many auxiliary granules as a REC has, all DELEGATED, and distinct from one another
-// and from the REC.
+// Adds the checks of a REC's auxiliary granules: their number, addresses, distinctness and states.
 fn add_aux(checks: &mut EvaluatedChecks, facts: &RecFacts)
     requires room { length checks.old + 5 ≤ 18 }
     ensures rows { (known : Facts) → (is_made checks.old (ParamsPas ∷ []) ≡ true → facts.now ≡ known)
@@ -137,7 +136,7 @@ fn add_aux(checks: &mut EvaluatedChecks, facts: &RecFacts)
     );
 }
 
-// Adds the checks of the MPIDR of the next REC of a NEW realm that can have one more.
+// Adds the checks that the MPIDR is the next one of a NEW realm, and that the realm can have one more REC.
 fn add_number<S: PageStore>(
     checks: &mut EvaluatedChecks,
     granules: &Granules<S>,

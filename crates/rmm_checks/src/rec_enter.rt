@@ -43,7 +43,7 @@ fn flags_at<S: PageStore>(granules: &Granules<S>, address: u64) -> u64
     }
 }
 
-// Whether the GIC fields of the run page at an address are checked, and a host may not set them so.
+// Whether the RMM's settings refuse the GIC fields of the run page at an address.
 fn is_gic_wrong<S: PageStore>(granules: &Granules<S>, address: u64) -> bool
     ensures { is_inside granules.now address ≡ true
         → result
@@ -75,7 +75,7 @@ fn is_system_off(state: RmmRealmState) -> bool
     matches!(state, RmmRealmState::SystemOff)
 }
 
-// Adds the checks of a REC of an ACTIVE realm that is READY and runnable.
+// Adds the checks that a realm is ACTIVE, and that a REC is READY and runnable.
 fn add_ready(checks: &mut EvaluatedChecks, state: RmmRealmState, rec: &RmmRec)
     requires room { length checks.old + 4 ≤ 18 }
     ensures rows { Adds checks.old (ready_checks state rec.now) checks.new }

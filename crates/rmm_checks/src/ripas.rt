@@ -26,14 +26,14 @@ fn is_empty(base: u64, top: u64) -> bool
     top <= base
 }
 
-// Whether a range of a size, from an address on, ends at a top or below it.
+// Whether the `size` addresses from `base` on end at `top` or below it.
 fn ends_within(base: u64, size: u64, top: u64) -> bool
     ensures { result ≡ nat_le (base + size) top }
 {
     size <= top && base <= top - size
 }
 
-// Adds the checks of a range that begins with a whole entry which can be changed.
+// Adds the checks that a range begins with a whole entry, and that the entry can be changed.
 fn add_progress(
     checks: &mut EvaluatedChecks,
     after: &[Condition],
@@ -135,15 +135,15 @@ pub fn rtt_init_ripas<S: PageStore>(
 
 // ---- RMI_RTT_SET_RIPAS
 
-// Whether a range begins at the address that a REC has come to.
+// Whether a range begins at the address up to which a REC's RIPAS request is done.
 fn begins_at(asking: &RmmRec, base: u64) -> bool
     ensures { result ≡ (base == asking.now.ripas.base) }
 {
     base == asking.ripas.base
 }
 
-// Whether a range ends within what a REC asked for. A range that has addresses also has to begin at a protected one, if
-// the REC is one of the realm.
+// Whether a range ends within the range of a REC's RIPAS request. A range with addresses also has to begin at a
+// protected address, if the REC belongs to the realm.
 fn is_within<S: PageStore>(
     granules: &Granules<S>,
     rd: u64,
@@ -157,7 +157,7 @@ fn is_within<S: PageStore>(
     top <= asking.ripas.top && (!is_owner || top <= base || is_protected(granules, rd, base))
 }
 
-// Whether the REC at an address is one of the realm of an RD.
+// Whether the REC at an address belongs to the realm of an RD.
 fn is_rec_of<S: PageStore>(granules: &Granules<S>, rd: u64, rec: u64) -> bool
     ensures { result ≡ setting.is_rec_of granules.now rd rec }
 {
@@ -167,7 +167,7 @@ fn is_rec_of<S: PageStore>(granules: &Granules<S>, rd: u64, rec: u64) -> bool
     }
 }
 
-// Adds the checks of a REC of the realm that does not run, and of the range that it asked for.
+// Adds the checks that a REC belongs to the realm and does not run, and that a range fits the REC's RIPAS request.
 #[tactic(auto, unfolding(rmm_model::specs::Command::RttSetRipas::ripas_request_checks))]
 fn add_request<S: PageStore>(
     checks: &mut EvaluatedChecks,

@@ -13,7 +13,7 @@ use rmi_abi::{RmmSettings, SmcResult, Word};
 use rmm_granules::{Granules, has_attributes};
 use rmm_model::Condition;
 
-// Whether a number is a descriptor of a level.
+// Whether a value is a valid descriptor for an entry of a level.
 #[tactic(auto, unfolding(rmm_model::specs::Command::RttMapUnprotected::is_descriptor))]
 fn is_descriptor(settings: &RmmSettings, level: u64, desc: u64) -> bool
     ensures { result ≡ mapping.is_descriptor settings.now level desc }

@@ -12,7 +12,7 @@ fn is_shareability(settings: &RmmSettings, desc: u64) -> bool
     sh == 0 || (settings.takes_shareability && sh != 1)
 }
 
-/// Whether the bits of a descriptor but those of its address are ones that the host may choose.
+/// Whether all bits of a descriptor except its address have values that the host may choose.
 pub fn has_attributes(settings: &RmmSettings, desc: u64) -> bool
     ensures { result ≡ mapping.has_attributes settings.now desc }
 {

@@ -45,7 +45,7 @@ pub fn realm_in<S: PageStore>(granules: &Granules<S>, rd: Gran) -> Option<RmmRea
     }
 }
 
-/// Whether two granules have the same owner: the RD of one realm, or none.
+/// Whether two owners of granules are the same: one RD, or none.
 pub fn is_same_owner(a: Option<Gran>, b: Option<Gran>) -> bool
     ensures { result ≡ completing.is_same_owner a b }
 {

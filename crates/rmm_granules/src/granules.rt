@@ -24,10 +24,10 @@ use rmm_model::{RmmGranule, RmmGranuleState, RmmRealm, RmmRec};
 use std::alloc::{AllocError, Global};
 use std::marker::Model;
 
-// The number of VMIDs of 16 bits.
+// The number of 16-bit VMIDs.
 const VMIDS: u32 = 0x1_0000;
 
-/// The granules of a platform: a page of a store each with its attributes, and the set of VMIDs that realms have.
+/// The granules of a platform, each a page of a store with attributes, and the set of VMIDs that realms have.
 #[derive(Drop)]
 pub struct Granules<S: PageStore> {
     platform: Platform,
@@ -64,7 +64,7 @@ fn no_vmids(alloc: Global, count: u32) -> Result<Vec<bool>, AllocError>
     vec![in alloc; false; count as usize]
 }
 
-// The attributes of UNDELEGATED granules, and the set of VMIDs that has none.
+// The attributes of UNDELEGATED granules, and the empty set of VMIDs.
 fn rows(alloc: Global, count: u16, vmids: u32) -> Result<(Vec<RmmGranule>, Vec<bool>), AllocError>
     ensures granules { IfOk result (λ r. r.0.items ≡ replicate count (of_no_realm Undelegated)) }
     ensures set { IfOk result (λ r. r.1.items ≡ replicate vmids false) }
@@ -320,14 +320,14 @@ impl<S: PageStore> Granules<S> {
 
     // ---- VMIDs
 
-    /// Whether a realm has that VMID.
+    /// Whether a realm has the VMID.
     pub fn is_vmid_used(&self, vmid: u16) -> bool
         ensures { result ≡ machine.is_vmid_used self.now vmid }
     {
         self.vmids[usize::from(vmid)]
     }
 
-    /// Marks a VMID as one that a realm has, or that none has.
+    /// Marks a VMID as used by a realm, or as free.
     pub fn set_vmid(&mut self, vmid: u16, used: bool)
         ensures { self.new ≡ machine.with_vmid self.old vmid used }
     {

@@ -1,5 +1,5 @@
-//! The granules of a platform over a store of pages, seen as a machine, and what the failure conditions of RMI commands
-//! read of it. RMM 1.0, RMI.
+//! The granules of a platform over a store of pages, seen as a machine, with the readings that failure conditions need.
+//! RMM 1.0, RMI.
 //!
 //! Each call of `Granules` reads or writes one granule or VMID, and its contract says which in the words of `rmm_model`.
 //! So nothing above sees a store, its flags or its bytes. Memory is taken by `open` alone.

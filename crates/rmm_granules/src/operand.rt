@@ -10,77 +10,77 @@ pub struct OperandConditions {
 }
 
 impl OperandConditions {
-    /// The granule of RMI_GRANULE_DELEGATE and RMI_GRANULE_UNDELEGATE.
+    /// The conditions of the granule of RMI_GRANULE_DELEGATE and RMI_GRANULE_UNDELEGATE.
     pub const GRANULE: OperandConditions = OperandConditions {
         align: Condition::GranAlign,
         bound: Condition::GranBound,
         state: Condition::GranState,
     };
 
-    /// An RD.
+    /// The conditions of an RD.
     pub const RD: OperandConditions = OperandConditions {
         align: Condition::RdAlign,
         bound: Condition::RdBound,
         state: Condition::RdState,
     };
 
-    /// The page of the host with the parameters of a realm or a REC.
+    /// The conditions of the host's page with the parameters of a realm or a REC.
     pub const PARAMS: OperandConditions = OperandConditions {
         align: Condition::ParamsAlign,
         bound: Condition::ParamsBound,
         state: Condition::ParamsPas,
     };
 
-    /// A new table.
+    /// The conditions of the granule of a new table.
     pub const RTT: OperandConditions = OperandConditions {
         align: Condition::RttAlign,
         bound: Condition::RttBound,
         state: Condition::RttState,
     };
 
-    /// A new page of data.
+    /// The conditions of the granule of a new page of data.
     pub const DATA: OperandConditions = OperandConditions {
         align: Condition::DataAlign,
         bound: Condition::DataBound,
         state: Condition::DataState,
     };
 
-    /// The page of the host that RMI_DATA_CREATE copies.
+    /// The conditions of the host's page that RMI_DATA_CREATE copies.
     pub const SOURCE: OperandConditions = OperandConditions {
         align: Condition::SrcAlign,
         bound: Condition::SrcBound,
         state: Condition::SrcPas,
     };
 
-    /// A new REC.
+    /// The conditions of the granule of a new REC.
     pub const NEW_REC: OperandConditions = OperandConditions {
         align: Condition::RecAlign,
         bound: Condition::RecBound,
         state: Condition::RecState,
     };
 
-    /// A REC.
+    /// The conditions of a REC that exists already.
     pub const REC: OperandConditions = OperandConditions {
         align: Condition::RecAlign,
         bound: Condition::RecBound,
         state: Condition::RecGranState,
     };
 
-    /// The run page of RMI_REC_ENTER.
+    /// The conditions of the run page of RMI_REC_ENTER.
     pub const RUN: OperandConditions = OperandConditions {
         align: Condition::RunAlign,
         bound: Condition::RunBound,
         state: Condition::RunPas,
     };
 
-    /// The REC whose request RMI_PSCI_COMPLETE completes.
+    /// The conditions of the REC whose request RMI_PSCI_COMPLETE completes.
     pub const CALLING: OperandConditions = OperandConditions {
         align: Condition::CallingAlign,
         bound: Condition::CallingBound,
         state: Condition::CallingState,
     };
 
-    /// The REC named by the request that RMI_PSCI_COMPLETE completes.
+    /// The conditions of the target REC of the request that RMI_PSCI_COMPLETE completes.
     pub const TARGET: OperandConditions = OperandConditions {
         align: Condition::TargetAlign,
         bound: Condition::TargetBound,

@@ -8,9 +8,9 @@ use rmm_model::{RmmGranule, RmmGranuleState, RmmRealm, RmmRealmState};
 /// A change of the attributes of a realm.
 #[derive(Clone, Copy)]
 pub enum RealmEdit {
-    /// The realm is SYSTEM_OFF.
+    /// Sets the state of the realm to SYSTEM_OFF.
     SwitchOff,
-    /// The realm has one REC less.
+    /// Subtracts one from the realm's number of RECs.
     RemoveRec,
 }
 

@@ -1,4 +1,5 @@
-//! Parameters of a new realm, and what it takes. RMM 1.0, RMI_REALM_CREATE.
+//! Checks of the parameters of a new realm, and of the granules and the VMID that the realm takes. RMM 1.0,
+//! RMI_REALM_CREATE.
 ghost use Rattle.std.specs.Prelude.{◌≡◌, ◌+◌, ◌≤◌, true};
 ghost use Rattle.rmm_model.specs.Machine.{granule_count, number_of};
 ghost use Rattle.rmm_model.specs.Realm.{is_start};
@@ -55,7 +56,7 @@ pub fn is_start_table(p: &RealmParams, rd: u64) -> bool
 
 // ---- what the realm takes
 
-// Whether that many granules from an address on are granules of the machine.
+// Whether `count` granules from an address on are granules of the machine.
 fn is_range_inside<S: PageStore>(granules: &Granules<S>, base: u64, count: u32) -> bool
     ensures value { result ≡ command.is_range_inside granules.now base count }
     ensures few { granule_count granules.now ≤ 4096 }
@@ -65,7 +66,7 @@ fn is_range_inside<S: PageStore>(granules: &Granules<S>, base: u64, count: u32) 
     granules.is_inside(base) && granules.number_of(base).number() as u64 + count as u64 <= most
 }
 
-// Whether that many granules from one on are all DELEGATED.
+// Whether `count` granules from `first` on are all DELEGATED.
 fn are_delegated<S: PageStore>(granules: &Granules<S>, first: Gran, count: u16) -> bool
     requires inside { first + count ≤ granule_count granules.now }
     requires few { granule_count granules.now ≤ 4096 }

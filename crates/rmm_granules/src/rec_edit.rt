@@ -12,15 +12,15 @@ use rmm_model::{
 /// An edit of the attributes of a REC.
 #[derive(Clone, Copy)]
 pub enum RecEdit {
-    /// The REC is RUNNING, with the run page at an address, no exit to answer, and no results.
+    /// Sets the REC to RUNNING, with its run page at an address, no exit to answer, and no results.
     Enter(u64),
-    /// The REC is READY after an exit.
+    /// Sets the REC to READY after an exit.
     Leave(LastExit),
-    /// The guest is past its first step.
+    /// Moves the guest past its first step.
     PassStep,
-    /// The guest has that many steps.
+    /// Sets the number of the guest's steps.
     Steps(u8),
-    /// The guest has one more result.
+    /// Counts one more result of the guest.
     AddResult,
     Ripas(RipasRequest),
     Psci(PsciRequest),

@@ -33,7 +33,7 @@ fn passes<S: PageStore>(granules: &Granules<S>, test: AuxTest, address: u64) -> 
     }
 }
 
-// Whether each of the first auxiliary granules that parameters name passes a test.
+// Whether each of the first `count` auxiliary granules that parameters name passes a test.
 fn all_aux<S: PageStore>(granules: &Granules<S>, page: &[u8], test: AuxTest, count: u8) -> bool
     requires page { length page.now ≡ 4096 }
     requires few { count ≤ 16 }
@@ -49,7 +49,7 @@ fn all_aux<S: PageStore>(granules: &Granules<S>, page: &[u8], test: AuxTest, cou
 
 // ---- the tests
 
-/// Whether each of the first auxiliary granules that a page of parameters names is at a multiple of 4,096.
+/// Whether each of the first `count` auxiliary granules that parameters name is at a multiple of 4,096.
 pub fn are_aux_aligned<S: PageStore>(granules: &Granules<S>, page: &[u8], count: u8) -> bool
     requires page { length page.now ≡ 4096 }
     requires few { count ≤ 16 }
@@ -58,7 +58,7 @@ pub fn are_aux_aligned<S: PageStore>(granules: &Granules<S>, page: &[u8], count:
     all_aux(granules, page, AuxTest::Aligned, count)
 }
 
-/// Whether each of the first auxiliary granules that a page of parameters names is a granule of the machine.
+/// Whether each of the first `count` auxiliary granules that parameters name is a granule of the machine.
 pub fn are_aux_inside<S: PageStore>(granules: &Granules<S>, page: &[u8], count: u8) -> bool
     requires page { length page.now ≡ 4096 }
     requires few { count ≤ 16 }
@@ -67,7 +67,7 @@ pub fn are_aux_inside<S: PageStore>(granules: &Granules<S>, page: &[u8], count: 
     all_aux(granules, page, AuxTest::Inside, count)
 }
 
-/// Whether each of the first auxiliary granules that a page of parameters names is a DELEGATED granule of the machine.
+/// Whether each of the first `count` auxiliary granules that parameters name is a DELEGATED granule of the machine.
 pub fn are_aux_delegated<S: PageStore>(granules: &Granules<S>, page: &[u8], count: u8) -> bool
     requires page { length page.now ≡ 4096 }
     requires few { count ≤ 16 }
@@ -76,7 +76,7 @@ pub fn are_aux_delegated<S: PageStore>(granules: &Granules<S>, page: &[u8], coun
     all_aux(granules, page, AuxTest::Delegated, count)
 }
 
-// Whether auxiliary granule k is neither the REC nor one before it.
+// Whether auxiliary granule `k` is neither the REC's granule nor an earlier auxiliary granule.
 fn is_apart<S: PageStore>(granules: &Granules<S>, page: &[u8], rec: u64, k: u8) -> bool
     requires page { length page.now ≡ 4096 }
     requires below { k < 16 }
@@ -86,7 +86,7 @@ fn is_apart<S: PageStore>(granules: &Granules<S>, page: &[u8], rec: u64, k: u8) 
     address != rec && all_aux(granules, page, AuxTest::Not(address), k)
 }
 
-/// Whether no two of the REC, at an address, and its auxiliary granules are the same granule.
+/// Whether the granule of a REC and its first `count` auxiliary granules all differ.
 pub fn are_aux_apart<S: PageStore>(granules: &Granules<S>, page: &[u8], rec: u64, count: u8) -> bool
     requires page { length page.now ≡ 4096 }
     requires few { count ≤ 16 }

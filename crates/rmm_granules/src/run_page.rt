@@ -7,7 +7,7 @@ ghost use Rattle.rmm_model.specs.Command.RecEnter as entering;
 use rmi_abi::{EnterFlags, GicFields, RmmSettings};
 use rmm_model::{LastExit, RmmRec};
 
-/// Whether flags say that the host emulates an access, and the last exit was none that can be emulated.
+/// Whether flags say that the host emulates an access, but the last exit was not an emulatable abort.
 pub fn is_no_mmio(rec: &RmmRec, flags: u64) -> bool
     ensures { result ≡ entering.is_no_mmio rec.now flags }
 {
@@ -27,7 +27,7 @@ fn are_lrs(num_lrs: u8, page: &[u8]) -> bool
     true
 }
 
-/// Whether the GIC fields of a run page are checked, and a host may not set them so.
+/// Whether settings check the GIC fields of a run page, and the fields have values that a host may not set.
 #[tactic(auto, unfolding(rmm_model::specs::Command::RecEnter::is_gic_wrong))]
 pub fn refuses_gic(settings: &RmmSettings, page: &[u8]) -> bool
     requires { length page.now ≡ 4096 }

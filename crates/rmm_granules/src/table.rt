@@ -18,7 +18,7 @@ pub fn first_entry(page: &[u8]) -> RmmRttEntry
     entry_from_word(word_in(page, 0))
 }
 
-// Whether an entry can be one a level higher.
+// Whether an entry maps nothing, or maps an address that an entry one level higher can map.
 fn is_aligned_above(entry: RmmRttEntry, level: u8) -> bool
     requires { 1 ≤ level }
     ensures { result ≡ command.is_aligned_above entry level }
@@ -26,7 +26,7 @@ fn is_aligned_above(entry: RmmRttEntry, level: u8) -> bool
     !entry.is_mapping() || entry_offset(level - 1, entry.descriptor() / 4096 * 4096) == 0
 }
 
-/// Whether a table of a level says the same as one entry above it.
+/// Whether one entry in the table above can replace a whole table of a level.
 #[tactic(auto, unfolding(rmm_model::specs::Command::RttFold::is_homogeneous))]
 pub fn is_homogeneous(page: &[u8], level: u8) -> bool
     requires page { length page.now ≡ 4096 }
@@ -37,7 +37,7 @@ pub fn is_homogeneous(page: &[u8], level: u8) -> bool
     !first.is_table() && is_aligned_above(first, level) && has_parts(page, first, level)
 }
 
-/// Whether a table of a level would become a block of a level at which there is none.
+/// Whether the fold of a table would make a block at a level that has no blocks.
 pub fn is_block_too_high(settings: &RmmSettings, page: &[u8], level: u8) -> bool
     requires { length page.now ≡ 4096 }
     ensures { result ≡ command.is_block_too_high settings.now page.now level }

@@ -13,7 +13,7 @@ use rmm_model::{
     first_live, start_offset,
 };
 
-/// The entry of a table that covers an address.
+/// The entry that covers an address, in the table at which a walk ended.
 #[tactic(auto, unfolding(rmm_model::specs::Walk::entry_at, rmm_model::specs::Table::entry_in_page))]
 pub fn entry_at<S: PageStore>(granules: &Granules<S>, found: &RttWalk, ipa: u64) -> RmmRttEntry
     requires { found.now.table < granule_count granules.now }
@@ -87,7 +87,7 @@ pub fn walk<S: PageStore>(granules: &Granules<S>, realm: &RmmRealm, ipa: u64, to
     RttWalk { table, level }
 }
 
-/// The address of the next live entry from an address on, in the table where its walk ends. RMM 1.0,
+/// The address of the next live entry, from `ipa` on, in the table at which a walk ended. RMM 1.0,
 /// RttSkipNonLiveEntries.
 ///
 /// It is the end of the table if there is none. If the entry of the address is live itself, it is the address, or where

@@ -14,7 +14,7 @@ pub enum AccessSize {
 }
 
 impl AccessSize {
-    /// The size of that many bytes; a number that is no size is read as one byte.
+    /// The access size of `bytes` bytes; a number that is no size is read as one byte.
     pub fn of(bytes: u64) -> AccessSize
         ensures { result ≡ accesses.access_size bytes }
     {
@@ -39,7 +39,7 @@ impl AccessSize {
         }
     }
 
-    /// The low bytes of a value: as many as an access has.
+    /// The low bytes of a value, cut to the size of the access.
     pub fn low(self, value: u64) -> u64
         ensures { result ≡ accesses.low_bytes self value }
     {

@@ -13,8 +13,8 @@ pub struct FailedCondition {
 }
 
 impl FailedCondition {
-    /// The answer, copied field by field: so a caller keeps it in registers, while a copy of the whole goes through
-    /// memory.
+    /// The answer, copied field by field. So a caller keeps the answer in registers, while a copy of the whole goes
+    /// through memory.
     pub fn into_answer(self) -> SmcResult
         ensures { result ≡ self.answer }
     {
@@ -28,7 +28,7 @@ impl FailedCondition {
     }
 }
 
-/// RMI_ERROR_INPUT by a condition.
+/// A refusal by a condition, with RMI_ERROR_INPUT.
 pub fn error_input(condition: Condition) -> FailedCondition
     ensures { result ≡ record { condition = condition; answer = checks.error_input } }
 {
@@ -38,7 +38,7 @@ pub fn error_input(condition: Condition) -> FailedCondition
     }
 }
 
-/// RMI_ERROR_RTT by a condition, with the level of a table.
+/// A refusal by a condition, with RMI_ERROR_RTT and the level of a table.
 pub fn error_rtt(condition: Condition, level: u8) -> FailedCondition
     ensures { result ≡ record { condition = condition; answer = checks.error_rtt level } }
 {

@@ -22,7 +22,7 @@ fn feed_some_zeros<D: Digest>(hasher: &mut D, count: usize)
     hasher.update(&ZEROS[..count]);
 }
 
-// Feeds that many zeros.
+// Feeds `count` zeros.
 pub fn feed_zeros<D: Digest>(hasher: &mut D, count: usize)
     ensures { (m : List ℕ) → D.holds hasher.old m → D.holds hasher.new (m ++ zeros count) }
 {

@@ -25,12 +25,12 @@ pub enum RmmRttEntry {
     AssignedNs(u64),
 }
 
-/// The entries whose RIPAS a command changes: UNASSIGNED ones, and others by two flags.
+/// The entries whose RIPAS a command changes, besides UNASSIGNED entries whose RIPAS is not DESTROYED.
 #[derive(Clone, Copy)]
 pub struct Changeable {
-    /// ASSIGNED entries.
+    /// Whether the command changes ASSIGNED entries.
     pub assigned: bool,
-    /// Entries whose RIPAS is DESTROYED.
+    /// Whether the command changes entries whose RIPAS is DESTROYED.
     pub destroyed: bool,
 }
 
@@ -44,7 +44,7 @@ pub(crate) const LEAST_LIVE: u64 = 4 * KIND;
 
 pub(crate) const ADDRESSES: u64 = 0x1_0000_0000_0000;
 
-/// The entry that a word is read as, whatever the word.
+/// The entry that a word encodes. Each word encodes some entry.
 #[tactic(auto, unfolding(crate::specs::Entry::entry_of))]
 pub fn entry_from_word(word: u64) -> RmmRttEntry
     ensures value { result ≡ entries.entry_of word }
@@ -65,7 +65,7 @@ pub fn entry_from_word(word: u64) -> RmmRttEntry
 }
 
 impl RmmRipas {
-    /// The encoding of RIPAS: RmiRipas.
+    /// The encoding of the RIPAS as an RmiRipas.
     pub fn code(self) -> u8
         ensures value { result ≡ entries.ripas_code self }
         ensures below { result ≤ 2 }
@@ -91,8 +91,8 @@ impl RmmRipas {
 }
 
 impl RmmRttEntry {
-    /// The word of the entry without its descriptor: bits 63:56 have its kind and RIPAS. The bytes of one that is not
-    /// live are all the same, so that a page of such entries is written as one byte.
+    /// The word of the entry without its descriptor. Bits 63:56 have the kind and the RIPAS of the entry. The bytes of
+    /// an entry that is not live are all the same, so that a page of such entries is written as one byte.
     pub fn kind_word(self) -> u64
         ensures value { result ≡ entries.kind_word self }
         ensures most { result ≤ 2 ^ 60 }
@@ -160,7 +160,7 @@ impl RmmRttEntry {
         }
     }
 
-    /// The address or descriptor of a live entry, and 0 of any other.
+    /// The address or descriptor of a live entry; 0 for any other entry.
     pub fn descriptor(self) -> u64
         ensures { result ≡ entries.descriptor_of self }
     {
@@ -172,7 +172,7 @@ impl RmmRttEntry {
         }
     }
 
-    /// The RIPAS of an UNASSIGNED or ASSIGNED entry, and EMPTY of any other.
+    /// The RIPAS of an UNASSIGNED or ASSIGNED entry; EMPTY for any other entry.
     pub fn ripas(self) -> RmmRipas
         ensures { result ≡ entries.ripas_in self }
     {
@@ -183,7 +183,7 @@ impl RmmRttEntry {
         }
     }
 
-    /// Whether the entry is one whose RIPAS a command changes.
+    /// Whether a command changes the RIPAS of the entry.
     pub fn can_change(self, changeable: Changeable) -> bool
         ensures { result ≡ entries.can_change changeable self }
     {
@@ -196,7 +196,7 @@ impl RmmRttEntry {
         }
     }
 
-    /// An UNASSIGNED or ASSIGNED entry with another RIPAS.
+    /// An UNASSIGNED or ASSIGNED entry with another RIPAS; any other entry as it is.
     pub fn with_ripas(self, ripas: RmmRipas) -> RmmRttEntry
         ensures { result ≡ entries.entry_with_ripas ripas self }
     {
@@ -207,7 +207,7 @@ impl RmmRttEntry {
         }
     }
 
-    /// The encoding of the entry's state: RmiRttEntryState.
+    /// The encoding of the entry's state as an RmiRttEntryState.
     pub fn state_code(self) -> u64
         ensures { result ≡ entries.state_code self }
     {
@@ -220,7 +220,7 @@ impl RmmRttEntry {
         }
     }
 
-    /// The encoding of the RIPAS of an UNASSIGNED or ASSIGNED entry, RmiRipas, and 0 of any other.
+    /// The RmiRipas encoding of the RIPAS of an UNASSIGNED or ASSIGNED entry; 0 for any other entry.
     pub fn ripas_code(self) -> u64
         ensures { result ≡ entries.shown_ripas self }
     {
@@ -244,7 +244,7 @@ impl RmmRttEntry {
         }
     }
 
-    /// The byte that a page of children of this entry has throughout; a mapping has none.
+    /// The byte that fills a table whose entries are the children of this entry; `None` for a live entry.
     pub fn repeated_byte(self) -> Option<u8>
         ensures { result ≡ entries.repeated_byte self }
     {

@@ -4,7 +4,8 @@ ghost use Rattle.std.specs.Prelude.{◌≡◌};
 use crate::{RmmRealm, RmmRec};
 use granule_addr::Gran;
 
-/// The state of a granule; an RD has its realm, a REC its attributes. RMM 1.0, RmmGranuleState.
+/// The state of a granule. The state of an RD has the realm, and that of a REC its attributes. RMM 1.0,
+/// RmmGranuleState.
 #[derive(Clone, Copy)]
 pub enum RmmGranuleState {
     Undelegated,

@@ -1,4 +1,4 @@
-//! Levels of translation tables, and the entry of a level that covers an address.
+//! Levels of translation tables, and the entry that covers an address at a level.
 //!
 //! The size of an entry is written as a power of two, so that no division by it is left in the program.
 ghost use Rattle.std.specs.Prelude.{◌≡◌, ◌<◌, ◌≤◌, ◌/◌, ◌%◌, ◌^◌};
@@ -28,14 +28,14 @@ pub fn entry_size(level: u8) -> u64
     1 << entry_shift(level)
 }
 
-/// The number of the entry of a level that covers an address. The entry of address 0 has number 0.
+/// The number of the entry that covers an address at a level. The entry of address 0 has number 0.
 pub fn entry_number(level: u8, address: u64) -> u64
     ensures { result ≡ address / levels.entry_size level }
 {
     address >> entry_shift(level)
 }
 
-/// The offset of an address in the entry of a level that covers it.
+/// The offset of an address in the entry that covers it at a level.
 #[tactic(auto, unfolding(crate::specs::Level::entry_size))]
 pub fn entry_offset(level: u8, address: u64) -> u64
     ensures value { result ≡ address % levels.entry_size level }
@@ -44,7 +44,7 @@ pub fn entry_offset(level: u8, address: u64) -> u64
     address % entry_size(level)
 }
 
-/// The index of the entry that covers an address, among the 512 of a table.
+/// The index of the entry that covers an address, among the 512 entries of its table.
 #[tactic(auto, unfolding(crate::specs::Level::entry_index))]
 pub fn entry_index(level: u8, ipa: u64) -> u16
     ensures value { result ≡ levels.entry_index level ipa }

@@ -69,7 +69,7 @@ pub fn initial(hash: HashAlgorithm, params: &RealmParams) -> [u8; 64]
 
 // ---- extensions
 
-// Feeds the part of a descriptor that comes after the measurement before.
+// Feeds the part of a descriptor that follows the old measurement.
 fn feed_content<D: Digest>(hasher: &mut D, extension: &Extension)
     ensures { (m : List ℕ) → D.holds hasher.old m → D.holds hasher.new (measures.with_content m extension.now) }
 {
@@ -139,7 +139,7 @@ pub fn page_digest(hash: HashAlgorithm, page: &[u8]) -> [u8; 64]
 
 // ---- RECs
 
-// The hash of those parameters of a REC which are measured: flags, pc and gprs 0 to 7.
+// The hash of the measured parameters of a REC: flags, pc and gprs 0 to 7.
 fn hash_rec<D: Digest>(page: &[u8]) -> D::Output
     requires { length page.now ≡ 4096 }
     ensures { D.digest_of (measures.rec_bytes page.now) result }
@@ -154,7 +154,7 @@ fn hash_rec<D: Digest>(page: &[u8]) -> D::Output
     hasher.finalize()
 }
 
-/// The digest of the parameters of a REC, of which flags, pc and gprs are measured.
+/// The digest of the measured parameters of a REC: flags, pc and gprs.
 #[tactic(auto, unfolding(crate::specs::Measure::rec_digest, crate::specs::Measure::digest))]
 pub fn rec_digest(hash: HashAlgorithm, page: &[u8]) -> [u8; 64]
     requires { length page.now ≡ 4096 }

@@ -108,7 +108,7 @@ impl RmmRec {
         matches!(self.state, RmmRecState::Running)
     }
 
-    /// Whether the REC is on, as PSCI has it: it is runnable or RUNNING.
+    /// Whether the REC is on in the sense of PSCI, that is, runnable or RUNNING.
     pub fn is_on(&self) -> bool
         ensures { result ≡ recs.is_on self.now }
     {
@@ -116,7 +116,7 @@ impl RmmRec {
     }
 }
 
-/// The address of auxiliary granule `k` that the page of a REC has.
+/// The address of auxiliary granule `k`, read from the page of a REC.
 pub fn aux_address(page: &[u8], k: u8) -> u64
     requires page { length page.now ≡ 4096 }
     requires below { k < 16 }

@@ -64,10 +64,10 @@ pub enum StepResult {
     Sea,
     Psci(u64),
     RsiErrorInput,
-    /// The RIPAS is changed up to an address.
+    /// A change of RIPAS up to an address.
     Accepted(u64),
     Rejected(u64),
-    /// The host's answer of a host call.
+    /// The host's answer to a host call.
     Returned(u64),
 }
 
@@ -181,7 +181,7 @@ impl StepResult {
         }
     }
 
-    /// The value of a result, and 0 of one that has none.
+    /// The value of a result; 0 for a result without a value.
     pub fn value(&self) -> u64
         ensures { result ≡ guests.result_value self.now }
     {

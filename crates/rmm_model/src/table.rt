@@ -45,7 +45,7 @@ fn are_low(page: &[u8], first: u16) -> bool
     (a | b | c | d | e | f | g | h) < LEAST_LIVE
 }
 
-/// Whether an entry of a table is live.
+/// Whether any entry of a table is live.
 #[tactic(auto, unfolding(crate::specs::Table::has_live))]
 pub fn has_live(page: &[u8]) -> bool
     requires { length page.now ≡ 4096 }
@@ -59,7 +59,8 @@ pub fn has_live(page: &[u8]) -> bool
     false
 }
 
-/// The first entry of a table from `from` on whose RIPAS is not changed; `end`, if those before it are all changed.
+/// The index of a table's first entry from `from` on whose RIPAS a command does not change; `end` if there is none
+/// before it.
 pub fn first_fixed(page: &[u8], changeable: Changeable, from: u16, end: u16) -> u16
     requires page { length page.now ≡ 4096 }
     requires from { from ≤ end }

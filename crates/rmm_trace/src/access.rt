@@ -47,14 +47,14 @@ pub(crate) fn number_or_zero(atom: Option<Atom>) -> u64
     }
 }
 
-// The number of a word in a round of a repeat: each round adds the step. The first round is 0.
+// The number of a word in a round of a `repeat`: each round adds the step. The first round is 0.
 pub(crate) fn number_at(word: TraceWord, round: u64) -> u64
     ensures { result ≡ number_at word round }
 {
     number_or_zero(Some(word.value)).wrapping_add(number_or_zero(word.step).wrapping_mul(round))
 }
 
-/// The number of the word at a place, in a round of a repeat; 0 if there is none.
+/// The number of the word at a place, in a round of a `repeat`; 0 if there is no word.
 pub fn operand(words: &[TraceWord], place: usize, round: u64) -> u64
     ensures { result ≡ operand_at words.now place round }
 {
@@ -64,7 +64,7 @@ pub fn operand(words: &[TraceWord], place: usize, round: u64) -> u64
     }
 }
 
-/// The words after the first word that is the name `name`; none if no word is.
+/// The words after the first word that is the name `name`; empty if there is no such word.
 pub fn after_name(words: &[TraceWord], name: usize) -> &[TraceWord]
     ensures { result.now ≡ after_name name words.now }
 {
@@ -80,7 +80,7 @@ pub fn after_name(words: &[TraceWord], name: usize) -> &[TraceWord]
     left
 }
 
-/// The registers X0 to X6 of a call, by its name or by its number, in a round of a repeat.
+/// The registers X0 to X6 of a call by name or by number, in a round of a `repeat`.
 pub fn call_registers(call: &[TraceWord], round: u64) -> Option<[u64; 7]>
     ensures { result ≡ call_registers call.now round }
 {

@@ -1,4 +1,4 @@
-//! Answers, made of their parts.
+//! The words and parts that answers are made of.
 ghost use Rattle.std.specs.Prelude.{◌≡◌, ◌<◌, ◌≤◌, ◌++◌, [], ◌∷◌, length};
 ghost use Rattle.rmm_trace.specs.Answers.{plain, status_of, index_of, output_atom, with_comma, listed};
 
@@ -8,7 +8,7 @@ use crate::place::{
 use crate::sentence::Sentence;
 use crate::word::{Atom, TraceWord};
 
-/// X0 of an entry whose guest runs on.
+/// The value of X0 if the guest of an entered REC runs on.
 pub const RUNS_ON: u64 = 0xFFFF_FFFF_FFFF_FFFE;
 
 /// The word that is an atom alone.
@@ -23,7 +23,7 @@ pub fn plain(value: Atom) -> TraceWord
     }
 }
 
-/// The word of a result in X0: its status, or the number if it has none.
+/// The atom for a result in X0: the name of its status, or the number if no name fits.
 pub fn status_of(x0: u64) -> Atom
     ensures { result ≡ status_of x0 }
 {
@@ -36,7 +36,7 @@ pub fn status_of(x0: u64) -> Atom
     Atom::Name(RMI_SUCCESS + (x0 % 256) as usize)
 }
 
-/// The index of a result in X0, if it is written: it is not 0, or the status is RMI_ERROR_RTT.
+/// The index of a result in X0, if the index is not 0, or the status is RMI_ERROR_RTT.
 pub fn index_of(x0: u64) -> Option<Atom>
     ensures { result ≡ index_of x0 }
 {

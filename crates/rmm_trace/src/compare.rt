@@ -60,7 +60,7 @@ pub fn atom_number(atom: Atom) -> Option<u64>
     }
 }
 
-// The bits that are compared.
+// The mask of the bits that are compared: all bits if a word has no mask.
 fn mask_of(mask: Option<Atom>) -> u64
     ensures { result ≡ mask_of mask }
 {
@@ -127,7 +127,7 @@ const ZERO: TraceWord = TraceWord {
     is_listed: false,
 };
 
-/// The first word and the others; 0 if there is none.
+/// The first word and the words after it; the first word is 0 if there is none.
 pub fn split_word(words: &[TraceWord]) -> (TraceWord, &[TraceWord])
     ensures first { result.0 ≡ first_of words.now }
     ensures rest { result.1.now ≡ rest_of words.now }
@@ -138,7 +138,7 @@ pub fn split_word(words: &[TraceWord]) -> (TraceWord, &[TraceWord])
     }
 }
 
-// Whether values are the same; after the last they go on with zeros.
+// Whether two lists of values are the same; the shorter list goes on with zeros.
 fn are_values(written: &[TraceWord], ours: &[TraceWord]) -> bool
     ensures { result ≡ are_values written.now ours.now }
 {
@@ -177,14 +177,14 @@ fn starts_check(words: &[TraceWord]) -> bool
     }
 }
 
-// Whether a part ends with a word: at a comma, and before a check.
+// Whether a part ends with a word: the word has a comma, or a check follows.
 fn ends_part(word: TraceWord, rest: &[TraceWord]) -> bool
     ensures { result ≡ ends_part word rest.now }
 {
     word.is_listed || starts_check(rest)
 }
 
-// The first part of an answer, and the others.
+// The first part of an answer, and the rest of the answer.
 fn split_part(words: &[TraceWord]) -> (&[TraceWord], &[TraceWord])
     ensures parts { 0 < length words.now → parts words.now ≡ result.0.now ∷ parts result.1.now }
     ensures smaller { 0 < length words.now → length result.1.now < length words.now }
@@ -202,7 +202,7 @@ fn split_part(words: &[TraceWord]) -> (&[TraceWord], &[TraceWord])
     (words, left)
 }
 
-// Whether a part goes on with zeros: a status with its index, and gprs.
+// Whether missing values of a part count as zeros: the index of a status, and the values of `gprs`.
 fn is_open(atom: Atom) -> bool
     ensures { result ≡ is_open atom }
 {
@@ -256,7 +256,7 @@ fn has_part(are_checks_compared: bool, part: &[TraceWord], ours: &[TraceWord]) -
     false
 }
 
-// Whether an answer has each part that is written.
+// Whether our answer has each part of a written answer.
 fn are_parts(are_checks_compared: bool, written: &[TraceWord], ours: &[TraceWord]) -> bool
     ensures { result ≡ are_parts are_checks_compared written.now ours.now }
 {
@@ -271,7 +271,7 @@ fn are_parts(are_checks_compared: bool, written: &[TraceWord], ours: &[TraceWord
     true
 }
 
-// Whether the first words of an answer are those that are written.
+// Whether our answer begins with the words of a written answer.
 fn are_first(written: &[TraceWord], ours: &[TraceWord]) -> bool
     ensures { result ≡ are_first written.now ours.now }
 {
@@ -292,7 +292,7 @@ fn are_first(written: &[TraceWord], ours: &[TraceWord]) -> bool
 
 // ---- checks
 
-/// The checks whose names are not the standard's, or are unsure, after their commands.
+/// Pairs of a command and one of its checks whose name is unsure, or is not from the standard.
 pub const UNSURE: [(usize, usize); 20] = [
     (RMI_VERSION, CHECK_VERSION),
     (RMI_DATA_CREATE, CHECK_FLAGS_VALID),

@@ -1,4 +1,4 @@
-//! The conditions on the numbers of a question together.
+//! The conditions between the numbers of a question.
 ghost use Rattle.std.specs.Prelude.{◌≡◌, ◌+◌, ◌*◌};
 ghost use Rattle.rmm_trace.specs.Consistent.{is_secure_right, is_platform_right, limit_of, is_access, is_step_right};
 ghost use Rattle.rmm_trace.specs.Consistent.{is_guest_right, are_bytes, is_fill_right, is_repeat_right};
@@ -78,7 +78,7 @@ fn is_step_right(step: &[TraceWord]) -> bool
     true
 }
 
-// Whether the step after a REC is right.
+// Whether the guest's step in a `guest` question is right.
 fn is_guest_right(words: &[TraceWord]) -> bool
     ensures { result ≡ is_guest_right words.now }
 {
@@ -88,7 +88,7 @@ fn is_guest_right(words: &[TraceWord]) -> bool
     }
 }
 
-// Whether a word is a byte in each of the rounds.
+// Whether a word is a byte in each round of a `repeat`.
 fn are_bytes(word: TraceWord, rounds: u64) -> bool
     ensures { result ≡ are_bytes rounds word }
 {
@@ -102,7 +102,7 @@ fn are_bytes(word: TraceWord, rounds: u64) -> bool
     true
 }
 
-// Whether a fill names a granule and a byte in each round.
+// Whether a repeated `fill` has a granule's address and a byte in every round. Any other repeated question is right.
 fn is_fill_right(times: TraceWord, name: TraceWord, address: TraceWord, byte: TraceWord) -> bool
     ensures { result ≡ is_fill_right times name address byte }
 {

@@ -1,4 +1,4 @@
-//! Measurements as they are written.
+//! The text of measurements.
 ghost use Rattle.std.specs.Prelude.{◌≡◌};
 ghost use Rattle.hex.specs.Hex.{encode_lower};
 

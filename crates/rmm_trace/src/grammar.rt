@@ -1,4 +1,4 @@
-//! The grammar of questions, by a table: the groups of words that a question is.
+//! The grammar of questions: a table of the groups of words that a question can have.
 ghost use Rattle.std.specs.Prelude.{◌≡◌, Some};
 ghost use Rattle.std.specs.Option.{option_copied};
 ghost use Rattle.rmm_trace.specs.Grammar.{is_number_of, is_of_kind, kind_at, row_of};
@@ -6,7 +6,7 @@ ghost use Rattle.rmm_trace.specs.Grammar.{if_place, enter, opened, next, is_comp
 
 use crate::word::{Atom, TraceWord};
 
-/// The values that a place of a group takes.
+/// The values that a place of a group can have.
 ///
 /// A number is in the range, a multiple of the unit, and a divisor of the multiple if that is not 0. A name is one of
 /// so many, from the first on.
@@ -20,7 +20,7 @@ pub struct ValueKind {
     pub name_count: usize,
 }
 
-/// A group: its name, how many values come after it and of which kinds, and which groups may follow.
+/// A group of words: its name, the number and the kinds of its values, and the groups that may follow.
 #[derive(Clone, Copy)]
 pub struct Group {
     /// The contexts in which the group may come, a bit each.
@@ -41,7 +41,7 @@ pub struct Group {
     pub excludes: u64,
 }
 
-/// A place in a question that is read: its group, and how many values of it have come.
+/// A place in a question: the group that is being read, and the number of its values so far.
 #[derive(Clone, Copy)]
 pub struct Place {
     pub group: Group,
@@ -51,7 +51,7 @@ pub struct Place {
     pub seen: u64,
 }
 
-/// The context of the operands that may have a step.
+/// The context in which operands may have a step: inside a `repeat`.
 pub const REPEATED: u64 = 2;
 
 fn is_number_of(kind: &ValueKind, number: u64) -> bool
@@ -77,7 +77,7 @@ pub fn is_of_kind(kind: &ValueKind, atom: Atom) -> bool
     }
 }
 
-// The kind of a value by how many come before it.
+// The kind of a value, by the number of values before it.
 fn kind_at(group: &Group, count: usize) -> &ValueKind
     ensures { result.now ≡ kind_at group.now count }
 {
@@ -89,7 +89,7 @@ fn kind_at(group: &Group, count: usize) -> &ValueKind
     }
 }
 
-// The first group of a name in a context.
+// The first group with a name that may come in a context.
 fn row_of(groups: &[Group], context: u64, name: usize) -> Option<&Group>
     ensures { option_copied result ≡ row_of context name groups.now }
 {

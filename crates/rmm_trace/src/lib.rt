@@ -1,4 +1,4 @@
-//! Traces of an RMM by registers: from a line to its question, from words to their text, and the comparison of answers.
+//! Traces of an RMM by registers: the reading of lines, the text of words, and the comparison of answers.
 //!
 //! A line is words with one space between two. A word is a name or a number, with what may stand after it: a mask after
 //! `/`, a step after `+`, and a comma. A number keeps its base, so words and their texts determine each other: what is

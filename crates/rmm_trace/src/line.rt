@@ -63,7 +63,7 @@ fn bare(line: &[u8]) -> &[u8]
     trim_end(cut_at(line, b'#').0)
 }
 
-// Whether the sign of an answer begins at a place. Most bytes are no space.
+// Whether the ` = ` before an answer begins at a place. Most bytes are no space.
 fn is_sign_at(text: &[u8], at: usize) -> bool
     requires { at < length text.now }
     ensures sign { result ≡ starts_with nat_eq (drop at text.now) (codes " = ") }
@@ -104,7 +104,7 @@ fn is_question(groups: &[Group], start: Place, words: &[TraceWord]) -> bool
 }
 
 impl RmmTraceLine {
-    /// A remark.
+    /// A line that is a remark, without words.
     pub fn new() -> RmmTraceLine
         ensures { result ≡ without_words Remark }
     {
@@ -122,7 +122,7 @@ impl RmmTraceLine {
         self.kind = kind;
     }
 
-    // Makes this the question that a text is by a grammar, or no command if the text is no question.
+    // Makes this line the question of a text by a grammar, or no command if the text is no question.
     fn fill(&mut self, groups: &[Group], start: Place, text: &[u8])
         ensures { self.new ≡ as_line (question_in groups.now start text.now) }
     {
@@ -136,7 +136,7 @@ impl RmmTraceLine {
         }
     }
 
-    // Makes this the line of a question's text by a grammar, for a line of `bytes` bytes.
+    // Makes this line a remark if `question` is empty, no command if the line is too long, and otherwise the question.
     fn fill_by(&mut self, groups: &[Group], start: Place, question: &[u8], bytes: usize)
         ensures { self.new ≡ line_of_question groups.now start question.now bytes }
     {

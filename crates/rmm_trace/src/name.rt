@@ -277,7 +277,7 @@ const NAMES: [&str; 256] = [
     "(status)",
 ];
 
-// The place of a text among texts from a place on.
+// The place of a text among `texts`, from the place `first` on.
 fn place_from(texts: &[&str], first: usize, text: &[u8]) -> Option<usize>
     ensures { result ≡ position_from (bytes_eq text.now) first (map (λ t. t.now) (drop first texts.now)) }
 {

@@ -1,4 +1,4 @@
-//! Sentences: words with one space between two.
+//! Sentences: words that are separated by one space.
 ghost use Rattle.std.specs.Prelude.{◌≡◌, ◌==◌, [], option_map};
 ghost use Rattle.std.specs.List.{slice_split};
 ghost use Rattle.rmm_trace.specs.Sentences.{if_read, words_in};
@@ -48,7 +48,7 @@ pub fn read_words(text: &[u8]) -> Option<Sentence>
     }
 }
 
-// Each word after one space.
+// The text of words, with one space before each word.
 #[derive(Clone, Copy)]
 struct SpacedWords<'a>(&'a [TraceWord]);
 

@@ -1,4 +1,4 @@
-//! The groups of questions: a row for each.
+//! The table of the groups of questions, with a row for each group.
 use crate::grammar::{Group, Place, REPEATED, ValueKind};
 use crate::place::*;
 
@@ -56,7 +56,7 @@ const SOME: ValueKind = number!(1, u64::MAX);
 const GRANULES: ValueKind = number!(1, 65_536);
 
 const TIMES: ValueKind = number!(2, 512);
-// 8 or 16.
+// The number 8 or 16.
 const EIGHT_OR_SIXTEEN: ValueKind = ValueKind {
     least: 8,
     most: 16,
@@ -65,7 +65,7 @@ const EIGHT_OR_SIXTEEN: ValueKind = ValueKind {
     first_name: 0,
     name_count: 0,
 };
-// 1, 2, 4 or 8 bytes.
+// The width of an access: 1, 2, 4 or 8 bytes.
 const WIDTH: ValueKind = ValueKind {
     least: 1,
     most: 8,
@@ -74,7 +74,7 @@ const WIDTH: ValueKind = ValueKind {
     first_name: 0,
     name_count: 0,
 };
-// An address of eight bytes, and one of a granule.
+// Addresses: `ALIGNED` is a multiple of 8, and `PAGE` is a multiple of 4,096.
 const ALIGNED: ValueKind = ValueKind {
     least: 0,
     most: u64::MAX,
@@ -101,7 +101,7 @@ const PSCI: ValueKind = ValueKind {
     first_name: PSCI_SUCCESS,
     name_count: 2,
 };
-// EMPTY, RAM or DESTROYED.
+// A RIPAS: EMPTY, RAM or DESTROYED.
 const RIPAS: ValueKind = ValueKind {
     least: 0,
     most: 2,
@@ -170,7 +170,7 @@ macro_rules! setting {
     };
 }
 
-// A field, which has up to `$most` values and comes before those that follow it in the table.
+// A field, which has up to `$most` values, and comes before the fields that follow it in the table.
 macro_rules! field {
     ($context:expr, $name:expr, $place:expr, $most:expr, $kind:expr) => {
         Group {

@@ -40,7 +40,7 @@ impl Default for TraceWord {
 
 // ---- read
 
-// The number that a text is.
+// The number that a text spells, if it spells one.
 fn read_number(text: &[u8]) -> Option<Atom>
     ensures { result ≡ number_in text.now }
 {
@@ -50,7 +50,7 @@ fn read_number(text: &[u8]) -> Option<Atom>
     }
 }
 
-// The number or the name that a text is.
+// The number or the name that a text spells, if it spells one.
 fn read_atom(text: &[u8]) -> Option<Atom>
     ensures { result ≡ atom_in text.now }
 {
@@ -81,7 +81,7 @@ fn read_comma(text: Option<&[u8]>) -> Option<bool>
     }
 }
 
-/// The word that a text is.
+/// The word that a text spells, if it spells one.
 pub(crate) fn read_word(text: &[u8]) -> Option<TraceWord>
     ensures { result ≡ word_in text.now }
 {

@@ -105,7 +105,8 @@ impl Entry {
         }
     }
 
-    /// The word of the entry: bits 0 and 1 are its kind, 2 and 3 its RIPAS, 12 to 47 the address of its granule.
+    /// The word of the entry. Bits 0 and 1 are the kind, bits 2 and 3 the RIPAS, and bits 12 to 47 the address of the
+    /// granule.
     pub fn to_word(self) -> u64
         ensures { result ≡ entry_word self }
     {
@@ -126,7 +127,7 @@ impl Entry {
         kind + ripas * 4 + address
     }
 
-    /// The entry that a word is read as, whatever the word.
+    /// The entry that a word encodes, for any word.
     pub fn from_word(word: u64) -> Entry
         ensures { result ≡ entry_of word }
     {

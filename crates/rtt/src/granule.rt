@@ -11,7 +11,7 @@ pub struct Granule {
 }
 
 impl Granule {
-    /// An UNDELEGATED granule of no realm, as each one is at the start.
+    /// An UNDELEGATED granule of no realm, the initial value of each granule.
     pub const UNDELEGATED: Granule = Granule {
         state: GranuleState::Undelegated,
         realm: None,

@@ -28,7 +28,7 @@ impl Model for GranuleTable {
 }
 
 impl GranuleTable {
-    /// A table of a machine of `pages` pages: each granule is UNDELEGATED, and belongs to no realm.
+    /// Returns the table of a machine of `pages` pages, with each granule UNDELEGATED and of no realm.
     pub fn build(alloc: Global, pages: u16) -> Result<GranuleTable, AllocError>
         requires some { 1 ≤ pages }
         requires few { pages ≤ 4096 }
@@ -63,8 +63,8 @@ impl GranuleTable {
         self.granules[granule.number() as usize].realm
     }
 
-    /// Moves a granule from one state to another, for that realm or for none. `false`, with nothing changed, comes
-    /// exactly when the granule is not in the first state.
+    /// Moves a granule from the state `from` to the state `to`, and sets or clears its realm. Returns `false`, with
+    /// nothing changed, exactly if the granule is not in the state `from`.
     pub fn shift(
         &mut self,
         granule: Gran,

@@ -13,12 +13,13 @@ pub fn tables_are_words()
     ensures { (pages : List (List ℕ)) (granules : List Granule) (rd : ℕ) (root : Root) → HasTables pages granules rd root → AreRowWords pages root }
 {}
 
-/// A row is an entry: UNASSIGNED rows lead to nothing, others to a granule, and TABLE rows have no RIPAS.
+/// Each row of a realm's tables is an entry. An UNASSIGNED row leads to nothing, any other row leads to a granule, and
+/// a TABLE row has no RIPAS.
 pub fn rows_are_entries()
     ensures { (pages : List (List ℕ)) (root : Root) (level ipa : ℕ) (row : Row) → row_at (rows pages root) level ipa ≡ Some row → IsEntry row }
 {}
 
-/// A realm whose tables and pages of data are left alone has the same rows, and still its tables.
+/// A realm whose tables and pages of data are left alone keeps its rows, and its tables keep their invariant.
 pub fn tables_left_alone_stay()
     ensures { (rd : ℕ) (root : Root) (pages : List (List ℕ)) (granules : List Granule) (new_pages : List (List ℕ)) (new_granules : List Granule)
         → HasTables pages granules rd root → LeavesAlone rd pages granules new_pages new_granules

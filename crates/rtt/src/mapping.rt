@@ -1,4 +1,4 @@
-//! Pages of data, and RIPAS.
+//! The mapping of pages of data, and the setting of RIPAS.
 ghost use Rattle.std.specs.Prelude.{◌≡◌, ℕ, ◌<◌, true, Some, None, OnOk, OnErr};
 ghost use Rattle.rtt.specs.Granules.{IsIn};
 ghost use Rattle.granule_addr.specs.Page.{zero_page};
@@ -68,7 +68,7 @@ impl Tables {
         Ok(())
     }
 
-    /// Unmaps the page of data at an IPA granule: it is zero and DELEGATED from now on.
+    /// Unmaps the page of data at an IPA granule; the page becomes zero and DELEGATED.
     ///
     /// RMM 1.0, RMI_DATA_DESTROY. RMI_ERROR_RTT comes with the level at which the walk ended, unless that is 3 and the
     /// entry there is ASSIGNED. A refusal changes nothing.
@@ -116,8 +116,7 @@ impl Tables {
         Ok(())
     }
 
-    /// Sets the RIPAS of `count` IPA granules, which one table of level 3 serves, to RAM, or refuses and changes
-    /// nothing.
+    /// Sets the RIPAS of `count` IPA granules of one table of level 3 to RAM, or refuses and changes nothing.
     ///
     /// RMM 1.0, RMI_RTT_INIT_RIPAS. Refused with RMI_ERROR_RTT and the level at which the walk ended, unless that is 3
     /// and all the entries are UNASSIGNED.

@@ -10,7 +10,7 @@ use crate::Entry;
 use granule_addr::Gran;
 use page_arena::PageStore;
 
-// An entry of a table.
+// Reads an entry of a table.
 #[tactic(auto, unfolding(crate::specs::Tables::entries_of))]
 pub fn read<S: PageStore>(store: &S, table: Gran, index: u16) -> Entry
     requires inside { table < length (S.page_bytes store.now) }
@@ -31,7 +31,7 @@ pub fn write<S: PageStore>(store: &mut S, table: Gran, index: u16, entry: Entry)
     store.set_word(table, index, entry.to_word());
 }
 
-// Writes one entry to `count` places of a table, from `first` on.
+// Writes the same entry to `count` places of a table, from the index `first` on.
 pub(crate) fn fill_entries<S: PageStore>(
     store: &mut S,
     table: Gran,

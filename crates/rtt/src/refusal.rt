@@ -13,7 +13,7 @@ pub struct Rtt {
     pub level: Level,
 }
 
-/// The refusal as the RMM answers it.
+/// Converts a refusal to the answer of the RMM.
 impl From<Rtt> for Rmi {
     ghost from_gives = { λ refusal rmi. rmi ≡ error_rtt refusal.level };
 

@@ -18,7 +18,7 @@ use page_arena::PageStore;
 use realm_model::GranuleState;
 
 impl Tables {
-    /// Makes DELEGATED granules the starting tables of a new realm: their entries are UNASSIGNED and EMPTY.
+    /// Makes DELEGATED granules the starting tables of a new realm, with all entries UNASSIGNED and EMPTY.
     ///
     /// RMM 1.0, RMI_REALM_CREATE.
     pub fn open_root<S: PageStore>(&self, store: &mut S, granules: &mut GranuleTable)
@@ -40,8 +40,8 @@ impl Tables {
         self.clear_starting_tables(store, granules, GranuleState::Delegated, &table);
     }
 
-    /// Clears the starting tables of a realm that ends, which are then DELEGATED, and returns whether it did. Returns
-    /// `false`, and changes nothing, if and only if an entry of one of them is TABLE.
+    /// Clears the starting tables of a realm that ends, makes them DELEGATED, and returns `true`. Returns `false`, and
+    /// changes nothing, if and only if an entry of a starting table is TABLE.
     ///
     /// RMM 1.0, RMI_REALM_DESTROY, which answers RMI_ERROR_REALM where this returns `false`.
     pub fn close_root<S: PageStore>(&self, store: &mut S, granules: &mut GranuleTable) -> bool
@@ -83,7 +83,7 @@ impl Tables {
         true
     }
 
-    // Clears each starting table, and moves it from the state `from` to what `to` says.
+    // Clears each starting table, and moves it from the state `from` to the state and the realm of `to`.
     fn clear_starting_tables<S: PageStore>(
         &self,
         store: &mut S,
@@ -109,7 +109,7 @@ impl Tables {
     }
 }
 
-// The starting table of a number.
+// The granule of the starting table with the index `number`.
 pub(crate) fn starting_table(root: Root, number: u16) -> Gran
     requires { root.first + number < MOST_PAGES }
     ensures { result ≡ root.first + number }

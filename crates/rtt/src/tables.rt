@@ -1,4 +1,4 @@
-//! The tables of a realm, walks, and their ends.
+//! The tables of a realm, and walks in them.
 ghost use Rattle.std.specs.Prelude.{◌≡◌, ℕ, ◌<◌, ◌≤◌, length, Some};
 ghost use Rattle.granule_addr.specs.Ipa.{entry_index};
 ghost use Rattle.granule_addr.specs.Root.{served_space};

@@ -1,4 +1,4 @@
-//! Answers in numbers.
+//! The answers of turns as lists of numbers.
 ghost use Rattle.std.specs.Prelude.{◌≡◌, [], ◌∷◌};
 ghost use Rattle.realm_plan.specs.Answers.{reply_numbers, refusal_numbers};
 ghost use Rattle.run_json.specs.Answers.{refusal_number, answer_numbers, is_accepted_answer};
@@ -7,7 +7,7 @@ use arrayvec::ArrayVec;
 use host_commands::{Refusal, Reply};
 use plan_replay::TurnAnswer;
 
-/// The most numbers of an answer: those of a refusal by the RMM.
+/// The length of the longest list of numbers of an answer, which is that of a refusal by the RMM.
 const MOST_NUMBERS: usize = 3;
 
 fn reply_numbers(reply: Reply) -> ArrayVec<u32, MOST_NUMBERS>
@@ -44,7 +44,7 @@ fn refusal_number(refusal: Refusal) -> u32
     }
 }
 
-// The number of a refusal, and what it is about.
+// The number of a refusal, followed by the numbers of the page, block order or RMI status that it names.
 fn numbers_of_refusal(refusal: Refusal) -> ArrayVec<u32, MOST_NUMBERS>
     ensures { result.items ≡ refusal_number refusal ∷ refusal_numbers refusal }
 {

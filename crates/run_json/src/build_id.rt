@@ -3,7 +3,7 @@ ghost use Rattle.std.specs.Prelude.{◌≡◌, ◌<◌};
 
 use granule_addr::BuildId;
 
-/// The build of that number.
+/// The build with that number.
 pub fn id_of(number: u8) -> BuildId
     requires { number < 8 }
     ensures { result ≡ number }

@@ -5,7 +5,8 @@ ghost use Rattle.run_json.specs.Changes.{one_granule, granules_of, changes_realm
 use granule_addr::{Gran, Level, RecNo};
 use realm_model::Act;
 
-/// The granules that an operation changes: one, `count` from the number `from` on, and others.
+/// The granules that an operation changes: a first one, `count` granules from the number `from` on, and a list of
+/// others.
 #[derive(Drop)]
 pub struct Changed<'a> {
     pub granule: Gran,
@@ -14,7 +15,7 @@ pub struct Changed<'a> {
     pub also: &'a [Gran],
 }
 
-// One granule alone.
+// A change of one granule alone.
 fn one<'a>(granule: Gran) -> Option<Changed<'a>>
     ensures value { option_map (λ c. record { granule = c.granule; from = c.from; count = c.count; also = c.also.now }) result ≡ one_granule granule }
     ensures few { IfSome result (λ c. c.from + c.count ≤ 65535) }
@@ -100,7 +101,7 @@ pub fn changes_realm(act: &Act) -> bool
     )
 }
 
-/// The level of the table above a table of that level; 1 at level 1, which has none above.
+/// The level above a table's level, or 1 for a table of level 1.
 pub fn level_above(level: Level) -> Level
     ensures { result ≡ level_above level }
 {

@@ -23,7 +23,8 @@ pub struct MachineSettings {
     pub builds: usize,
 }
 
-/// A run: its machine, its turns, and the world at its end. `realmview` is the version of the format.
+/// A run: the settings of its machine, its turns, and the final state of the machine. `realmview` is the version of the
+/// format.
 #[derive(Drop, Serialize)]
 pub struct Document {
     pub realmview: u8,

@@ -1,4 +1,4 @@
-//! Granules, rows, RECs and pages, as the host has them.
+//! JSON items for granules, rows of tables, RECs and pages, as the host has them.
 ghost use Rattle.std.specs.Prelude.{◌≡◌, IfOk};
 ghost use Rattle.run_json.specs.Items.{granule_item, row_item, IsRecItem, page_item};
 
@@ -14,7 +14,7 @@ use realm_plan::state_word;
 use serde::{Described, Serialize, Serializer};
 use std::alloc::{AllocError, Global};
 
-/// A granule, and what the host says of it.
+/// A granule, with its state, build and realm as the host has them.
 #[derive(Clone, Copy)]
 pub struct GranuleItem {
     pub granule: Gran,
@@ -42,7 +42,7 @@ pub fn granule_item<S: PageStore>(host: &Host<S>, granule: Gran) -> Option<Granu
     Some(GranuleItem { granule, view })
 }
 
-/// Rows of one level that are equal: the first one, and how many there are.
+/// A run of equal rows of one level: the first row, and the number of rows.
 #[derive(Clone, Copy)]
 pub struct RowItem {
     pub row: RowView,
@@ -79,7 +79,7 @@ pub fn row_item<S: PageStore>(
     Some(RowItem { row, count })
 }
 
-/// The REC of a build, as the host shows it.
+/// The host's view of a REC: its granule, its state, and its auxiliary granules.
 #[derive(Drop)]
 pub struct RecView {
     pub granule: Gran,
@@ -87,7 +87,7 @@ pub struct RecView {
     pub auxiliaries: Vec<Gran>,
 }
 
-/// A REC by its number, and what the host says of it, if there is such a REC.
+/// The number of a REC, and the host's view of that REC, if there is such a REC.
 #[derive(Drop)]
 pub struct RecItem {
     pub number: RecNo,
@@ -112,7 +112,7 @@ impl Serialize for RecItem {
     }
 }
 
-/// The REC of that number in a build's realm, as the host has it.
+/// The REC with that number in a build's realm, as the host has it.
 pub fn rec_item<S: PageStore>(
     alloc: Global,
     host: &Host<S>,

@@ -3,7 +3,7 @@ use serde::{Described, Serialize, Serializer};
 use std::alloc::{AllocError, Global};
 use std::fmt::Display;
 
-/// A value that is written as its text.
+/// A value that is written in JSON as a string of its `Display` text.
 #[derive(Clone, Copy)]
 pub struct Shown<T>(pub T);
 

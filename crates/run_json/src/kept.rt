@@ -16,7 +16,7 @@ pub struct BuildKept {
 }
 
 impl BuildKept {
-    // Writes the two members.
+    // Writes the members `mark` and `aborting`.
     pub(crate) fn write<W: Serializer>(&self, out: &mut W) -> Result<(), W::Error> {
         member(out, "mark", &self.mark)?;
         member(out, "aborting", &self.aborting)

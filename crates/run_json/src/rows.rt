@@ -1,4 +1,4 @@
-//! The rows of a realm's translation, in rising address.
+//! The rows of a realm's translation tables, by ascending address.
 //!
 //! A walk to level 3 ends at a row that is not TABLE. The first walk is that of IPA granule 0, and each next one is
 //! that of the first after the row before. `specs/Rows.antt` says which rows these are.
@@ -14,7 +14,7 @@ use page_arena::PageStore;
 use realm_host::{Host, RowView};
 use std::alloc::{AllocError, Global};
 
-// Whether a table below the starting ones begins at the row.
+// Whether a row is the first row of a table below the starting tables.
 fn begins_table(row: &RowView) -> bool
     ensures { result ≡ is_table_place row.now.first row.now.level }
 {
@@ -26,14 +26,14 @@ fn begins_table(row: &RowView) -> bool
     }
 }
 
-// Whether a row has the same entry as the row before it in the same table.
+// Whether a row is in the same table as the row before it, and has the same entry.
 fn says_the_same(row: &RowView, before: &RowView) -> bool
     ensures { IsTrue result ↔ ((row.now.level ≡ before.now.level) × (row.now.entry ≡ before.now.entry) × (is_table_place row.now.first row.now.level ≡ false)) }
 {
     row.level == before.level && row.entry == before.entry && !begins_table(row)
 }
 
-// Appends a row as an item, if there is one and it begins at that IPA granule.
+// Appends a row as an item, if there is a row and its first IPA granule is `ipa`.
 fn push_beginning(
     items: &mut Vec<RowItem>,
     row: Option<RowView>,
@@ -48,7 +48,7 @@ fn push_beginning(
     Ok(())
 }
 
-// Appends the TABLE rows above a row that is the first of their tables.
+// Appends the TABLE rows of the levels above a row that begin at the same IPA granule as the row.
 fn push_rows_above<S: PageStore>(
     items: &mut Vec<RowItem>,
     host: &Host<S>,
@@ -65,8 +65,8 @@ fn push_rows_above<S: PageStore>(
     Ok(())
 }
 
-// The first IPA granule after the row at an IPA granule, if the run of a row goes on there. Rows of its level begin
-// there.
+// The first IPA granule after the row at `ipa`, if that row continues the run of `row`. A row of the level of `row` has
+// to begin at `ipa`.
 fn goes_on<S: PageStore>(host: &Host<S>, build: BuildId, row: &RowView, ipa: u32) -> Option<u32>
     requires { first_covered row.now.level ipa ≡ ipa }
     ensures goes_on { IfSome result (λ next. RunGoesOn (world_of host.now) build row.now ipa) }
@@ -96,8 +96,8 @@ fn count_same<S: PageStore>(host: &Host<S>, build: BuildId, row: &RowView) -> (u
     (count, next)
 }
 
-/// The rows of a build's realm in rising address, TABLE rows before those of their tables. Rows of one table that say
-/// the same, one after another, are one item.
+/// The rows of a build's realm by ascending address, each TABLE row before the rows of its table. Rows of one table
+/// that say the same, one after another, are one item.
 pub fn rows_of<S: PageStore>(
     alloc: Global,
     host: &Host<S>,

@@ -292,16 +292,17 @@ const REFUSALS = {
 
 const counted = (n, one) => n + \" \" + one + (n === 1 ? \"\" : \"s\");
 
-// A refusal in general words, for a page whose data has no line of its own for the turn.
+// A refusal in general words, for a turn for which the data has no line.
 function refusalText(turn) {
   const [word] = turn.step.split(\" \"), name = turn.answer.split(\" \")[2], [, first, index] = turn.numbers;
   if (name === \"Rmi\" && (word === \"fill\" || word === \"peek\")) return HARDWARE;
   const status = (STATUS[first] || \"status \" + first) + (first === 4 ? \", index \" + index : \"\");
   return (REFUSALS[name] || \"Refused.\").replace(\"$status\", status).replaceAll(\"$1\", first);
 }
-// The worlds of the run. The data has what each turn changed of granules, rows, RECs and realms; a world is made by
-// applying these changes in order. The world without a build is made by those of the others alone. What a page contains
-// follows from the events: fill, data and poke write, and any other event clears the granules that it changes.
+// The worlds of the run: the states of its machine after each number of turns. The data has what each turn changed of
+// granules, rows, RECs and realms; a world is made by applying these changes in order. The world without a build is
+// made by those of the others alone. What a page contains follows from the events: fill, data and poke write, and any
+// other event clears the granules that it changes.
 const data = JSON.parse(document.getElementById(\"data\").textContent);
 const run = data.run, turns = run.turns, pages = run.settings.pages, builds = run.settings.builds;
 const COVERED = { 1: 262144, 2: 512, 3: 1 };
@@ -340,7 +341,7 @@ function copyWorld(world) {
     realms: world.realms.slice(), open: world.open.slice(), mark: world.mark.slice(), aborting: world.aborting.slice(),
   };
 }
-// A row item takes the place of what was in its range, at its level and below.
+// The rows with an item put in, which replaces the rows in its range at its level and below.
 function withRow(rows, item) {
   const from = item.first, to = item.first + item.count * COVERED[item.level], kept = [];
   for (const row of rows) {
@@ -364,7 +365,7 @@ function eventOf(turn) {
   const [, word, ...numbers] = turn.event.split(\" \");
   return { word, numbers: numbers.map(Number) };
 }
-// The granules that a turn changed, in what they are or in what they contain.
+// The granules whose attributes or content a turn changed.
 function changedBy(turn, world) {
   if (turn === null || turn.event === null) return [];
   const { word, numbers } = eventOf(turn);
@@ -380,7 +381,7 @@ function stepRealm(world, turn) {
   if (realm && turn.recs) realm = { ...realm, recs: turn.recs.reduce(withRec, realm.recs) };
   world.realms[turn.build] = realm;
 }
-// A build's own number of a page is how many it had when it took the page.
+// Updates the leases of a build. The number of a page is the count of pages that the build had when it took the page.
 function stepLeases(world, build, word, [order, first]) {
   if (word === \"take\") for (let k = 0; k < 2 ** order; k++) world.numbers[first + k] = world.leased[build]++;
   if (word === \"untake\") world.leased[build] -= 2 ** order;
@@ -405,7 +406,7 @@ function stepWorld(world, turn) {
   world.aborting[turn.build] = turn.aborting;
 }
 
-// The worlds after each number of turns, of which only the chosen ones count.
+// The worlds after each number of turns, if only the chosen turns are performed.
 // Every so often one is kept, to begin from.
 class Worlds {
   constructor(isChosen) {
@@ -431,7 +432,7 @@ class Worlds {
 }
 const everyone = new Worlds(() => true);
 const othersOf = Array.from({ length: builds }, (_, b) => new Worlds((turn) => turn.build !== b));
-// Grids of granules: a tile each, filled by its state and framed by its build.
+// Grids of granules: each granule is a tile, filled by its state and framed by its build.
 const element = (tag, text, className) => {
   const made = document.createElement(tag);
   if (text !== undefined) made.textContent = text;
@@ -445,7 +446,7 @@ const isNarrow = matchMedia(\"(max-width: 760px)\");
 const columnsNow = () => Math.min(pages, COLUMNS[SIZE][isNarrow.matches ? 1 : 0]);
 const hasBytes = (state) => state === \"UNDELEGATED\" || state === \"DELEGATED\" || state === \"DATA\";
 
-// The contents of a granule's page: the RMM's own, nothing but zeros, or more.
+// The kind of a granule's content: the RMM's own, all zeros, or other bytes.
 const kindOf = (state, page) => (!hasBytes(state) ? \"\" : page.sum === 0 ? \"zero\" : \"full\");
 function contentText(state, page) {
   if (!hasBytes(state)) return \"holds what the RMM keeps there\";
@@ -506,11 +507,11 @@ class Grid {
     if (isPicked) this.place.setAttribute(\"aria-activedescendant\", cell.id);
   }
 }
-// Realms: what each has, and its tables as a tree.
+// Realms: the attributes of each realm, and its tables as a tree.
 const folded = new Set(), NO_ROWS = [];
 const endOf = (row) => row.first + row.count * COVERED[row.level];
 const lastOf = (row) => row.granule + row.count - 1;
-// Rows of one table that follow each other, and whose granules do, as one; but what a turn has changed stands alone.
+// Merges adjacent rows of one level whose granules are adjacent too, but not rows that the turn has changed.
 function asRuns(rows, items) {
   const runs = [];
   for (const row of rows) {
@@ -539,7 +540,7 @@ function rowLine(row) {
   if (row.state !== \"TABLE\") line.append(\" \", element(\"span\", row.ripas, \"ripas \" + row.ripas));
   return line;
 }
-// The entry of a table, which can be folded; it stays as it was left while the turns change.
+// The entry of a table, which a user can fold. The entry stays open or folded while the turns change.
 function tableEntry(key, line) {
   const details = element(\"details\"), summary = element(\"summary\"), list = element(\"ul\");
   details.open = !folded.has(key);
@@ -549,7 +550,7 @@ function tableEntry(key, line) {
   details.append(summary, list);
   return { details, list };
 }
-// Rows in rising address, a TABLE row before the rows of its table: those in its range and below its level.
+// The rows as a tree by ascending address, in which the rows of a table are below its TABLE row.
 function treeOf(b, rows, items) {
   const root = element(\"ul\", undefined, \"tree\"), stack = [{ level: 0, end: Infinity, list: root }];
   const top = () => stack[stack.length - 1];
@@ -631,7 +632,7 @@ function reasonOf(at) {
     ? { error: bare(found.error, \"error\"), help: found.help && bare(found.help, \"help\") }
     : { error: refusalText(turn) };
 }
-// A text in which what is between two backquotes is code.
+// A text in which each part between two backquotes becomes code.
 const withCode = (text) => text.split(\"`\").map((part, k) => (k % 2 ? element(\"code\", part) : part));
 function drawReason(reason) {
   const error = reason.error && [element(\"b\", \"error:\"), \" \", ...withCode(reason.error)];
@@ -783,7 +784,8 @@ function leaveOut(build) {
   (build === null ? $(\"grid\") : $(\"worlds\")).after($(\"key\"));
   draw();
 }
-// The address of the page: it says what is shown, and a link to it can ask for that, also in an open tab.
+// The address of the page names the turn that is shown, the build that is left out, and the theme. A link can ask for
+// them, also in an open tab.
 const DARK = matchMedia(\"(prefers-color-scheme: dark)\");
 let themeAsked = null;
 function setTheme(theme) {
@@ -798,7 +800,8 @@ function chooseTheme(theme) {
 function countIn(text, most) {
   return /^(0|[1-9][0-9]{0,5})$/.test(text) && Number(text) <= most ? Number(text) : undefined;
 }
-// A part that is missing asks for the default; a wrong one is ignored, and so is an address that has none of the parts.
+// Shows what an address asks for. A missing part asks for the default, and a wrong part is ignored. So is an address
+// that has none of the parts.
 function followAddress(hash) {
   const asked = new URLSearchParams(hash.slice(1));
   const [turn, build, theme] = [\"turn\", \"without\", \"theme\"].map((it) => asked.get(it));
@@ -815,7 +818,7 @@ function addressNow() {
   if (themeAsked !== null) parts.theme = themeAsked;
   return \"#\" + new URLSearchParams(parts);
 }
-// Browsers limit how often a page may change its address; so it changes at once and then at most four times a second.
+// Changes the address at once, and then at most four times a second, since browsers limit such changes.
 let pending = null;
 function tellAddress() {
   if (pending !== null) return;
@@ -826,7 +829,7 @@ function writeAddress() {
   if (location.hash === addressNow()) return;
   try { history.replaceState(null, \"\", addressNow()); } catch { /* a browser that lets no page of a file do so */ }
 }
-// The controls, the keys, and the beginning.
+// The controls, the keys, and the start of the page.
 let playing = null;
 function stop() {
   if (playing === null) return;
@@ -911,7 +914,7 @@ document.addEventListener(\"keydown\", (e) => {
   e.stopPropagation();
   if (e.key !== \" \" || !e.repeat) action();
 }, true);
-// A button that has the focus is pressed by Space when the key is let go.
+// Keeps Space from pressing the button that has the focus when the key is let go.
 document.addEventListener(\"keyup\", (e) => { if (e.key === \" \") e.preventDefault(); }, true);
 
 // ---- the beginning

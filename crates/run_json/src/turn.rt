@@ -1,4 +1,4 @@
-//! A turn: its step and answer, its event, and what that changed.
+//! A turn: its step and answer, its event, and the changes that the event made.
 ghost use Rattle.std.specs.Prelude.{◌≡◌, ◌+◌, ◌≤◌, ◌++◌, OnOk, IfOk, slice_get, option_map};
 ghost use Rattle.run_json.specs.Turns.{step_view, placed, numbered_granule, more_granules, each_granule, changed_items, changed_view};
 ghost use Rattle.run_json.specs.Turns.{granules_after, rows_after, IsRecAfter, realm_after, IsEventItem, IsEventAt, IsAfterTurn};
@@ -19,7 +19,7 @@ use realm_plan::{PlanStep, StepText};
 use serde::{Described, Serialize, Serializer};
 use std::alloc::{AllocError, Global};
 
-/// A step of a build's plan, as the plan spells it, its place in the build's list, and the host's answer.
+/// A step as the plan spells it, with its place in the build's list and the host's answer.
 #[derive(Drop)]
 pub struct StepItem {
     pub place: usize,
@@ -27,7 +27,8 @@ pub struct StepItem {
     pub answer: TurnAnswer,
 }
 
-/// An event, and what it names, as the host has it after the turn. A list is empty if the event changes no such thing.
+/// An event, and the objects that it changed, as the host has them after the turn. A list is empty if the event changes
+/// no such object.
 #[derive(Drop)]
 pub struct EventItem {
     pub event: Event,
@@ -37,7 +38,7 @@ pub struct EventItem {
     pub realm: Option<Option<RealmItem>>,
 }
 
-/// A turn of a build: its step and its event, if it has them, and what the host keeps of the build after it.
+/// A turn of a build: its step and its event, if any, and the state that the host keeps of the build afterwards.
 #[derive(Drop)]
 pub struct TurnItem {
     pub build: BuildId,
@@ -142,7 +143,7 @@ pub fn step_of(
 
 // ---- what an event changed
 
-// Appends the granule of that number, if a granule can have it.
+// Appends the granule with that number, if there can be such a granule.
 fn push_numbered<S: PageStore>(
     items: &mut Vec<Option<GranuleItem>>,
     host: &Host<S>,
@@ -172,7 +173,7 @@ pub fn push_more_granules<S: PageStore>(
     Ok(())
 }
 
-// Appends granules.
+// Appends an item for each of the granules.
 fn push_each_granule<S: PageStore>(
     items: &mut Vec<Option<GranuleItem>>,
     host: &Host<S>,
@@ -215,7 +216,7 @@ fn granules_after<S: PageStore>(
     Ok(items)
 }
 
-// The rows that an operation changed. Of those of a table the first, which all others equal.
+// The rows that an operation changed. Equal rows are one item, which has the first row and their count.
 fn rows_after<S: PageStore>(
     alloc: Global,
     host: &Host<S>,
@@ -277,7 +278,7 @@ fn realm_after<S: PageStore>(host: &Host<S>, build: BuildId, act: &Act) -> Optio
     }
 }
 
-// An event of a build, and what it changed.
+// An event of a build, and the objects that the event changed.
 fn event_item<S: PageStore>(
     alloc: Global,
     host: &Host<S>,
@@ -298,7 +299,7 @@ fn event_item<S: PageStore>(
     })
 }
 
-// The event at a place of the history, if there is one, and what it changed.
+// The event at a place of the history, if there is one, and the objects that the event changed.
 fn event_at<S: PageStore>(
     alloc: Global,
     host: &Host<S>,
@@ -313,7 +314,7 @@ fn event_at<S: PageStore>(
     }
 }
 
-/// The item of a turn that a build has taken after `before` events of the history, with this step and answer.
+/// The JSON item of a turn that a build has just taken. The history had `before` events at the start of the turn.
 pub fn turn_item<S: PageStore>(
     alloc: Global,
     host: &Host<S>,

@@ -1,10 +1,10 @@
-//! The words and numbers by which JSON names what the host says. RMM 1.0, REC state, RTT entry state, RIPAS.
+//! The words and numbers for the host's values in JSON. RMM 1.0, REC state, RTT entry state, RIPAS.
 use granule_addr::{BuildId, Gran};
 use realm_model::{EntryState, RecState, Ripas};
 use serde::{Described, Serialize, Serializer};
 use std::fmt;
 
-/// The state of a REC.
+/// The word for the state of a REC.
 pub fn rec_state_word(state: RecState) -> &'static str {
     match state {
         RecState::Ready => "READY",
@@ -12,7 +12,7 @@ pub fn rec_state_word(state: RecState) -> &'static str {
     }
 }
 
-/// The state of a row of a table.
+/// The word for the state of a row of a table.
 pub fn entry_state_word(state: EntryState) -> &'static str {
     match state {
         EntryState::Unassigned => "UNASSIGNED",
@@ -21,7 +21,7 @@ pub fn entry_state_word(state: EntryState) -> &'static str {
     }
 }
 
-/// The RIPAS of a row.
+/// The word for the RIPAS of a row.
 pub fn ripas_word(ripas: Ripas) -> &'static str {
     match ripas {
         Ripas::Empty => "EMPTY",
@@ -46,7 +46,7 @@ pub fn granule_number(granule: Option<Gran>) -> Option<u16> {
     }
 }
 
-/// The numbers of granules.
+/// Granules that are written in JSON as a list of their numbers.
 #[derive(Clone, Copy)]
 pub struct GranuleNumbers<'a>(pub &'a [Gran]);
 

@@ -1,4 +1,4 @@
-//! The world of a host: all granules, and what each build has.
+//! The state of a host: all granules, and the pages, open operations and realm of each build.
 ghost use Rattle.std.specs.Prelude.{◌≡◌, IfOk, length};
 ghost use Rattle.host_ledger.specs.View.{pages_of_build};
 ghost use Rattle.run_json.specs.Worlds.{all_granules, page_items, open_lines, AreRecItems, IsRealmWorld, IsBuildItem, AreBuildItems, IsWorldItem};
@@ -30,7 +30,7 @@ impl Serialize for EventLine {
     }
 }
 
-/// A realm with its rows, and with its RECs, each at the place of its number.
+/// A realm with its rows and its RECs. Each REC is at the index of its number.
 #[derive(Drop)]
 pub struct RealmWorld {
     pub realm: RealmItem,
@@ -50,7 +50,7 @@ impl Serialize for RealmWorld {
     }
 }
 
-/// A build: what the host keeps of it, its open operations as events, the oldest first, its pages, and its realm.
+/// A build: its state in the host, its open operations as events with the oldest first, its pages, and its realm.
 #[derive(Drop)]
 pub struct BuildItem {
     pub build: BuildId,
@@ -74,7 +74,7 @@ impl Serialize for BuildItem {
     }
 }
 
-/// A world: how many granules nobody leases, all granules, and all builds.
+/// The state of a host: the number of granules that nobody leases, all granules, and all builds.
 #[derive(Drop, Serialize)]
 pub struct WorldItem {
     pub free: u16,
@@ -156,7 +156,7 @@ fn realm_world<S: PageStore>(
     }))
 }
 
-// A build, and what it has.
+// The item of a build, with its open operations, pages and realm.
 fn build_item<S: PageStore>(
     alloc: Global,
     host: &Host<S>,
@@ -173,7 +173,7 @@ fn build_item<S: PageStore>(
     })
 }
 
-// All builds.
+// The items of all builds.
 fn builds_of<S: PageStore>(alloc: Global, host: &Host<S>) -> Result<Vec<BuildItem>, AllocError>
     ensures { IfOk result (λ items. AreBuildItems host.now host.now.limits.builds items.items) }
 {
@@ -185,7 +185,7 @@ fn builds_of<S: PageStore>(alloc: Global, host: &Host<S>) -> Result<Vec<BuildIte
     Ok(items)
 }
 
-/// The world of a host. An `Err` comes only if allocation failed.
+/// The state of a host, as an item of the document. An `Err` comes only if allocation failed.
 pub fn world_item<S: PageStore>(alloc: Global, host: &Host<S>) -> Result<WorldItem, AllocError>
     ensures { IfOk result (IsWorldItem host.now) }
 {

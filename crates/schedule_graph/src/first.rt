@@ -1,4 +1,4 @@
-//! The first path that shows a sign, and the first that shows none.
+//! The first path that shows a property, and the first path that does not.
 ghost use Rattle.std.specs.Prelude.{◌≡◌, ◌<◌, nat_lt, Bool, true, option_map, slice_index_or, [], IfOk, Some, map, vec_items};
 ghost use Rattle.std.specs.List.{find};
 ghost use Rattle.schedule_graph.specs.First.{layers_in, path_numbers_in, first_like, any_path, shows_none};
@@ -9,7 +9,7 @@ use crate::graph::{Edge, Sign};
 use crate::path_number::PathNumber;
 use std::alloc::{AllocError, Global};
 
-/// The numbers of a layer; none if there is no such layer.
+/// The path numbers of a layer; empty if there is no such layer.
 pub(crate) fn numbers_at(counts: &[Vec<PathNumber>], depth: usize) -> &[PathNumber]
     ensures { result.now ≡ slice_index_or (path_numbers_in counts.now) depth [] }
 {
@@ -29,7 +29,7 @@ fn has_paths(counts: &[PathNumber], state: usize) -> bool
     }
 }
 
-// Whether paths go on from an edge.
+// Whether an accepted path goes on over an edge.
 fn goes_on<L, S: Sign<L>>(
     edge: &Edge<L>,
     sign: &S,
@@ -46,7 +46,7 @@ fn goes_on<L, S: Sign<L>>(
     }
 }
 
-// The first edge from which paths go on.
+// The first edge over which an accepted path goes on, if there is one.
 fn next_edge<'a, L, S: Sign<L>>(
     edges: &'a [Edge<L>],
     sign: &S,
@@ -75,8 +75,8 @@ fn edges_at<L>(layer: &[Vec<Edge<L>>], state: usize) -> &[Edge<L>]
     }
 }
 
-// The labels of the first accepted path from the first state. `accept` decides by whether a path shows the sign.
-// `with_it` counts the accepted paths once the sign was shown, and `without_it` before.
+// Returns the labels of the first accepted path from the first state. `accept` decides by whether a path shows the
+// property. `with_it` counts the accepted paths once the property was shown, and `without_it` before.
 fn walk<L: Copy, S: Sign<L>>(
     alloc: Global,
     layers: &[Vec<Vec<Edge<L>>>],
@@ -109,8 +109,8 @@ fn walk<L: Copy, S: Sign<L>>(
     Ok(labels)
 }
 
-/// The labels of the first path that shows the sign, from the first state; None if no path does. `all` counts all
-/// paths, and `with_it` those that show the sign. The one error is that allocation failed.
+/// Returns the labels of the first path that shows the property, from the first state; None if no path does. `all`
+/// counts all paths, and `with_it` those that show the property. The one error is that allocation failed.
 pub fn first_with<L: Copy, S: Sign<L>>(
     alloc: Global,
     layers: &[Vec<Vec<Edge<L>>>],
@@ -128,8 +128,8 @@ pub fn first_with<L: Copy, S: Sign<L>>(
     Ok(Some(walk(alloc, layers, sign, all, with_it)?))
 }
 
-/// The labels of the first path that does not show the sign, from the first state; None if each path does. `without_it`
-/// counts the paths that do not. The one error is that allocation failed.
+/// Returns the labels of the first path that does not show the property, from the first state; None if each path does.
+/// `without_it` counts the paths that do not. The one error is that allocation failed.
 pub fn first_without<L: Copy, S: Sign<L>>(
     alloc: Global,
     layers: &[Vec<Vec<Edge<L>>>],

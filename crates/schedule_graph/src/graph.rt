@@ -5,14 +5,14 @@ ghost use Rattle.schedule_graph.specs.Paths.{Layer, AreCounts, AreCountsWith, Ar
 use crate::path_number::PathNumber;
 use std::alloc::{AllocError, Global};
 
-/// A turn that leads from a state to one of the next layer, by its place there.
+/// A turn that leads from a state to a state of the next layer, given by its place in that layer.
 #[derive(Drop)]
 pub struct Edge<L> {
     pub label: L,
     pub to: usize,
 }
 
-/// A property of labels; a path shows it if one of the path's labels has it.
+/// A property of labels. A path shows the property if one of the path's labels has it.
 pub trait Sign<L> {
     ghost is_on: { Self → L → Bool };
 
@@ -21,7 +21,7 @@ pub trait Sign<L> {
         ensures { result ≡ is_on self.now label.now };
 }
 
-// Adds the count of a state, if there is one.
+// Adds the count of a state, if there is such a state.
 fn add_at(sum: &mut PathNumber, counts: &[PathNumber], state: usize) -> Result<(), AllocError>
     ensures { OnOk result (sum.new ≡ sum.old + count_at counts.now state) }
 {
@@ -31,7 +31,7 @@ fn add_at(sum: &mut PathNumber, counts: &[PathNumber], state: usize) -> Result<(
     }
 }
 
-// The number of paths from a state with these edges.
+// Returns the number of paths from a state with the given edges.
 fn count_from<L>(
     alloc: Global,
     edges: &[Edge<L>],
@@ -49,7 +49,7 @@ fn count_from<L>(
     Ok(sum)
 }
 
-// The number of paths from a state with these edges that show the sign.
+// Returns how many paths from a state with the given edges show the property.
 fn count_with<L, S: Sign<L>>(
     alloc: Global,
     edges: &[Edge<L>],
@@ -71,7 +71,7 @@ fn count_with<L, S: Sign<L>>(
     Ok(sum)
 }
 
-// The number of paths from a state with these edges that do not show the sign.
+// Returns how many paths from a state with the given edges do not show the property.
 fn count_without<L, S: Sign<L>>(
     alloc: Global,
     edges: &[Edge<L>],
@@ -92,7 +92,7 @@ fn count_without<L, S: Sign<L>>(
     Ok(sum)
 }
 
-/// The number of paths from each state of a layer, by those from the states of the next layer. The one error is that
+/// Returns the number of paths from each state of a layer, by the numbers of the next layer. The one error is that
 /// allocation failed.
 pub fn count_paths<L>(
     alloc: Global,
@@ -110,8 +110,8 @@ pub fn count_paths<L>(
     Ok(counts)
 }
 
-/// The number of paths from each state of a layer that show the sign, by the counts of the next layer. `next` counts
-/// all paths, and `next_with` those that show the sign. The one error is that allocation failed.
+/// Returns how many paths from each state of a layer show the property, by the counts of the next layer. `next` counts
+/// all paths, and `next_with` those that show the property. The one error is that allocation failed.
 pub fn count_paths_with<L, S: Sign<L>>(
     alloc: Global,
     layer: &[Vec<Edge<L>>],
@@ -131,8 +131,8 @@ pub fn count_paths_with<L, S: Sign<L>>(
     Ok(counts)
 }
 
-/// The number of paths from each state of a layer that do not show the sign, by those of the next layer. The one error
-/// is that allocation failed.
+/// Returns how many paths from each state of a layer do not show the property, by the counts of the next layer. The one
+/// error is that allocation failed.
 pub fn count_paths_without<L, S: Sign<L>>(
     alloc: Global,
     layer: &[Vec<Edge<L>>],

@@ -13,8 +13,8 @@ ghost use Rattle.schedule_graph.specs.Graph.{first_of, IsGraph, IsPathRun};
 ghost use Rattle.schedule_graph.specs.Paths.{Layer, paths};
 ghost use Rattle.schedule_graph.specs.State.{AreOneState, IsAlsoTaken, AreAlsoTaken};
 
-/// Positions that are one state have the same next steps, the same turns with the same answers, and the same map. A
-/// turn, or any number of them, leads from the two to one state again.
+/// Positions that are the same state have the same next steps, the same turns with the same answers, and the same map.
+/// A turn, or any number of them, leads from the two to one state again.
 pub fn a_state_decides_its_turns()
     ensures steps { (plan : Plan) (one other : Position) → AreOneState one other → (build : ℕ)
         → step_after plan build (place_of other.places build).done ≡ step_after plan build (place_of one.places build).done }

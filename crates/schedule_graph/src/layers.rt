@@ -8,7 +8,7 @@ use crate::graph::{Edge, Sign, count_paths, count_paths_with, count_paths_withou
 use crate::path_number::PathNumber;
 use std::alloc::{AllocError, Global};
 
-/// The number of paths from each state of each layer. The one error is that allocation failed.
+/// Returns the number of paths from each state of each layer. The one error is that allocation failed.
 pub fn count_all<L>(
     alloc: Global,
     layers: &[Vec<Vec<Edge<L>>>],
@@ -26,8 +26,8 @@ pub fn count_all<L>(
     Ok(counts)
 }
 
-/// The number of paths from each state of each layer that show the sign, by the numbers of all paths. The one error is
-/// that allocation failed.
+/// Returns how many paths from each state of each layer show the property, by the numbers of all paths. The one error
+/// is that allocation failed.
 pub fn count_all_with<L, S: Sign<L>>(
     alloc: Global,
     layers: &[Vec<Vec<Edge<L>>>],
@@ -49,7 +49,7 @@ pub fn count_all_with<L, S: Sign<L>>(
     Ok(counts)
 }
 
-/// The number of paths from each state of each layer that do not show the sign. The one error is that allocation
+/// Returns how many paths from each state of each layer do not show the property. The one error is that allocation
 /// failed.
 pub fn count_all_without<L, S: Sign<L>>(
     alloc: Global,

@@ -35,7 +35,7 @@ fn pad(digits: &mut Vec<u8>, places: usize) -> Result<(), AllocError>
     Ok(())
 }
 
-// Appends the digits of what is carried.
+// Appends the digits of a carry.
 fn push_carry(digits: &mut Vec<u8>, carry: u128) -> Result<(), AllocError>
     requires { All (λ digit. digit < 10) digits.old.items }
     ensures number { OnOk result (number_of digits.new.items
@@ -51,7 +51,7 @@ fn push_carry(digits: &mut Vec<u8>, carry: u128) -> Result<(), AllocError>
     Ok(())
 }
 
-// Adds `amount` at a place into the digits from there on. Returns what is carried beyond the last.
+// Adds `amount` at a place to the digits from that place on, and returns the carry beyond the last digit.
 fn carry_from(digits: &mut [u8], place: usize, amount: u8) -> u8
     requires digits { All (λ digit. digit < 10) digits.old }
     requires place { place ≤ length digits.old }
@@ -73,7 +73,7 @@ fn carry_from(digits: &mut [u8], place: usize, amount: u8) -> u8
     carry
 }
 
-// Adds `amount` at a place.
+// Adds `amount` at the decimal place `place`.
 fn add_at(digits: &mut Vec<u8>, place: usize, amount: u8) -> Result<(), AllocError>
     requires digits { All (λ digit. digit < 10) digits.old.items }
     requires place { place ≤ length digits.old.items }
@@ -86,7 +86,7 @@ fn add_at(digits: &mut Vec<u8>, place: usize, amount: u8) -> Result<(), AllocErr
     push_carry(digits, u128::from(carry))
 }
 
-// Adds the number of other digits.
+// Adds the number that other digits spell.
 fn add_digits(digits: &mut Vec<u8>, more: &[u8]) -> Result<(), AllocError>
     requires digits { All (λ digit. digit < 10) digits.old.items }
     requires more { All (λ digit. digit < 10) more.now }
@@ -136,7 +136,7 @@ impl Count {
         }
     }
 
-    /// The number 1. The one error is that allocation failed.
+    /// Returns the number 1. The one error is that allocation failed.
     pub fn one(alloc: Global) -> Result<Count, AllocError>
         ensures { IfOk result (λ one. one ≡ 1) }
     {
@@ -145,7 +145,7 @@ impl Count {
         Ok(Count { digits })
     }
 
-    /// A number by its decimal digits. The one error is that allocation failed.
+    /// Returns the `Count` of a number. The one error is that allocation failed.
     pub(crate) fn of(alloc: Global, number: u128) -> Result<Count, AllocError>
         ensures { IfOk result (λ count. count ≡ number) }
     {
@@ -154,7 +154,7 @@ impl Count {
         Ok(Count { digits })
     }
 
-    /// A copy of the number. The one error is that allocation failed.
+    /// Returns a copy of the number. The one error is that allocation failed.
     pub(crate) fn copy(&self, alloc: Global) -> Result<Count, AllocError>
         ensures { IfOk result (λ copy. copy ≡ self.now) }
     {
@@ -163,7 +163,7 @@ impl Count {
         Ok(copy)
     }
 
-    /// The number times 2^128. The one error is that allocation failed.
+    /// Returns the number times 2^128. The one error is that allocation failed.
     pub(crate) fn shifted(&self, alloc: Global) -> Result<Count, AllocError>
         ensures { IfOk result (λ shifted. shifted ≡ 2 ^ 128 * self.now) }
     {

@@ -1,4 +1,4 @@
-//! Numbers of paths, added in two words as long as they are below 2^128.
+//! Numbers of paths, added as `u128` as long as they are below 2^128.
 ghost use Rattle.std.specs.Prelude.{◌≡◌, ◌+◌, ◌==◌, OnOk, IfOk};
 
 use crate::number::Count;
@@ -60,7 +60,7 @@ impl PathNumber {
         self.low == 0 && self.high.is_zero()
     }
 
-    /// The number in decimal digits. The one error is that allocation failed.
+    /// Returns the number in decimal digits. The one error is that allocation failed.
     pub fn count(&self, alloc: Global) -> Result<Count, AllocError>
         ensures { IfOk result (λ count. count ≡ self.now) }
     {

@@ -9,7 +9,7 @@ use granule_addr::{Gran, Order};
 use page_arena::PageStore;
 use std::process::Abort;
 
-// Checks that the free blocks that lie in no larger one are these, and no others.
+// Checks that the free blocks that are in no larger free block are exactly the wanted ones.
 fn has_blocks(rt: &impl Abort, arena: &BuddyArena, wanted: &[(u8, u16)]) {
     for number in 0..10 {
         for first in 0..arena.pages() {
@@ -20,7 +20,7 @@ fn has_blocks(rt: &impl Abort, arena: &BuddyArena, wanted: &[(u8, u16)]) {
     }
 }
 
-// Takes that page, which has to be free.
+// Takes the given page, which has to be free.
 #[tactic(auto, using(page_arena::specs::Blocks::taken_block))]
 fn takes_the_page<S: PageStore>(rt: &impl Abort, store: &mut S, page: Gran, one: Order)
     ensures { IsTakenBlock (S.free_flags store.new) one page }

@@ -1,4 +1,4 @@
-//! Scripts of a host: calls of its builds, what is read of it, and what each has to answer.
+//! Scripts for a host: calls of its builds, and readings, each with the expected answer.
 use crate::expected::holds_at;
 use crate::hosts::{booted, over_arena};
 use crate::readings::is_read;
@@ -9,7 +9,7 @@ use realm_host::{Cmd, GranuleState, Host, Kind, Mark, RealmState, Refusal, Reply
 use std::alloc::Global;
 use std::process::Abort;
 
-/// A script: the number of a build, and a call of it, one after the other.
+/// A script: a sequence of calls, each with the number of its build.
 pub(crate) type Script = &'static [(u8, Call)];
 
 /// A command of a build.
@@ -49,19 +49,19 @@ pub(crate) enum Which {
     Older,
 }
 
-/// A call of a host, or what is read of it. The last field is the answer.
+/// A call of a host, or a reading of its state. The last field is the expected answer.
 pub(crate) enum Call {
     Ask(Command, Result<Said, No>),
-    /// The kind of the operation that is undone, and how many are left open.
+    /// An undo, with the kind of the undone operation and the number of operations left open.
     Undo(Result<(Kind, u16), No>),
     BeginAbort(Result<u16, No>),
     Abort(Result<u16, No>),
-    /// A mark, with so many operations open.
+    /// A mark, with the number of operations open at the mark.
     Mark(Result<u16, No>),
     CheckBack(Which, Result<u16, No>),
-    /// A way back, first checked and then taken, with the same answer to both.
+    /// A rollback to a mark, first checked and then performed, with the same answer both times.
     GoBack(Which, Result<u16, No>),
-    /// The number of free pages, of all pages, and of the build's.
+    /// The numbers of free pages, of all pages, and of the build's pages.
     Pages(u16, u16, u16),
     /// The state of a page, and the sum of its bytes.
     Page(u16, GranuleState, u32),
@@ -100,7 +100,7 @@ impl No {
     }
 }
 
-// The VMID of that number; 1 for 0.
+// The VMID with that number, or VMID 1 for the number 0.
 fn vmid(number: u8) -> Vmid {
     Vmid::new(number.max(1)).unwrap()
 }
@@ -180,7 +180,7 @@ fn goes_back<S: PageStore>(
     }
 }
 
-// Whether a call is answered as it has to be.
+// Whether a call has the expected answer.
 fn is_answered<S: PageStore>(
     host: &mut Host<S>,
     marks: &mut Marks,
@@ -217,7 +217,7 @@ fn run<S: PageStore + Drop>(rt: &impl Abort, name: &str, mut host: Host<S>, scri
     }
 }
 
-/// Runs a script on hosts of so many pages and builds, over either store.
+/// Runs a script twice, over each kind of store, on new hosts with the given numbers of pages and builds.
 pub(crate) fn over_both(
     rt: &impl Abort,
     alloc: Global,

@@ -1,4 +1,4 @@
-//! Devices in memory that count what is asked of them, and fail at one call.
+//! Input and output devices in memory that count their calls, and fail at a chosen call.
 ghost use Rattle.std.specs.Prelude.{◌≡◌, false};
 
 use checked_io::Told;
@@ -8,7 +8,7 @@ use std::io;
 use std::io::{Read, Write};
 use std::process::Abort;
 
-// Errors after which a caller might ask again, in turn.
+// An error after which a caller might try again. Its kind alternates with the number of the call.
 fn failure(call: u64) -> io::Error {
     if call % 2 == 0 {
         io::Error::from(io::ErrorKind::Interrupted)
@@ -52,7 +52,7 @@ pub(crate) struct Sink {
 }
 
 impl Sink {
-    /// Whether these are the bytes that were taken.
+    /// Whether `bytes` are all the bytes that the output has taken.
     pub(crate) fn has(&self, bytes: &[u8]) -> bool {
         self.got.as_slice() == bytes
     }
@@ -80,8 +80,8 @@ impl Write for Sink {
     }
 }
 
-/// The devices of a program: how much a call takes at most, and which call fails. A failed test is named by the case,
-/// and by the number of the call.
+/// The input and output of a program: the most bytes that a call takes, and the call that fails. A failed test is named
+/// by the case, and by the number of the call.
 #[derive(Clone, Copy)]
 pub(crate) struct Devices<'a> {
     pub case: &'a str,
@@ -95,7 +95,7 @@ pub(crate) struct Devices<'a> {
 }
 
 impl<'a> Devices<'a> {
-    /// Devices that take much in a call, and do not fail.
+    /// Devices that take up to 1,000 bytes in a call, and do not fail.
     pub(crate) fn working(case: &'a str, input: &'a [u8]) -> Devices<'a> {
         Devices {
             case,
@@ -109,7 +109,7 @@ impl<'a> Devices<'a> {
         }
     }
 
-    /// Devices that fail at that read. Each other read gives 25 bytes.
+    /// Devices that fail at the read with the number `read`, counted from 0. Each other read gives 25 bytes.
     pub(crate) fn read_fails(input: &'a [u8], read: usize) -> Devices<'a> {
         Devices {
             call: read,
@@ -119,7 +119,7 @@ impl<'a> Devices<'a> {
         }
     }
 
-    /// Devices that fail at that write. Each other write takes one byte.
+    /// Devices that fail at the write with the number `write`, counted from 0. Each other write takes one byte.
     pub(crate) fn write_fails(input: &'a [u8], write: usize) -> Devices<'a> {
         Devices {
             call: write,
@@ -165,7 +165,7 @@ impl<'a> Devices<'a> {
     }
 }
 
-/// The outcome of a program: its end, the bytes of the input that are left, and its output, with the number of writes.
+/// The outcome of a program: its result, the number of input bytes left, and its output with the number of writes.
 #[derive(Clone, Copy)]
 pub(crate) struct Outcome<'a> {
     pub end: Result<(), Fault>,
@@ -176,7 +176,7 @@ pub(crate) struct Outcome<'a> {
 }
 
 impl<'a> Outcome<'a> {
-    /// The outcome of a text that is written whole, in that many writes.
+    /// The outcome of a program that writes the whole of a text, in `writes` writes.
     pub(crate) fn printed(text: &'a [u8], writes: u64) -> Outcome<'a> {
         Outcome {
             end: Ok(()),
@@ -198,7 +198,7 @@ impl<'a> Outcome<'a> {
         }
     }
 
-    /// The outcome of a write that fails after these bytes, each of them in a write of its own.
+    /// The outcome of a program that writes a text byte by byte, and whose next write fails.
     pub(crate) fn cut(text: &'a [u8]) -> Outcome<'a> {
         Outcome {
             end: Err(Fault::Device),

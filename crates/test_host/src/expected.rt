@@ -15,17 +15,17 @@ pub(crate) fn same_text(rt: &impl Abort, seen: &str, want: &str) {
     assert_eq!(rt; seen, want);
 }
 
-/// Checks that a fact holds, as the number 1 and not 0.
+/// Checks that a condition holds, by a comparison with the number 1.
 pub(crate) fn holds(rt: &impl Abort, what: &str, is_so: bool) {
     equal(rt, what, u64::from(is_so), 1);
 }
 
-/// Checks that a fact holds at that place of a table.
+/// Checks that a condition holds for the row of a table at an index.
 pub(crate) fn holds_at(rt: &impl Abort, what: &str, place: usize, is_so: bool) {
     assert!(rt; is_so, "{what}, row {place}");
 }
 
-/// The store that was built.
+/// Returns the store that was built, or aborts the test if there is none.
 pub(crate) fn built<S>(rt: &impl Abort, store: Result<S, BuildError>) -> S {
     match store {
         Ok(store) => store,

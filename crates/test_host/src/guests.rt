@@ -8,7 +8,7 @@ use std::alloc::Global;
 use std::process::Abort;
 use std::sync::Wait;
 
-/// A build's seat and its steps, which of them is refused, and their results.
+/// A build's seat and steps, the index of the step that is refused, and the results of the work.
 #[derive(Drop)]
 pub struct Guest<L: Ledgers> {
     pub seat: Seat<L>,
@@ -45,7 +45,7 @@ impl<L: Ledgers> Guest<L> {
     }
 }
 
-/// A guest at each seat. Build 1 is refused that step.
+/// A guest for each seat. Build 1 is refused the step with the index `refused`.
 pub(crate) fn guests_of<L: Ledgers>(
     rt: &impl Abort,
     alloc: Global,

@@ -28,7 +28,7 @@ fn boot<S: PageStore + Drop>(
     }
 }
 
-/// A host of that many pages, auxiliaries of each REC, and builds, over a plain store.
+/// A host over a plain store, with the given numbers of pages, of auxiliary granules of a REC, and of builds.
 pub(crate) fn booted(
     rt: &impl Abort,
     alloc: Global,
@@ -44,7 +44,7 @@ pub(crate) fn booted(
     }
 }
 
-/// A host of that many pages and builds, over an arena.
+/// A host over an arena, with the given numbers of pages and builds.
 pub(crate) fn over_arena(
     rt: &impl Abort,
     alloc: Global,
@@ -74,7 +74,7 @@ pub(crate) fn started<S: PageStore + Drop, L: Ledgers>(
     }
 }
 
-/// The host, closed with all of its seats.
+/// Closes a shared host with all of its seats, and returns the host.
 pub(crate) fn closed<S: PageStore + Drop, L: Ledgers>(
     rt: &impl Abort,
     shared: Shared<S, L>,

@@ -41,7 +41,8 @@ free 8
     text.expect(rt, "memory")
 }
 
-/// Checks that builds 0 and 2 have all that they have built, under VMIDs of their own, and build 1 has nothing.
+/// Checks that builds 0 and 2 still have all their pages and realms, under different VMIDs, and that build 1 has
+/// nothing.
 pub(crate) fn has_two_guests<S: PageStore>(rt: &impl Abort, alloc: Global, host: &Host<S>) {
     let vmid0 = vmid_of(rt, host, 0);
     let vmid2 = vmid_of(rt, host, 2);
@@ -53,7 +54,7 @@ pub(crate) fn has_two_guests<S: PageStore>(rt: &impl Abort, alloc: Global, host:
     same_text(rt, seen.as_str(), want.as_str());
 }
 
-/// Checks that a host is left as a fresh one is by the same history without the events of build 1.
+/// Checks that a host has the same map as a fresh host after the same history without the events of build 1.
 pub(crate) fn is_without_build_1<S: PageStore>(
     rt: &impl Abort,
     alloc: Global,

@@ -1,4 +1,4 @@
-//! Lines of reports by plain numbers.
+//! Expected lines of reports, written with plain numbers.
 use crate::expected::{equal, holds_at};
 use builders::{Answer, Asked, ReportLine};
 use granule_addr::RecNo;
@@ -11,7 +11,7 @@ pub(crate) enum No {
     HistoryFull,
     NothingToUndo,
     RecRunning,
-    /// RMI_ERROR_INPUT
+    /// The status RMI_ERROR_INPUT.
     Input,
     /// A page that the build does not have.
     Page(u16),
@@ -25,16 +25,16 @@ pub(crate) enum Line {
     Page(usize, u16),
     Byte(usize, u8),
     Marked(usize, u16),
-    /// An abort or a way back with nothing to undo.
+    /// An abort or a `back` with nothing to undo.
     Nothing(usize),
     No(usize, No),
-    /// An undo of an operation of that kind by an abort or a way back, which leaves so many open.
+    /// An undo by an abort or a `back`, with the kind of the operation and the number of operations left open.
     StepUndone(usize, Kind, u16),
-    /// An undo of an operation of that kind after a refusal, which leaves so many open.
+    /// An undo after a refusal, with the kind of the operation and the number of operations left open.
     Undone(Kind, u16),
-    /// An undo after a refusal, itself refused, since the history is full.
+    /// An undo that follows a refusal, and is refused because the history is full.
     UndoRefused,
-    /// The exit of that REC after a refusal.
+    /// The exit of the REC with that number, after a refusal.
     Exited(u16),
 }
 
@@ -83,7 +83,7 @@ impl Line {
         }
     }
 
-    /// The line of a report.
+    /// Converts the expected line to a line of a report.
     pub(crate) fn of_report(&self) -> ReportLine {
         let (asked, answer) = (self.asked(), self.answer());
         ReportLine { asked, answer }

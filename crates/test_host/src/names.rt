@@ -1,12 +1,12 @@
 //! Orders and granules by plain numbers.
 use granule_addr::{Gran, Order};
 
-/// The order of that number, modulo 10.
+/// The block order with that number, modulo 10.
 pub(crate) fn order(number: u8) -> Order {
     Order::new(number % 10).unwrap()
 }
 
-/// The granule of that number, modulo 4096.
+/// The granule with that number, modulo 4096.
 pub(crate) fn granule(number: u16) -> Gran {
     Gran::new(number % 4096, 4096).unwrap()
 }

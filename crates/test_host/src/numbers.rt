@@ -1,11 +1,11 @@
-//! Numbers of a machine, and the words of results and of table entries, by rows that are worked out by hand.
+//! Tests of a machine's numbers, of result words and of table entries, against values that are worked out by hand.
 use crate::expected::{equal, holds_at};
 use crate::names::granule;
 use granule_addr::{IpaGran, IpaWidth, Level, index_at, is_protected, start_table};
 use realm_model::{Ripas, Rmi, Status};
 use rtt::Entry;
 
-// An IPA granule and its width, its starting table, a level, and the index of the entry that covers it at that level.
+// Rows of an IPA granule, its width, its starting table, a level, and the index of its entry at that level.
 //
 // 788,999 is 3 * 2^18 + 5 * 2^9 + 7. The second starting table begins at 2^27.
 const ENTRIES: [(u32, u8, u16, u8, u16); 7] = [
@@ -35,7 +35,7 @@ fn entries_and_starting_tables(rt: HostRuntime) {
     }
 }
 
-// A width, how many starting tables it has, and its first IPA granule that is not protected.
+// Rows of a width, its number of starting tables, and its first IPA granule that is not protected.
 const WIDTHS: [(u8, u16, u32); 5] = [
     (39, 1, 67_108_864),
     (40, 2, 134_217_728),
@@ -67,7 +67,7 @@ fn widths(rt: HostRuntime) {
     }
 }
 
-// Bits 0 to 7 are the status, bits 8 to 15 the index.
+// Of a result word, bits 0 to 7 are the status, and bits 8 to 15 the index.
 #[test]
 fn result_words(rt: HostRuntime) {
     for (status, index, word) in [
@@ -82,12 +82,12 @@ fn result_words(rt: HostRuntime) {
     }
 }
 
-// Whether a word is that of an entry, and the entry that of the word.
+// Whether an entry is encoded as a word, and the word is decoded as the entry.
 fn is_word_of(entry: Entry, word: u64) -> bool {
     entry.to_word() == word && Entry::from_word(word) == entry
 }
 
-// Bits 0 and 1 are the state of the entry, bits 2 and 3 the RIPAS, and from bit 12 on lies the granule.
+// Of an entry's word, bits 0 and 1 are the state, bits 2 and 3 the RIPAS, and the bits from 12 on the granule.
 #[test]
 fn entry_words(rt: HostRuntime) {
     let mut place = 0;

@@ -10,7 +10,7 @@ fn is_realm<S: PageStore>(host: &Host<S>, build: BuildId, want: Option<(RealmSta
     }
 }
 
-/// Whether pages or a realm are read as they have to be.
+/// Whether the pages or the realm of a build are as expected.
 pub(crate) fn is_read<S: PageStore>(host: &Host<S>, build: BuildId, call: &Call) -> bool {
     match call {
         Call::Pages(free, all, own) => {

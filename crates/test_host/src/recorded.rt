@@ -6,7 +6,7 @@ use page_arena::PageStore;
 use realm_host::{Act, Event, Host};
 use std::process::Abort;
 
-// An operation on a block of two pages, and on the first page of it.
+// An operation on a block of two pages, or on the first page of the block.
 enum Recorded {
     Take,
     UnTake,
@@ -14,7 +14,7 @@ enum Recorded {
     Undelegate,
 }
 
-// The operation of a build, from that granule on, and whether it is applied.
+// Rows of a build, an operation, its first granule, and whether the host accepts the event.
 const EVENTS: &[(u8, Recorded, u16, bool)] = &[
     (0, Recorded::Take, 1, false),
     (0, Recorded::Take, 2, true),
@@ -49,7 +49,7 @@ fn event(build: BuildId, recorded: &Recorded, granule: u16) -> Event {
     Event { build, act }
 }
 
-// Checks that an event is applied, or that it is not, as its row says.
+// Checks that an event is applied if its row says so, and is not applied otherwise.
 fn is_applied<S: PageStore>(
     rt: &impl Abort,
     host: &mut Host<S>,

@@ -20,7 +20,7 @@ use std::thread;
 use std::thread::Threads;
 use std::time::Clock;
 
-// Checks the report of a guest that was refused that step or none.
+// Checks the report of a guest that was refused a given step, or no step.
 fn is_reported(rt: &impl Abort, report: &Option<Report>, refused: Option<usize>) {
     let report = report.as_ref().expect(rt, "a report");
     match refused {
@@ -29,7 +29,7 @@ fn is_reported(rt: &impl Abort, report: &Option<Report>, refused: Option<usize>)
     }
 }
 
-// Checks that a guest has ended with the report that it has to have, and returns its seat.
+// Checks that a guest has finished with the expected report, and returns its seat.
 fn ended<L: Ledgers>(rt: &impl Abort, guest: Guest<L>) -> Seat<L> {
     let Guest {
         seat,
@@ -43,7 +43,7 @@ fn ended<L: Ledgers>(rt: &impl Abort, guest: Guest<L>) -> Seat<L> {
     seat
 }
 
-// Checks that guests have ended, and returns their seats.
+// Checks that guests have finished, and returns their seats.
 fn all_ended<L: Ledgers>(rt: &impl Abort, alloc: Global, guests: Vec<Guest<L>>) -> Vec<Seat<L>> {
     let mut seats = Vec::new(alloc);
     for guest in guests {
@@ -52,7 +52,7 @@ fn all_ended<L: Ledgers>(rt: &impl Abort, alloc: Global, guests: Vec<Guest<L>>) 
     seats
 }
 
-// Runs guests side by side, with build 1 refused that step, and checks their reports.
+// Runs guests side by side, with one step of build 1 refused, and checks their reports.
 fn run_guests<
     R: Threads + Wait + Abort + Sync,
     S: PageStore + Drop + Send,
@@ -76,7 +76,7 @@ fn run_guests<
     all_ended(rt, alloc, guests)
 }
 
-// As `run_guests`, on a host that is closed after that.
+// Shares a host, runs guests as `run_guests` does, and closes the host.
 fn work_together<
     R: Threads + Wait + Abort + Sync,
     S: PageStore + Drop + Send,
@@ -92,7 +92,7 @@ fn work_together<
     closed(rt, shared, seats)
 }
 
-// The host after build 1 is refused that step, at a gate where builds wait like this.
+// The host after guests have run at a gate that waits as given, with one step of build 1 refused.
 fn host_after<R: Threads + Wait + Abort + Clock + Sync>(
     rt: &R,
     alloc: Global,
@@ -104,15 +104,15 @@ fn host_after<R: Threads + Wait + Abort + Clock + Sync>(
     work_together::<R, PlainStore, Turns<R>, Brand>(rt, alloc, Blanks::new(), host, &gate, refused)
 }
 
-// Checks that nothing is left of build 1, and the others have all that they have built.
+// Checks that nothing is left of build 1, and that the other builds have kept everything.
 fn is_left_by_two(rt: &impl Abort, alloc: Global, host: &Host<PlainStore>) {
     has_two_guests(rt, alloc, host);
     let mut fresh = booted(rt, alloc, 24, 1, 3);
     is_without_build_1(rt, alloc, host, &mut fresh);
 }
 
-// Checks that nothing is left of build 1, at whichever step it is refused, and the others have all that they have
-// built.
+// Refuses each step of build 1 in turn, and checks each time that nothing is left of build 1. The other builds keep
+// everything.
 fn refused_at_each<R: Threads + Wait + Abort + Clock + Sync>(
     rt: &R,
     alloc: Global,

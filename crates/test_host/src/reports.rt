@@ -6,13 +6,13 @@ use builders::{Answer, Asked, Report, ReportLine};
 use realm_host::Kind;
 use std::process::Abort;
 
-// Checks that a place of a report has that line.
+// Checks that a report has the expected line at a place.
 fn has_line(rt: &impl Abort, report: &Report, place: usize, want: &Line) {
     let is_so = report.lines.get(place) == Some(&want.of_report());
     holds_at(rt, "a line of a guest", place, is_so);
 }
 
-// Checks that the first steps of a report are accepted, each at its own place.
+// Checks that the first `steps` lines of a report are accepted steps, each at its own place.
 fn accepted(rt: &impl Abort, report: &Report, steps: usize) {
     for step in 0..steps {
         let is_so = match report.lines.get(step) {
@@ -34,7 +34,7 @@ pub(crate) fn is_accepted(rt: &impl Abort, report: &Report) {
     equal(rt, "lines", report.lines.len() as u64, STEPS as u64);
 }
 
-// The steps that open something, the newest first, and the undo of each.
+// The steps that open an operation, the newest first, each with the expected line of its undo.
 const UNDOS: &[(usize, Line)] = &[
     (14, Line::Undone(Kind::Rec, 12)),
     (13, Line::Undone(Kind::Data, 11)),
@@ -51,7 +51,7 @@ const UNDOS: &[(usize, Line)] = &[
     (0, Line::Undone(Kind::Take, 0)),
 ];
 
-// Checks that a report has, from that place on, the undos of the steps before the refused one, and no other line.
+// Checks that the lines of a report from `place` on are exactly the undos of the steps before the refused step.
 fn is_undone(rt: &impl Abort, report: &Report, mut place: usize, refused: usize) {
     for (step, undo) in UNDOS {
         if *step < refused {
@@ -62,8 +62,8 @@ fn is_undone(rt: &impl Abort, report: &Report, mut place: usize, refused: usize)
     equal(rt, "lines", report.lines.len() as u64, place as u64);
 }
 
-/// Checks that the steps before one are accepted, and that one is refused. Then a REC that runs exits, and all is
-/// undone.
+/// Checks that all steps before the step `refused` are accepted, and that this step is refused. Then a REC that runs
+/// exits, and all is undone.
 pub(crate) fn is_refused(rt: &impl Abort, report: &Report, refused: usize) {
     accepted(rt, report, refused);
     has_line(rt, report, refused, &Line::No(refused, No::Input));

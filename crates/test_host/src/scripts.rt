@@ -1,4 +1,4 @@
-//! Scripts of a host that no plan makes, or whose answers no plan prints, over both stores.
+//! Scripts of calls that no plan makes, or whose answers no plan prints, over both stores.
 use crate::calls::{Call, Command, No, Said, Script, Which, over_both};
 use realm_host::{GranuleState, Kind, RealmState};
 
@@ -19,7 +19,7 @@ const ABORTS: Script = &[
     (0, Call::Ask(Command::Take(0), FIRST_PAGE)),
 ];
 
-// A script in which a build goes back to a mark, but not after an undo of an operation that was open there.
+// A script in which a build goes back to a mark, but not after an undo of an operation that was open at the mark.
 const MARKS: Script = &[
     (0, Call::Ask(Command::Take(2), FIRST_PAGE)),
     (0, Call::Ask(Command::Delegate(0), Ok(Said::Done))),
@@ -53,21 +53,21 @@ const REFUSED_MARKS: Script = &[
     (0, Call::GoBack(Which::Newest, Err(No::Aborting))),
 ];
 
-// The digests below are Python's hashlib's, of bytes written out by hand.
+// The digests below are computed by Python's hashlib, from bytes that are written out by hand.
 
-// SHA-256 of 32 zeros and 03 00 00 00 00
+// The SHA-256 digest of 32 zero bytes, followed by the bytes 03 00 00 00 00.
 const AFTER_REC_0: [u8; 32] = [
     0x1c, 0x49, 0x0e, 0xd8, 0x91, 0xe5, 0xed, 0x4a, 0x59, 0xf5, 0x54, 0x93, 0xa3, 0x79, 0x7e, 0xa2,
     0xf7, 0x9c, 0x54, 0x63, 0xb8, 0x02, 0x7a, 0xfc, 0x24, 0x80, 0xc7, 0x5b, 0xa2, 0x59, 0x83, 0x3b,
 ];
 
-// SHA-256 of AFTER_REC_0 and 03 00 00 00 01
+// The SHA-256 digest of AFTER_REC_0, followed by the bytes 03 00 00 00 01.
 const AFTER_REC_1: [u8; 32] = [
     0x52, 0x40, 0x6e, 0x2e, 0xf2, 0xe5, 0xfd, 0xc7, 0x01, 0xf6, 0x4e, 0xe4, 0x40, 0xef, 0xf9, 0x01,
     0xc8, 0x69, 0x36, 0xf5, 0x54, 0x8a, 0x22, 0x82, 0xdc, 0x5d, 0xd6, 0xf5, 0x8a, 0x3c, 0x8c, 0xcd,
 ];
 
-// A script in which a REC that is undone stays measured.
+// A script in which the measurement keeps a REC whose creation is undone.
 const MEASUREMENT: Script = &[
     (0, Call::Pages(4, 4, 0)),
     (0, Call::Realm(None)),

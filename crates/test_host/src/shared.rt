@@ -1,4 +1,4 @@
-//! A host that builds share: the answers to their seats, and its closing.
+//! Tests of a host that builds share: the answers to its seats, and its close.
 ghost use Rattle.std.specs.Prelude.{◌≡◌, []};
 ghost use Rattle.build_seats.specs.Names.{AreNamed};
 
@@ -18,10 +18,11 @@ use std::marker::Brand;
 use std::process::Abort;
 use std::sync::Wait;
 
-// Commands of a seat, as a plan spells them, and the answer of each. The steps of lines count for nothing.
+// Commands of a seat, as a plan spells them, each with the line of the expected answer. The step numbers of the lines
+// are ignored.
 type Script = &'static [(&'static str, Line)];
 
-// Asks for a command through a seat, and checks the answer.
+// Performs a command through a seat, and checks the answer.
 fn asks<R: Wait + Abort, L: Ledgers>(
     rt: &R,
     shared: &Shared<PlainStore, L>,
@@ -37,7 +38,7 @@ fn asks<R: Wait + Abort, L: Ledgers>(
     holds(rt, word, answer == want);
 }
 
-// Asks for commands through a seat, one after the other.
+// Performs commands through a seat, one after the other, and checks the answers.
 fn runs<R: Wait + Abort, L: Ledgers>(
     rt: &R,
     shared: &Shared<PlainStore, L>,
@@ -53,7 +54,7 @@ fn runs<R: Wait + Abort, L: Ledgers>(
     }
 }
 
-// Keeps a mark through a seat, delegates its page, and goes back.
+// Sets a mark through a seat, delegates page 0, and goes back to the mark.
 fn goes_back<R: Wait + Abort, L: Ledgers>(
     rt: &R,
     shared: &Shared<PlainStore, L>,
@@ -73,7 +74,8 @@ fn goes_back<R: Wait + Abort, L: Ledgers>(
     holds(rt, "it is undone", answer == Ok(undone));
 }
 
-// Of each build: a seat takes a page, fills it, and reads what it filled. Then it is refused another's.
+// Two scripts for each build: its seat takes, fills and reads a page. Then it is refused a page that the build does not
+// have.
 const WORKS: [(Script, Script); 2] = [
     (
         &[
@@ -93,7 +95,7 @@ const WORKS: [(Script, Script); 2] = [
     ),
 ];
 
-// Works through the seats of two builds, one after the other.
+// Runs the scripts through the seats of two builds, one after the other.
 fn all_work<R: Wait + Abort, L: Ledgers>(
     rt: &R,
     shared: &Shared<PlainStore, L>,
@@ -114,7 +116,8 @@ fn has_ten_events(rt: &impl Abort, host: &Host<PlainStore>) {
     equal(rt, "events", host.history().len() as u64, 10);
 }
 
-// The reason why a host was not closed, if it was not. In both cases the host has to have ten events.
+// The reason why a host was not closed, or `None` if the host was closed. In both cases the host has to have ten
+// events.
 fn fault_of_close(
     rt: &impl Abort,
     closed: &Result<Host<PlainStore>, (CloseFault, Host<PlainStore>)>,
@@ -150,7 +153,7 @@ fn closed<R: Wait + Abort, L: Ledgers>(
     fault_of_close(rt, &shared.close(seats))
 }
 
-// As `closed`, on a host of four pages and two builds.
+// Works on a new host of four pages and two builds, and closes it as `closed` does.
 fn booted_and_closed<R: Wait + Abort>(rt: &R, alloc: Global, kept: usize) -> Option<CloseFault> {
     let host = booted(rt, alloc, 4, 0, 2);
     closed::<R, Brand>(rt, alloc, Blanks::new(), host, kept)
@@ -165,7 +168,7 @@ fn closes_with_each_seat_and_misses_one(rt: HostRuntime) {
     }
 }
 
-// Of each build: a seat takes four pages, fills each with a value of its own, and reads each.
+// A script for each build: its seat takes four pages, fills each with a value of its own, and reads each.
 const FILL_FOUR: [Script; 2] = [
     &[
         ("take 2", Line::Page(0, 0)),
@@ -219,7 +222,7 @@ fn map_of_filled<R: Wait + Abort, L: Ledgers>(
     map_text(alloc, &hosts::closed(rt, shared, seats)).expect(rt, "memory")
 }
 
-// As `map_of_filled`, on a host of eight pages and two builds.
+// The map as by `map_of_filled`, for a new host of eight pages and two builds.
 fn map_of_eight<R: Wait + Abort>(rt: &R, alloc: Global) -> String {
     let host = booted(rt, alloc, 8, 0, 2);
     map_of_filled::<R, Brand>(rt, alloc, Blanks::new(), host)

@@ -29,11 +29,11 @@ pub(crate) const READS: Words = &["take 0", "fill 0 2", "peek 0 4095"];
 /// The number of steps of a guest.
 pub(crate) const STEPS: usize = 18;
 
-/// The step that enters the REC, which runs from then on.
+/// The index of the step that enters the REC. The REC runs from then on.
 pub(crate) const ENTER: usize = 16;
 
-// The steps from eight pages to a realm that runs. Its one page of memory has the bytes of page 5 but for the last,
-// which its REC writes. The value of page 5 is left to each guest.
+// The steps of a guest, from a block of eight pages to a realm that runs. Its one page of memory has the bytes of page
+// 5 but for the last, which its REC writes. The value of page 5 is left to each guest.
 const GUEST: Words = &[
     "take 3",
     "fill 5 0",

@@ -19,22 +19,22 @@ use std::process::Abort;
 enum Call {
     Fill(u16, u8),
     Delegate(u16),
-    // The starting table.
+    // The creation of a realm, by its starting table.
     Realm(u16),
-    // The granule of a table, and the table's level.
+    // The creation of a table, by its granule and its level.
     Table(u16, u8),
-    // The page, and the source of its bytes.
+    // The creation of a page of the realm, with the source of its bytes.
     Data(u16, u16),
     DataDestroy,
     TableDestroy(u8),
     RealmDestroy,
-    // Word 0 of a page.
+    // A page, and its expected word 0.
     Begins(u16, u64),
-    // All words of a page are 0.
+    // A page whose words all have to be 0.
     IsZero(u16),
 }
 
-// The commands that make tables and remove them one after the other, with the words of the tables in between.
+// The commands that make tables and then remove them, with checks of the tables' words in between.
 //
 // Granule 0 becomes the RD of a realm with tables in granules 1 to 3, and granule 4 its page, with the bytes of
 // granule 5.
@@ -64,7 +64,7 @@ const CALLS: &[Call] = &[
     Call::IsZero(1),
 ];
 
-// The granule of that number, modulo 4096. The machine has it, and it is taken, since none is free.
+// The granule with that number, modulo 4096. The machine has it, and it is taken, since none is free.
 #[tactic(auto, using(crate::proofs::Taken::none_is_free))]
 fn taken<S: PageStore>(rt: &impl Abort, monitor: &Monitor<S>, number: u16) -> Gran
     ensures { IsTaken monitor.now result }

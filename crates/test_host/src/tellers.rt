@@ -1,4 +1,4 @@
-//! A seat whose build is refused one question.
+//! A teller that refuses one question of a seat's build.
 ghost use Rattle.std.specs.Prelude.{◌+◌, ◌*◌};
 
 use builders::{Ledgers, SeatTeller, Teller};
@@ -27,7 +27,7 @@ fn is_refused(asked: &mut usize, refused: Option<usize>) -> bool {
 impl<'a, R: Wait, S: PageStore, L: Ledgers> Teller for Refusing<'a, R, S, L> {
     ghost tells = { λ refusing exchanges. Unit {0} };
 
-    // the loan of the seat
+    // The loan of the seat.
     ghost loan = { λ refusing. 8 * refusing.teller.seat.ghost_name + refusing.teller.seat.now.build };
 
     fn ask(&mut self, cmd: &Cmd) -> Result<Reply, Refusal> {

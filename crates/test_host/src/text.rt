@@ -1,4 +1,4 @@
-//! The lines of refusals that no plan meets.
+//! Tests of the lines of refusals that no plan can get.
 use crate::expected::same_text;
 use granule_addr::BuildId;
 use host_commands::{Refusal, Step};
@@ -7,7 +7,7 @@ use realm_plan::PlanStep;
 use std::alloc::Global;
 use std::process::Abort;
 
-// Checks that a refused undo of build 7 has that line.
+// Checks the line of a refused undo of build 7.
 fn has_line(rt: &impl Abort, alloc: Global, refusal: Refusal, line: &str) {
     let undo = PlanStep::Whole(Step::Undo);
     let mut text = String::new(alloc);

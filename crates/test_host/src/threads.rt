@@ -1,5 +1,4 @@
-//! Workers of a shared host in threads of their own: what they are answered, and which build is named that has not
-//! ended.
+//! Tests of workers in threads of their own on a shared host: their answers, and the named build if one is stuck.
 ghost use Rattle.std.specs.Prelude.{◌≡◌, [], All};
 ghost use Rattle.build_seats.specs.Names.{AreNamed};
 
@@ -20,7 +19,7 @@ use std::process::Abort;
 use std::sync::Wait;
 use std::thread::Threads;
 
-// The outcome of builds that worked side by side: the build that has not ended, the reports by build, and the map.
+// The outcome of builds that worked side by side: the build that did not finish, if any, their reports, and the map.
 #[derive(Drop)]
 struct Outcome {
     ends: Result<(), BuildId>,
@@ -28,10 +27,10 @@ struct Outcome {
     map: String,
 }
 
-// The plans of builds that work side by side, by build.
+// The steps of builds that work side by side, by the number of the build.
 type Plans = &'static [Words];
 
-// Plans in which build 0 fills a page, build 1 is refused at its third step, and build 2 reads what it filled.
+// Plans in which build 0 fills a page, build 1 is refused its third step, and build 2 reads a page that it has filled.
 const THREE: Plans = &[FILLS, IS_REFUSED, READS];
 
 // Plans in which both builds fill a page and read from it.
@@ -40,7 +39,7 @@ const TWO: Plans = &[
     &["take 0", "fill 0 3", "peek 0 0"],
 ];
 
-// The worker of a seat that has asked nothing.
+// Makes a worker for a seat that has no events.
 fn worker_of<L: Ledgers>(
     rt: &impl Abort,
     alloc: Global,
@@ -132,7 +131,7 @@ fn work_together<R: Threads + Wait + Abort + Sync, G: Gate + Sync, L: Ledgers + 
     Outcome { ends, reports, map }
 }
 
-// As `work_together`, on a host on which no build has done anything.
+// Runs builds as `work_together` does, on a new host.
 fn boot_and_work<R: Threads + Wait + Abort + Sync, G: Gate + Sync>(
     rt: &R,
     alloc: Global,
@@ -145,7 +144,7 @@ fn boot_and_work<R: Threads + Wait + Abort + Sync, G: Gate + Sync>(
     work_together::<R, G, Brand>(rt, alloc, Blanks::new(), host, gate, plans)
 }
 
-// Checks that builds that worked side by side ended so, each with these lines, and left this map.
+// Checks the outcome of builds that worked side by side: the build that did not finish, the reports, and the map.
 fn is_outcome(
     rt: &impl Abort,
     outcome: &Outcome,

@@ -9,9 +9,9 @@ use std::time::{Clock, Duration};
 /// The build that waits, and the one that it waits for.
 #[derive(Clone, Copy)]
 pub enum Waiting {
-    /// Build 1 takes a turn only after that turn of build 2, or after its last one.
+    /// Build 1 takes a turn only after build 2 has taken its turn with the same number, or its last turn.
     ForBuild2,
-    /// Builds 0 and 2 take a turn only after that turn of build 1, or after the one that is refused.
+    /// Builds 0 and 2 take a turn only after build 1 has taken its turn with the same number, or its refused turn.
     ForBuild1,
 }
 

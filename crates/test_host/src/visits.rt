@@ -1,4 +1,4 @@
-//! The block sizes that a call of the arena reads.
+//! Tests of the number of block sizes that a call of the arena reads.
 use crate::expected::{built, equal, holds};
 use crate::names::order;
 use buddy::BuddyArena;

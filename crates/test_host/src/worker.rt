@@ -1,4 +1,4 @@
-//! Workers over a teller and a gate in the place of a host.
+//! Tests of a worker with a teller and a gate of the test's own, without a host.
 ghost use Rattle.std.specs.Prelude.{◌≡◌, ◌+◌, ◌*◌, ◌≤◌, [], length, vec_capacity};
 
 use crate::expected::holds;
@@ -13,7 +13,7 @@ use std::alloc::Global;
 use std::process::Abort;
 use std::sync::atomic::{AtomicU64, Ordering};
 
-// A teller that accepts all questions but two, counted from 0. An undo always leaves 1.
+// A teller that accepts all questions except two, which are given by their numbers from 0. An undo always leaves 1.
 #[derive(Drop)]
 struct Fake<'a> {
     asked: &'a AtomicU64,
@@ -66,8 +66,7 @@ impl Teller for Fake<'_> {
     }
 }
 
-// A gate that gives the first `most` turns, each of them once, and only right before its own question: when as many
-// were asked.
+// A gate that gives each of the first `most` turns once. Turn N is given only when exactly N questions were asked.
 #[derive(Drop)]
 struct Turns<'a> {
     most: u64,
@@ -84,7 +83,7 @@ impl Gate for Turns<'_> {
         let (_build, turn) = (build, turn as u64);
         let passed = self.passed.load(Ordering::SeqCst);
         let is_next = turn == passed && turn == self.asked.load(Ordering::SeqCst);
-        // Once a turn was asked for that is not the next, no turn passes.
+        // After a request for a turn that is not the next turn, no turn passes.
         let after = if is_next {
             passed.saturating_add(1)
         } else {
@@ -98,7 +97,7 @@ impl Gate for Turns<'_> {
     }
 }
 
-// The refused questions, the operations above the mark, and the turns that come.
+// A case: the two refused questions, the number of operations above the mark, and the number of turns that are given.
 #[derive(Clone, Copy)]
 struct Case {
     refused: u64,
@@ -125,7 +124,7 @@ fn first_mark(rt: &impl Abort, alloc: Global) -> Mark {
     }
 }
 
-// Whether a worker takes the steps to their end.
+// Whether a worker gets all turns that it needs for the steps.
 fn takes_all(report: &mut Report, case: &Case, mark: Mark, steps: &[Step]) -> bool
     requires empty { report.old.lines.items ≡ [] }
     requires few { length steps.now ≤ 16 }
@@ -147,7 +146,7 @@ fn takes_all(report: &mut Report, case: &Case, mark: Mark, steps: &[Step]) -> bo
     work(report, steps, &mut fake, &gate).is_ok()
 }
 
-// Checks the lines of a worker that takes the steps, and whether it has ended.
+// Checks the lines that a worker reports of the steps, and whether the worker has finished.
 fn works(
     rt: &impl Abort,
     alloc: Global,
@@ -169,7 +168,7 @@ fn works(
     has_lines(rt, name, report.lines.as_slice(), want);
 }
 
-// The case in which the question of that number is refused, counted from 0.
+// The case in which question 0, the first one, is refused.
 const REFUSED_0: Case = Case { refused: 0, ..ALL };
 
 const REFUSED_1: Case = Case { refused: 1, ..ALL };
@@ -178,7 +177,7 @@ const REFUSED_2: Case = Case { refused: 2, ..ALL };
 
 const REFUSED_3: Case = Case { refused: 3, ..ALL };
 
-// The undo after a refusal: each leaves 1, as the teller says.
+// The line of each undo after a refusal. The teller always answers that one operation is left open.
 const UNDONE: Line = Line::Undone(Kind::Delegate, 1);
 
 // The cases of three plans: each step is refused in turn, or none is. After a refusal, the open takes and delegations

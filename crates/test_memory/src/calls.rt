@@ -36,7 +36,7 @@ impl Tally {
     }
 }
 
-/// A command that creates a realm, enters a REC of it, or asks for something else in turn.
+/// The command of a turn, in a sequence that makes a realm, enters its REC, and uses every kind of command.
 pub(crate) fn command(turn: u8) -> Cmd {
     let offset = PageOff::new(4095).unwrap();
     match turn {
@@ -107,12 +107,13 @@ fn go_back(host: &mut Host<BuddyArena>, build: BuildId, mark: &Mark, tally: &mut
     tally.count(&host.rollback_to(build, *mark));
 }
 
-// Asks for the commands, and for what a build can ask for beside them. The answers are counted.
+// Performs all commands, and then the other calls that a build can make, such as undo and mark. The answers are
+// counted.
 fn ask_all(host: &mut Host<BuddyArena>, build: BuildId, tally: &mut Tally) {
     for turn in 0..TURNS {
         let answer = host.command(build, command(turn));
         tally.count(&answer);
-        // The newest operation created the REC that runs, so this is refused.
+        // The newest operation created the REC that runs, so this undo is refused.
         if turn == 17 {
             tally.count(&host.undo(build));
         }
@@ -127,7 +128,7 @@ fn ask_all(host: &mut Host<BuddyArena>, build: BuildId, tally: &mut Tally) {
     go_back(host, build, &mark, tally);
 }
 
-// A build's readings.
+// Reads all that a host reports of a build, and returns a sum of the results.
 fn read_all(host: &Host<BuddyArena>, build: BuildId) -> u32 {
     let mut seen = host.free_count() as u32;
     for page in 0..host.page_count(build) {
@@ -139,7 +140,7 @@ fn read_all(host: &Host<BuddyArena>, build: BuildId) -> u32 {
     seen.saturating_add(u32::from(has_realm))
 }
 
-/// Makes all calls of a host of its own for two builds. One of them aborts step by step, the other stays.
+/// Makes every call of a new host, for each of two builds. One of them aborts step by step, the other stays.
 pub(crate) fn all_calls(rt: &impl Print, alloc: Global) -> Result<Host<BuddyArena>, Fault> {
     let mut host = booted(rt, alloc)?;
     let mut tally = Tally::new();

@@ -1,5 +1,6 @@
-//! A test program: arguments come back if memory is refused, and no call after boot takes memory. A plan on standard
-//! input is replayed over the plain store instead, and a script of calls by registers is performed and measured.
+//! A test program for two properties: arguments come back if memory is refused, and no call after boot takes memory. A
+//! plan on standard input is replayed over the plain store instead, and a script of calls by registers is performed and
+//! measured.
 //!
 //! `tests/test_allocations.py` refuses each allocation of this program in turn. A host is then booted or shared, or a worker
 //! built, at the second try, from what came back of the first. The test counts the allocations between a line `quiet`
@@ -30,7 +31,7 @@ use std::time::CpuClock;
 /// The reason why the program stops.
 #[derive(Clone, Copy)]
 pub(crate) enum Fault {
-    /// A refusal of memory to a call that got nothing to give back.
+    /// A refusal of memory to a call that has no arguments to give back.
     Memory,
     /// Any other fault, which should not happen.
     Other,

@@ -12,7 +12,7 @@ pub(crate) enum Operation {
     Guest { rec: u64, step: StepWords },
 }
 
-// The registers X0 to X6.
+// The registers X0 to X6 with seven numbers.
 fn registers(n: &[u64; 7]) -> Registers {
     Registers {
         x0: n[0],
@@ -25,7 +25,7 @@ fn registers(n: &[u64; 7]) -> Registers {
     }
 }
 
-// A sum of the registers X0 to X4, each with another weight.
+// A sum of the registers X0 to X4, each with a different weight.
 fn sum_of(r: &Registers) -> u64 {
     r.x0.wrapping_add(r.x1.wrapping_mul(3))
         .wrapping_add(r.x2.wrapping_mul(5))
@@ -34,7 +34,7 @@ fn sum_of(r: &Registers) -> u64 {
 }
 
 impl Operation {
-    /// The operation of a kind with its numbers; `None` comes for any other kind.
+    /// The operation of a kind with its numbers, or `None` if the kind is unknown.
     pub(crate) fn new(kind: &str, n: &[u64; 7]) -> Option<Operation> {
         match kind {
             "smc" => Some(Operation::Call(registers(n))),

@@ -1,4 +1,4 @@
-//! Scripts of calls by registers: a scene, and parts that are performed in each round, each of which is measured.
+//! Scripts of calls by registers: a scene, and parts that are performed and measured in each round.
 //!
 //! Standard output is a sum of the results of all operations. Standard error has a line for each part: the least
 //! processor time of a round, in nanoseconds. `bench/rmm` has the scripts, and plain Rust beside it.
@@ -28,7 +28,7 @@ struct Script {
     parts: Vec<Part>,
 }
 
-// The numbers of a line, separated by one space; those that are missing are 0.
+// The numbers of a line, separated by one space. Missing numbers are 0.
 fn numbers(words: &str) -> Option<[u64; 7]> {
     let mut numbers = [0; 7];
     for (place, word) in words.split(' ').enumerate() {
@@ -72,7 +72,7 @@ impl Script {
         }
     }
 
-    // Adds an operation to the last part, or to the scene before the first one.
+    // Adds an operation to the last part, or to the scene if there is no part yet.
     fn push(&mut self, operation: Operation) -> Result<(), AllocError> {
         match self.parts.last_mut() {
             Some(part) => part.operations.push(operation)?,
@@ -81,7 +81,7 @@ impl Script {
         Ok(())
     }
 
-    // Reads a line; one of no known kind is ignored.
+    // Reads a line of a script. A line of an unknown kind is ignored.
     fn read(&mut self, alloc: Global, line: &str) -> Result<(), AllocError> {
         let (kind, words) = line.split_once(' ').unwrap_or((line, ""));
         if kind == "part" {
@@ -100,7 +100,7 @@ impl Script {
         Ok(())
     }
 
-    // The RMM over the pages of the script; `None` comes if there are none, or no memory for them.
+    // A new RMM over the pages of the script, or `None` if there are no pages, or no memory for them.
     fn open(&self, alloc: Global) -> Option<Rmm<PlainStore>> {
         let platform = Platform::new(RmmSettings::DEFAULT)?;
         let store = PlainStore::build(alloc, self.pages).ok()?;
@@ -149,7 +149,7 @@ fn measure(
     Ok(())
 }
 
-/// Whether an input is a script, which begins with its machine. No plan begins so.
+/// Whether an input is a script: it begins with a line `machine`. No plan begins so.
 pub(crate) fn is_script(bytes: &[u8]) -> bool {
     bytes.starts_with(b"machine ")
 }

@@ -43,7 +43,7 @@ fn few_steps(alloc: Global) -> Result<Vec<Step>, Fault> {
     Ok(Vec::from_array(alloc, [take, Step::Mark, delegate, Step::Back, fill])?)
 }
 
-// A worker, built of what came back if there was no memory for one.
+// A worker at the second try, built of the arguments that the first try gave back.
 fn built_again<L: Ledgers>(
     alloc: Global,
     back: (AllocError, Seat<L>, Vec<Step>),
@@ -59,7 +59,7 @@ fn built_again<L: Ledgers>(
     }
 }
 
-// A worker for the last of the seats, built once more of what came back if there was no memory.
+// A worker for the last of the seats, with a second try if there was no memory.
 fn last_worker<L: Ledgers>(
     rt: &impl Print,
     alloc: Global,
@@ -80,7 +80,7 @@ fn last_worker<L: Ledgers>(
     Ok(worker)
 }
 
-// Asks through one build's seat, and runs the others' workers. The answers are printed.
+// Makes every call through one build's seat, and runs the workers of the other builds. The answers are printed.
 fn in_quiet<R: Print + Threads + Wait + Sync, L: Ledgers + Send + Sync>(
     rt: &R,
     shared: &Shared<BuddyArena, L>,
@@ -97,7 +97,7 @@ fn in_quiet<R: Print + Threads + Wait + Sync, L: Ledgers + Send + Sync>(
     has_ended
 }
 
-// Two builds on a shared host: the one asks through its seat, the other has a worker.
+// Makes every call through the seat of one build, and runs a worker for the other build.
 fn ask_and_work<R: Print + Threads + Wait + Sync, L: Ledgers + Send + Sync>(
     rt: &R,
     alloc: Global,
@@ -117,7 +117,7 @@ fn ask_and_work<R: Print + Threads + Wait + Sync, L: Ledgers + Send + Sync>(
     Ok(())
 }
 
-// A shared host, started from what came back if there was no memory to share it.
+// A shared host at the second try, started with the arguments that the first try gave back.
 fn shared_again<L: Ledgers>(
     alloc: Global,
     back: (AllocError, Blanks, Host<BuddyArena>),
@@ -133,7 +133,7 @@ fn shared_again<L: Ledgers>(
     }
 }
 
-// A shared host and its seats, started once more if there was no memory.
+// A shared host and its seats, with a second try if there was no memory.
 fn started<L: Ledgers>(
     rt: &impl Print,
     alloc: Global,
@@ -171,7 +171,7 @@ fn close<L: Ledgers>(
     }
 }
 
-// Shares a host, and once more if there was no memory. It is closed in the end.
+// Shares a host, with a second try if there was no memory, works on it, and closes it.
 fn share<R: Print + Threads + Wait + Sync, L: Ledgers + Send + Sync>(
     rt: &R,
     alloc: Global,

@@ -6,10 +6,10 @@ ghost use Rattle.trace_program.specs.Counting.{with_line_counted, trace_verdict}
 use crate::TraceError;
 use std::fmt;
 
-/// The verdict on a line, by which it is counted.
+/// The verdict on a line, by which the line is counted.
 #[derive(Clone, Copy)]
 pub enum LineVerdict {
-    /// A remark, a line with no answer, or one that is not asked for.
+    /// A remark, a line with no answer, or a line that is not to be compared.
     NotCompared,
     Same,
     Allowed,
@@ -19,15 +19,15 @@ pub enum LineVerdict {
 /// The verdict on a trace.
 #[derive(Clone, Copy)]
 pub enum TraceVerdict {
-    /// A trace with a line that is the same, and no wrong line.
+    /// A trace with no wrong line, and at least one line whose answer is the same.
     Agrees,
-    /// A trace with no line that is the same, and no wrong line.
+    /// A trace with no wrong line, and no line whose answer is the same.
     NothingSame,
     /// A trace with a wrong line.
     Differs,
 }
 
-/// The numbers of lines: of all, and of those that are the same, allowed and wrong.
+/// The numbers of all lines, and of the same, allowed and wrong lines.
 #[derive(Clone, Copy)]
 pub struct Counts {
     pub lines: u64,
@@ -36,7 +36,7 @@ pub struct Counts {
     pub wrong: u64,
 }
 
-// The count plus one; `TooLong` if that is 2^64.
+// Returns the count plus one, or `TooLong` if the sum is 2^64.
 fn one_more(count: u64) -> Result<u64, TraceError>
     ensures ok { IfOk result (λ more. more ≡ count + 1) }
     ensures err { IfErr result (λ e. e ≡ TooLong) }
@@ -53,7 +53,7 @@ impl Counts {
         wrong: 0,
     };
 
-    /// The counts with one more line of that verdict.
+    /// Returns the counts with one more line of a verdict.
     pub fn with(self, verdict: LineVerdict) -> Result<Counts, TraceError>
         ensures ok { IfOk result (λ counts. counts ≡ with_line_counted self verdict) }
         ensures err { IfErr result (λ e. e ≡ TooLong) }
@@ -94,7 +94,7 @@ impl Counts {
     }
 }
 
-/// The line of the counts.
+/// The text line that shows the counts.
 impl fmt::Display for Counts {
     ghost use Rattle.std.specs.Prelude.{Some};
     ghost use Rattle.trace_program.specs.Counting.{summary_text};

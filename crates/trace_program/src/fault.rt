@@ -1,4 +1,4 @@
-//! The errors of a trace that is not taken to its end.
+//! The errors that stop the run of a trace before its end.
 ghost use Rattle.std.specs.Prelude.{◌≡◌};
 ghost use Rattle.trace_program.specs.declared.fault.TraceError.TheVariants.{Memory, Device};
 
@@ -7,7 +7,7 @@ use command_line::Reason;
 use std::alloc::AllocError;
 use thiserror::Error;
 
-/// The reason why a trace is not taken to its end. Its line goes to standard error.
+/// The reason why the run of a trace stops before the end of the trace. Its line goes to standard error.
 #[derive(Clone, Copy, Debug, Error)]
 pub enum TraceError {
     /// A failed allocation.

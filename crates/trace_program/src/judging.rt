@@ -1,4 +1,4 @@
-//! The verdict on a line whose answer is written.
+//! The verdict on a line with a written answer.
 ghost use Rattle.std.specs.Prelude.{◌≡◌, option_map};
 ghost use Rattle.std.specs.Option.{option_copied};
 ghost use Rattle.trace_program.specs.Judged as specs;
@@ -11,7 +11,7 @@ use rmm_answers::{TraceMachine, TraceReply, Verdict, judge, named_question};
 use rmm_trace::place::{DASH, FIRST_CHECK, REPEAT, SMC};
 use rmm_trace::{Atom, LineKind, RmmTraceLine, Sentence, TraceWord, read_words};
 
-// Whether a word is a name.
+// Whether a word is the name at the place `name`.
 fn is_name(word: &TraceWord, name: usize) -> bool
     ensures { result ≡ specs.is_name word.now name }
 {
@@ -21,7 +21,7 @@ fn is_name(word: &TraceWord, name: usize) -> bool
     }
 }
 
-// Whether an answer is that to a line that is no command.
+// Whether an answer is the answer to a line that is no command.
 #[tactic(auto, unfolding(crate::specs::Judged::is_no_command))]
 pub(crate) fn is_no_command(reply: &TraceReply) -> bool
     ensures { result ≡ specs.is_no_command reply.now }
@@ -34,7 +34,7 @@ pub(crate) fn is_no_command(reply: &TraceReply) -> bool
 
 // ---- names
 
-// Whether a word is a check of a set.
+// Whether a word is the name of a check in a set.
 fn is_check_in(set: &NameSet, word: &TraceWord) -> bool
     ensures { result ≡ specs.is_check_in set.now word.now.value }
 {
@@ -44,7 +44,7 @@ fn is_check_in(set: &NameSet, word: &TraceWord) -> bool
     }
 }
 
-// Whether an answer has a check of a set.
+// Whether an answer has the name of a check in a set.
 fn has_check(set: &NameSet, words: &[TraceWord]) -> bool
     ensures { result ≡ specs.has_check set.now words.now }
 {
@@ -61,7 +61,7 @@ fn repeated(question: &[TraceWord]) -> &[TraceWord]
     }
 }
 
-// The place of the first word's name.
+// The place of the name in a question's first word.
 fn name_place(question: &[TraceWord]) -> usize
     ensures { result ≡ name_place question.now }
 {
@@ -85,7 +85,7 @@ pub(crate) fn raw_call(question: &[TraceWord]) -> Option<Sentence>
     }
 }
 
-/// The place of the name of a question, or of its command if it is a repeated or a raw call.
+/// The place of a question's name, or of the command's name in a repeated or a raw call.
 #[tactic(auto, unfolding(crate::specs::Judged::command_place))]
 pub(crate) fn command_place(question: &[TraceWord]) -> usize
     ensures { result ≡ specs.command_place question.now }
@@ -96,7 +96,7 @@ pub(crate) fn command_place(question: &[TraceWord]) -> usize
     }
 }
 
-// Whether a line has a name of a set: that of its question, or that of a check in one of its answers.
+// Whether a set has the name of a line's question, or of a check in one of the line's answers.
 #[tactic(auto, unfolding(crate::specs::Judged::is_named))]
 fn is_named(set: &NameSet, question: &[TraceWord], written: &[u8], reply: &TraceReply) -> bool
     ensures { result ≡ specs.is_named set.now question.now written.now reply.now }
@@ -136,7 +136,7 @@ fn is_compared(
 
 // ---- verdicts
 
-// The verdict on the answer that is written to a question. Its words are read into `words`.
+// Returns the verdict on a written answer to a question. The words of the answer are read into `words`.
 fn answer_verdict(
     asked: &Comparison,
     machine: &TraceMachine,
@@ -167,8 +167,8 @@ fn no_command_verdict(written: Option<&[u8]>) -> LineVerdict
     }
 }
 
-/// The verdict on a line and its written answer, by the machine and our answer after that line. The words of the
-/// written answer are read into `words`.
+/// Returns the verdict on a line and its written answer, by the machine and our answer after that line. The words of
+/// the written answer are read into `words`.
 #[tactic(auto, unfolding(crate::specs::Judged::line_verdict))]
 pub fn line_verdict(
     asked: &Comparison,

@@ -77,7 +77,7 @@ impl LineTexts {
         }
     }
 
-    // Appends the sign before an answer, and the answer; nothing if there is none.
+    // Appends the equals sign and an answer; nothing if there is no answer.
     fn push_reply(&mut self, reply: &TraceReply) -> Result<(), AllocError>
         ensures { OnOk result (self.new ≡ self.old ++ sign_and_answer reply.now) }
     {
@@ -88,7 +88,7 @@ impl LineTexts {
         self.push_answer(reply)
     }
 
-    /// Appends a line, and the feed that ends it.
+    /// Appends a line, and the line feed that ends it.
     pub fn push_line(&mut self, bytes: &[u8]) -> Result<(), AllocError>
         ensures { OnOk result (self.new ≡ self.old ++ (bytes.now ++ 10 ∷ [])) }
     {

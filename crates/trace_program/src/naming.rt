@@ -1,4 +1,4 @@
-//! Raw lines by names.
+//! Raw lines, written with names.
 ghost use Rattle.std.specs.Prelude.{◌≡◌, ◌++◌, OnOk, option_map};
 ghost use Rattle.trace_program.specs.LineText.{answer_named, named_text, question_named};
 
@@ -8,7 +8,7 @@ use rmm_answers::named_answer;
 use rmm_trace::{LineKind, RmmTraceLine, Sentence, cut_line, read_words};
 use std::alloc::AllocError;
 
-// The question of a raw line by names, if the line is one.
+// The question of a raw line, written with names; `None` if the question cannot be named.
 fn question_of(line: &RmmTraceLine) -> Option<Sentence>
     ensures { option_map (λ v. v.items) result ≡ question_named line.now }
 {
@@ -18,7 +18,7 @@ fn question_of(line: &RmmTraceLine) -> Option<Sentence>
     }
 }
 
-// The answer of a raw line by names; none comes if it cannot be named.
+// The answer of a raw line, written with names; `None` if the answer cannot be named.
 fn answer_of(line: &RmmTraceLine, written: &[u8]) -> Option<Sentence>
     ensures { option_map (λ v. v.items) result ≡ answer_named line.now written.now }
 {
@@ -28,7 +28,7 @@ fn answer_of(line: &RmmTraceLine, written: &[u8]) -> Option<Sentence>
     }
 }
 
-/// Appends a raw line by the names of its command and of its outputs, and any other line as it is.
+/// Appends a raw line with the names of its command and outputs, and any other line as it is.
 #[tactic(auto, unfolding(crate::specs::LineText::named_text))]
 pub(crate) fn push_named(
     text: &mut LineTexts,

@@ -4,10 +4,10 @@ use rmm_trace::place::WRITE;
 use std::alloc::{AllocError, Global};
 use strsim::osa_distance;
 
-// The most bytes of a word that is compared.
+// The most bytes that a compared word may have.
 const LONGEST: usize = 32;
 
-// Whether a word is near to another that is so many edits away: up to a third of the longer of the two.
+// Whether two words that differ by `edits` edits are near: at most a third of the longer word's length.
 fn is_near(edits: usize, one: &str, other: &str) -> bool {
     edits.saturating_mul(3) <= one.len().max(other.len())
 }
@@ -17,7 +17,7 @@ fn first_word(text: &str) -> &str {
     text.split(' ').next().unwrap_or("")
 }
 
-/// The first word of a question that is the nearest to the first word of the line, if one is near and differs from it.
+/// Returns the first word of a question that is nearest to the line's first word, if it is near but not equal.
 pub(crate) fn nearest_word(alloc: Global, line: &[u8]) -> Result<Option<&'static str>, AllocError> {
     let Ok(text) = str::from_utf8(line) else {
         return Ok(None);

@@ -171,7 +171,7 @@ impl Reading {
     }
 }
 
-/// Reads the lines of a trace, and writes the text for each before it reads on; at the end of a check, its counts.
+/// Reads the lines of a trace, and writes the text of each read before the next read. A check ends with its counts.
 ///
 /// Memory is taken for a fresh machine, for a line, of which no more than 65,537 bytes are kept, and for the texts of
 /// the lines of one read. Errors. `Memory`: allocation failed. `Device`: a read or a write failed. `TooLong`: the trace

@@ -43,7 +43,7 @@ fn push_failed(
     text.push_str(")\n")
 }
 
-// Appends each check that failed: the first decides, and the words of the others are allowed.
+// Appends each check that failed. The first decides the answer, and the result words of the others are allowed.
 fn push_all_failed(
     text: &mut String,
     command: usize,
@@ -75,7 +75,8 @@ fn push_passed(
     Ok(())
 }
 
-/// The lines below a refused call: the check that decides, each other check that failed, and those that passed.
+/// Returns the lines below a refused call: the check that decides, the other checks that failed, and the checks that
+/// passed.
 pub(crate) fn checks_text(
     alloc: Global,
     question: &[TraceWord],
@@ -88,7 +89,7 @@ pub(crate) fn checks_text(
     Ok(text)
 }
 
-/// The line that names the word which was probably meant; empty if no word is near.
+/// Returns the line that suggests the word that was probably meant; empty if no word is near.
 pub(crate) fn hint(alloc: Global, bytes: &[u8], indent: &str) -> Result<String, AllocError> {
     match nearest_word(alloc, bytes)? {
         Some(word) => format!(in alloc; "{indent}help: did you mean {word}?\n"),
@@ -96,7 +97,7 @@ pub(crate) fn hint(alloc: Global, bytes: &[u8], indent: &str) -> Result<String, 
     }
 }
 
-/// The first line of a note: the trace's name, the line's number, and the verdict.
+/// Returns the first line of a note: the trace's name, the line's number, and the verdict.
 pub(crate) fn heading(
     alloc: Global,
     source: &str,
@@ -111,8 +112,8 @@ pub(crate) fn heading(
     Ok(text)
 }
 
-/// The note on an allowed or wrong line, after its heading: the line, our answer, and for no command the word probably
-/// meant.
+/// Returns the note on an allowed or wrong line, without its heading: the line, our answer, and a suggestion if it is
+/// no command.
 pub(crate) fn difference(
     alloc: Global,
     bytes: &[u8],

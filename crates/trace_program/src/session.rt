@@ -78,7 +78,7 @@ impl Session {
         }
     }
 
-    // The checks of a refused call; nothing if none is refused.
+    // Returns the lines on the checks of a refused call; empty if no call is refused.
     fn refusal(&self, alloc: Global, question: &[TraceWord]) -> Result<String, AllocError>
         ensures { IfOk result (λ text. self.now.reply.refused ≡ None → string_bytes text ≡ []) }
     {
@@ -88,7 +88,7 @@ impl Session {
         }
     }
 
-    // The lines below an answer: the checks of a refused call, or the word that was probably meant.
+    // Returns the lines below an answer: the checks of a refused call, or the word that was probably meant.
     fn reasons(
         &self,
         alloc: Global,
@@ -109,7 +109,7 @@ impl Session {
         }
     }
 
-    // The note on a line that is the same.
+    // Returns the note on a line whose answer is the same.
     fn same_note(
         &self,
         alloc: Global,
@@ -125,7 +125,7 @@ impl Session {
         Ok(text)
     }
 
-    // The note on a line that is allowed or wrong.
+    // Returns the note on an allowed or wrong line.
     fn difference_note(
         &self,
         alloc: Global,
@@ -141,7 +141,7 @@ impl Session {
         Ok(text)
     }
 
-    // The note on a line that is judged.
+    // Returns the note on a judged line.
     fn note(
         &self,
         alloc: Global,

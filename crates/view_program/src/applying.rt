@@ -1,4 +1,4 @@
-//! The map of a history: events are read and applied to a host.
+//! The map of a history whose events are read and applied to a host.
 ghost use Rattle.std.specs.Prelude.{◌≡◌, ◌<◌, ◌↔◌, ◌⊎◌, false, true, Err, IfOk, IfErr, string_bytes};
 ghost use Rattle.realm_host.specs.Recorded.{fresh_like};
 ghost use Rattle.history_text.specs.Histories.{IsSize};
@@ -18,7 +18,7 @@ use realm_host::{Host, apply_without};
 use std::alloc::{AllocError, Global};
 use std::io::{Read, Write};
 
-// The host of the history in the input, and the size of its machine.
+// Reads the history in the input, and returns its host and the size of its machine.
 fn host_in<R: Read>(
     alloc: Global,
     input: &mut Told<R>,
@@ -36,7 +36,7 @@ fn host_in<R: Read>(
     Ok((opening, host))
 }
 
-// The map of the host without a build: its history without the build's events is applied to a fresh host.
+// The map of a fresh host after the history of `host` without a build's events.
 fn map_without(
     alloc: Global,
     opening: &Opening,
@@ -53,7 +53,7 @@ fn map_without(
     map_text(alloc, &fresh)
 }
 
-// The map that is asked for: a build may be left out.
+// The map of a host, or of its history without the build `erase`.
 fn asked_map(
     alloc: Global,
     opening: &Opening,
@@ -74,8 +74,8 @@ fn asked_map(
     Ok(map_without(alloc, opening, host, build)?)
 }
 
-/// Reads a history, applies each of its events as it is recorded, and writes the map of the machine. If a build is to
-/// be left out, writes the map of the history without the build's events.
+/// Reads a history, applies each recorded event, and writes the map of the machine. If a build is to be left out,
+/// writes the map of the history without the build's events.
 ///
 /// The map is complete before any of it is written. The input is read line by line, and of a line no more than 256
 /// bytes are kept. Errors. `NoOpening`: the first line opens no machine, or there is none. `NoEvent` with the first

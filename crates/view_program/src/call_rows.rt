@@ -1,5 +1,5 @@
-//! The operations of a host as rows of a table of C: `examples/c/table.h` has the form of a row, and
-//! `examples/c/table.c` runs them.
+//! The operations of a host as rows of a C table. `examples/c/table.h` has the form of a row, and `examples/c/table.c`
+//! runs the rows.
 use history_calls::{Frame, HostAction};
 use realm_model::Rmi;
 use rmi_abi::{Call, encode_call};
@@ -49,7 +49,7 @@ fn push_row(text: &mut String, kind: &str, given: &[u64], out: &[u64]) -> Result
     text.push_str("},\n")
 }
 
-// The number of registers that a command has specified after it.
+// The number of registers, from X0 on, that RMM 1.0 specifies after a command.
 fn result_count(call: Call) -> u64 {
     match call {
         Call::RttDestroy { .. } | Call::DataDestroy { .. } => 3,
@@ -58,7 +58,7 @@ fn result_count(call: Call) -> u64 {
     }
 }
 
-// Appends a call: X0 after it, and X1 if that is known.
+// Appends the row of a call, with X0 after the call, and X1 if it is known.
 fn push_smc(text: &mut String, call: Call, x0: u64, x1: Option<u64>) -> Result<(), AllocError> {
     let it = encode_call(call);
     let given = [it.x0, it.x1, it.x2, it.x3, it.x4, it.x5, it.x6];
@@ -70,7 +70,7 @@ fn push_smc(text: &mut String, call: Call, x0: u64, x1: Option<u64>) -> Result<(
     write!(text, ", .results = {results}}},\n")
 }
 
-// Appends the filling of granules.
+// Appends the rows that fill granules.
 fn push_fill(text: &mut String, address: u64, granules: u16, value: u8) -> Result<(), AllocError> {
     for granule in 0..granules {
         let at = address.wrapping_add(4096 * u64::from(granule));
@@ -79,7 +79,7 @@ fn push_fill(text: &mut String, address: u64, granules: u16, value: u8) -> Resul
     Ok(())
 }
 
-// Appends the storing of a word of a page that is 0 before.
+// Appends the row that stores a word in a page of zeros, unless the word is 0.
 fn push_store(text: &mut String, page: u64, offset: u64, word: u64) -> Result<(), AllocError> {
     if word == 0 {
         return Ok(());
@@ -87,7 +87,7 @@ fn push_store(text: &mut String, page: u64, offset: u64, word: u64) -> Result<()
     push_row(text, "STORE", &[page.wrapping_add(offset), word], &[])
 }
 
-// Appends the writing of a realm's parameters. RMM 1.0, RmiRealmParams.
+// Appends the rows that write a realm's parameters. RMM 1.0, RmiRealmParams.
 fn push_realm_params(
     text: &mut String,
     page: u64,
@@ -104,7 +104,7 @@ fn push_realm_params(
     push_store(text, page, 0x818, u64::from(count))
 }
 
-// Appends the writing of a REC's parameters. RMM 1.0, RmiRecParams.
+// Appends the rows that write a REC's parameters. RMM 1.0, RmiRecParams.
 fn push_rec_params(
     text: &mut String,
     page: u64,
@@ -123,7 +123,7 @@ fn push_rec_params(
     Ok(())
 }
 
-// Appends a step of the guest of a REC.
+// Appends the row of a step of a REC's guest.
 fn push_step(text: &mut String, action: &HostAction) -> Result<(), AllocError> {
     match action {
         HostAction::Write { rec, ipa, value } => {
@@ -139,7 +139,7 @@ fn push_step(text: &mut String, action: &HostAction) -> Result<(), AllocError> {
     }
 }
 
-// Appends the rows of an operation that is done. That a guest has done a write, no row says.
+// Appends the rows of an accepted operation. No row says that a guest has done a write.
 fn push_done(text: &mut String, action: &HostAction) -> Result<(), AllocError> {
     match action {
         HostAction::Fill {

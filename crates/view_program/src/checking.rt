@@ -1,4 +1,4 @@
-//! The report on an input as a plan.
+//! The subcommand `check`, which reports the findings on a plan.
 ghost use Rattle.std.specs.Prelude.{◌≡◌, ◌+◌, ◌≤◌, ◌↔◌, ◌⊎◌, false, true, Err};
 ghost use Rattle.view_program.specs.Checked.{verdict_of, IsCheckEnd};
 ghost use Rattle.view_program.specs.declared.fault.ViewError.TheVariants.{Device};
@@ -19,7 +19,7 @@ pub enum ViewOutcome {
     HasErrors,
 }
 
-// The verdict on bytes, by whether they are a plan.
+// The outcome of `check`, by whether the bytes are a plan.
 fn verdict_of(is_plan: bool) -> ViewOutcome
     ensures { result ≡ verdict_of is_plan }
 {
@@ -30,8 +30,8 @@ fn verdict_of(is_plan: bool) -> ViewOutcome
     }
 }
 
-/// Reads bytes, and writes the findings on them: all errors if they are no plan, or else the plan's likely slips and
-/// size.
+/// Reads bytes, and writes the findings on them. The findings are all errors of bytes that are no plan, or else the
+/// plan's likely slips and size.
 ///
 /// The text is complete before any of it is written. Errors: Memory, if allocation failed; Device, if a read failed and
 /// nothing is written, or if a write failed and a prefix of the text is written.

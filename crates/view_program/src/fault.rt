@@ -1,4 +1,4 @@
-//! The errors of a text that is not printed whole.
+//! The reasons why a text is not printed, or only a prefix of it.
 ghost use Rattle.std.specs.Prelude.{◌≡◌};
 ghost use Rattle.view_program.specs.declared.fault.ViewError.TheVariants.{Plan, Memory, Device};
 
@@ -8,14 +8,14 @@ use realm_host::WhyNot;
 use std::alloc::AllocError;
 use thiserror::Error;
 
-/// The reason why a text is not printed, or only a prefix of it. Its line goes to standard error. Lines are counted
-/// from 1.
+/// The reason why a text is not printed, or only a prefix of it. The line of the reason goes to standard error. Lines
+/// are counted from 1.
 #[derive(Debug, Drop, Error)]
 pub enum ViewError {
     /// An input that is no plan: its errors, as `check` writes them.
     #[error("{}", .0.trim_end())]
     NoPlan(String),
-    /// A plan that has no such text, for this reason.
+    /// A plan that does not have the requested text, and the reason.
     #[error(transparent)]
     Plan(realm_program::Fault),
     /// A first line that is missing, or opens no machine.
@@ -27,7 +27,7 @@ pub enum ViewError {
     /// An event that cannot be applied: the number of its line, the reason, and the words for it.
     #[error("line {0} is refused: {2}")]
     Refused(usize, WhyNot, String),
-    /// A build to be left out that is not one of the machine's.
+    /// A build to be left out that the machine does not have.
     #[error("erase names no build")]
     EraseNamesNoBuild,
     /// More turns or more bytes than a plan may have, in a plan with the turns that its builds need.

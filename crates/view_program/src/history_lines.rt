@@ -23,7 +23,7 @@ fn next_number<S: PageStore>(host: &Host<S>) -> usize
     host.history().len() + 2
 }
 
-// The words for an event that is refused: the check that refuses it, or else the reason as it is.
+// The words for a refused event: the check that refuses it, or else the text of the reason.
 fn words_for<S: PageStore>(alloc: Global, host: &Host<S>, event: &Event, why: WhyNot) -> String {
     let words = event_words(alloc, host, event).unwrap_or(String::new(alloc));
     if !words.is_empty() {
@@ -32,7 +32,7 @@ fn words_for<S: PageStore>(alloc: Global, host: &Host<S>, event: &Event, why: Wh
     why.to_string(alloc).unwrap_or(String::new(alloc))
 }
 
-// Applies the event that a line is.
+// Applies the event in a line to a host.
 fn take_line<S: PageStore>(alloc: Global, host: &mut Host<S>, line: &[u8]) -> Result<(), ViewError>
     ensures ok { OnOk result (IsLineTaken host.old line.now host.new) }
     ensures err { IfErr result (IsUntaken host.old line.now) }
@@ -73,7 +73,7 @@ pub fn take_lines<R: Read, S: PageStore>(
     unreachable!()
 }
 
-/// The opening that the first line is.
+/// Reads the opening of a history from its first line.
 pub fn opening_in<R: Read>(
     lines: &mut Lines,
     input: &mut Told<R>,

@@ -6,13 +6,13 @@ ghost use Rattle.history_text.specs.declared.opening.Opening.{Opening};
 ghost use Rattle.realm_host.specs.declared.why_not.WhyNot.{WhyNot};
 ghost use Rattle.view_program.specs.Applied.{IsHistory, IsLegalText, OpensNone, IsNoEvent, IsEventRefused, StopsAt};
 
-/// Lines that are a history are the texts of the events of their host, in sequence, and these are a legal history.
+/// The lines of a history are the texts of the events of its host, in sequence. These events are a legal history.
 pub fn what_is_applied_is_legal()
     ensures { (lines : List (List ℕ)) (o : Opening) (host : HostView) → IsHistory lines o host → IsLegalText lines host }
 {}
 
-/// Lines are a history in one way, of one machine and with one host, or they stop in one of three ways. Those that stop
-/// open no machine, or have a line that is no event, or an event that is refused. No lines are both.
+/// Lines are the history of at most one machine and one host. Lines that are a history do not stop. Lines that stop
+/// open no machine, or have a line that is no event, or an event that is refused.
 pub fn histories_do_not_stop()
     ensures machine { (lines : List (List ℕ)) (o p : Opening) (host other : HostView) → IsHistory lines o host → IsHistory lines p other → o ≡ p }
     ensures host { (lines : List (List ℕ)) (o p : Opening) (host other : HostView) → IsHistory lines o host → IsHistory lines p other → host ≡ other }

@@ -9,7 +9,7 @@ use realm_host::{Host, Settings};
 use realm_program::boot_by;
 use std::alloc::{AllocError, Global};
 
-/// A host of that size, over pages that are all free.
+/// Boots the host for a history's opening, over pages that are all free.
 pub fn boot(alloc: Global, opening: &Opening) -> Result<Host<BuddyArena>, AllocError>
     requires { IsSize opening.now }
     ensures { IfOk result (λ host. host ≡ host_of_opening opening.now) }

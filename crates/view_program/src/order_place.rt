@@ -6,12 +6,12 @@ use std::alloc::{AllocError, Global};
 use toml_parser::text::{first, skip, skip_blank, skip_ws};
 use toml_parser::{Key, ParseError, dotted_key, quoted, starts_string, unquoted};
 
-/// A part of a text, from one place to another.
+/// The part of a plan's text that a new schedule replaces, as two byte offsets.
 #[derive(Clone, Copy)]
 pub struct OrderPlace {
     pub from: usize,
     pub to: usize,
-    /// Whether the value of a key `order` is in this part. Else a line with the key can be put there.
+    /// Whether this part is the value of a key `order`. If not, a line with the key can be put there.
     pub is_value: bool,
 }
 
@@ -33,7 +33,8 @@ impl From<ParseError> for Lost {
     }
 }
 
-/// The value of the key `order` of a plan; or, if there is none, the place below the last key above the first header.
+/// Finds the value of the key `order` in a plan's text. If there is none, returns the place below the last key above
+/// the first header.
 pub fn order_place(alloc: Global, text: &str) -> Result<OrderPlace, AllocError> {
     let mut below = 0;
     let mut rest = skip_blank(text.strip_prefix('\u{feff}').unwrap_or(text), true);
@@ -76,7 +77,7 @@ fn is_order(key: &Key) -> bool {
     key.path.is_empty() && key.last.as_str() == "order"
 }
 
-// The text below the line that begins here.
+// The text below the first line.
 fn line_below(s: &str) -> &str {
     match s.split_once('\n') {
         Some((_, below)) => below,
@@ -107,7 +108,8 @@ fn after_value(alloc: Global, s: &str) -> Result<&str, Lost> {
     Err(Lost::Unread)
 }
 
-// The text after a string, a scalar that is a whole value, or a byte, inside `depth` open arrays and tables.
+// The text after the next part of a value: a string, a scalar, or one byte. `depth` arrays and tables are open before
+// the part.
 fn after_part(alloc: Global, s: &str, depth: usize) -> Result<&str, Lost> {
     let next = first(s);
     if starts_string(s) {
@@ -119,7 +121,7 @@ fn after_part(alloc: Global, s: &str, depth: usize) -> Result<&str, Lost> {
     }
 }
 
-// The text after what was read.
+// The text that is left after a successful read.
 fn behind<T: Drop>(read: Result<(T, &str), ParseError>) -> Result<&str, Lost> {
     match read {
         Ok((_, after)) => Ok(after),
@@ -136,7 +138,7 @@ fn depth_after(depth: usize, byte: u8) -> usize {
     }
 }
 
-// The text after its first byte, if that is a character.
+// The text after its first byte, if the byte is an ASCII character.
 fn after_byte(s: &str) -> Result<&str, Lost> {
     let byte = first(s);
     if byte == 0 || byte >= 128 {

@@ -25,7 +25,7 @@ impl fmt::Display for Turns<'_> {
     }
 }
 
-// Appends the turns in lines of their own.
+// Appends an array with the turns in lines of their own.
 fn push_lines(text: &mut String, order: &[usize]) -> Result<(), AllocError> {
     text.push_str("[\n")?;
     for line in order.chunks(TURNS_A_LINE) {

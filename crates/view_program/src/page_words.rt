@@ -1,4 +1,4 @@
-//! The words of a browser page for the reasons of refusals. They are tested, not proved.
+//! The refused turns of a browser page, with the words for their reasons. The words are tested, not proved.
 use buddy::BuddyArena;
 use explain::explain_turns;
 use realm_plan::Plan;

@@ -20,7 +20,7 @@ use realm_plan::{Plan, PlanError};
 use realm_program::Fault;
 use std::alloc::{AllocError, Global};
 
-// The question of the search, by that of the command line.
+// The question for the search, from the question on the command line.
 fn question_of_options(asked: ScheduleQuestion) -> TurnQuestion
     ensures { result ≡ question_of_options asked }
 {
@@ -60,7 +60,7 @@ fn goes_to(
     answers(alloc, plan, order, question)
 }
 
-// The text of a plan with this schedule, read back: it has to be a plan whose last turn answers the question.
+// The text of a plan with this schedule. Read back, the text has to be a plan whose last turn answers the question.
 fn plan_to(
     alloc: Global,
     source: &[u8],
@@ -87,7 +87,7 @@ fn never_refused_text(alloc: Global, build: u32, step: u32) -> Result<String, Al
     Ok(text)
 }
 
-// The line that says that a build waits in no schedule while another holds nothing.
+// The line that says that in no schedule a build waits while another build holds nothing.
 fn never_waiting_text(alloc: Global, build: u32) -> Result<String, AllocError>
     ensures { IfOk result (λ text. string_bytes text ≡ never_waiting_line build) }
 {
@@ -96,7 +96,7 @@ fn never_waiting_text(alloc: Global, build: u32) -> Result<String, AllocError>
     Ok(text)
 }
 
-// The line that says that in no schedule so many granules are leased.
+// The line that says that no schedule leases `granules` granules at a time.
 fn never_leased_text(alloc: Global, granules: u32) -> Result<String, AllocError>
     ensures { IfOk result (λ text. string_bytes text ≡ never_leased_line granules) }
 {

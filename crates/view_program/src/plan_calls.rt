@@ -1,4 +1,4 @@
-//! The calls of a plan's run, as a trace by registers or as rows of a table of C.
+//! The calls of a plan's run, as a trace by registers or as rows of a C table.
 ghost use Rattle.std.specs.Prelude.{◌<◌, None, vec_len};
 ghost use Rattle.realm_program.specs.Replay.{IsWithoutText};
 ghost use Rattle.view_program.specs.Calls.{IsCallsText};
@@ -19,7 +19,7 @@ use realm_plan::{Plan, PlanStep, push_idle};
 use realm_program::{Fault, boot};
 use std::alloc::{AllocError, Global};
 
-// The comment in place of a guest's write that RMM 1.0 does not have.
+// The comment in place of a guest's write that RMM 1.0 refuses.
 const BESIDE_RAM: &str =
     "no call: the RIPAS there is not RAM, and in RMM 1.0 the guest's write is refused\n";
 
@@ -47,7 +47,7 @@ struct CallsText {
 }
 
 impl CallsText {
-    // Begins a comment, which has the rest of its line.
+    // Begins a comment that extends to the end of the line.
     fn begin_comment(&mut self) -> Result<(), AllocError> {
         match self.form {
             CallsForm::Trace => self.text.push_str("# "),
@@ -71,7 +71,7 @@ impl CallsText {
         }
     }
 
-    // Appends the operations of a host for an event that it has just recorded.
+    // Appends the operations for the event that the host has just recorded.
     fn push_event(&mut self, host: &Host<BuddyArena>, event: &Event) -> Result<(), AllocError> {
         if !host.ledger().has_build(event.build) {
             return Ok(());

@@ -27,7 +27,7 @@ fn opening_of(plan: &Plan) -> Opening
     }
 }
 
-// The build to be left out, which is one of the plan's.
+// Checks that the build to be left out, if any, is one of the plan's.
 fn checked_erase(plan: &Plan, erase: Option<BuildId>) -> Result<Option<BuildId>, Fault>
     ensures ok { IfOk result (λ checked. (checked ≡ erase) × IsBuildOfPlan erase (plan_view plan.now)) }
     ensures err { IfErr result (IsWithoutText erase (plan_view plan.now)) }
@@ -60,7 +60,7 @@ fn text_after_run(
     Ok(text)
 }
 
-// The history of a run of the plan, without one of its builds or whole.
+// The history of a run of the plan, whole or without one of the plan's builds.
 fn run_text(alloc: Global, plan: &Plan, erase: Option<BuildId>) -> Result<String, AllocError>
     requires { IsBuildOfPlan erase (plan_view plan.now) }
     ensures { IfOk result (λ text. IsHistoryText erase (plan_view plan.now) (string_bytes text)) }

@@ -27,7 +27,7 @@ fn order_of(alloc: Global, plan: &Plan, turns: SchedulingPolicy) -> Result<Vec<u
     }
 }
 
-// The text that is put at the place: the schedule, or a line with the key and the schedule.
+// The text for the place of `order`: the schedule alone, or a line with the key and the schedule.
 fn part_for(
     alloc: Global,
     bytes: &[u8],
@@ -47,7 +47,7 @@ fn part_for(
     Ok(line)
 }
 
-// The bytes with another part between two places.
+// The bytes with another part between two offsets.
 fn with_part(
     alloc: Global,
     bytes: &[u8],
@@ -92,7 +92,7 @@ fn has_whole_schedule(
     Ok(own == order)
 }
 
-// Reads a text back: it has to be a plan whose schedule gives each build all the turns that it needs.
+// Checks that a text is a plan whose schedule gives each build all the turns that it needs.
 fn read_back(alloc: Global, text: &[u8], turns: SchedulingPolicy) -> Result<(), ViewError>
     ensures ok { OnOk result (IsWholeText turns text.now) }
     ensures err { IfErr result (IsNotWhole text.now) }
@@ -105,7 +105,7 @@ fn read_back(alloc: Global, text: &[u8], turns: SchedulingPolicy) -> Result<(), 
     }
 }
 
-// The text of a plan, with its whole schedule.
+// The text of a plan, with a schedule that gives each build all the turns that it needs.
 fn reordered(
     alloc: Global,
     bytes: &[u8],
@@ -121,10 +121,10 @@ fn reordered(
     Ok(text)
 }
 
-/// Reads a plan, and writes it with a schedule that gives each build all the turns that it needs, aborts and ways back
-/// included. The value of `order` is another one, and the rest of the text is as it was. The text is read back before
-/// it is written. Its schedule is that of a run of itself, in which each turn is of a build that has a step left, until
-/// none has.
+/// Reads a plan, and writes it with a schedule that gives each build all the turns that it needs. The turns include
+/// those of aborts and rollbacks. The value of `order` is replaced, and the rest of the text is as it was. The text is
+/// read back before it is written. Its schedule is that of a run of itself, in which each turn is of a build that has a
+/// step left, until none has.
 ///
 /// The text is complete before any of it is written. Errors. `NoPlan`, with the errors of an input that is no plan.
 /// `OrderOutsideLimits`: the plan would have too many turns or bytes. `Memory`: allocation failed. `Device`: a read

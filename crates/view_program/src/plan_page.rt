@@ -18,8 +18,8 @@ use run_json::{Document, WorldItem, json_text, page_of, world_item};
 use serde::Serialize;
 use std::alloc::{AllocError, Global};
 
-/// The data of a page: the document of a run, the worlds of its history without each build, and the refused turns. The
-/// title of the plan is empty if it has none.
+/// The data of a browser page: a run, the refused turns, and for each build the machine after the run's history without
+/// that build. The title of the plan is empty if it has none.
 #[derive(Drop, Serialize)]
 struct PageData {
     run: Document,
@@ -37,7 +37,7 @@ fn id_of(place: usize) -> BuildId
     BuildId::new(place as u8).unwrap()
 }
 
-// A fresh host of the plan, with a history without a build.
+// A fresh host of the plan after a history without a build's events.
 fn fresh_without(
     alloc: Global,
     plan: &Plan,
@@ -52,7 +52,7 @@ fn fresh_without(
     Ok(fresh)
 }
 
-// The world of a history without a build.
+// The machine after a history without a build's events, as an item of a page.
 fn world_without(
     alloc: Global,
     plan: &Plan,
@@ -66,7 +66,7 @@ fn world_without(
     world_item(alloc, &fresh)
 }
 
-// The worlds of a history without each of the plan's builds.
+// The machines after a history without a build's events, one machine for each of the plan's builds.
 fn worlds_without(
     alloc: Global,
     plan: &Plan,
@@ -96,8 +96,8 @@ fn page_data(alloc: Global, plan: &Plan, source: &[u8]) -> Result<PageData, Allo
     })
 }
 
-/// Pages for browsers that show runs of plans. A page has the document of the run, and the worlds of the run's history
-/// without each build, each of them made by a machine of its own. A plan has none only if allocation failed.
+/// Browser pages that show runs of plans. A page has the document of the run, and for each build the machine after the
+/// run's history without that build. Each of these machines is a fresh one. A plan has none only if allocation failed.
 #[derive(Drop)]
 pub struct Pages;
 

@@ -73,10 +73,10 @@ fn why_text(alloc: Global, plan: &Plan, all: bool) -> Result<String, AllocError>
 }
 
 /// The texts of runs of plans. They have the line of each turn, with the check that fails below it if it is refused.
-/// Then they have the map in the end, and what each unfinished abort lacks. A plan has none only if allocation failed.
+/// Then they have the final map, and what each unfinished abort lacks. A plan has none only if allocation failed.
 #[derive(Drop)]
 pub struct Reasons {
-    /// Whether the checks that passed before are listed too.
+    /// Whether the checks that passed before the failed check are listed too.
     pub all: bool,
 }
 

@@ -15,7 +15,7 @@ use realm_plan::Plan;
 use realm_program::{Fault, PlanText};
 use std::alloc::{AllocError, Global};
 
-// The text of the outcomes of schedules that are drawn.
+// The text of the outcomes of drawn schedules.
 fn text_of_drawn(alloc: Global, plan: &Plan, totals: &Totals) -> Result<String, AllocError>
     ensures { IfOk result (λ text. string_bytes text ≡ drawn_text (plan_view plan.now) totals.now) }
 {
@@ -24,7 +24,7 @@ fn text_of_drawn(alloc: Global, plan: &Plan, totals: &Totals) -> Result<String, 
     Ok(text)
 }
 
-// Runs `count` schedules that are drawn by the numbers of a seed, and returns the text of their outcomes.
+// Runs `count` schedules that are drawn at random from a seed, and returns the text of their outcomes.
 fn run_drawn_of<P: Progress>(
     alloc: Global,
     plan: &Plan,
@@ -59,7 +59,7 @@ fn orders_text_of<P: Progress>(
     }
 }
 
-// The plan, whose builds do this after a refusal.
+// The plan with builds that go on or give up after a refusal, as asked.
 fn plan_after(after: AfterRefusal, plan: Plan) -> Plan
     ensures { plan_view result ≡ plan_after after (plan_view plan) }
 {
@@ -69,8 +69,8 @@ fn plan_after(after: AfterRefusal, plan: Plan) -> Plan
     }
 }
 
-/// The outcomes of other schedules of a plan's builds. They are their number, how each step of each build ended, how
-/// often each build was never refused, and the maps in the end. Each has the first schedule that shows it.
+/// The outcomes of other schedules of a plan's builds. They are the number of schedules, and counts of the steps'
+/// outcomes, of builds without a refusal, and of final maps. Each outcome has the first schedule that shows it.
 ///
 /// A plan has no such text if a run does not go on as another one said (Mismatch), or if allocation failed.
 #[derive(Drop)]

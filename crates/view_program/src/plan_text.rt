@@ -1,4 +1,4 @@
-//! The texts of a plan that need the bytes of its input too.
+//! The kinds of text of a plan, made from the plan and the bytes of its input.
 ghost use Rattle.std.specs.Prelude.{ℕ, List, IfOk, IfErr};
 ghost use Rattle.realm_plan.specs.Plan.{Plan as PlanModel};
 ghost use Rattle.realm_plan.specs.PlanView.{plan_view};

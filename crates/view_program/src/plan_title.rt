@@ -2,7 +2,7 @@
 use std::alloc::{AllocError, Global};
 use std::str::from_utf8;
 
-// The text of a line that is a comment.
+// The text of a comment line; `None` for any other line.
 fn comment_in(line: &str) -> Option<&str> {
     Some(line.trim().strip_prefix('#')?.trim())
 }

@@ -15,7 +15,7 @@ use realm_program::read_whole;
 use std::alloc::Global;
 use std::io::{Read, Write};
 
-/// The plan that the bytes are.
+/// Parses bytes as a plan, or returns the errors of bytes that are no plan.
 pub(crate) fn plan_from(alloc: Global, source: &str, bytes: &[u8]) -> Result<Plan, ViewError>
     ensures ok { IfOk result (λ plan. plan_of bytes.now ≡ Ok (plan_view plan)) }
     ensures err { IfErr result (GivesNoPlan source.now bytes.now) }
@@ -30,7 +30,7 @@ pub(crate) fn plan_from(alloc: Global, source: &str, bytes: &[u8]) -> Result<Pla
     }
 }
 
-/// Reads a plan, and writes the text of it that is asked for.
+/// Reads a plan, and writes the requested text of the plan.
 ///
 /// The text is complete before any of it is written. Errors. `NoPlan`, with the errors of an input that is no plan. The
 /// reason why a plan has no such text. `Memory`: allocation failed. `Device`: a read failed and nothing is written, or

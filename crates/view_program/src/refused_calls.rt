@@ -1,4 +1,4 @@
-//! Commands that the RMM refuses, as calls.
+//! The calls of commands that the RMM refuses.
 //!
 //! This project's RMM refuses some commands that RMM 1.0 accepts, or refuses with another word.
 use buddy::BuddyArena;
@@ -8,10 +8,10 @@ use host_commands::Cmd;
 use realm_host::Host;
 use realm_model::{Rmi, Status};
 
-// The pages that one table of level 3 maps.
+// The number of pages that one table of level 3 maps.
 const PAGES_OF_A_TABLE: u32 = 512;
 
-// Whether an IPA granule is in the half of a realm's address space that is not protected.
+// Whether an IPA granule is in the unprotected half of a realm's address space.
 fn is_unprotected(host: &Host<BuddyArena>, build: BuildId, ipa: u32) -> bool {
     let Some(realm) = host.realm(build) else {
         return false;
@@ -28,8 +28,8 @@ fn is_in_one_table(ipa: u32, count: u16) -> bool {
     ipa % PAGES_OF_A_TABLE + u32::from(count) <= PAGES_OF_A_TABLE
 }
 
-// Whether the refusal of a command is that of RMM 1.0. RMM 1.0 has tables for unprotected IPAs, and changes the RIPAS
-// of as many pages as it can.
+// Whether RMM 1.0 refuses a command in the same way. RMM 1.0 has tables for unprotected IPAs, and changes the RIPAS of
+// as many pages as it can.
 fn is_of_the_standard(host: &Host<BuddyArena>, build: BuildId, cmd: &Cmd, rmi: Rmi) -> bool {
     match (cmd, rmi.status) {
         (Cmd::Rtt { ipa, .. }, Status::Input) => !is_unprotected(host, build, *ipa),

@@ -1,4 +1,5 @@
-// The address of the page: it says what is shown, and a link to it can ask for that, also in an open tab.
+// The address of the page names the turn that is shown, the build that is left out, and the theme. A link can ask for
+// them, also in an open tab.
 const DARK = matchMedia("(prefers-color-scheme: dark)");
 let themeAsked = null;
 function setTheme(theme) {
@@ -13,7 +14,8 @@ function chooseTheme(theme) {
 function countIn(text, most) {
   return /^(0|[1-9][0-9]{0,5})$/.test(text) && Number(text) <= most ? Number(text) : undefined;
 }
-// A part that is missing asks for the default; a wrong one is ignored, and so is an address that has none of the parts.
+// Shows what an address asks for. A missing part asks for the default, and a wrong part is ignored. So is an address
+// that has none of the parts.
 function followAddress(hash) {
   const asked = new URLSearchParams(hash.slice(1));
   const [turn, build, theme] = ["turn", "without", "theme"].map((it) => asked.get(it));
@@ -30,7 +32,7 @@ function addressNow() {
   if (themeAsked !== null) parts.theme = themeAsked;
   return "#" + new URLSearchParams(parts);
 }
-// Browsers limit how often a page may change its address; so it changes at once and then at most four times a second.
+// Changes the address at once, and then at most four times a second, since browsers limit such changes.
 let pending = null;
 function tellAddress() {
   if (pending !== null) return;

@@ -1,4 +1,4 @@
-// The controls, the keys, and the beginning.
+// The controls, the keys, and the start of the page.
 let playing = null;
 function stop() {
   if (playing === null) return;
@@ -83,7 +83,7 @@ document.addEventListener("keydown", (e) => {
   e.stopPropagation();
   if (e.key !== " " || !e.repeat) action();
 }, true);
-// A button that has the focus is pressed by Space when the key is let go.
+// Keeps Space from pressing the button that has the focus when the key is let go.
 document.addEventListener("keyup", (e) => { if (e.key === " ") e.preventDefault(); }, true);
 
 // ---- the beginning

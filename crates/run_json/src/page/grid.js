@@ -1,4 +1,4 @@
-// Grids of granules: a tile each, filled by its state and framed by its build.
+// Grids of granules: each granule is a tile, filled by its state and framed by its build.
 const element = (tag, text, className) => {
   const made = document.createElement(tag);
   if (text !== undefined) made.textContent = text;
@@ -12,7 +12,7 @@ const isNarrow = matchMedia("(max-width: 760px)");
 const columnsNow = () => Math.min(pages, COLUMNS[SIZE][isNarrow.matches ? 1 : 0]);
 const hasBytes = (state) => state === "UNDELEGATED" || state === "DELEGATED" || state === "DATA";
 
-// The contents of a granule's page: the RMM's own, nothing but zeros, or more.
+// The kind of a granule's content: the RMM's own, all zeros, or other bytes.
 const kindOf = (state, page) => (!hasBytes(state) ? "" : page.sum === 0 ? "zero" : "full");
 function contentText(state, page) {
   if (!hasBytes(state)) return "holds what the RMM keeps there";

@@ -1,8 +1,8 @@
-// Realms: what each has, and its tables as a tree.
+// Realms: the attributes of each realm, and its tables as a tree.
 const folded = new Set(), NO_ROWS = [];
 const endOf = (row) => row.first + row.count * COVERED[row.level];
 const lastOf = (row) => row.granule + row.count - 1;
-// Rows of one table that follow each other, and whose granules do, as one; but what a turn has changed stands alone.
+// Merges adjacent rows of one level whose granules are adjacent too, but not rows that the turn has changed.
 function asRuns(rows, items) {
   const runs = [];
   for (const row of rows) {
@@ -31,7 +31,7 @@ function rowLine(row) {
   if (row.state !== "TABLE") line.append(" ", element("span", row.ripas, "ripas " + row.ripas));
   return line;
 }
-// The entry of a table, which can be folded; it stays as it was left while the turns change.
+// The entry of a table, which a user can fold. The entry stays open or folded while the turns change.
 function tableEntry(key, line) {
   const details = element("details"), summary = element("summary"), list = element("ul");
   details.open = !folded.has(key);
@@ -41,7 +41,7 @@ function tableEntry(key, line) {
   details.append(summary, list);
   return { details, list };
 }
-// Rows in rising address, a TABLE row before the rows of its table: those in its range and below its level.
+// The rows as a tree by ascending address, in which the rows of a table are below its TABLE row.
 function treeOf(b, rows, items) {
   const root = element("ul", undefined, "tree"), stack = [{ level: 0, end: Infinity, list: root }];
   const top = () => stack[stack.length - 1];

@@ -13,7 +13,7 @@ function reasonOf(at) {
     ? { error: bare(found.error, "error"), help: found.help && bare(found.help, "help") }
     : { error: refusalText(turn) };
 }
-// A text in which what is between two backquotes is code.
+// A text in which each part between two backquotes becomes code.
 const withCode = (text) => text.split("`").map((part, k) => (k % 2 ? element("code", part) : part));
 function drawReason(reason) {
   const error = reason.error && [element("b", "error:"), " ", ...withCode(reason.error)];

@@ -25,7 +25,7 @@ const REFUSALS = {
 
 const counted = (n, one) => n + " " + one + (n === 1 ? "" : "s");
 
-// A refusal in general words, for a page whose data has no line of its own for the turn.
+// A refusal in general words, for a turn for which the data has no line.
 function refusalText(turn) {
   const [word] = turn.step.split(" "), name = turn.answer.split(" ")[2], [, first, index] = turn.numbers;
   if (name === "Rmi" && (word === "fill" || word === "peek")) return HARDWARE;

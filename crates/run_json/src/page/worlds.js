@@ -1,6 +1,7 @@
-// The worlds of the run. The data has what each turn changed of granules, rows, RECs and realms; a world is made by
-// applying these changes in order. The world without a build is made by those of the others alone. What a page contains
-// follows from the events: fill, data and poke write, and any other event clears the granules that it changes.
+// The worlds of the run: the states of its machine after each number of turns. The data has what each turn changed of
+// granules, rows, RECs and realms; a world is made by applying these changes in order. The world without a build is
+// made by those of the others alone. What a page contains follows from the events: fill, data and poke write, and any
+// other event clears the granules that it changes.
 const data = JSON.parse(document.getElementById("data").textContent);
 const run = data.run, turns = run.turns, pages = run.settings.pages, builds = run.settings.builds;
 const COVERED = { 1: 262144, 2: 512, 3: 1 };
@@ -39,7 +40,7 @@ function copyWorld(world) {
     realms: world.realms.slice(), open: world.open.slice(), mark: world.mark.slice(), aborting: world.aborting.slice(),
   };
 }
-// A row item takes the place of what was in its range, at its level and below.
+// The rows with an item put in, which replaces the rows in its range at its level and below.
 function withRow(rows, item) {
   const from = item.first, to = item.first + item.count * COVERED[item.level], kept = [];
   for (const row of rows) {
@@ -63,7 +64,7 @@ function eventOf(turn) {
   const [, word, ...numbers] = turn.event.split(" ");
   return { word, numbers: numbers.map(Number) };
 }
-// The granules that a turn changed, in what they are or in what they contain.
+// The granules whose attributes or content a turn changed.
 function changedBy(turn, world) {
   if (turn === null || turn.event === null) return [];
   const { word, numbers } = eventOf(turn);
@@ -79,7 +80,7 @@ function stepRealm(world, turn) {
   if (realm && turn.recs) realm = { ...realm, recs: turn.recs.reduce(withRec, realm.recs) };
   world.realms[turn.build] = realm;
 }
-// A build's own number of a page is how many it had when it took the page.
+// Updates the leases of a build. The number of a page is the count of pages that the build had when it took the page.
 function stepLeases(world, build, word, [order, first]) {
   if (word === "take") for (let k = 0; k < 2 ** order; k++) world.numbers[first + k] = world.leased[build]++;
   if (word === "untake") world.leased[build] -= 2 ** order;
@@ -104,7 +105,7 @@ function stepWorld(world, turn) {
   world.aborting[turn.build] = turn.aborting;
 }
 
-// The worlds after each number of turns, of which only the chosen ones count.
+// The worlds after each number of turns, if only the chosen turns are performed.
 // Every so often one is kept, to begin from.
 class Worlds {
   constructor(isChosen) {

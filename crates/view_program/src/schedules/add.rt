@@ -13,7 +13,7 @@ use plan_states::{EndOfStep, PathTally, StepOutcomes};
 use schedule_graph::Count;
 use std::alloc::{AllocError, Global};
 
-// Counts the ends of the steps of a schedule.
+// Counts the outcomes of the steps of a schedule.
 fn count_ends(
     alloc: Global,
     tallies: &mut Vec<PathTally<EndOfStep>>,
@@ -50,7 +50,7 @@ fn has_refusal(ends: &[EndOfStep]) -> bool
     ends.iter().any(|end| end.refusal.is_some())
 }
 
-// Counts those of the plan's `builds` builds that were never refused.
+// Counts each build without a refusal in a run.
 fn count_smooth(
     alloc: Global,
     tallies: &mut Vec<PathTally<usize>>,
@@ -70,7 +70,7 @@ fn count_smooth(
 }
 
 impl Totals {
-    /// The totals of no schedule.
+    /// The totals before any schedule is counted.
     pub fn new(alloc: Global) -> Totals
         ensures { (builds : ℕ) → AreTotals builds [] result }
     {

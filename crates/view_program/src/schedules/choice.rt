@@ -1,6 +1,6 @@
 //! The choice of a build at a turn.
 
-/// The build that has a turn, and the builds that could have had it: those with a step left.
+/// The build that takes a turn, and the builds that had a step left for the turn.
 #[derive(Clone, Copy)]
 pub struct Choice {
     pub build: usize,

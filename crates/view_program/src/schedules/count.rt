@@ -15,7 +15,7 @@ pub(crate) fn builds_of(alloc: Global, order: &[Choice]) -> Result<Vec<usize>, A
     order.iter().map(|choice| choice.build).collect(alloc)
 }
 
-// Adds one to the tally of an outcome. Returns whether it has one.
+// Adds one to the tally of an outcome, and returns whether the outcome has a tally.
 fn bump<K: Eq>(tallies: &mut [PathTally<K>], thing: &K) -> Result<bool, AllocError>
     ensures bumped { OnOk result (map count_of_tally tallies.new ≡ map (bump K.eq thing.now) (map count_of_tally tallies.old)) }
     ensures known { IfOk result (λ known. known ≡ is_known K.eq thing.now tallies.old) }

@@ -45,7 +45,7 @@ fn draw<R: Rng>(rng: &mut R, left: &[bool; 8]) -> Option<usize>
     builds.get(place).copied()
 }
 
-// Goes on with builds that are drawn, until none has a step left.
+// Takes turns of drawn builds, until no build has a step left.
 fn go_on_drawn<S: PageStore, R: Rng>(
     host: &mut Host<S>,
     plan: &Plan,
@@ -68,8 +68,9 @@ fn go_on_drawn<S: PageStore, R: Rng>(
     Ok(())
 }
 
-/// Runs a plan on a host: at each turn one of the builds that have a step left is drawn, until none has. The choices
-/// are then those of the whole schedule, and each end of a step is noted. At an `Err` allocation failed.
+/// Runs a plan on a host, and draws the build of each turn from those with a step left, until no build has one. The
+/// choices are then those of the whole schedule, and the outcome of each step is recorded. At an `Err` allocation
+/// failed.
 pub fn run_drawn<S: PageStore, R: Rng>(
     host: &mut Host<S>,
     plan: &Plan,

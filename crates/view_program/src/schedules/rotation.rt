@@ -31,7 +31,7 @@ fn in_rotation(from: usize, left: &[bool; 8]) -> Option<usize>
     }
 }
 
-// Goes on with builds in rotation, until none has a step left.
+// Takes turns of builds in rotation, until no build has a step left.
 fn go_on_in_rotation<S: PageStore>(
     host: &mut Host<S>,
     plan: &Plan,
@@ -55,8 +55,8 @@ fn go_on_in_rotation<S: PageStore>(
     Ok(())
 }
 
-/// Runs a plan on a host: builds take turns in rotation, each that has a step left, until none has. The choices are
-/// then those of the whole schedule, and each end of a step is noted. At an `Err` allocation failed.
+/// Runs a plan on a host, with turns in rotation among the builds with a step left, until no build has one. The choices
+/// are then those of the whole schedule, and the outcome of each step is recorded. At an `Err` allocation failed.
 pub(crate) fn run_in_rotation<S: PageStore>(
     host: &mut Host<S>,
     plan: &Plan,

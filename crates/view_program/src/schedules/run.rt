@@ -55,7 +55,7 @@ fn refusal_in(answer: TurnAnswer) -> Option<Refusal>
     }
 }
 
-/// Takes one turn of a build that has a step left. If the turn uses the step up, its end is noted.
+/// Takes one turn of a build that has a step left. If the turn uses the step up, the outcome of the step is recorded.
 pub(crate) fn take_step<S: PageStore>(
     host: &mut Host<S>,
     plan: &Plan,
@@ -85,7 +85,7 @@ pub(crate) fn take_step<S: PageStore>(
     Ok(())
 }
 
-// Goes on with the lowest build that has a step left, until none has.
+// Takes turns of the lowest build with a step left, until no build has one.
 fn go_on<S: PageStore>(
     host: &mut Host<S>,
     plan: &Plan,
@@ -106,8 +106,8 @@ fn go_on<S: PageStore>(
     Ok(())
 }
 
-/// Runs a plan on a host: each turn is that of the lowest build that has a step left, until none has. The choices are
-/// then those of the whole schedule, and each end of a step is noted. At an `Err` allocation failed.
+/// Runs a plan on a host, with each turn for the lowest build with a step left, until no build has one. The choices are
+/// then those of the whole schedule, and the outcome of each step is recorded. At an `Err` allocation failed.
 pub(crate) fn run_one_by_one<S: PageStore>(
     host: &mut Host<S>,
     plan: &Plan,

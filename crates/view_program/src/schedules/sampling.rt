@@ -1,4 +1,4 @@
-//! The run of schedules that are drawn.
+//! The runs of schedules that are drawn at random.
 ghost use Rattle.std.specs.Prelude.{◌≡◌, OnOk, IfOk};
 ghost use Rattle.realm_plan.specs.PlanView.{plan_view};
 ghost use Rattle.realm_program.specs.Replay.{opening_host};
@@ -16,7 +16,7 @@ use realm_plan::Plan;
 use realm_program::boot;
 use std::alloc::{AllocError, Global};
 
-// Counts a run that led to this host, and checks that no build with nothing open is seen in the map.
+// Counts a run by its final host, and checks that builds with nothing open do not change the map.
 fn count_run(
     alloc: Global,
     plan: &Plan,
@@ -37,7 +37,7 @@ fn count_run(
     Ok(())
 }
 
-// Runs a schedule that is drawn on a host of its own, and counts it.
+// Runs a drawn schedule on a fresh host, and counts the run.
 fn visit_drawn<R: Rng>(
     alloc: Global,
     plan: &Plan,

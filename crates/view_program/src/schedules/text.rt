@@ -1,4 +1,4 @@
-//! The text of the outcomes of schedules that are drawn.
+//! The text of the outcomes of drawn schedules.
 ghost use Rattle.std.specs.Prelude.{◌≡◌, ◌++◌, OnOk, string_bytes};
 ghost use Rattle.std.specs.List.{flat_map};
 ghost use Rattle.realm_plan.specs.PlanView.{plan_view};
@@ -10,7 +10,7 @@ use realm_plan::Plan;
 use schedule_graph::Count;
 use std::alloc::AllocError;
 
-// Appends the line of the number of schedules.
+// Appends the line with the number of schedules.
 fn push_drawn_count(text: &mut String, orders: &Count) -> Result<(), AllocError>
     ensures { OnOk result (string_bytes text.new ≡ string_bytes text.old ++ drawn_line orders.now) }
 {
@@ -34,8 +34,8 @@ fn push_maps(
     Ok(())
 }
 
-/// Appends the outcomes of schedules that were drawn: how many there are, the ends of their steps, and their maps. At
-/// an `Err` allocation failed, and the text may have a part of it.
+/// Appends the outcomes of drawn schedules: the number of schedules, the outcomes of steps, and the final maps. At an
+/// `Err` allocation failed, and the text may have a part of it.
 pub fn push_drawn(text: &mut String, plan: &Plan, totals: &Totals) -> Result<(), AllocError>
     ensures { OnOk result (string_bytes text.new ≡ string_bytes text.old ++ drawn_text (plan_view plan.now) totals.now) }
 {

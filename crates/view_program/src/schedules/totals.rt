@@ -5,6 +5,6 @@ use plan_states::{PathTally, StepOutcomes};
 #[derive(Drop)]
 pub struct Totals {
     pub steps: StepOutcomes,
-    /// The maps in the end.
+    /// The final maps.
     pub maps: Vec<PathTally<String>>,
 }

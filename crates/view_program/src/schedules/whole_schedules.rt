@@ -12,8 +12,8 @@ use realm_plan::Plan;
 use realm_program::boot;
 use std::alloc::{AllocError, Global};
 
-/// The build of each turn of a run on a fresh host: builds with a step left take turns in rotation, until none has one.
-/// The plan's own schedule is not used. At an `Err` allocation failed.
+/// The build of each turn of a run on a fresh host, with turns in rotation among the builds with a step left. The
+/// plan's own schedule is not used. At an `Err` allocation failed.
 pub fn schedule_in_rotation(alloc: Global, plan: &Plan) -> Result<Vec<usize>, AllocError>
     ensures { IfOk result (λ order. IsWholeSchedule (AreInRotation 0) (plan_view plan.now)
         (opening_host (plan_view plan.now)) order.items) }
@@ -25,8 +25,8 @@ pub fn schedule_in_rotation(alloc: Global, plan: &Plan) -> Result<Vec<usize>, Al
     builds_of(alloc, &choices)
 }
 
-/// The build of each turn of a run on a fresh host: one build after the other has all its turns, from the lowest on.
-/// The plan's own schedule is not used. At an `Err` allocation failed.
+/// The build of each turn of a run on a fresh host, with all turns of a lower build before those of a higher one. The
+/// plan's own schedule is not used. At an `Err` allocation failed.
 pub fn schedule_one_by_one(alloc: Global, plan: &Plan) -> Result<Vec<usize>, AllocError>
     ensures { IfOk result (λ order. IsWholeSchedule AreOneByOne (plan_view plan.now)
         (opening_host (plan_view plan.now)) order.items) }
