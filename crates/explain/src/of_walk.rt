@@ -109,7 +109,7 @@ pub(crate) fn entry_leads<S: PageStore>(host: &Host<S>, build: BuildId, ipa: u32
     input_check(Fact::Walk(WalkFact::Leads(granule)), granule.is_none())
 }
 
-// Whether the entry of level 3 of an IPA granule is UNASSIGNED.
+// Whether the walk of an IPA granule to level 3 ends at an UNASSIGNED entry.
 fn is_free_entry<S: PageStore>(host: &Host<S>, build: BuildId, ipa: u32) -> bool
     ensures { result ≡ is_free_entry host.now build ipa }
 {
@@ -117,7 +117,7 @@ fn is_free_entry<S: PageStore>(host: &Host<S>, build: BuildId, ipa: u32) -> bool
     matches!(found, Some(EntryState::Unassigned))
 }
 
-// Whether the `count` entries of level 3 from an IPA granule on are UNASSIGNED.
+// Whether the walks to level 3 of the `count` IPA granules from `ipa` on all end at UNASSIGNED entries.
 fn are_free<S: PageStore>(host: &Host<S>, build: BuildId, ipa: u32, count: u16) -> bool
     requires { ipa + count ≤ 4294967296 }
     ensures { result ≡ are_free host.now build ipa count }
@@ -130,7 +130,7 @@ fn are_free<S: PageStore>(host: &Host<S>, build: BuildId, ipa: u32, count: u16) 
     true
 }
 
-/// The check that the `count` entries of level 3 from an IPA granule on are UNASSIGNED.
+/// The check that the walks to level 3 of the `count` IPA granules from `ipa` on all end at UNASSIGNED entries.
 pub(crate) fn entries_free<S: PageStore>(
     host: &Host<S>,
     build: BuildId,
