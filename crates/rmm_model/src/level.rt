@@ -1,6 +1,7 @@
-//! Levels of translation tables, and the entry that covers an address at a level.
+//! Levels of translation tables, and the entry of a level that covers an address.
 //!
-//! The size of an entry is written as a power of two, so that no division by it is left in the program.
+//! The size of an entry is written as a power of two, so that no division or multiplication by it is left in the
+//! program. A remainder by a known size is cheaper still, and has an arm of its own for each level.
 ghost use Rattle.std.specs.Prelude.{◌≡◌, ◌<◌, ◌≤◌, ◌/◌, ◌%◌, ◌^◌};
 ghost use Rattle.rmm_model.specs.Level as levels;
 
@@ -41,7 +42,12 @@ pub fn entry_offset(level: u8, address: u64) -> u64
     ensures value { result ≡ address % levels.entry_size level }
     ensures below { result < 2 ^ 39 }
 {
-    address % entry_size(level)
+    match level {
+        3 => address % 4096,
+        2 => address % 0x20_0000,
+        1 => address % 0x4000_0000,
+        _ => address % 0x80_0000_0000,
+    }
 }
 
 /// The index of the entry that covers an address, among the 512 entries of its table.
