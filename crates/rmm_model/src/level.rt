@@ -1,4 +1,4 @@
-//! Levels of translation tables, and the entry of a level that covers an address.
+//! Levels of translation tables, and the entry that covers an address at a level.
 //!
 //! The size of an entry is written as a power of two, so that no division or multiplication by it is left in the
 //! program. A remainder by a known size is cheaper still, and has an arm of its own for each level.
