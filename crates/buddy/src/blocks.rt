@@ -7,7 +7,7 @@ ghost use Rattle.buddy.specs.Heads.{head_at, start_at, buddy_at, AreMaximal};
 ghost use Rattle.buddy.specs.InHand.{AllBelow, HasChecked};
 
 use crate::lists::FreeLists;
-use granule_addr::{Gran, MOST_PAGES, Order, align_down, buddy_of};
+use granule_addr::{Gran, Order, align_down, buddy_of};
 
 // The order with the given number.
 fn order_of(number: usize) -> Order
@@ -42,7 +42,7 @@ fn other_half(first: usize, order: usize) -> usize
     requires order { order < 10 }
     ensures { result ≡ buddy_at first order }
 {
-    let first = Gran::new(first as u16, MOST_PAGES).unwrap();
+    let first = Gran::from_number(first as u16);
     buddy_of(first, order_of(order)) as usize
 }
 

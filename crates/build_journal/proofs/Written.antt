@@ -1,18 +1,12 @@
 -- A stack after a block is pushed, and the list of stacks after one is written.
 use Rattle.std.proofs.Common.{◌≡◌, ℕ, ◌+◌, ◌<◌, ◌≤◌, List, [], ◌∷◌, ◌++◌, length, take, get_or, set, vec_len, vec_capacity}
-use Rattle.std.proofs.Common.{Bool, true, false, if◌then◌else◌, Option, Some, None, sym, ap, ◌∙◌, subst, arith, append_assoc}
+use Rattle.std.proofs.Common.{sym, ap, ◌∙◌, subst, arith, append_assoc}
 use Rattle.std.proofs.lemmas.List.{length-map, get_or-map, map-set, take_more_set}
 use Rattle.std.proofs.lemmas.List.Elements.{All-set}
-use Rattle.std.proofs.lemmas.Option.{same_Some}
 use Rattle.std.specs.Global.{Vec}
 use Rattle.std.specs.List.{range_with_len}
 use Rattle.build_journal.specs.Stacks.{contents, IsRoomy, IsKept}
 use Rattle.granule_addr.proofs.Runs.{range_with_len_more}
-
--- the granule of a number that a machine has
-pub granule_is : (fits : Bool) (k granule : ℕ) (found : Option ℕ) → found ≡ (if fits then Some k else None) → found ≡ Some granule → granule ≡ k
-granule_is true k granule found is found_is = same_Some granule k (sym found_is ∙ is)
-granule_is false k granule found is found_is = let clash : None ≡ Some granule = sym is ∙ found_is in cc
 
 -- one more granule of the block, in its place
 pub written_on : (pages before : List ℕ) (start first k granule : ℕ) → start + k < length before → granule ≡ first + k

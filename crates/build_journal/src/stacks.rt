@@ -2,7 +2,7 @@
 ghost use Rattle.std.specs.Prelude.{◌≡◌, ◌+◌, ◌^◌, ◌<◌, ◌≤◌, [], length, replicate, IfOk, slice_get, vec_len, vec_capacity};
 ghost use Rattle.build_journal.specs.Stacks.{stack_of, with_stack, pushed, popped};
 
-use granule_addr::{BuildId, Gran, MOST_PAGES, Order};
+use granule_addr::{BuildId, Gran, Order};
 use std::alloc::{AllocError, Global};
 use std::marker::Model;
 
@@ -91,7 +91,7 @@ pub fn push_run(stack: &mut Vec<Gran>, first: Gran, order: Order)
     let number = first.number();
     // (written by index and not pushed, so that no write depends on the length that the previous write stored)
     for k in 0..order.size() {
-        stack[start + k as usize] = Gran::new(number + k, MOST_PAGES).unwrap();
+        stack[start + k as usize] = Gran::from_number(number + k);
     }
 }
 

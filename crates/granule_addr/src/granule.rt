@@ -34,6 +34,14 @@ impl Gran {
         }
     }
 
+    /// Granule `number` of a machine of the largest size.
+    pub fn from_number(number: u16) -> Gran
+        requires { number < 4096 }
+        ensures { result ≡ number }
+    {
+        Gran(number)
+    }
+
     pub fn number(self) -> u16
         ensures value { result ≡ self }
         ensures below { result < 4096 }

@@ -4,7 +4,7 @@ ghost use Rattle.decimal_text.specs.Rows.{up_to};
 ghost use Rattle.history_text.specs.Written.{granule, ipa};
 
 use arrayvec::ArrayVec;
-use granule_addr::{Gran, IpaGran, MOST_PAGES};
+use granule_addr::{Gran, IpaGran};
 
 /// The largest granule number.
 pub const GRANULE: u32 = 4095;
@@ -22,7 +22,7 @@ pub fn granule_of(number: u32) -> Gran
     requires { number ≤ granule }
     ensures { result ≡ number }
 {
-    Gran::new(number as u16, MOST_PAGES).unwrap()
+    Gran::from_number(number as u16)
 }
 
 pub fn ipa_of(number: u32) -> IpaGran

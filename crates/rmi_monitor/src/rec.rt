@@ -12,7 +12,7 @@ ghost use Rattle.rmi_monitor.specs.Inside.{recs_of, IsNumbered, IsRecAt};
 use crate::places::{can_be_rec, release, release_all, shift_all};
 use crate::{Monitor, RealmDesc, Rec, rec_event};
 use arrayvec::ArrayVec;
-use granule_addr::{Gran, MOST_PAGES, RecNo};
+use granule_addr::{Gran, RecNo};
 use page_arena::PageStore;
 use realm_model::{GranuleState, Rmi};
 use rtt::GranuleTable;
@@ -134,7 +134,7 @@ pub(crate) fn find_rec(
     ensures none { IfNone result (get (recs_of granules.now recs.now rd) number ≡ None) }
 {
     'granules: for place in 0..granules.pages() {
-        let granule = Gran::new(place, MOST_PAGES).unwrap();
+        let granule = Gran::from_number(place);
         let Some(rec) = &recs[place as usize] else {
             continue;
         };

@@ -6,7 +6,7 @@ ghost use Rattle.rmm_model.specs.Command.Operand as operands;
 ghost use Rattle.rmm_checks.specs.Evaluated.{Adds};
 
 use crate::EvaluatedChecks;
-use granule_addr::{Gran, MOST_PAGES};
+use granule_addr::Gran;
 use page_arena::PageStore;
 use rmm_granules::{Granules, OperandConditions};
 use rmm_model::{Condition, RmmGranuleState};
@@ -36,7 +36,7 @@ pub fn covering<S: PageStore>(granules: &Granules<S>, address: u64) -> Option<Gr
 {
     let number = number_at(granules, address);
     if number < granules.count() as u64 {
-        Some(Gran::new(number as u16, MOST_PAGES).unwrap())
+        Some(Gran::from_number(number as u16))
     } else {
         None
     }

@@ -7,7 +7,7 @@ ghost use Rattle.rmm_model.specs.Walk as walks;
 ghost use Rattle.rmm_model.specs.Command.PsciComplete as completing;
 
 use crate::Granules;
-use granule_addr::{Gran, MOST_PAGES};
+use granule_addr::Gran;
 use page_arena::PageStore;
 use rmm_model::RmmRealm;
 
@@ -16,7 +16,7 @@ pub fn granule_after(first: Gran, k: u16) -> Gran
     requires { first + k < 4096 }
     ensures { result ≡ first + k }
 {
-    Gran::new(first.number() + k, MOST_PAGES).unwrap()
+    Gran::from_number(first.number() + k)
 }
 
 /// The granule of the machine that an address lies in.

@@ -17,7 +17,7 @@ ghost use Rattle.rmm_granules.specs.RecEdits.{edited};
 use crate::realm_edit::{RealmEdit, edit_rd};
 use crate::rec_edit::{RecEdit, edit_granule};
 use crate::taking::take_all;
-use granule_addr::{Gran, MOST_PAGES, PageOff};
+use granule_addr::{Gran, PageOff};
 use page_arena::PageStore;
 use rmi_abi::{Platform, RmmSettings};
 use rmm_model::{RmmGranule, RmmGranuleState, RmmRealm, RmmRec};
@@ -141,7 +141,7 @@ impl<S: PageStore> Granules<S> {
         ensures inside { result < granule_count self.now }
     {
         let number = (address - self.platform.settings().base) / 4096;
-        Gran::new(number as u16, MOST_PAGES).unwrap()
+        Gran::from_number(number as u16)
     }
 
     /// Whether an address lies in memory of the secure world.

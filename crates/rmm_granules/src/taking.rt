@@ -2,7 +2,7 @@
 ghost use Rattle.std.specs.Prelude.{◌≡◌, ℕ, ◌<◌, false, length};
 ghost use Rattle.page_arena.specs.Page.{is_free};
 
-use granule_addr::{Gran, MOST_PAGES, Order};
+use granule_addr::{Gran, Order};
 use page_arena::PageStore;
 
 // Takes each page that is free.
@@ -12,7 +12,7 @@ pub(crate) fn take_all<S: PageStore>(store: &mut S)
 {
     let order = Order::new(0).unwrap();
     for page in 0..store.pages() {
-        let first = Gran::new(page, MOST_PAGES).unwrap();
+        let first = Gran::from_number(page);
         store.take_at(order, first);
     }
 }

@@ -6,7 +6,7 @@ ghost use Rattle.rmm_model.specs.Realm.{IsServed};
 ghost use Rattle.rmm_model.specs.Walk as walks;
 
 use crate::{Granules, granule_named};
-use granule_addr::{Gran, MOST_PAGES};
+use granule_addr::Gran;
 use page_arena::{PageStore, word_in};
 use rmm_model::{
     RmmRealm, RmmRttEntry, RttWalk, entry_from_word, entry_index, entry_number, entry_size,
@@ -57,7 +57,7 @@ fn start_of(realm: &RmmRealm, ipa: u64, count: u16) -> RttWalk
 {
     let table = realm.first_table.number() as u64 + start_offset(realm.start_level, ipa);
     RttWalk {
-        table: Gran::new(table as u16, MOST_PAGES).unwrap(),
+        table: Gran::from_number(table as u16),
         level: realm.start_level,
     }
 }

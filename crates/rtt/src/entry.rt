@@ -3,7 +3,7 @@ ghost use Rattle.std.specs.Prelude.{◌≡◌};
 ghost use Rattle.realm_model.specs.Rows as rows;
 ghost use Rattle.rtt.specs.Word.{entry_word, entry_of};
 
-use granule_addr::{Gran, MOST_PAGES};
+use granule_addr::Gran;
 use realm_model::{EntryState, Ripas};
 use std::marker::Model;
 
@@ -136,7 +136,7 @@ impl Entry {
             2 => Ripas::Destroyed,
             _ => Ripas::Empty,
         };
-        let granule = Gran::new((word / 4096 % 4096) as u16, MOST_PAGES).unwrap();
+        let granule = Gran::from_number((word / 4096 % 4096) as u16);
         match word % 4 {
             1 => Entry::assigned(ripas, granule),
             2 => Entry::table(granule),

@@ -114,5 +114,5 @@ pub(crate) fn starting_table(root: Root, number: u16) -> Gran
     requires { root.first + number < MOST_PAGES }
     ensures { result ≡ root.first + number }
 {
-    Gran::new(root.first.number() + number, MOST_PAGES).unwrap()
+    Gran::from_number(root.first.number() + number)
 }

@@ -15,12 +15,11 @@ overflow_cast-table-2 c =
     let inside = c.requires.served.inside in
     omega arith
 
-pub unwrap-requires : goal.unwrap-requires
-unwrap-requires c =
+pub from_number-requires : goal.from_number-requires
+from_number-requires c =
     let within = start_inside c.args.realm.now.start_level c.args.ipa c.args.realm.now.s2sz c.args.realm.now.table_count c.requires.in_space c.requires.served.served in
     let inside = c.requires.served.inside in
-    let few : c.number.result + c.start_offset.result < 4096 = omega arith in
-    search rules
+    omega arith
 
 pub returns-clause-inside : goal.returns-clause-inside
 returns-clause-inside c =
