@@ -9,5 +9,6 @@ pub mod Runs
 pub mod SideBySide
 pub mod StatesDiffer
 pub mod TwoRecs
+pub mod UpperHalf
 pub mod Walks
 pub mod WordEdits

@@ -169,7 +169,8 @@ fn is_unprotected(realm: &RmmRealm, ipa: u64) -> bool
     requires { realm.now.s2sz ≤ 48 }
     ensures { result ≡ realms.is_unprotected realm.now ipa }
 {
-    !is_protected(realm, ipa) && is_in_space(realm, ipa)
+    let half = (1u64 << realm.s2sz) / 2;
+    ipa >= half && ipa - half < half
 }
 
 // Checks that there are pages or blocks at a level, and that an entry of it begins at an address of a realm's
