@@ -108,8 +108,8 @@ pub fn rtt_create<S: PageStore>(
                 state: RmmGranuleState::Rtt,
                 owner: Some(vacancy.rd),
             };
-            granules.set(vacancy.table, kept);
             write_children(granules, vacancy.table, vacancy.parent, vacancy.level);
+            granules.set(vacancy.table, kept);
             write(granules, &vacancy.found, ipa, RmmRttEntry::Table(rtt));
             SmcResult::only(Word::Success)
         }
