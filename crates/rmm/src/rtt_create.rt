@@ -26,7 +26,7 @@ pub struct Vacancy {
 }
 
 // Writes the children of a mapping to a table.
-#[inline(never)]
+#[inline(always)]
 fn write_mappings<S: PageStore>(
     granules: &mut Granules<S>,
     table: Gran,
