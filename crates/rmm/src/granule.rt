@@ -19,8 +19,8 @@ pub fn blank<S: PageStore>(granules: &mut Granules<S>, granule: Gran, state: Rmm
     requires plain { realm_of state ≡ None }
     ensures { granules.new ≡ with_blank granules.old granule state }
 {
-    granules.set(granule, RmmGranule { state, owner: None });
     granules.fill(granule, 0);
+    granules.set(granule, RmmGranule { state, owner: None });
 }
 
 // Returns the granule that RMI_GRANULE_DELEGATE delegates, or the failed condition.
