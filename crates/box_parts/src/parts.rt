@@ -1,4 +1,4 @@
-//! A box taken apart, and put together again.
+//! The parts of a box: its raw pointer and its allocator.
 ghost use Rattle.std.specs.Prelude.{◌≡◌};
 ghost use Rattle.std_alloc.specs.Box.Ownership.{box_owns};
 

@@ -76,8 +76,8 @@ impl PageStore for BuddyArena {
         self.index.count()
     }
 
-    /// Takes a block out of the first block in the nonempty list of the smallest order that suffices. The visits are
-    /// one for each order up to that of the list. If no order has a block, there are no visits.
+    /// Takes a block, cut out of the first block in the nonempty list of the smallest order that suffices. The visits
+    /// are one for each order up to that of the list. If no order has a block, there are no visits.
     fn take(&mut self, order: Order) -> Option<Gran>
         ensures first { result ≡ first_block self.old.index.lists order }
         ensures block { IfSome result (IsFreeBlock self.old.index.flags order) }

@@ -17,7 +17,7 @@ fn order_of(number: usize) -> Order
     Order::new(number as u8).unwrap()
 }
 
-/// The number of granules of a block of an order.
+/// The number of granules in a block of a given order.
 pub(crate) fn size_of(order: usize) -> u16
     requires { order < 10 }
     ensures size { result ≡ 2 ^ order }
@@ -35,8 +35,8 @@ pub(crate) fn start_of(granule: usize, order: usize) -> usize
     align_down(granule as u16, order_of(order)) as usize
 }
 
-// The first granule of a block's buddy, which is the other half of the enclosing block of the next order. A machine may
-// lack the buddy.
+// The first granule of a block's buddy: the other half of the enclosing block of the next order. A machine may lack the
+// buddy.
 fn other_half(first: usize, order: usize) -> usize
     requires first { first < 4096 }
     requires order { order < 10 }
@@ -46,8 +46,8 @@ fn other_half(first: usize, order: usize) -> usize
     buddy_of(first, order_of(order)) as usize
 }
 
-// Visits one order in `cut_out`, and returns whether the free block is found by then. Once found, the block is halved,
-// and the half without the granule is put back.
+// Visits one order for `cut_out`, and returns whether the free block that contains the granule is found by then. Once
+// found, the block is halved, and the half without the granule is put back.
 fn check_order(lists: &mut FreeLists, granule: usize, order: usize, found: bool) -> bool
     ghost flags: { List Bool }
     requires granule { granule < 4096 }

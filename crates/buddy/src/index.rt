@@ -62,7 +62,7 @@ impl FreeIndex {
         self.lists.head(first) as usize == order + 1
     }
 
-    /// Takes a block out of the first block in the list of the smallest order that suffices. Returns the number of
+    /// Takes a block, cut out of the first block in the list of the smallest order that suffices. Returns the number of
     /// orders visited, too.
     pub(crate) fn take(&mut self, order: usize) -> Option<(usize, u8)>
         requires { order < 10 }

@@ -7,7 +7,7 @@ use granule_addr::MOST_PAGES;
 use std::alloc::{AllocError, Global};
 use std::marker::Model;
 
-// The value that ends a list, which is the number of no granule.
+// The link that ends a list, a number that no granule has.
 const NOWHERE: u16 = MOST_PAGES;
 
 /// A doubly linked list of free blocks for each order. The links are kept outside the pages, because free pages are
@@ -33,7 +33,7 @@ impl Model for Links {
 }
 
 impl Links {
-    /// Lists with no block.
+    /// Empty lists for `count` granules.
     pub(crate) fn build(alloc: Global, count: usize) -> Result<Links, AllocError>
         requires { count ≤ 4096 }
         ensures { IfOk result (λ links. links.heads ≡ replicate count 0) }
@@ -49,7 +49,7 @@ impl Links {
         })
     }
 
-    /// One more than the order of the block that the granule heads; 0 if it heads none.
+    /// One more than the order of the listed block that begins at a granule; 0 if there is none.
     pub(crate) fn head(&self, granule: usize) -> u8
         ensures { result ≡ head_at self.now.heads granule }
     {

@@ -1,4 +1,4 @@
-//! The lists of free blocks by order, with a mask: a bit for each order that has a free block.
+//! The lists of free blocks by order, with a mask that has a bit set for each order with a free block.
 ghost use Rattle.std.specs.Prelude.{◌≡◌, ℕ, ◌+◌, ◌<◌, ◌≤◌, ◌≢◌, length, replicate, slice_set, IfOk, IfSome, IfNone};
 ghost use Rattle.buddy.specs.Heads.{head_at};
 ghost use Rattle.buddy.specs.Links.{HasHead, at};
@@ -28,7 +28,7 @@ impl Model for FreeLists {
 }
 
 impl FreeLists {
-    /// Lists with no block.
+    /// Empty lists for `count` granules.
     pub(crate) fn build(alloc: Global, count: usize) -> Result<FreeLists, AllocError>
         requires { count ≤ 4096 }
         ensures { IfOk result (λ lists. lists.heads ≡ replicate count 0) }
@@ -37,7 +37,7 @@ impl FreeLists {
         Ok(FreeLists { links, mask: 0 })
     }
 
-    /// One more than the order of the block that the granule heads; 0 if it heads none.
+    /// One more than the order of the listed block that begins at a granule; 0 if there is none.
     pub(crate) fn head(&self, granule: usize) -> u8
         ensures { result ≡ head_at self.now.heads granule }
     {

@@ -1,4 +1,4 @@
-//! The stack of the operations that a build has open.
+//! The stack of a build's open operations.
 ghost use Rattle.std.specs.Prelude.{◌≡◌, ◌≤◌, [], length, drop, nat_le, IfOk, IfSome, option_map, true};
 ghost use Rattle.std.specs.List.{last_or};
 ghost use Rattle.realm_model.specs.Act.{is_paired};
@@ -8,7 +8,7 @@ use realm_model::{Act, JOURNAL_ROOM};
 use std::alloc::{AllocError, Global};
 use std::marker::Model;
 
-/// The operations that a build has open, the newest last. All memory of a journal is taken when the journal is built.
+/// The open operations of a build, with the newest last. All memory of a journal is taken when the journal is built.
 #[derive(Drop)]
 pub struct Journal {
     entries: Vec<Act>,

@@ -1,5 +1,5 @@
-//! The records of builds beside the history: the open operations and leased pages of each build, and the VMIDs in use.
-//! The history grows by one event at a time.
+//! The records that are kept of builds besides the history: each build's open operations and leased pages, and the
+//! VMIDs in use. The history grows by one event at a time.
 //!
 //! The journal of a build is a stack of its open operations. Each operation that is open has a reverse.
 //!

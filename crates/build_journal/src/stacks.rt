@@ -1,4 +1,4 @@
-//! The stack of leased pages of each build.
+//! Each build's stack of leased pages.
 ghost use Rattle.std.specs.Prelude.{◌≡◌, ◌+◌, ◌^◌, ◌<◌, ◌≤◌, [], length, replicate, IfOk, slice_get, vec_len, vec_capacity};
 ghost use Rattle.build_journal.specs.Stacks.{stack_of, with_stack, pushed, popped};
 
@@ -6,7 +6,7 @@ use granule_addr::{BuildId, Gran, Order};
 use std::alloc::{AllocError, Global};
 use std::marker::Model;
 
-/// The pages that each build leases, in the order of taking.
+/// The pages that each build leases, in the order in which it took them.
 #[derive(Drop)]
 pub struct Leases {
     stacks: Vec<Vec<Gran>>,
@@ -51,7 +51,7 @@ impl Leases {
         push_run(&mut self.stacks[build.number() as usize], first, order);
     }
 
-    /// Removes from a build's stack the pages of the block that the build has taken last.
+    /// Removes the pages of the block that a build took last from the build's stack.
     pub fn pop_block(&mut self, build: BuildId, order: Order)
         requires there { build < length self.old.stacks }
         requires enough { 2 ^ order ≤ length (stack_of self.old build) }
@@ -69,7 +69,7 @@ impl Leases {
         stack.get(k as usize).copied()
     }
 
-    /// The number of pages of a build.
+    /// The number of pages that a build leases.
     pub fn count(&self, build: BuildId) -> u16
         requires { build < length self.now.stacks }
         ensures value { result ≡ length (stack_of self.now build) }

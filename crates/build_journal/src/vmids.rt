@@ -7,7 +7,7 @@ ghost use Rattle.build_journal.specs.Vmids.{is_free, IsLowestFree, IsClaimed};
 use granule_addr::{Vmid, VmidSet};
 use std::marker::Model;
 
-/// The VMIDs of a machine, from 1 to a greatest VMID, and the set of VMIDs in use.
+/// The VMIDs of a machine, from 1 to a maximum, and the set of those in use.
 #[derive(Drop)]
 pub struct VmidPool {
     vmids: u8,

@@ -1,4 +1,4 @@
-//! The questions of a worker: each takes a turn, makes a call of the teller, and adds a line to the report.
+//! The questions that a worker asks: each takes a turn, calls the teller, and adds a line to the report.
 ghost use Rattle.std.specs.Prelude.{◌≡◌, ◌+◌, ◌^◌, ◌<◌, [], ◌∷◌, ◌++◌, vec_len, vec_capacity};
 ghost use Rattle.build_seats.specs.Asked.{answer_of, line, ArePut};
 ghost use Rattle.build_seats.specs.Report.{ending_of};

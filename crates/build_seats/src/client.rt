@@ -14,7 +14,7 @@ use arrayvec::ArrayVec;
 use granule_addr::RecNo;
 use host_commands::{Cmd, Step};
 
-// A copy of the numbers.
+// A copy of a list of REC numbers.
 fn clone_numbers(numbers: &[u16]) -> ArrayVec<u16, MOST>
     requires { length numbers.now ≤ 1024 }
     ensures { result.items ≡ numbers.now }

@@ -1,4 +1,4 @@
-//! The checks at a close: each build has one seat, and the trail of the seat is the build's part of the history.
+//! The checks before a shared host is closed: each build has one seat, whose trail is the build's part of the history.
 ghost use Rattle.std.specs.Prelude.{◌≡◌, ◌+◌, ◌<◌, ◌≤◌, ◌↔◌, [], filter, slice_index, true, IsTrue, IfSome, IfNone};
 ghost use Rattle.std.specs.List.{All};
 ghost use Rattle.build_seats.specs.Close.{seats_of, Fits, IsMissing, AreSeatsWhole, Differs, FitsAll};
@@ -14,7 +14,7 @@ use realm_model::Event;
 pub enum CloseFault {
     /// A build that does not have exactly one seat.
     SeatMissing(BuildId),
-    /// A build whose seat has a trail that is not the build's part of the history.
+    /// A build with a seat whose trail is not the build's part of the history.
     RecordMismatch(BuildId),
 }
 

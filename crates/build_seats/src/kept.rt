@@ -47,8 +47,8 @@ impl<S: PageStore, L: Ledgers> Model for Kept<S, L> {
 }
 
 impl<S: PageStore, L: Ledgers> Kept<S, L> {
-    /// Prepares a host without history for sharing, and makes a seat for each of its builds, the lowest build first.
-    /// All memory for their events is taken here. If there is none, blanks and host come back.
+    /// Prepares a host with an empty history to be shared, and makes a seat for each of its builds, the lowest build
+    /// first. All memory for their events is taken here. If there is none, blanks and host come back.
     pub fn start(
         alloc: Global,
         blanks: Blanks,

@@ -11,7 +11,7 @@ use granule_addr::BuildId;
 use std::marker::{Brand, Model, PhantomData};
 use std::sync::ledger::{Book, Ledger, Share};
 
-/// The ledgers of the builds that share a host, and the host that the builds were started with.
+/// The names of the ledgers of builds that share a host, and the host with which the builds were started.
 pub trait Ledgers {
     ghost opened: { HostView };
 
@@ -126,7 +126,7 @@ impl<L: Ledgers> Model for Pass<L> {
 }
 
 impl<L: Ledgers> Pass<L> {
-    /// The build whose events the pass counts.
+    /// The build whose events are counted.
     pub fn build(&self) -> BuildId
         ensures build { result ≡ self.now.build }
         ensures range { self.now.build < 8 }

@@ -101,7 +101,7 @@ impl<L: Ledgers> Seat<L> {
         self.pass.build()
     }
 
-    /// The number of the build's events that the seat has counted, which is the length of the trail.
+    /// The number of its build's events that the seat has counted, which is the length of the seat's trail.
     pub fn count(&self) -> usize
         ensures count { result ≡ self.now.count }
         ensures trail { result ≡ length self.now.trail }
@@ -117,7 +117,7 @@ impl<L: Ledgers> Seat<L> {
     }
 }
 
-/// Makes a seat of each trail and one of the passes, taken in sequence. The other passes are dropped.
+/// Makes a seat from each trail and one of the passes, which are taken in sequence. The other passes are dropped.
 pub(crate) fn seated<L: Ledgers>(
     mut seats: Vec<Seat<L>>,
     passes: [Pass<L>; 8],

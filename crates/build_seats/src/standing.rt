@@ -80,7 +80,7 @@ impl Standing {
         self.turn
     }
 
-    /// Counts the turn that a question takes.
+    /// Adds one to the number of the next turn.
     pub(crate) fn take_turn(&mut self)
         requires { self.old.turn + 1 < 2 ^ 64 }
         ensures { self.new ≡ record self.old { turn = self.old.turn + 1 } }

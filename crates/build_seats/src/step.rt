@@ -13,7 +13,7 @@ use crate::teller::{Gate, Teller};
 use host_commands::{Refusal, Step};
 use host_ledger::Mark;
 
-/// Undoes `count` operations, with a line for each.
+/// Undoes `count` operations, and adds a line to the report for each.
 pub(crate) fn undo_each<T: Teller, G: Gate>(
     report: &mut Report,
     standing: &mut Standing,
@@ -96,7 +96,7 @@ fn abort<T: Teller, G: Gate>(
     undo_step(report, standing, teller, gate, place, open)
 }
 
-// Asks for the number of operations above a mark.
+// Takes a turn, and asks the teller for the number of open operations above a mark.
 fn checked_back<T: Teller>(
     standing: &mut Standing,
     teller: &mut T,

@@ -7,7 +7,7 @@ use granule_addr::BuildId;
 use host_commands::{Cmd, Refusal, Reply, Undone};
 use host_ledger::Mark;
 
-/// The client side of a host, such as a seat, for the worker of one build.
+/// A host as the worker of one build uses it: questions, each with its answer. A seat is a teller.
 pub trait Teller {
     /// Whether a list has all questions that the teller was asked, in sequence, each with its answer.
     ghost tells: { Self → List Exchange → Type 0 };
@@ -15,12 +15,12 @@ pub trait Teller {
     /// The loan that the teller writes through, if there is one.
     ghost loan: { Self → ℕ };
 
-    /// Asks the host to perform a command, which the worker keeps.
+    /// Asks the host to perform a command, which is borrowed from the worker.
     fn ask(&mut self, cmd: &Cmd) -> Result<Reply, Refusal>
         ensures told { (earlier : List Exchange) → tells self.old earlier → tells self.new (earlier ++ Did cmd.now result ∷ []) }
         ensures loan { loan self.new ≡ loan self.old };
 
-    /// Asks for the reverse of the newest operation that the build has open.
+    /// Asks the host to reverse the newest operation that the build has open.
     fn undo(&mut self) -> Result<Undone, Refusal>
         ensures told { (earlier : List Exchange) → tells self.old earlier → tells self.new (earlier ++ Undid result ∷ []) }
         ensures loan { loan self.new ≡ loan self.old };

@@ -1,4 +1,4 @@
-//! A seat of a shared host as a teller.
+//! The implementation of `Teller` by a seat of a shared host.
 ghost use Rattle.std.specs.Prelude.{◌+◌, ◌*◌};
 ghost use Rattle.builders.specs.Answered.{AreAnswered};
 ghost use Rattle.build_seats.specs.Seats.{new_seat};

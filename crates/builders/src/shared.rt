@@ -1,4 +1,4 @@
-//! A host of builds behind a lock.
+//! A host that builds share behind a lock.
 ghost use Rattle.std.specs.Prelude.{◌≡◌, [], map, IfOk, IfErr, MatchResult};
 ghost use Rattle.std.specs.List.{range_with_len};
 ghost use Rattle.realm_host.specs.Call.{Ask, Undo};
@@ -23,8 +23,8 @@ pub struct Shared<S: PageStore, L: Ledgers> {
 }
 
 impl<S: PageStore, L: Ledgers> Shared<S, L> {
-    /// Shares a host that has no history, and returns a seat for each of the host's builds, in sequence. All memory for
-    /// their events is taken here. If there is none, blanks and host come back.
+    /// Shares a host that has no history, and returns one seat for each of its builds, the lowest build first. All
+    /// memory for their events is taken here. If there is none, blanks and host come back.
     pub fn start(
         alloc: Global,
         blanks: Blanks,
@@ -53,7 +53,7 @@ impl<S: PageStore, L: Ledgers> Shared<S, L> {
         self.kept.lock(rt).call(seat, cmd)
     }
 
-    /// Undoes the newest operation that the seat's build has open.
+    /// Undoes the newest open operation of the seat's build.
     pub fn undo(&self, rt: &impl Wait, seat: &mut Seat<L>) -> Result<Undone, Refusal>
         ensures told { IfOk result (λ done. IsCallTold L.opened Undo (WasUndone done) seat.old seat.new) }
         ensures refused { IfErr result (λ refusal. IsCallRefused L.opened Undo refusal seat.old × (seat.new ≡ seat.old)) }
@@ -61,7 +61,7 @@ impl<S: PageStore, L: Ledgers> Shared<S, L> {
         self.kept.lock(rt).undo(seat)
     }
 
-    /// Keeps a mark at the operations that the seat's build has open now, and returns the mark. The seat is borrowed
+    /// Sets a mark at the current open operations of the seat's build, and returns the mark. The seat is borrowed
     /// mutably, since its count is compared with the one behind the lock; it stays as it is.
     pub fn mark(&self, rt: &impl Wait, seat: &mut Seat<L>) -> Result<Mark, Refusal>
         ensures told { IsMarkTold L.opened seat.old result }
@@ -79,10 +79,10 @@ impl<S: PageStore, L: Ledgers> Shared<S, L> {
         self.kept.lock(rt).check_back(seat, mark)
     }
 
-    /// Gives the host back, in return for its builds' seats. Each build has to have one seat, with the events that the
-    /// history has of the build. At `Err` the host comes back too. Its limits and its room are those of the host that
-    /// was handed to `start`. Its world is a function of the seats' lists alone. The schedule in which the builds took
-    /// the lock is in the history, and leaves nothing behind in the world.
+    /// Takes back the seats of the host's builds, and returns the host. Each build has to have one seat, with the
+    /// events that the history has of the build. At `Err` the host comes back too. Its limits and its room are those of
+    /// the host that was handed to `start`. Its world is a function of the seats' lists alone. The schedule in which
+    /// the builds took the lock is in the history, and leaves nothing behind in the world.
     pub fn close(self, seats: Vec<Seat<L>>) -> Result<Host<S>, (CloseFault, Host<S>)>
         ensures closed { IfOk result (λ host. IsClosed host seats.items) }
         ensures order { IfOk result (λ host. IsWorldOfSeats host seats.items) }

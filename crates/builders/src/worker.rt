@@ -68,14 +68,14 @@ impl<L: Ledgers> Worker<L> {
         self.seat.build()
     }
 
-    /// Whether the worker has ended: it has worked, and waits for no turn.
+    /// Whether the worker has ended, that is, it has run and the gate stopped none of its turns.
     pub fn has_ended(&self) -> bool
         ensures { result ≡ self.now.ended }
     {
         self.ended
     }
 
-    /// Takes the worker's steps, in turns that the gate gives.
+    /// Performs the worker's steps, in the turns that the gate gives.
     pub fn run<R: Wait, S: PageStore, G: Gate>(&mut self, rt: &R, shared: &Shared<S, L>, gate: &G)
         requires { self.old.lines ≡ [] }
         ensures { IsWorkerRun L.opened (G.passes gate.now self.old.seat.build) (G.stops gate.now self.old.seat.build) self.old self.new }
@@ -105,7 +105,7 @@ impl<L: Ledgers> Worker<L> {
     }
 }
 
-// Takes steps of a seat's build, and returns whether the gate gave every turn.
+// Performs the steps of a seat's build, and returns whether the gate gave every turn.
 fn work_at<R: Wait, S: PageStore, G: Gate, L: Ledgers>(
     rt: &R,
     shared: &Shared<S, L>,

@@ -11,7 +11,7 @@ use std::marker::Model;
 /// The next item of an input: a line, or the end of the input.
 #[derive(Clone, Copy)]
 pub enum Next {
-    /// A line that was read whole.
+    /// A line that was read completely.
     Line,
     /// A line that is longer than the limit.
     TooLong,
@@ -19,7 +19,7 @@ pub enum Next {
     End,
 }
 
-/// The bytes that were read from an input and not yet taken.
+/// A buffer of the bytes that were read from an input but not yet consumed.
 #[derive(Drop)]
 pub struct Lines {
     buffer: [u8; 4096],
@@ -49,7 +49,7 @@ impl Lines {
         }
     }
 
-    // Reads on if no byte is left, and returns whether there is a byte to take.
+    // Reads from the input if the buffer is empty, and returns whether the buffer then has a byte.
     fn fill<R: Read>(&mut self, input: &mut Told<R>) -> Result<bool, DeviceFailed>
         requires { input.old.failed ≡ false }
         ensures told { input.new.failed ≡ is_err result }
@@ -66,7 +66,7 @@ impl Lines {
         Ok(n > 0)
     }
 
-    // Takes the first byte that is left.
+    // Removes the first byte of the buffer, and returns it.
     fn take_byte(&mut self) -> u8
         requires { 0 < length self.old }
         ensures { self.old ≡ result ∷ self.new }

@@ -9,11 +9,11 @@ use std::alloc::Global;
 use std::io::{ErrorKind, Read, Write};
 use std::marker::Model;
 
-/// The failure of a call of the device.
+/// The failure of a call to the device.
 #[derive(Clone, Copy)]
 pub struct DeviceFailed;
 
-/// The reason why an input, or a part of it, is not returned.
+/// The reason why the reading of an input, or of a part of it, failed.
 #[derive(Clone, Copy)]
 pub enum ReadError {
     /// A failed allocation.
@@ -54,7 +54,7 @@ impl<D> Model for Told<D> {
 }
 
 impl<D> Told<D> {
-    /// A device whose calls have not failed.
+    /// A device with no failed call so far.
     pub fn new(device: D) -> Told<D>
         ensures { result ≡ record { device = device; failed = false; is_closed = false; reads = 0 } }
     {
@@ -66,7 +66,7 @@ impl<D> Told<D> {
         }
     }
 
-    /// Whether a call of the device has failed.
+    /// Whether a call to the device has failed.
     pub fn has_failed(&self) -> bool
         ensures { result ≡ self.now.failed }
     {
@@ -81,7 +81,7 @@ impl<D> Told<D> {
         self.is_closed
     }
 
-    /// The device, by reference.
+    /// A reference to the device.
     pub fn device(&self) -> &D
         ensures { result.now ≡ self.now.device }
     {
@@ -97,7 +97,7 @@ impl<D> Told<D> {
         DeviceFailed
     }
 
-    /// The number of times the device was asked to read, up to the greatest `u64`.
+    /// The number of read calls to the device, counted up to the greatest `u64` and no further.
     pub fn reads(&self) -> u64
         ensures { result ≡ self.now.reads }
     {
@@ -106,7 +106,7 @@ impl<D> Told<D> {
 }
 
 impl<R: Read> Told<R> {
-    /// Reads once. Every error of the device is a failure, and an `Err` sets `failed`.
+    /// Reads from the device with one call. Every error of the device is a failure, and an `Err` sets `failed`.
     pub fn read(&mut self, buf: &mut [u8]) -> Result<usize, DeviceFailed>
         requires { self.old.failed ≡ false }
         ensures told { self.new.failed ≡ is_err result }
@@ -124,7 +124,7 @@ impl<R: Read> Told<R> {
 }
 
 impl<W: Write> Told<W> {
-    /// Writes at least one of the bytes, if there are any, with one call of the device. Every error of the device is a
+    /// Writes at least one of the bytes, if there are any, with one call to the device. Every error of the device is a
     /// failure, and so is a write that takes none of the bytes. An `Err` sets `failed`.
     pub fn write(&mut self, buf: &[u8]) -> Result<usize, DeviceFailed>
         requires { self.old.failed ≡ false }
@@ -141,7 +141,7 @@ impl<W: Write> Told<W> {
         }
     }
 
-    /// Flushes. Every error of the device is a failure, and an `Err` sets `failed`.
+    /// Flushes the device. Every error of the device is a failure, and an `Err` sets `failed`.
     pub fn flush(&mut self) -> Result<(), DeviceFailed>
         requires { self.old.failed ≡ false }
         ensures told { self.new.failed ≡ is_err result }

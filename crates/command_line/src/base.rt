@@ -1,4 +1,4 @@
-//! The address of a machine's first granule, as an option gives it.
+//! The address of a machine's first granule, which an option of a command line can set.
 ghost use Rattle.std.specs.Prelude.{◌≡◌, ◌<◌, ◌%◌, ◌^◌};
 
 use std::marker::Model;
@@ -20,14 +20,14 @@ impl Model for BaseAddress {
 }
 
 impl BaseAddress {
-    /// The address at which most RMMs for tests have memory.
+    /// The usual address, at which most RMMs for tests have memory.
     pub fn usual() -> BaseAddress
         ensures { result ≡ 0x80000000 }
     {
         BaseAddress(0x8000_0000)
     }
 
-    /// The address that a text gives in hexadecimal, as `0x80000000`. `None` if the text gives no number, or no
+    /// The address that a text gives in hexadecimal, such as `0x80000000`. `None` if the text gives no number, or no
     /// multiple of 4,096 below 2^46.
     pub(crate) fn read(text: &str) -> Option<BaseAddress> {
         let address = u64::from_str_radix(text.strip_prefix("0x")?, 16).ok()?;

@@ -3,7 +3,7 @@
 /// A parsed command line: the request, and the file to read.
 #[derive(Clone, Copy)]
 pub struct Invocation<'a, A> {
-    /// The request to the program.
+    /// The request that the command line makes to the program.
     pub asked: A,
     /// The file that the program reads, or none for standard input.
     pub file: Option<&'a str>,

@@ -1,4 +1,4 @@
-//! Parts of a command line with a proved `clap` definition: a program, a subcommand, and the option `--erase`.
+//! Parts of command lines whose `clap` definitions are proved: a program, a subcommand, and the option `--erase`.
 ghost use Rattle.std.specs.Prelude.{◌≡◌, IfOk, None, Some, codes, false, if◌then◌else◌, map, nat_lt, option_and_then, option_map, string_bytes, true};
 ghost use Rattle.clap.specs.Words.{FailsBy, app_of, fault_of, found_of, is_simple_and_free, new_app, one_of, rows_of, rule_of, subcommand_of, subcommand_rows_of};
 ghost use Rattle.clap.specs.declared.builder.command.Command.TheViews.{out-Command as fields_of};
@@ -17,7 +17,7 @@ pub(crate) fn program<'a>(alloc: Global, name: &'a str, about: &'a str) -> Comma
     named.subcommand_required(true)
 }
 
-/// A subcommand without options.
+/// The `clap` definition of a subcommand without options.
 pub(crate) fn subcommand<'a>(alloc: Global, name: &'a str, about: &'a str) -> Command<'a>
     ensures app { app_of result ≡ new_app name.now }
     ensures local { (fields_of result).has_globals ≡ false }
@@ -25,7 +25,7 @@ pub(crate) fn subcommand<'a>(alloc: Global, name: &'a str, about: &'a str) -> Co
     Command::new(alloc, name).about(about)
 }
 
-/// The option by which a build is left out.
+/// The `clap` definition of the option `--erase`, by which a build is left out.
 pub(crate) fn erase<'a>(alloc: Global, help: &'a str) -> Arg<'a>
     ensures rule { rule_of result ≡ erase_option }
     ensures local { result.global ≡ false }
@@ -38,7 +38,7 @@ pub(crate) fn erase<'a>(alloc: Global, help: &'a str) -> Arg<'a>
         .value_parser(value_parser!(u8).range(0..=7))
 }
 
-/// Returns the matches that the program finds in the words, or the error.
+/// Parses the words of a command line by a program's `clap` definition, and returns the matches or the error.
 pub(crate) fn matched<'a>(
     program: Command<'a>,
     words: &'a [String],

@@ -1,19 +1,19 @@
-//! Colours of a text's lines, for a terminal.
+//! The colouring of text for a terminal, line by line.
 ghost use Rattle.std.specs.Prelude.{◌≡◌, ◌≤◌, ◌+◌, ◌++◌, length, OnOk, IfOk, IfSome};
 ghost use Rattle.command_line.specs.Painted.{code_of, shown_by, AddsPainted, IsPainted};
 
 use std::alloc::{AllocError, Global};
 
-/// The kind of text that is painted.
+/// The kind of a text, which decides how its lines are coloured.
 #[derive(Clone, Copy)]
 pub enum Painting {
-    /// Messages: `error:`, `warning:` and `help:`, the carets below a word, and the lines of refused turns.
+    /// Messages, in which `error:`, `warning:` and `help:`, lines of carets, and lines of refused turns are coloured.
     Messages,
-    /// The lines of a difference in a trace: the heading with its verdict, and our answer.
+    /// Differences in a trace, in which the heading with the verdict and the line with the model's answer are coloured.
     Difference,
 }
 
-/// A colour of a terminal.
+/// A colour for text on a terminal.
 #[derive(Clone, Copy)]
 pub enum Colour {
     /// Red and bold.
@@ -29,7 +29,7 @@ pub enum Colour {
 }
 
 impl Colour {
-    // The escape sequence that begins the colour.
+    // The terminal escape sequence that turns the colour on.
     fn code(self) -> &'static [u8]
         ensures { result.now ≡ code_of self }
     {
@@ -43,7 +43,7 @@ impl Colour {
     }
 }
 
-// A painted part of a line.
+// The part of a line that is coloured, and its colour.
 #[derive(Clone, Copy)]
 struct Label {
     start: usize,
@@ -51,7 +51,7 @@ struct Label {
     colour: Colour,
 }
 
-// Whether a label may follow a text: the text is spaces alone, or ends with a place such as `plan:4:28: `.
+// Whether a label may follow a text, which then has only spaces or ends with a position such as `plan:4:28: `.
 fn may_begin_label(before: &[u8]) -> bool {
     if let [.., digit, b':', b' '] = before {
         return digit.is_ascii_digit();
@@ -80,7 +80,7 @@ fn label_of(text: &[u8]) -> Option<(usize, Colour)>
     None
 }
 
-// The label of a line.
+// The first label in a line, if it has one.
 fn label_in(line: &[u8]) -> Option<Label>
     ensures { IfSome result (λ it. (it.start ≤ length line.now) × (it.start + it.len ≤ length line.now)) }
 {
@@ -108,7 +108,7 @@ fn is_refused_turn(line: &[u8]) -> bool {
     false
 }
 
-// Whether a line marks a word of the line above it.
+// Whether a line consists of spaces and at least one caret, and so marks a word of the line above it.
 fn is_of_carets(line: &[u8]) -> bool {
     let mut has_caret = false;
     for byte in line {
@@ -121,7 +121,7 @@ fn is_of_carets(line: &[u8]) -> bool {
     has_caret
 }
 
-// The colour of a line of a difference: the heading with the verdict, or the line with our answer.
+// The colour of a line in a difference, if it is the heading with the verdict or has the model's answer.
 fn colour_of_difference(line: &[u8]) -> Option<Colour> {
     if line.ends_with(b": wrong") {
         return Some(Colour::Red);
@@ -135,7 +135,7 @@ fn colour_of_difference(line: &[u8]) -> Option<Colour> {
     None
 }
 
-// The colour of a whole line.
+// The colour of a line that is coloured as a whole; `None` for any other line.
 fn colour_of_line(painting: Painting, line: &[u8]) -> Option<Colour> {
     match painting {
         Painting::Messages if is_refused_turn(line) || is_of_carets(line) => Some(Colour::Red),
@@ -187,7 +187,7 @@ fn line_len(text: &[u8]) -> usize
     text.len()
 }
 
-/// Returns the text for a terminal, with escape sequences around its painted pieces.
+/// Returns a copy of the text with terminal escape sequences around the pieces that are coloured.
 pub fn painted(alloc: Global, text: &[u8], painting: Painting) -> Result<Vec<u8>, AllocError>
     ensures { IfOk result (λ out. IsPainted text.now out.items) }
 {

@@ -1,4 +1,4 @@
-//! The words that a program is called with, and its exit status.
+//! The command line arguments of a program, and its exit status.
 ghost use Rattle.std.specs.Prelude.{◌≡◌, ◌⊎◌, IfErr};
 ghost use Rattle.std.specs.Process.{exit_status};
 ghost use Rattle.command_line.specs.Stop.{status_of_stop};
@@ -9,7 +9,7 @@ use std::process::ExitCode;
 use std::rt::Env;
 use std::{env, io};
 
-/// Returns the words of the command line, the program's name first.
+/// Returns the command line arguments, beginning with the program's name.
 ///
 /// Errors: NotUtf8, where one of them is not UTF-8; Run, with the program's fault for it, where allocation failed.
 pub fn arguments<R: Env + AllocGlobal, F: Reason>(rt: &R) -> Result<Vec<String>, Stop<F>>

@@ -9,7 +9,7 @@ use clap::{Command, Error};
 use granule_addr::BuildId;
 use std::alloc::{AllocError, Global};
 
-/// The request to the program.
+/// The request that a command line of `realmhost` makes.
 #[derive(Clone, Copy)]
 pub enum Line {
     /// Replays the plan; a build may be left out.
@@ -35,7 +35,7 @@ fn replay<'a>(alloc: Global) -> Result<Command<'a>, AllocError>
     subcommand(alloc, "replay", REPLAY).arg(erase(alloc, ERASE))
 }
 
-// Returns the program as it is declared to `clap`.
+// Returns the program's `clap` definition.
 fn command<'a>(alloc: Global) -> Result<Command<'a>, AllocError>
     ensures { IfOk result (λ c. app_of c ≡ realmhost) }
 {
@@ -50,9 +50,9 @@ fn command<'a>(alloc: Global) -> Result<Command<'a>, AllocError>
 impl Line {
     /// Returns the request that the words make, or the error. The first word is the program's name.
     pub fn of(alloc: Global, words: &[String]) -> Result<Line, Error>
-        // The request is that of the subcommand that clap's definition of a simple command finds in the words.
+        // The request is the one for the subcommand that the specification of `clap` finds in the words.
         ensures ok { IfOk result (IsHostSubcommand (subcommand_of realmhost (map string_bytes words.now))) }
-        // The kind of an error: one that the definition names, or a failed allocation.
+        // An error is of the kind that the specification gives, or reports a failed allocation.
         ensures kinds { FailsBy (fault_of realmhost (map string_bytes words.now)) result }
     {
         let matches = matched(command(alloc)?, words)?;

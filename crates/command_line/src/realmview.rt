@@ -10,7 +10,7 @@ use clap::{ArgMatches, Error};
 use granule_addr::BuildId;
 use std::alloc::{AllocError, Global};
 
-/// The request to the program.
+/// The request that a command line of `realmview` makes.
 #[derive(Clone, Copy)]
 pub enum ViewSubcommand {
     /// Writes the history of a plan; a build may be left out.
@@ -27,27 +27,27 @@ pub enum ViewSubcommand {
     Why { all: bool },
     /// Writes the outcomes of schedules of a plan.
     Explore(Schedules, AfterRefusal),
-    /// Writes a plan with an order that gives each build all the turns that it needs.
+    /// Writes a plan with a schedule that gives each build all the turns that it needs.
     Order(SchedulingPolicy),
-    /// Writes the run of a plan as calls by registers on an RMM whose memory begins at an address.
+    /// Writes the run of a plan as the calls that it makes to an RMM whose memory begins at the given address.
     Calls(BaseAddress, CallsForm),
 }
 
 /// The form in which calls are written.
 #[derive(Clone, Copy, Drop)]
 pub enum CallsForm {
-    /// The lines of a trace by registers.
+    /// The lines of a trace for `rmitrace`.
     Trace,
-    /// The rows of a table of C.
+    /// The rows of a C table.
     Rows,
 }
 
-/// The schedules of a plan that are explored.
+/// The schedules that are explored for a plan.
 #[derive(Clone, Copy, Drop)]
 pub enum Schedules {
     /// All schedules, if their runs have at most the given number of states.
     All(u32),
-    /// A number of schedules, drawn by the random numbers of a seed.
+    /// How many schedules are drawn at random, and the seed of the random numbers.
     Drawn(u32, u32),
     /// The shortest schedule whose last turn answers a question, if the runs have at most the given number of states.
     Shortest(u32, ScheduleQuestion),
@@ -64,7 +64,7 @@ pub enum ScheduleQuestion {
     Leased(u32),
 }
 
-/// The behaviour of a build in a schedule after a refusal of one of its steps.
+/// The behaviour of a build after one of its steps is refused.
 #[derive(Clone, Copy, Drop)]
 pub enum AfterRefusal {
     /// Goes on with the build's next step.
@@ -73,7 +73,7 @@ pub enum AfterRefusal {
     GiveUp,
 }
 
-/// A step of a plan: its build, and its place in the build's list.
+/// A step of a plan: its build, and its index in the build's list of steps.
 #[derive(Clone, Copy, Drop)]
 pub struct StepPlace {
     pub build: u32,
@@ -85,11 +85,11 @@ pub struct StepPlace {
 pub enum BadOption {
     /// A sample of more schedules than may be drawn.
     SampleAboveMost { sample: u32 },
-    /// A text that is no address, or an address that is too high or no multiple of 4,096.
+    /// A text that is not an address, or an address that is too high or not a multiple of 4,096.
     NoBase,
-    /// A text that is no step of a build.
+    /// A text that does not name a step of a build.
     NoStep,
-    /// Builds that are to give up in a plan that is printed.
+    /// A request that builds give up, in a command that prints a plan.
     GiveUpInPlan,
     /// A number of granules out of range: none, or more than a machine has.
     NoGranules { granules: u32 },
@@ -106,7 +106,7 @@ pub enum SchedulingPolicy {
     OneByOne,
 }
 
-// The most states that are explored, if no option gives a number.
+// The limit on explored states, if no option gives one.
 const MOST_STATES: u32 = 1000000;
 
 // The most schedules that may be drawn.
@@ -381,7 +381,7 @@ fn erased(matches: &ArgMatches) -> Option<BuildId> {
     build_of(matches.get_one("erase"))
 }
 
-// The step that a text names: a build and a place, with a colon between them.
+// The step that a text such as `1:4` names by a build and the index of its step.
 fn step_of(text: &str) -> Option<StepPlace> {
     let (build, step) = text.split_once(':')?;
     let build = build.parse::<u32>().ok()?;
@@ -415,7 +415,7 @@ fn explore_by(explore: &ArgMatches) -> Result<ViewSubcommand, BadOption> {
     Ok(ViewSubcommand::Explore(orders, after))
 }
 
-// Returns the address of the first granule that the matched words ask for, or an error.
+// Returns the address that the matched words give the first granule, or an error.
 fn base_by(calls: &ArgMatches) -> Result<BaseAddress, BadOption> {
     match calls.get_str("base") {
         Some(text) => BaseAddress::read(text).ok_or(BadOption::NoBase),

@@ -11,7 +11,7 @@ use rmm_trace::{find_name, name_text};
 use std::alloc::{AllocError, Global};
 use strsim::osa_distance;
 
-/// A set of names of lines, by the places that the names have in `rmm_trace`.
+/// A set of names that select lines of a trace, indexed by the places of the names in `rmm_trace`.
 #[derive(Clone, Copy)]
 pub struct NameSet {
     pub places: [bool; 256],
@@ -20,24 +20,24 @@ pub struct NameSet {
 /// The lines that a check compares, the verdicts that it prints, and whether it stops at a wrong line.
 #[derive(Clone, Copy)]
 pub struct Comparison {
-    /// Whether the verdict on each compared line is printed, also on a line that is the same.
+    /// Whether the verdict on each compared line is printed, even if the answers are the same.
     pub is_each: bool,
     /// Whether the check stops at the first line that is wrong.
     pub stops: bool,
-    /// The names of the only lines that are compared, if any are given.
+    /// The names of the lines to which the comparison is restricted, if any are given.
     pub only: Option<NameSet>,
     /// The names of the lines that are not compared.
     pub skip: Option<NameSet>,
 }
 
-/// The request to the program.
+/// The request that a command line of `rmitrace` makes.
 #[derive(Clone, Copy)]
 pub enum TraceSubcommand {
     /// Answers each line of a trace.
     Answer,
-    /// Compares the answers of a trace.
+    /// Compares the answers in a trace with those of the model.
     Check(Comparison),
-    /// Names the raw calls of a trace.
+    /// Writes a trace with its raw calls in their named form.
     Names,
     /// Answers each line of a trace, and explains each refusal.
     Why,
@@ -141,7 +141,7 @@ impl NameSet {
     }
 }
 
-// Whether a line can have the name at a place, as the name of a question or of a check.
+// Whether the name at a place is that of a question or of a check, either of which a line can have.
 fn is_of_line(place: usize) -> bool {
     place < WRITE || FIRST_CHECK <= place
 }
@@ -161,7 +161,8 @@ fn bare_name(place: usize) -> &'static str {
     name_text(place).trim_matches(['(', ')'])
 }
 
-// Returns the name of lines that is nearest to a text, if at most a third of the text differs.
+// Returns the name nearest to a text among those that a line can have, if its edit distance is at most a third of the
+// text's length.
 fn nearest(alloc: Global, text: &str) -> Result<Option<&'static str>, AllocError> {
     let mut found = None;
     let mut least = text.len() / 3 + 1;
@@ -175,7 +176,7 @@ fn nearest(alloc: Global, text: &str) -> Result<Option<&'static str>, AllocError
     Ok(found)
 }
 
-// Returns the error for a name that no line has.
+// Returns the error for a name that no line can have.
 fn unknown(alloc: Global, name: &str) -> Result<Error, AllocError> {
     let message = match nearest(alloc, name)? {
         Some(near) => {
@@ -188,7 +189,7 @@ fn unknown(alloc: Global, name: &str) -> Result<Error, AllocError> {
         .error(ErrorKind::ValueValidation, &message)
 }
 
-// Returns the set of the names, or an error if no line has one of them.
+// Returns the set of the given names, or an error if any of them is a name that no line can have.
 fn set_of(alloc: Global, names: &[&str]) -> Result<NameSet, Error> {
     let mut set = NameSet {
         places: [false; 256],

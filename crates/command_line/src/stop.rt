@@ -13,19 +13,19 @@ pub trait Reason: Display + Drop {
     /// The exit status of each reason.
     ghost status_of: { Self → ℕ };
 
-    /// The reason that reports a failed allocation.
+    /// The reason to stop after a failed allocation.
     ghost memory: { Self };
 
     /// The exit status of the program.
     fn status(&self) -> u8
         ensures { result ≡ status_of self.now };
 
-    /// The reason that reports a failed allocation.
+    /// The reason to stop after a failed allocation.
     fn of_memory() -> Self
         ensures { result ≡ memory };
 }
 
-/// The reason why a program stops, with an exit status, and a line or more for standard error.
+/// The reason why a program stops, with an exit status and one or more lines for standard error.
 #[derive(Drop)]
 pub enum Stop<F> {
     /// A command line that is refused, or that asks for help or for the version: `clap` says which.

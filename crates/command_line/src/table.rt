@@ -8,13 +8,13 @@ use std::alloc::{AllocError, Global};
 pub(crate) enum Opt {
     /// `--erase B`, the build that is left out.
     Erase(&'static str),
-    /// A number of 32 bits: the option's name, the value's name, and the help.
+    /// An option with a 32-bit number: the option's name, the value's name, and the help.
     Number(&'static str, &'static str, &'static str),
-    /// A flag.
+    /// A flag: its name and its help.
     Flag(&'static str, &'static str),
-    /// An option with a name, which may be repeated.
+    /// An option that may be repeated, with a name each time.
     Names(&'static str, &'static str),
-    /// A text: the option's name, the value's name, and the help.
+    /// An option with a text: the option's name, the value's name, and the help.
     Text(&'static str, &'static str, &'static str),
 }
 
@@ -37,7 +37,7 @@ pub(crate) struct Program {
     pub subcommands: &'static [Subcommand],
 }
 
-// An option with a number of 32 bits.
+// An option whose value is a 32-bit number.
 fn number<'a>(alloc: Global, name: &'a str, value: &'a str, help: &'a str) -> Arg<'a> {
     Arg::new(alloc, name)
         .long(name)
@@ -55,7 +55,7 @@ fn flag<'a>(alloc: Global, name: &'a str, help: &'a str) -> Arg<'a> {
         .action(ArgAction::SetTrue)
 }
 
-// An option with a text.
+// An option whose value is a text.
 fn text<'a>(alloc: Global, name: &'a str, value: &'a str, help: &'a str) -> Arg<'a> {
     Arg::new(alloc, name)
         .long(name)
@@ -91,7 +91,7 @@ impl Subcommand {
 }
 
 impl Program {
-    /// Returns the program as it is declared to `clap`.
+    /// Returns the program's `clap` definition.
     pub(crate) fn command<'a>(&self, alloc: Global) -> Result<Command<'a>, AllocError> {
         let mut command = program(alloc, self.name, self.about).after_help(self.examples);
         for row in self.subcommands {
@@ -100,7 +100,8 @@ impl Program {
         Ok(command)
     }
 
-    /// Returns the matches that the program finds in the words, or the error. The first word is the program's name.
+    /// Parses the words of a command line by the program's `clap` definition, and returns the matches or the error. The
+    /// first word is the program's name.
     pub(crate) fn matched<'a>(
         &self,
         alloc: Global,

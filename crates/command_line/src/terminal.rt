@@ -1,4 +1,4 @@
-//! The streams of a program that people use at a terminal.
+//! The input and output streams of a program that is run at a terminal.
 ghost use Rattle.std.specs.Prelude.{◌≡◌, ◌⊎◌, IfErr};
 ghost use Rattle.std.specs.Process.{exit_status};
 ghost use Rattle.command_line.specs.Stop.{status_of_stop};
@@ -23,7 +23,7 @@ pub enum Input<'a> {
     File(File),
 }
 
-// The error number of a directory that is read as a file.
+// The error number for reading a directory as a file.
 const EISDIR: i32 = 21;
 
 // The reason why a program stops at a file that cannot be opened.

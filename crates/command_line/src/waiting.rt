@@ -7,8 +7,8 @@ use std::time::Duration;
 // The pause before a call is tried again, in milliseconds.
 const PAUSE: u64 = 2;
 
-/// A stream of the process, and the clock of its pauses. A call that would wait in a pipe which does not block is tried
-/// again after a pause.
+/// A stream of the process, and the runtime that its pauses need. A call that would wait in a pipe which does not block
+/// is tried again after a pause.
 #[derive(Drop)]
 pub struct WaitingStream<'a, D> {
     rt: &'a HostRuntime,

@@ -1,4 +1,4 @@
-//! The numbers of a text in decimal, without a sign and without leading zeros.
+//! Decimal numbers in a text, without a sign and without leading zeros.
 ghost use Rattle.std.specs.Prelude.{◌≡◌, ◌≢◌, ◌↔◌, ℕ, ◌<◌, ◌^◌, List, IfSome, IfNone, IsTrue, IsUtf8};
 ghost use Rattle.std.specs.Fmt.{decimal};
 ghost use Rattle.decimal_text.specs.Numbers.{IsPlain, AreNumbers, spelled_numbers, before_space, from_space};
@@ -39,7 +39,7 @@ pub fn cut_at_space(text: &str) -> (&str, &str)
     }
 }
 
-/// The numbers that the text spells, one space before each, if there are no more than `MOST`.
+/// The numbers that the text spells with one space before each, if there are at most `MOST`.
 pub fn numbers_of<const MOST: usize>(text: &str) -> Option<ArrayVec<u32, MOST>>
     ensures found { IfSome result (λ v. AreNumbers MOST v.items × (text.now ≡ spelled_numbers v.items)) }
     ensures none { IfNone result ((ns : List ℕ) → AreNumbers MOST ns → text.now ≢ spelled_numbers ns) }

@@ -9,7 +9,7 @@ pub trait Operand: Copy {
 
     ghost of: { ℕ → Self };
 
-    /// The operand that is the number, if the number is at most the maximum.
+    /// The operand made from a number, if the number is at most the maximum.
     fn from_number(number: u32) -> Option<Self>
         ensures { result ≡ (if nat_le number maximum then Some (of number) else None) };
 }
@@ -98,7 +98,7 @@ pub fn four_operands<A: Operand, B: Operand, C: Operand, D: Operand>(
     Some((first, second, third, fourth))
 }
 
-/// The value made of operands, if they are in range: a variant whose fields are the operands in sequence, or any
+/// The value made from operands, if they are in range: a variant whose fields are the operands in sequence, or any
 /// expression. This is a macro for a `match`, since a closure for each would be one more function to prove.
 #[macro_export]
 macro_rules! made_of {

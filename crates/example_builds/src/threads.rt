@@ -1,5 +1,5 @@
-//! Two builds on one host behind a lock, each in a thread of its own. Each build has a seat, and the seats close the
-//! host.
+//! An example of two builds that share a host behind a lock, each build in a thread of its own. Each build has a seat,
+//! and the seats close the host.
 ghost use Rattle.std.specs.Prelude.{◌≡◌, [], IfOk};
 ghost use Rattle.build_seats.specs.Names.{AreNamed};
 
@@ -20,7 +20,7 @@ fn booted(alloc: Global) -> Result<Host<PlainStore>>
     Ok(Host::boot(alloc, settings, store).map_err(|(error, _store)| error)?)
 }
 
-// Builds in one thread: takes two pages, delegates the first, and fills the second.
+// Performs the build of one thread: takes two pages, delegates the first, and fills the second.
 fn build<L: Ledgers>(
     rt: &impl Wait,
     shared: &Shared<PlainStore, L>,
@@ -39,7 +39,7 @@ fn tell(rt: &(impl Print + AllocGlobal), host: &Host<PlainStore>) -> Result<()> 
     Ok(())
 }
 
-// Shares a host, builds in a thread for each seat, and closes the host with the seats.
+// Shares a host, performs a build in a thread for each seat, and closes the host with the seats.
 fn run<R: Print + AllocGlobal + Threads + Wait + Sync, L: Ledgers + Send + Sync>(
     rt: &R,
     blanks: Blanks,

@@ -28,7 +28,7 @@ pub struct Check {
     pub refusal: Refusal,
 }
 
-/// A check by the RMM, with the RMM's answer if the check fails.
+/// A check made by the RMM, with the RMI result that a failure gives.
 pub(crate) fn rmi_check(fact: Fact, fails: bool, rmi: Rmi) -> Check
     ensures { result ≡ rmi_check fact fails rmi }
 {

@@ -103,7 +103,7 @@ fn of_build<S: PageStore>(host: &Host<S>, build: BuildId, step: &Step, fact: Bui
     }
 }
 
-// The error for an order of which no block is free, on a machine of `machine` pages.
+// The error for a `take` when no block of its order is free, on a machine of `machine` pages.
 fn block_error(machine: u16, order: u8, free: u16) -> Phrase {
     let size = size_of_order(order);
     let wanted = Number(size as u64);
@@ -155,7 +155,7 @@ pub(crate) fn newest_error(number: u16) -> Phrase {
     )
 }
 
-// The error for a build's RUNNING RECs, in the words `of_one` for one REC and `of_many` for more.
+// The error for a build with RUNNING RECs, in the words `of_one` for one such REC and `of_many` for more.
 fn running_error<S: PageStore>(
     host: &Host<S>,
     build: BuildId,
@@ -193,7 +193,7 @@ fn of_undo<S: PageStore>(host: &Host<S>, build: BuildId, fact: UndoFact) -> Phra
 
 // ---- what the RMM checks
 
-// The participle for a step's access to a page, `written` or `read`, if the step is no RMI command.
+// The participle for a `fill` or a `peek` of a page, `written` or `read`, or `None` for any other step.
 fn access_of(step: &Step) -> Option<&'static str> {
     match step {
         Step::Ask(Cmd::Fill { .. }) => Some("written"),
@@ -202,7 +202,7 @@ fn access_of(step: &Step) -> Option<&'static str> {
     }
 }
 
-// The error for a page in another state than the required one.
+// The error for a page that is not in the required state.
 fn page_error(
     step: &Step,
     page: Value,
@@ -262,7 +262,8 @@ pub(crate) fn protected_end(width: u8) -> u64 {
     1 << width.saturating_sub(13).min(32)
 }
 
-// The RD page and the first starting table that a step names for a realm, and the number of starting tables.
+// The RD page of a `realm` step, the page of its first starting table, and the number of its starting tables. All three
+// are 0 for any other step.
 fn realm_pages(step: &Step) -> (u16, u16, u16) {
     match step {
         Step::Ask(Cmd::Realm { rd, root, width }) => {
@@ -302,7 +303,7 @@ fn of_realm<S: PageStore>(host: &Host<S>, build: BuildId, step: &Step, fact: Rea
     }
 }
 
-// The page that a step for a REC names twice.
+// The page that a `rec` step names twice, if any.
 fn repeated_page(step: &Step) -> Option<u16> {
     let Step::Ask(Cmd::Rec { page, auxiliaries }) = step else {
         return None;
@@ -330,7 +331,7 @@ fn distinct_error<S: PageStore>(host: &Host<S>, build: BuildId, step: &Step) -> 
     }
 }
 
-// The error for a REC that the realm lacks, with the only REC or the number of RECs that the realm has.
+// The error for a REC that the realm lacks, with the realm's only REC or the number of its RECs.
 fn no_rec_error<S: PageStore>(host: &Host<S>, build: BuildId, number: u16) -> Phrase {
     let number = Number(number as u64);
     match count_of_recs(host, build, false) {

@@ -1,4 +1,4 @@
-//! The words for recorded events that a host does not apply, by the check that fails.
+//! The reasons, in words, why a host does not apply a recorded event.
 use crate::check::Check;
 use crate::error::{error_of, newest_error, push_error};
 use crate::of_build::build_there;
@@ -14,8 +14,8 @@ use plan_replay::PlanCursor;
 use realm_host::{Act, Event, Host, Refusal};
 use std::alloc::{AllocError, Global};
 
-/// Returns the reason why a host does not apply an event, in words, with granules in place of pages. The words are
-/// empty if neither a check nor a recorded value explains it.
+/// Returns, in words, the reason why a host does not apply an event. The words name granules instead of pages. The
+/// words are empty if neither a check nor a recorded value explains it.
 pub fn event_words<S: PageStore>(
     alloc: Global,
     host: &Host<S>,
@@ -36,7 +36,7 @@ pub fn event_words<S: PageStore>(
     Ok(text)
 }
 
-// Appends the words for a check that fails, with granules in place of pages.
+// Appends the words for a failed check, which name granules instead of pages.
 fn push_check<S: PageStore>(
     text: &mut String,
     host: &Host<S>,
@@ -59,8 +59,8 @@ fn reverse_error<S: PageStore>(host: &Host<S>, build: BuildId) -> Phrase {
     }
 }
 
-// Appends the words for an operation of a command: the failed check, or else the recorded value that does not fit. The
-// block that the host would allocate is not checked, since a history names its own.
+// Appends the words for an operation that the host does not apply: its command's failed check, or else the recorded
+// value that does not fit. The block that the host would allocate is not checked, since a history names its own.
 fn push_act<S: PageStore>(
     alloc: Global,
     text: &mut String,
@@ -148,7 +148,7 @@ fn number_of<S: PageStore>(host: &Host<S>, build: BuildId, granule: Gran) -> u16
     page_of(host, build, granule).unwrap_or(0)
 }
 
-// The command of an operation that takes, fills, reads or delegates pages.
+// The command for an operation that takes, fills, reads or delegates pages, or `None` for any other operation.
 fn page_command<S: PageStore>(host: &Host<S>, build: BuildId, act: &Act) -> Option<Cmd> {
     let cmd = match act {
         Act::Take { order, .. } => Cmd::Take {
@@ -174,7 +174,8 @@ fn page_command<S: PageStore>(host: &Host<S>, build: BuildId, act: &Act) -> Opti
     Some(cmd)
 }
 
-// The command of an operation that creates or activates a realm, or creates a table.
+// The command for an operation that creates or activates a realm, or creates a table, or `None` for any other
+// operation.
 fn realm_command<S: PageStore>(host: &Host<S>, build: BuildId, act: &Act) -> Option<Cmd> {
     let cmd = match act {
         Act::Realm { rd, root, .. } => Cmd::Realm {
@@ -197,7 +198,7 @@ fn realm_command<S: PageStore>(host: &Host<S>, build: BuildId, act: &Act) -> Opt
     Some(cmd)
 }
 
-// The command of an operation on a realm's memory.
+// The command for an operation on a realm's memory, or `None` for any other operation.
 fn memory_command<S: PageStore>(host: &Host<S>, build: BuildId, act: &Act) -> Option<Cmd> {
     let cmd = match act {
         Act::Ripas { ipa, count } => Cmd::Ripas {
@@ -222,7 +223,7 @@ fn memory_command<S: PageStore>(host: &Host<S>, build: BuildId, act: &Act) -> Op
     Some(cmd)
 }
 
-// The command of an operation on a REC that exists.
+// The command for an operation on an existing REC, or `None` for any other operation.
 fn rec_command(act: &Act) -> Option<Cmd> {
     let cmd = match act {
         Act::Enter { number } => Cmd::Enter { number: *number },
@@ -243,7 +244,7 @@ fn rec_command(act: &Act) -> Option<Cmd> {
     Some(cmd)
 }
 
-// The page numbers that a build has for granules.
+// The build's page numbers for the given granules, at most 16.
 fn numbers_of<S: PageStore>(
     host: &Host<S>,
     build: BuildId,
@@ -277,7 +278,7 @@ fn command_of<S: PageStore>(host: &Host<S>, build: BuildId, act: &Act) -> Option
     })
 }
 
-// The error for a block, if it cannot be leased.
+// The error for a block that cannot be leased, or `None` if the block can be leased.
 fn block_error<S: PageStore>(host: &Host<S>, order: Order, first: Gran) -> Option<Phrase> {
     let (size, first) = (order.size(), first.number());
     if first % size != 0 {

@@ -1,4 +1,4 @@
-//! A turn of a run, with the reason if the turn is refused.
+//! A turn of a run, with the reason for its refusal, if any.
 use crate::check::Check;
 use host_commands::Step;
 
@@ -9,9 +9,9 @@ pub struct Explanation {
     pub step: Step,
     /// The checks of the step, up to and including the first failed check.
     pub checks: Vec<Check>,
-    /// The check that fails, in words.
+    /// The error message for the failed check.
     pub error: String,
-    /// The help, in words; empty if there is none.
+    /// The help message; empty if there is none.
     pub help: String,
 }
 
@@ -20,6 +20,6 @@ pub struct Explanation {
 pub struct ExplainedTurn {
     /// The line of the turn, as a replay prints it.
     pub line: String,
-    /// The reason why the turn is refused, if it is.
+    /// The reason for the refusal, if the turn is refused.
     pub reason: Option<Explanation>,
 }

@@ -16,7 +16,7 @@ use realm_host::Host;
 use realm_plan::{Plan, PlanStep, push_idle};
 use std::alloc::{AllocError, Global};
 
-// The build at a place of a plan.
+// The number of the build at index `place` of a plan.
 pub(crate) fn id_of(place: usize) -> BuildId
     requires { place < 8 }
     ensures { result ≡ place }

@@ -1,4 +1,4 @@
-//! The help for a refused step: a proposed step, in the words of plans.
+//! The help for a refused step, with proposed steps in the notation of plans.
 use crate::check::Fact;
 use crate::help_host::{build_help, room_help, undo_help};
 use crate::help_input::input_help;
@@ -19,9 +19,9 @@ pub(crate) enum Help {
     Say(Phrase),
     /// Two phrases, one after the other.
     Both(Phrase, Phrase),
-    /// Leading words, the exits of the RUNNING RECs, a number of undos, and closing words.
+    /// Leading words, an `exit` step for each RUNNING REC, a number of undos, and closing words.
     Undo(Phrase, usize, &'static str),
-    /// The exits of the RECs that are RUNNING.
+    /// An `exit` step for each RUNNING REC.
     Exit,
     /// Words, then a `rec` step with all the pages that a REC needs.
     Rec(&'static str),
@@ -70,7 +70,8 @@ pub(crate) fn push_help<S: PageStore>(
     }
 }
 
-// Appends an `exit` of each RUNNING REC of a build: the first in the words `first`, any later one in `next`.
+// Appends an `exit` step for each RUNNING REC of a build, in the words `first` for the first one and `next` for any
+// other.
 fn push_exits<S: PageStore>(
     text: &mut String,
     host: &Host<S>,
@@ -88,7 +89,8 @@ fn push_exits<S: PageStore>(
     Ok(())
 }
 
-// Appends the exits of the RECs that run, then `count` undos. The creation of a REC that runs cannot be undone.
+// Appends an `exit` step for each RUNNING REC of a build, then `count` undos. The creation of a REC that runs cannot be
+// undone.
 fn push_undos<S: PageStore>(
     text: &mut String,
     host: &Host<S>,

@@ -13,7 +13,7 @@ use realm_host::{GranuleState, Host};
 
 // ---- pages
 
-/// The help to use another page of the build: a DELEGATED page, or a page to delegate first.
+/// The help that proposes another page of the build: a DELEGATED page, or a page to delegate first.
 pub(crate) fn other_page<S: PageStore>(host: &Host<S>, build: BuildId, step: &Step) -> Help {
     let delegated = other_pages(host, build, step, GranuleState::Delegated);
     if let [page, ..] = delegated.as_slice() {
@@ -33,7 +33,7 @@ pub(crate) fn other_page<S: PageStore>(host: &Host<S>, build: BuildId, step: &St
     }
 }
 
-// Whether a step names a page as its source, which may not be delegated.
+// Whether a page is the source of a `data` step, which has to be UNDELEGATED.
 fn is_source(step: &Step, page: u16) -> bool {
     matches!(step, Step::Ask(Cmd::Data { source, .. }) if *source == page)
 }
@@ -46,7 +46,7 @@ fn given_back<S: PageStore>(host: &Host<S>, build: BuildId, page: u16, words: Ph
     }
 }
 
-// The help to take bytes from another page: one of the build, or one that a `take` gives.
+// The help that proposes another source page: one of the build, or one that a `take` gives.
 fn other_source<S: PageStore>(host: &Host<S>, build: BuildId, other: Option<u16>) -> Help {
     match (other, take_of(host, build, 1)) {
         (Some(page), _) => Help::Say(one(
@@ -95,7 +95,8 @@ fn undelegated_help<S: PageStore>(
 
 // ---- numbers
 
-// The help for an unprotected IPA granule: its number if an address was written, or else a larger IPA width.
+// The help for an unprotected IPA granule: the operand divided by 4096 if it can be an address, or else a larger IPA
+// width.
 fn protected_help(ipa: u32, width: u8) -> Help {
     if ipa % 4096 == 0 && ((ipa / 4096) as u64) < protected_end(width) {
         return Help::Say(one(

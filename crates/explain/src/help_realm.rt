@@ -63,7 +63,7 @@ fn other_width(rd: u16, root: u16, width: u8) -> Phrase {
     two(words, Number(rd as u64), Number(root as u64))
 }
 
-/// The help for a failed check on a realm: its state, or the operands to create it from.
+/// The help for a failed check on a realm: on its state, or on the operands of its creation.
 pub(crate) fn realm_help<S: PageStore>(
     host: &Host<S>,
     build: BuildId,
@@ -101,7 +101,7 @@ fn missing_rec<S: PageStore>(host: &Host<S>, build: BuildId, number: u16) -> Hel
     Help::Rec("create it first: ")
 }
 
-/// The help for a failed check on a REC: its presence, its state, or the pages to create it from.
+/// The help for a failed check on a REC: on its existence, its state, or the pages of its creation.
 pub(crate) fn rec_help<S: PageStore>(
     host: &Host<S>,
     build: BuildId,
@@ -152,7 +152,7 @@ fn letters(others: &[u16], needed: usize) -> &'static str {
     }
 }
 
-// The help to create the tables that a walk to a level lacks.
+// The help for a walk that ends above the required level: the steps that create the missing tables.
 fn missing_tables<S: PageStore>(
     host: &Host<S>,
     build: BuildId,
@@ -188,7 +188,7 @@ fn missing_tables<S: PageStore>(
     Help::Both(words, plain(letters(others, needed)))
 }
 
-// The help to map a page at an IPA granule that has none, for a guest that writes there.
+// The help for a guest's write to an IPA granule that no page is mapped at: the steps that map one.
 fn mapping<S: PageStore>(host: &Host<S>, build: BuildId, step: &Step, ipa: u32, ended: u8) -> Help {
     let needed = 4usize.saturating_sub(ended as usize);
     let others = other_pages(host, build, step, GranuleState::Delegated);
@@ -216,7 +216,7 @@ fn mapping<S: PageStore>(host: &Host<S>, build: BuildId, step: &Step, ipa: u32, 
     )
 }
 
-// The help to map a page at another IPA granule, whose entry is UNASSIGNED.
+// The help that proposes another IPA granule for a page, one whose entry is UNASSIGNED.
 fn other_entry<S: PageStore>(host: &Host<S>, build: BuildId, step: &Step, ipa: u32) -> Help {
     let Some(other) = first_entry(host, build, ipa, true) else {
         return Help::Nothing;

@@ -1,16 +1,17 @@
 //! Facts that the host checks before it calls the RMM.
 use granule_addr::{Gran, Vmid};
 
-/// A fact about a build, checked for refusals 1 to 6.
+/// A fact about a build or a block order, on which refusals 1 to 6 (`NoBuild` to `NoRealm`) depend.
 #[derive(Clone, Copy)]
 pub enum BuildFact {
     /// The build exists; the value is the number of builds of the host.
     There(u8),
-    /// The build is not in abort.
+    /// The build is not aborting.
     NotAborting,
     /// The order of a block is at most 9; the value is the order.
     Order(u8),
-    /// The build has the page; the values are its number, its granule if any, and the number of the build's pages.
+    /// The build has the page; the values are the page's number, its granule, if any, and the number of the build's
+    /// pages.
     Page(u16, Option<Gran>, u16),
     /// The build has a realm; the value is the RD that was found, if any.
     Realm(Option<Gran>),
@@ -18,12 +19,12 @@ pub enum BuildFact {
     NoRealm(Option<Gran>),
 }
 
-/// A fact about free room, checked for refusals 9 to 12.
+/// A fact about free room, on which refusals 9 to 12 (`JournalFull` to `NoVmid`) depend.
 #[derive(Clone, Copy)]
 pub enum RoomFact {
     /// Fewer than 512 operations of the build are open; the value is the number of open operations.
     Journal(usize),
-    /// Enough of the build's room in the history is left; the values are the entries left and the entries needed.
+    /// Enough of the build's room in the history is left; the values are the numbers of entries left and needed.
     History(u16, u16),
     /// A VMID is free; the value is the lowest free VMID, if any.
     Vmid(Option<Vmid>),
@@ -31,7 +32,7 @@ pub enum RoomFact {
     Block(u8, u16),
 }
 
-/// A fact about an undo, an abort or a step `back`, checked for refusals 7 and 8.
+/// A fact about an undo, an abort or a step `back`, on which refusals 7 (`NothingToUndo`) and 8 (`RecRunning`) depend.
 #[derive(Clone, Copy)]
 pub enum UndoFact {
     /// The build has operations open; the value is the number of open operations.
@@ -42,6 +43,6 @@ pub enum UndoFact {
     AllRest(u16),
     /// The build has a valid mark.
     Mark,
-    /// The operations above the mark created no REC that is RUNNING.
+    /// No open operation since the mark created a REC that is RUNNING.
     AboveRests,
 }

@@ -14,8 +14,9 @@ pub fn own_steps_decide()
     ensures back { (host : HostView) (build : ℕ) (mark : Option Mark) → ChecksDecideBack host build mark }
 {}
 
-/// The first failed check of a command's needs gives the host's refusal before the store or the RMM is called. These
-/// are refusals 1 to 6, 9, 10 and 12. No check fails exactly if the host gives none of them.
+/// The first failed check of a command's needs gives the refusal that the host returns before it calls the store or the
+/// RMM. Such refusals are 1 to 6, 9, 10 and 12. No check fails exactly if the host gives none of them. The page numbers
+/// of a `realm` command's starting tables have to be at most 65,535.
 pub fn needs_decide()
     ensures { (host : HostView) (build : ℕ) (cmd : Cmd) → ChecksDecideNeeds host build cmd }
 {}

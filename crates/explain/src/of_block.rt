@@ -1,4 +1,4 @@
-//! The check for refusal 11: a block is free.
+//! The check that a block is free, for refusal 11 (`NoBlock`).
 ghost use Rattle.std.specs.Prelude.{◌≡◌, ◌+◌, ◌<◌, ◌≤◌};
 ghost use Rattle.explain.specs.OfBlock.{is_unleased, are_unleased, is_free_at, has_block, block_check};
 
@@ -8,7 +8,7 @@ use granule_addr::{Gran, Order};
 use page_arena::PageStore;
 use realm_host::{Host, Refusal};
 
-// Whether the machine has granule `number`, and nobody leases it.
+// Whether the machine has granule `number`, and no build leases it.
 fn is_unleased<S: PageStore>(host: &Host<S>, number: u16) -> bool
     ensures { result ≡ is_unleased host.now number }
 {
@@ -20,7 +20,7 @@ fn is_unleased<S: PageStore>(host: &Host<S>, number: u16) -> bool
     }
 }
 
-// Whether the machine has the `count` granules from `first` on, and nobody leases any of them.
+// Whether the machine has the `count` granules from `first` on, and no build leases any of them.
 fn are_unleased<S: PageStore>(host: &Host<S>, first: u16, count: u16) -> bool
     requires { first + count ≤ 65536 }
     ensures { result ≡ are_unleased host.now first count }
@@ -33,7 +33,7 @@ fn are_unleased<S: PageStore>(host: &Host<S>, first: u16, count: u16) -> bool
     true
 }
 
-// Whether a block of an order begins at the granule, and is free.
+// Whether the block of the order at granule `first` is aligned and free.
 fn is_free_at<S: PageStore>(host: &Host<S>, order: Order, first: u16) -> bool
     requires { first < 4096 }
     ensures { result ≡ is_free_at host.now order first }
@@ -55,7 +55,7 @@ pub(crate) fn has_block<S: PageStore>(host: &Host<S>, order: Order) -> bool
     false
 }
 
-/// The check for refusal 11: an aligned block of the order is free.
+/// The check that an aligned block of the order is free, for refusal 11 (`NoBlock`).
 pub(crate) fn block_check<S: PageStore>(host: &Host<S>, order: Order) -> Check
     ensures { result ≡ block_check host.now order }
 {

@@ -1,4 +1,4 @@
-//! The checks that the host makes of a build, for refusals 1 to 6, 9, 10 and 12.
+//! The checks that the host makes before it calls the store or the RMM, for refusals 1 to 6, 9, 10 and 12.
 ghost use Rattle.std.specs.Prelude.{◌≡◌, ◌++◌, [], OnOk, map};
 ghost use Rattle.std.specs.List.{cons_option};
 ghost use Rattle.explain.specs.OfBuild.{build_there, not_aborting, checks_of_build, checks_of_order, page_there, checks_of_realm, checks_of_journal, room_left, room_check, checks_of_vmid, needs_checks};
@@ -12,7 +12,7 @@ use realm_host::{Cmd, Host, Refusal};
 use realm_model::JOURNAL_ROOM;
 use std::alloc::AllocError;
 
-/// The check for refusal 1: the build exists.
+/// The check that the build exists, for refusal 1 (`NoBuild`).
 pub(crate) fn build_there<S: PageStore>(host: &Host<S>, build: BuildId) -> Check
     ensures { result ≡ build_there host.now build }
 {
@@ -24,7 +24,7 @@ pub(crate) fn build_there<S: PageStore>(host: &Host<S>, build: BuildId) -> Check
     }
 }
 
-/// The check for refusal 2: the build is not in abort.
+/// The check that the build is not aborting, for refusal 2 (`Aborting`).
 pub(crate) fn not_aborting<S: PageStore>(host: &Host<S>, build: BuildId) -> Check
     ensures { result ≡ not_aborting host.now build }
 {
@@ -35,14 +35,14 @@ pub(crate) fn not_aborting<S: PageStore>(host: &Host<S>, build: BuildId) -> Chec
     }
 }
 
-/// The checks for refusals 1 and 2: the build exists, and is not in abort.
+/// The checks that the build exists and is not aborting, for refusals 1 and 2.
 pub(crate) fn checks_of_build<S: PageStore>(host: &Host<S>, build: BuildId) -> [Check; 2]
     ensures { result ≡ checks_of_build host.now build }
 {
     [build_there(host, build), not_aborting(host, build)]
 }
 
-// The check of a take for refusal 3: the order of the block is at most 9.
+// The check that a `take` names an order of at most 9, for refusal 3 (`BadOrder`).
 fn order_check(cmd: &Cmd) -> Option<Check>
     ensures { cons_option result [] ≡ checks_of_order cmd.now }
 {
@@ -56,7 +56,7 @@ fn order_check(cmd: &Cmd) -> Option<Check>
     }
 }
 
-// The check for refusal 4: the build has the page.
+// The check that the build has the page, for refusal 4 (`NotLeased`).
 fn page_there<S: PageStore>(host: &Host<S>, build: BuildId, page: u16) -> Check
     ensures { result ≡ page_there host.now build page }
 {
@@ -68,7 +68,7 @@ fn page_there<S: PageStore>(host: &Host<S>, build: BuildId, page: u16) -> Check
     }
 }
 
-// Adds a check for refusal 4 for each of the pages: the build has the page.
+// Adds, for each of the pages, the check that the build has it, for refusal 4 (`NotLeased`).
 fn add_pages<S: PageStore>(
     host: &Host<S>,
     build: BuildId,
@@ -83,7 +83,7 @@ fn add_pages<S: PageStore>(
     Ok(())
 }
 
-// The check for refusal 5 or 6: the build has no realm, or has one, as the command requires.
+// The check that the build has no realm, or has one, as the command requires, for refusals 5 and 6.
 fn realm_check<S: PageStore>(
     host: &Host<S>,
     build: BuildId,
@@ -107,7 +107,7 @@ fn realm_check<S: PageStore>(
     }
 }
 
-// The check of an operation with a reverse, for refusal 9: one more operation can be open.
+// The check that one more operation of the build can be open, for refusal 9 (`JournalFull`), if `paired` is set.
 fn journal_check<S: PageStore>(host: &Host<S>, build: BuildId, paired: bool) -> Option<Check>
     ensures { cons_option result [] ≡ checks_of_journal host.now build paired }
 {
@@ -133,7 +133,7 @@ fn room_left<S: PageStore>(host: &Host<S>, build: BuildId) -> u16
     }
 }
 
-// The check for refusal 10: the build has `needed` entries of its room left.
+// The check that `needed` entries of the build's room in the history are left, for refusal 10 (`HistoryFull`).
 fn room_check<S: PageStore>(host: &Host<S>, build: BuildId, needed: u16) -> Check
     ensures { result ≡ room_check host.now build needed }
 {
@@ -145,7 +145,7 @@ fn room_check<S: PageStore>(host: &Host<S>, build: BuildId, needed: u16) -> Chec
     }
 }
 
-// The check for refusal 12, if `wanted` is set: a VMID is free.
+// The check that a VMID is free, for refusal 12 (`NoVmid`), if `wanted` is set.
 fn vmid_check<S: PageStore>(host: &Host<S>, wanted: bool) -> Option<Check>
     ensures { cons_option result [] ≡ checks_of_vmid host.now wanted }
 {

@@ -20,7 +20,7 @@ use page_arena::PageStore;
 use realm_host::{Cmd, Host};
 use std::alloc::AllocError;
 
-// Adds the check that a block is free.
+// Adds the check that a block of the order is free, unless the order is above 9.
 fn add_take<S: PageStore>(
     host: &Host<S>,
     order: u8,
@@ -34,7 +34,7 @@ fn add_take<S: PageStore>(
     }
 }
 
-// The checks of a write by a REC that runs. This profile's own.
+// The checks of a write that the guest on a REC makes. This profile's own.
 fn guest_write<S: PageStore>(host: &Host<S>, build: BuildId, rec: RecNo, ipa: u32) -> [Check; 5]
     ensures { result ≡ guest_write_checks host.now build rec ipa }
 {
@@ -58,7 +58,7 @@ fn enter<S: PageStore>(host: &Host<S>, build: BuildId, number: RecNo) -> [Check;
     ]
 }
 
-// The level above that of a table.
+// The level above a table's level: 2 for a table of level 3, or else the level of the starting tables.
 fn above_of(level: u8) -> Level
     ensures { result ≡ above_of level }
 {
@@ -169,7 +169,7 @@ fn add_there<S: PageStore>(
     }
 }
 
-// Adds the checks that the store or the RMM makes of a command.
+// Adds the checks of a command that the store or the RMM makes.
 fn add_monitor<S: PageStore>(
     host: &Host<S>,
     build: BuildId,

@@ -1,4 +1,4 @@
-//! Input checks of pages and of IPAs. RMM 1.0, RMI command conditions.
+//! The checks on pages, IPAs and numbers that give RMI_ERROR_INPUT. RMM 1.0, RMI command conditions.
 ghost use Rattle.std.specs.Prelude.{◌≡◌, ◌++◌, OnOk, map, unwrap_or, option_map};
 ghost use Rattle.explain.specs.OfInput.{input_check, page_check, state_of_page, page_delegated, page_undelegated, width_of, protected, table_level, table_start, run_count, one_table};
 ghost use Rattle.granule_addr.specs.Ipa.{is_protected_at};
@@ -61,7 +61,7 @@ pub(crate) fn page_undelegated<S: PageStore>(host: &Host<S>, build: BuildId, pag
     page_check(page, now, Undelegated, !matches!(now, Some(Undelegated)))
 }
 
-// The IPA width of a build's realm; 0 if it has none.
+// The IPA width of a build's realm; 0 if the build has no realm.
 fn width_of<S: PageStore>(host: &Host<S>, build: BuildId) -> u8
     ensures { result ≡ width_of host.now build }
 {
@@ -93,7 +93,7 @@ pub(crate) fn protected<S: PageStore>(host: &Host<S>, build: BuildId, ipa: u32) 
     )
 }
 
-/// The check that a table may have the level.
+/// The check that the level of a new table is 2 or 3.
 pub(crate) fn table_level(level: u8) -> Check
     ensures { result ≡ table_level level }
 {
@@ -114,7 +114,7 @@ pub(crate) fn table_start(ipa: u32, level: u8) -> Check
     )
 }
 
-/// The check that `count` pages may become RAM at once.
+/// The check that the number of pages to make RAM is 1 to 512.
 pub(crate) fn run_count(count: u16) -> Check
     ensures { result ≡ run_count count }
 {
@@ -124,7 +124,7 @@ pub(crate) fn run_count(count: u16) -> Check
     )
 }
 
-/// The check that the `count` pages from the IPA granule on lie in one table.
+/// The check that one table of level 3 serves the `count` IPA granules from `ipa` on.
 pub(crate) fn one_table(ipa: u32, count: u16) -> Check
     ensures { result ≡ one_table ipa count }
 {

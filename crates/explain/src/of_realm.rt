@@ -1,4 +1,4 @@
-//! Checks of a realm that is to be created, and of the state of an existing realm. RMM 1.0, RMI_REALM_CREATE, Realm
+//! Checks on the creation of a realm, and on the state of an existing realm. RMM 1.0, RMI_REALM_CREATE, Realm
 //! attributes.
 ghost use Rattle.std.specs.Prelude.{◌≡◌, ◌++◌, ◌∷◌, ◌≤◌, OnOk, length};
 ghost use Rattle.explain.specs.OfRealm.{state_of_realm, state_check, realm_new, realm_active, follow, are_adjacent, begins_right, width_check, apart_check, start_checks, realm_create_checks};
@@ -12,7 +12,7 @@ use realm_host::{Host, RealmState, Rmi};
 use realm_model::RealmState::{Active, New};
 use std::alloc::AllocError;
 
-// The state of a build's realm.
+// The state of a build's realm, if the build has one.
 fn state_of_realm<S: PageStore>(host: &Host<S>, build: BuildId) -> Option<RealmState>
     ensures { result ≡ state_of_realm host.now build }
 {
@@ -46,7 +46,7 @@ pub(crate) fn realm_active<S: PageStore>(host: &Host<S>, build: BuildId) -> Chec
     state_check(found, Active, !matches!(found, Some(Active)))
 }
 
-// Whether the granules have the numbers from `first` on, in sequence.
+// Whether the granules have successive numbers from `first` on.
 fn follow(first: u16, granules: &[Gran]) -> bool
     requires { first ≤ 4096 }
     ensures { result ≡ follow first granules.now }

@@ -1,4 +1,4 @@
-//! Checks of a REC that is to be created, and of the existence and the state of a REC. RMM 1.0, RMI_REC_CREATE, REC
+//! Checks on the creation of a REC, and on the existence and the state of a REC. RMM 1.0, RMI_REC_CREATE, REC
 //! attributes.
 ghost use Rattle.std.specs.Prelude.{◌≡◌, ◌++◌, ◌∷◌, ◌≤◌, OnOk, length};
 ghost use Rattle.realm_model.specs.Command.Check.{are_distinct};

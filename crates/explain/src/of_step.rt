@@ -1,4 +1,4 @@
-//! The checks of the turn of a step.
+//! The checks made in a turn of a step.
 ghost use Rattle.std.specs.Prelude.{◌≡◌, ◌∷◌, ◌++◌, [], OnOk, IfOk, Some};
 ghost use Rattle.explain.specs.Steps.{undo_checks, running_of, begin_checks, mark_checks, back_checks, step_checks};
 
@@ -13,7 +13,7 @@ use plan_replay::PlanCursor;
 use realm_host::{Host, Mark, Refusal};
 use std::alloc::{AllocError, Global};
 
-// The checks of an undo, for refusals 1, 7 and 8.
+// The checks of an undo, for the refusals `NoBuild`, `NothingToUndo` and `RecRunning`.
 fn undo<S: PageStore>(host: &Host<S>, build: BuildId) -> [Check; 3]
     ensures { result ≡ undo_checks host.now build }
 {
@@ -44,7 +44,7 @@ fn running_of<S: PageStore>(host: &Host<S>, build: BuildId) -> u16
     }
 }
 
-// The checks of the first turn of an abort, for refusals 1, 2 and 8.
+// The checks of the first turn of an abort, for the refusals `NoBuild`, `Aborting` and `RecRunning`.
 fn begin<S: PageStore>(host: &Host<S>, build: BuildId) -> [Check; 3]
     ensures { result ≡ begin_checks host.now build }
 {
@@ -60,7 +60,7 @@ fn begin<S: PageStore>(host: &Host<S>, build: BuildId) -> [Check; 3]
     ]
 }
 
-// The check of a step `back` for refusal 7: the build has a valid mark.
+// The check of a step `back` that the build has a valid mark, for refusal 7 (`NothingToUndo`).
 fn has_mark(fails: bool) -> Check
     ensures { result ∷ [] ≡ mark_checks fails }
 {
@@ -71,7 +71,7 @@ fn has_mark(fails: bool) -> Check
     }
 }
 
-// The checks of a step `back` to a mark, for refusals 1, 2, 7 and 8.
+// The checks of a step `back` to a mark, for the refusals `NoBuild`, `Aborting`, `NothingToUndo` and `RecRunning`.
 fn back<S: PageStore>(host: &Host<S>, build: BuildId, mark: Mark) -> [Check; 4]
     ensures { result ≡ back_checks host.now build (Some mark) }
 {

@@ -1,4 +1,4 @@
-//! Checks of the end of a walk. RMM 1.0, RTT walk, RMI_ERROR_RTT.
+//! Checks on the level and the entry at which a walk ends. RMM 1.0, RTT walk, RMI_ERROR_RTT.
 ghost use Rattle.std.specs.Prelude.{◌≡◌, ◌+◌, ◌-◌, ◌≤◌};
 ghost use Rattle.realm_host.specs.declared.reading.RowView.{RowView as Row};
 ghost use Rattle.explain.specs.OfWalk.{rtt_check, level_of, state_of, granule_of_row, walk_ends, entry_unassigned};
@@ -12,7 +12,7 @@ use page_arena::PageStore;
 use realm_host::{EntryState, Host, Refusal, Rmi, RowView};
 use realm_model::Status;
 
-// A check of tables, whose refusal is RMI_ERROR_RTT with a level.
+// A check on translation tables, whose refusal is RMI_ERROR_RTT with the given level.
 fn rtt_check(fact: WalkFact, fails: bool, level: u8) -> Check
     ensures { result ≡ rtt_check fact fails level }
 {
@@ -117,7 +117,7 @@ fn is_free_entry<S: PageStore>(host: &Host<S>, build: BuildId, ipa: u32) -> bool
     matches!(found, Some(EntryState::Unassigned))
 }
 
-// Whether the walks to level 3 of the `count` IPA granules from `ipa` on all end at UNASSIGNED entries.
+// Whether, for each of the `count` IPA granules from `ipa` on, the walk to level 3 ends at an UNASSIGNED entry.
 fn are_free<S: PageStore>(host: &Host<S>, build: BuildId, ipa: u32, count: u16) -> bool
     requires { ipa + count ≤ 4294967296 }
     ensures { result ≡ are_free host.now build ipa count }
@@ -130,7 +130,7 @@ fn are_free<S: PageStore>(host: &Host<S>, build: BuildId, ipa: u32, count: u16) 
     true
 }
 
-/// The check that the walks to level 3 of the `count` IPA granules from `ipa` on all end at UNASSIGNED entries.
+/// The check that, for each of the `count` IPA granules from `ipa` on, the walk to level 3 ends at an UNASSIGNED entry.
 pub(crate) fn entries_free<S: PageStore>(
     host: &Host<S>,
     build: BuildId,

@@ -10,7 +10,7 @@ use host_commands::tables_named;
 use page_arena::PageStore;
 use realm_host::{Cmd, Host};
 
-// The number of starting tables that a command names; 1 if the last table would have a page number above 65,535.
+// The number of starting tables of a `realm` command; 1 if the last table would have a page number above 65,535.
 fn tables_within(root: u16, width: u8) -> u16
     ensures value { result ≡ tables_within root width }
     ensures few { result ≤ 16 }
@@ -36,7 +36,7 @@ fn push_run(pages: &mut ArrayVec<u16, 17>, first: u16, count: u16)
     }
 }
 
-// Adds pages of a list.
+// Adds the pages of a list.
 fn push_all(pages: &mut ArrayVec<u16, 17>, more: &[u16])
     requires { length pages.old.items + length more.now ≤ 17 }
     ensures { pages.new.items ≡ pages.old.items ++ more.now }
@@ -46,7 +46,7 @@ fn push_all(pages: &mut ArrayVec<u16, 17>, more: &[u16])
     }
 }
 
-/// The pages that a command names, in the order in which they are written.
+/// The pages that a command names, in the order of its operands.
 #[tactic(auto, unfolding(host_commands::specs::Needs::operands))]
 pub(crate) fn pages_named(cmd: &Cmd) -> ArrayVec<u16, 17>
     ensures value { result.items ≡ pages_named cmd.now }
@@ -86,7 +86,7 @@ fn push_found(granules: &mut ArrayVec<Gran, 17>, found: Option<Gran>)
     }
 }
 
-/// The granules of the given pages, without the pages that the build lacks.
+/// The granules of those given pages that the build has, in the order of the pages.
 pub(crate) fn granules_of<S: PageStore>(
     host: &Host<S>,
     build: BuildId,

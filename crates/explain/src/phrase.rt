@@ -14,9 +14,9 @@ pub(crate) enum Value {
     Word(&'static str),
     /// A count: the number, the singular noun and the plural noun.
     Many(usize, &'static str, &'static str),
-    /// A page of a build, as `data page 5`: the role, which ends with a space, and the number.
+    /// A page of a build, such as `data page 5`: the role, which ends with a space, and the number.
     Page(&'static str, u16),
-    /// A granule, as `data granule 5`: the role, which ends with a space, and the number.
+    /// A granule, such as `data granule 5`: the role, which ends with a space, and the number.
     Granule(&'static str, u16),
 }
 
@@ -88,7 +88,7 @@ fn push_named(text: &mut String, role: &str, noun: &str, number: u16) -> Result<
 }
 
 impl Value {
-    /// The granule in place of a page that the build has, and any other value unchanged.
+    /// The granule of a page that the build has; any other value is returned unchanged.
     pub(crate) fn in_granules<S: PageStore>(self, host: &Host<S>, build: BuildId) -> Value {
         let Value::Page(role, page) = self else {
             return self;
@@ -127,7 +127,7 @@ fn fill(text: &mut String, words: &str, values: &[Value]) -> Result<(), AllocErr
 }
 
 impl Phrase {
-    /// The phrase with granules in place of a build's pages.
+    /// The phrase, with each page of the build replaced by its granule.
     pub(crate) fn in_granules<S: PageStore>(self, host: &Host<S>, build: BuildId) -> Phrase {
         four(
             self.words,

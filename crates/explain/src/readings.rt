@@ -1,4 +1,4 @@
-//! Facts read from a host for messages, beside the values of a check.
+//! Facts that messages need beyond the values of a check, read from a host or a step.
 use crate::of_block::has_block;
 use crate::operands::pages_named;
 use arrayvec::ArrayVec;
@@ -7,7 +7,7 @@ use host_commands::{Cmd, Step};
 use page_arena::PageStore;
 use realm_host::{Act, EntryState, GranuleState, Host, RecState};
 
-/// The IPA granule that a step names, or 0.
+/// The IPA granule that a step names; 0 if it names none.
 pub(crate) fn ipa_of(step: &Step) -> u32 {
     match step {
         Step::Ask(Cmd::Rtt { ipa, .. })
@@ -27,7 +27,7 @@ pub(crate) fn named_pages(step: &Step) -> ArrayVec<u16, 17> {
     }
 }
 
-/// The first pages of a build, 17 at most, that are in a state and that a step does not name.
+/// Up to 17 pages of a build, the lowest numbers first, that are in the given state and that the step does not name.
 pub(crate) fn other_pages<S: PageStore>(
     host: &Host<S>,
     build: BuildId,
@@ -77,7 +77,7 @@ fn are_tables<S: PageStore>(
     true
 }
 
-/// The first of `count` pages of a build that can be the starting tables of a realm with the RD page `rd`.
+/// The lowest page of a build at which `count` starting tables of a realm with the RD page `rd` can begin.
 pub(crate) fn first_of_tables<S: PageStore>(
     host: &Host<S>,
     build: BuildId,
@@ -92,7 +92,7 @@ pub(crate) fn first_of_tables<S: PageStore>(
     None
 }
 
-/// The number that a build has for a granule, if the granule is one of its pages.
+/// The build's page number for a granule, if the granule is one of the build's pages.
 pub(crate) fn page_of<S: PageStore>(host: &Host<S>, build: BuildId, granule: Gran) -> Option<u16> {
     for page in 0..host.page_count(build) {
         if host.page_granule(build, page) == Some(granule) {
@@ -102,7 +102,7 @@ pub(crate) fn page_of<S: PageStore>(host: &Host<S>, build: BuildId, granule: Gra
     None
 }
 
-/// The order of the largest free block.
+/// The order of the largest free block, if any block is free.
 pub(crate) fn largest_free<S: PageStore>(host: &Host<S>) -> Option<Order> {
     let mut largest = None;
     for number in 0..10 {
@@ -164,7 +164,7 @@ pub(crate) fn undos_of_realm<S: PageStore>(host: &Host<S>, build: BuildId) -> Op
     None
 }
 
-/// The number of the REC that the newest open operation of a build created.
+/// The number of the REC that a build's newest open operation created, if it created one.
 pub(crate) fn newest_rec<S: PageStore>(host: &Host<S>, build: BuildId) -> Option<u16> {
     match host.open_acts(build).last() {
         Some(Act::Rec { number, .. }) => Some(number.number()),
@@ -172,7 +172,7 @@ pub(crate) fn newest_rec<S: PageStore>(host: &Host<S>, build: BuildId) -> Option
     }
 }
 
-/// The number of the next REC of a build's realm; 0 if it has no realm.
+/// The number that the next REC of a build's realm gets; 0 if the build has no realm.
 pub(crate) fn next_rec<S: PageStore>(host: &Host<S>, build: BuildId) -> u16 {
     match host.realm(build) {
         Some(realm) => realm.next_number().number(),
@@ -180,7 +180,7 @@ pub(crate) fn next_rec<S: PageStore>(host: &Host<S>, build: BuildId) -> u16 {
     }
 }
 
-/// Whether the realm of a build has REC `number`, in the state RUNNING if `only_running` is set.
+/// Whether the realm of a build has REC `number`, which has to be RUNNING if `only_running` is set.
 pub(crate) fn has_rec<S: PageStore>(
     host: &Host<S>,
     build: BuildId,
@@ -193,8 +193,8 @@ pub(crate) fn has_rec<S: PageStore>(
     }
 }
 
-/// The number of RECs of a build's realm and the highest of their numbers, for RUNNING RECs alone if `only_running` is
-/// set.
+/// The number of RECs of a build's realm, and the highest REC number. If `only_running` is set, both are of RUNNING
+/// RECs alone.
 pub(crate) fn count_of_recs<S: PageStore>(
     host: &Host<S>,
     build: BuildId,
@@ -218,8 +218,8 @@ pub(crate) fn is_unassigned<S: PageStore>(host: &Host<S>, build: BuildId, ipa: u
     }
 }
 
-/// The first IPA granule from `from` on whose entry is UNASSIGNED, or is not if `unassigned` is `false`. Only the table
-/// of level 3 that serves `from` is searched.
+/// The first IPA granule from `from` on whose entry is UNASSIGNED if `unassigned` is set, and is not UNASSIGNED
+/// otherwise. Only the table of level 3 that serves `from` is searched.
 pub(crate) fn first_entry<S: PageStore>(
     host: &Host<S>,
     build: BuildId,

@@ -2,7 +2,7 @@
 use granule_addr::{Gran, RecNo};
 use realm_model::{EntryState, GranuleState, RealmState, RecState};
 
-/// A fact about pages or IPAs.
+/// A fact about the operands of a command: a page, an IPA granule, a level or a number of pages.
 #[derive(Clone, Copy)]
 pub enum InputFact {
     /// The granule of the build's page is in the required state; the values are the page, the required state and the
@@ -10,13 +10,13 @@ pub enum InputFact {
     Page(u16, GranuleState, Option<GranuleState>),
     /// The IPA granule lies in the protected half of an address space of the given width.
     Protected(u32, u8),
-    /// A table may have the level.
+    /// The level of a new table is 2 or 3; the value is the level.
     Level(u8),
     /// A table of the level may begin at the IPA granule.
     Start(u32, u8),
-    /// A number of pages that may become RAM at once.
+    /// The number of pages to make RAM is 1 to 512; the value is the number.
     Count(u16),
-    /// An IPA granule, and a count of pages from that granule on, which lie in one table.
+    /// One table of level 3 serves the pages; the values are the first IPA granule and the number of pages.
     OneTable(u32, u16),
 }
 
@@ -25,10 +25,10 @@ pub enum InputFact {
 pub enum RealmFact {
     /// The IPA width is one that a realm may have.
     Width(u8),
-    /// The starting tables are adjacent granules, in the order of their pages.
+    /// The starting tables are adjacent granules, each one after the granule of the table before.
     Adjacent,
-    /// The first starting table is at a multiple of the number of starting tables; the value is the number of starting
-    /// tables.
+    /// The granule number of the first starting table is a multiple of the number of starting tables; the value is the
+    /// number of tables.
     Multiple(usize),
     /// The RD is not one of the starting tables.
     Apart,
@@ -39,7 +39,7 @@ pub enum RealmFact {
 /// A fact about a REC that is to be created, or about an existing REC. RMM 1.0, RMI_REC_CREATE, REC attributes.
 #[derive(Clone, Copy)]
 pub enum RecFact {
-    /// The granules that are named are distinct.
+    /// The granules that the command names are distinct.
     Distinct,
     /// The number of named auxiliary granules is the number that a REC has; the values are the two numbers.
     Auxiliaries(usize, u8),
@@ -55,10 +55,10 @@ pub enum WalkFact {
     /// The walk of the IPA granule ends at the required level; the values are the granule, the required level and the
     /// found level.
     Walk(u32, u8, u8),
-    /// The entry of the level is in the required state; the values are the level, the required state and the found
-    /// state.
+    /// The entry where the walk ends is in the required state; the values are the entry's level, the required state and
+    /// the found state.
     Entry(u8, EntryState, Option<EntryState>),
-    /// The entry of the level is not TABLE; the values are the level and the found state.
+    /// The entry where the walk ends is not TABLE; the values are the entry's level and the found state.
     NoTable(u8, Option<EntryState>),
     /// The entry leads to a granule; the value is the found granule, if any.
     Leads(Option<Gran>),

@@ -18,7 +18,7 @@ pub struct UnfinishedAbort {
     pub turns: usize,
 }
 
-// The abort of a build, if the build is in abort.
+// The unfinished abort of a build, if the build is aborting.
 fn unfinished_abort<S: PageStore>(host: &Host<S>, build: BuildId) -> Option<UnfinishedAbort>
     ensures { result ≡ unfinished_abort host.now build }
 {
@@ -58,7 +58,7 @@ pub fn unfinished_aborts<S: PageStore>(
     Ok(aborts)
 }
 
-/// Returns the lines for unfinished aborts: the turns that each abort lacks in `order`, and the help to add them.
+/// Returns the lines for unfinished aborts: how many turns each abort lacks in `order`, and how to add them.
 pub fn unfinished_lines(alloc: Global, aborts: &[UnfinishedAbort]) -> Result<String, AllocError> {
     let mut text = String::new(alloc);
     for abort in aborts {

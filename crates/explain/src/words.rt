@@ -12,7 +12,7 @@ use page_arena::PageStore;
 use realm_host::Host;
 use std::alloc::{AllocError, Global};
 
-/// Returns the words for a refused step: the error of the failed check, which is the last, and the help, if any.
+/// Returns the error and the help for a refused step, whose failed check is the last of `checks`.
 pub(crate) fn words_of<S: PageStore>(
     alloc: Global,
     host: &Host<S>,

@@ -53,7 +53,7 @@ pub fn align_down(number: u16, order: Order) -> u16
     number / size * size
 }
 
-/// The number of the buddy of `first`, which differs from the number of `first` in bit `order` alone. A machine may
+/// The number of the first granule of a block's buddy, which differs from `first` in bit `order` alone. A machine may
 /// lack that granule.
 pub fn buddy_of(first: Gran, order: Order) -> u16
     ensures { result ≡ bit_xor first (2 ^ order) }

@@ -34,7 +34,7 @@ impl Gran {
         }
     }
 
-    /// Granule `number` of a machine of the largest size.
+    /// Granule `number` of a machine with the largest number of granules.
     pub fn from_number(number: u16) -> Gran
         requires { number < 4096 }
         ensures { result ≡ number }

@@ -1,4 +1,4 @@
-//! A theorem on the starting tables of all widths.
+//! A theorem on the starting tables for all IPA widths.
 ghost use Rattle.std.specs.Prelude.{ℕ};
 ghost use Rattle.granule_addr.specs.Root.{ServesSpace};
 

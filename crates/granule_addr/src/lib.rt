@@ -1,4 +1,4 @@
-//! The numbers by which a machine and its realms are described, and their arithmetic.
+//! The numbers that describe a machine and its realms, and the arithmetic of these numbers.
 //!
 //! Each type keeps its range: each value of it is in range. Granules, IPA granules and pages are counted in units of 4
 //! KiB; contracts see each number as it is.

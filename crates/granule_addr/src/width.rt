@@ -59,8 +59,8 @@ impl IpaWidth {
     }
 }
 
-/// The starting tables of a realm, in adjacent granules: the first table, and the IPA width, which gives their number.
-/// RMM 1.0, Realm attributes: RTT base address and IPA width.
+/// The starting tables of a realm, in adjacent granules: the first table, and the IPA width, which determines the
+/// number of tables. RMM 1.0, Realm attributes: RTT base address and IPA width.
 #[derive(Clone, Copy, PartialEq, Eq)]
 pub struct Root {
     pub first: Gran,

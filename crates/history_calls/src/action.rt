@@ -11,7 +11,7 @@ pub enum HostAction {
         granules: u16,
         value: u8,
     },
-    /// The host reads a word of which each byte is `byte`.
+    /// The host reads a word whose bytes are all `byte`.
     Load {
         address: u64,
         byte: u8,
@@ -40,11 +40,11 @@ pub enum HostAction {
         rec: u64,
         run: u64,
     },
-    /// The run of a REC ends by an interrupt.
+    /// An interrupt that ends the run of a REC.
     Interrupt {
         rec: u64,
     },
-    /// The guest writes a byte after its next entry.
+    /// The guest of a REC writes a byte after the next entry of the REC.
     Write {
         rec: u64,
         ipa: u64,

@@ -25,7 +25,7 @@ fn ipa_of(ipa: IpaGran) -> u64
     4096 * ipa.number() as u64
 }
 
-// The MPIDR of the REC with a number.
+// The MPIDR of the REC with the given number.
 fn mpidr_of(number: RecNo) -> u64
     ensures { result ≡ specs.mpidr_of number }
 {
@@ -204,7 +204,7 @@ fn call_in_realm(frame: Frame, rd: u64, act: &Act) -> Option<HostAction>
     Some(action)
 }
 
-// Appends the operations for an event about the creation or the destruction of a REC.
+// Appends the actions for the creation or the destruction of a REC.
 fn push_on_rec_granule(actions: &mut Actions, frame: Frame, rd: u64, act: &Act)
     requires { actions.old.items ≡ [] }
     ensures { actions.new.items ≡ specs.on_rec_granule frame rd act.now }
@@ -255,8 +255,8 @@ fn push_on_rec(actions: &mut Actions, rec: u64, run: u64, act: &Act)
     }
 }
 
-/// The operations by which a host performs an event of a realm and a REC. The exits of a run go to the page with the
-/// number `run`, which is below `MOST_RUNS`.
+/// The actions by which a host carries out an operation on the given realm and REC. The exits of a run go to the page with
+/// the number `run`, which is below `MOST_RUNS`.
 ///
 /// A take and its reverse are the host's own: a take needs no operation, and what is given back is cleared.
 pub fn actions_of(frame: Frame, subject: RealmAndRec, run: u16, act: &Act) -> Actions

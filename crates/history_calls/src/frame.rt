@@ -1,11 +1,11 @@
-//! The place of a history's machine in the address space.
+//! The position of a history's machine in the physical address space.
 ghost use Rattle.std.specs.Prelude.{◌≡◌, ◌<◌, ◌≤◌, ◌+◌, ◌%◌, ◌^◌};
 ghost use Rattle.history_calls.specs.Frame as frames;
 
 use granule_addr::Gran;
 use std::marker::Model;
 
-/// The number of pages for the exits of runs, which is also the number of running RECs with a page of their own.
+/// The number of pages for exits, and so the largest number of running RECs with a page of their own.
 pub const MOST_RUNS: u16 = 64;
 
 /// The number of the host's granules, which follow those of the history's machine.
@@ -48,7 +48,7 @@ impl Frame {
         self.base
     }
 
-    /// The number of granules of the machine and of the host.
+    /// The number of granules of the machine and the host together.
     pub fn granules(self) -> u16
         ensures { result ≡ self.pages + 66 }
     {
@@ -63,7 +63,7 @@ impl Frame {
         self.base + 4096 * granule.number() as u64
     }
 
-    /// The address of a granule of the host.
+    /// The address of the host's granule `number`, in bytes.
     pub(crate) fn host(self, number: u16) -> u64
         requires { number < 66 }
         ensures { result ≡ frames.host self number }

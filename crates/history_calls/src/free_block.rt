@@ -1,4 +1,4 @@
-//! Blocks of granules that nobody leases.
+//! Free blocks: blocks of granules that no build leases.
 ghost use Rattle.std.specs.Prelude.{◌≡◌, ◌∷◌, [], ◌+◌, ◌<◌, ◌≤◌, None, length};
 ghost use Rattle.std.specs.List.{list_all, list_any, range_with_len};
 ghost use Rattle.realm_model.specs.World.{is_leased_to};
@@ -37,7 +37,7 @@ fn are_free<S: PageStore>(host: &Host<S>, first: u16, count: u16) -> bool
     true
 }
 
-// Whether a block of an order begins at the granule, and is free.
+// Whether a free block of an order begins at granule `first`.
 fn is_free_at<S: PageStore>(host: &Host<S>, order: Order, first: u16) -> bool
     requires { first < 4096 }
     ensures { result ≡ is_free_block (world_of host.now) order first }

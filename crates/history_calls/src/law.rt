@@ -31,7 +31,8 @@ pub fn decided_before()
     ensures { (place : Place) (host : HostView) (build run : ℕ) (cmd : Cmd) → IsDecidedBefore place host build run cmd }
 {}
 
-/// An undo is prepared as the host performs it. If the RMM has performed its call, the model does not refuse it.
+/// An undo is prepared with the refusal that the host gives, or for the operation that the host performs. If the RMM
+/// has performed its call, the model does not refuse it.
 pub fn undo_as_prepared()
     ensures { (place : Place) (host : HostView) (build : ℕ) → IsUndoPrepared place host build }
 {}

@@ -1,4 +1,5 @@
-//! The operations of a host on an RMM by registers, for each event of a history and for a prepared command or undo.
+//! The operations of a host on an RMM that is called in registers, for each event of a history and for a prepared
+//! command or undo.
 //!
 //! An event names granules by their numbers in the machine of the history. A frame places that machine at an address.
 //! After it are granules of the host: one for the parameters of realms, one for those of RECs, and one for each REC that

@@ -1,4 +1,4 @@
-//! The operations of a host on an RMM for a command, or for an undo, that is not performed yet.
+//! The operations on an RMM for a command or an undo that the host has yet to perform.
 ghost use Rattle.std.specs.Prelude.{◌≡◌, ◌<◌, None};
 ghost use Rattle.realm_model.specs.Act.{reverse_of};
 ghost use Rattle.realm_model.specs.Running.{next_number};
@@ -29,7 +29,7 @@ fn next_rec<S: PageStore>(host: &Host<S>, build: BuildId) -> RecNo
     }
 }
 
-// The values that are allocated for a command. The byte of a Peek is not known yet.
+// The values that the host would allocate for a command of a build. The byte of a Peek is not known yet.
 pub(crate) fn allocated<S: PageStore>(host: &Host<S>, build: BuildId) -> Allocated
     ensures { result ≡ prepared.allocated_before host.now build }
 {
@@ -44,7 +44,7 @@ pub(crate) fn allocated<S: PageStore>(host: &Host<S>, build: BuildId) -> Allocat
     }
 }
 
-// The realm of a build, and the REC there that an operation names.
+// The realm of a build, and the REC in it that an operation names.
 fn subject<S: PageStore>(host: &Host<S>, build: BuildId, act: &Act) -> RealmAndRec
     requires { build < host.now.limits.builds }
     ensures { result ≡ prepared.subject_of host.now build act.now }
@@ -78,7 +78,7 @@ fn actions_for<S: PageStore>(
     actions_of(frame, subject(host, build, act), run, act)
 }
 
-// Returns no operations for a Take, and refuses any other command with RMI_ERROR_INPUT.
+// Returns the result for a command that has no operation: an empty list for a Take, or else RMI_ERROR_INPUT.
 fn without_act(cmd: &Cmd) -> Result<Actions, Refusal>
     ensures { result ≡ prepared.without_act cmd.now }
 {
@@ -88,7 +88,7 @@ fn without_act(cmd: &Cmd) -> Result<Actions, Refusal>
     }
 }
 
-// The refusal of an access to a page, by the state of the page's granule.
+// The refusal, if any, of an access to a page whose granule is in the given state.
 fn access_refusal(state: Option<GranuleState>) -> Option<Refusal>
     ensures { result ≡ prepared.access_refusal state }
 {
@@ -124,7 +124,7 @@ fn exit_refusal<S: PageStore>(host: &Host<S>, build: BuildId, number: RecNo) -> 
     }
 }
 
-// The refusal of a command that the model decides before the RMM is called.
+// The refusal, if any, that the model gives to a command before the RMM is called.
 pub(crate) fn refused_before<S: PageStore>(
     host: &Host<S>,
     build: BuildId,

@@ -1,4 +1,4 @@
-//! The refusal that a command would get: the checks of the model, without the command's effects.
+//! The refusal that a command would get, found by the model's checks without performing the command.
 ghost use Rattle.std.specs.Prelude.{◌≡◌, ◌+◌, ◌≤◌, None};
 ghost use Rattle.std.specs.List.{list_all};
 ghost use Rattle.realm_model.specs.Command.Check.{error_rtt, are_distinct};
@@ -61,7 +61,7 @@ fn is_host_page<S: PageStore>(host: &Host<S>, build: BuildId, cmd: &Cmd) -> bool
     }
 }
 
-// Whether no granule is twice in a list.
+// Whether no granule occurs twice in a list.
 fn are_distinct(granules: &[Gran]) -> bool
     ensures { result ≡ are_distinct granules.now }
 {
@@ -75,7 +75,7 @@ fn are_distinct(granules: &[Gran]) -> bool
     true
 }
 
-// Whether granules can be starting tables beside an RD.
+// Whether granules can be the starting tables of a realm with the given RD.
 fn can_all_start<S: PageStore>(host: &Host<S>, rd: Gran, tables: &[Gran]) -> bool
     ensures { result ≡ list_all (refused.can_start (world_of host.now) rd) tables.now }
 {
@@ -84,14 +84,14 @@ fn can_all_start<S: PageStore>(host: &Host<S>, rd: Gran, tables: &[Gran]) -> boo
         .all(|table| is_delegated(host, *table) && !(*table == rd))
 }
 
-// Whether granules are DELEGATED.
+// Whether all of the granules are DELEGATED.
 fn are_delegated<S: PageStore>(host: &Host<S>, granules: &[Gran]) -> bool
     ensures { result ≡ list_all (refused.is_delegated_in (world_of host.now)) granules.now }
 {
     granules.iter().all(|granule| is_delegated(host, *granule))
 }
 
-// The refusal of RMI_REALM_CREATE of an RD and its starting tables.
+// The refusal of RMI_REALM_CREATE for an RD and its starting tables.
 fn realm_refusal<S: PageStore>(host: &Host<S>, root: Root, granules: &[Gran]) -> Option<Rmi>
     ensures { result ≡ refused.realm_refusal host.now root granules.now }
 {
@@ -109,7 +109,7 @@ fn realm_refusal<S: PageStore>(host: &Host<S>, root: Root, granules: &[Gran]) ->
     }
 }
 
-// The refusal of RMI_REC_CREATE of a REC and its auxiliary granules.
+// The refusal of RMI_REC_CREATE for a REC and its auxiliary granules.
 fn rec_refusal<S: PageStore>(host: &Host<S>, realm: &RealmDesc, granules: &[Gran]) -> Option<Rmi>
     ensures { result ≡ refused.rec_refusal host.now realm.now granules.now }
 {
@@ -149,7 +149,7 @@ fn is_table_place(ipa: IpaGran, level: Level) -> bool
     }
 }
 
-// Whether `count` IPA granules can become RAM at once.
+// Whether one command can make RAM of the `count` IPA granules from `ipa` on.
 fn is_page_run(ipa: IpaGran, count: u16) -> bool
     ensures { result ≡ is_page_run ipa count }
 {
@@ -157,7 +157,7 @@ fn is_page_run(ipa: IpaGran, count: u16) -> bool
     1 <= count && count <= 512 && first / 512 == (first + count as u32 - 1) / 512
 }
 
-// The refusal of a new table, by the end of the walk to the level `above` it.
+// The refusal of a new table, according to the level at which the walk to its parent ends.
 fn room_refusal<S: PageStore>(
     host: &Host<S>,
     build: BuildId,
@@ -246,7 +246,7 @@ fn enter_refusal<S: PageStore>(
     if rec.is_ready() { None } else { Some(Rmi::REC) }
 }
 
-// The refusal of a write of the guest at an IPA granule, which has to be protected.
+// The refusal of a guest's write to an IPA granule, which has to be protected.
 fn poke_refusal<S: PageStore>(
     host: &Host<S>,
     build: BuildId,
@@ -279,7 +279,7 @@ fn poke_refusal<S: PageStore>(
 
 // ---- operations
 
-// The refusal of a command on a realm's tables or memory, by its operation.
+// The refusal of the operation `act` on a realm's tables or memory.
 fn refusal_in_memory<S: PageStore>(
     host: &Host<S>,
     build: BuildId,
@@ -332,7 +332,7 @@ fn refusal_in_memory<S: PageStore>(
     }
 }
 
-// The refusal of a command on a realm, by its operation and the granules that it names.
+// The refusal of the operation `act` on a realm, with the granules that the command names.
 fn refusal_in_realm<S: PageStore>(
     host: &Host<S>,
     build: BuildId,
@@ -355,7 +355,7 @@ fn refusal_in_realm<S: PageStore>(
     }
 }
 
-// The refusal of a call of the RMM, by its operation and the granules that it names.
+// The RMM's refusal of the call for the operation `act`, with the granules that the command names.
 fn call_refusal<S: PageStore>(
     host: &Host<S>,
     build: BuildId,
@@ -402,7 +402,7 @@ fn model_refusal<S: PageStore>(
     Some(Refusal::Rmi(rmi))
 }
 
-/// Returns the refusal that the host gives when it is asked for a command, and performs nothing.
+/// Returns the refusal that the host would give to a command, without performing the command.
 pub fn refusal_asked<S: PageStore>(host: &Host<S>, build: BuildId, cmd: &Cmd) -> Option<Refusal>
     ensures { result ≡ refusal_of host.now build (Ask cmd.now) }
 {

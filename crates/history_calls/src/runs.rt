@@ -1,4 +1,4 @@
-//! The pages for the exits of runs.
+//! The pages for the exits of running RECs.
 ghost use Rattle.std.specs.Prelude.{◌≡◌, ◌<◌, replicate, None};
 ghost use Rattle.std.specs.List.{position_from};
 ghost use Rattle.history_calls.specs.Runs as runs;
@@ -7,7 +7,7 @@ use granule_addr::Gran;
 use realm_model::Act;
 use std::marker::Model;
 
-/// The pages for the exits of runs: one for each REC that runs, by the REC's granule.
+/// The pages for the exits of running RECs, with the granule of the REC that uses each page.
 ///
 /// With `MOST_RUNS` RECs running, those entered later share the last page.
 #[derive(Drop)]

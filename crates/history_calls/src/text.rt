@@ -1,4 +1,4 @@
-//! The text of operations and their answers, as lines of a trace by registers.
+//! The text of operations and their answers, as lines of a trace.
 use crate::{Frame, HostAction};
 use realm_model::{Rmi, Status};
 use rmi_abi::Call;
@@ -86,7 +86,7 @@ fn name_of_x1(call: Call) -> &'static str {
     }
 }
 
-// Appends a call and its answer.
+// Appends a call that succeeds, with its answer.
 fn push_answered(text: &mut String, call: Call, x1: Option<u64>) -> Result<(), AllocError> {
     push_call(text, call)?;
     text.push_str(" = RMI_SUCCESS")?;
@@ -214,8 +214,8 @@ fn push_refused(text: &mut String, call: Call, rmi: Rmi) -> Result<(), AllocErro
     }
 }
 
-/// Appends an operation with its answer, as a line of a trace by registers. If there is a refusal, a call is refused with
-/// it, and the REC that is not entered gets no step of a guest.
+/// Appends an operation with its answer, as a line of a trace. If there is a refusal, a call is refused with it, and
+/// the REC that is not entered gets no step of a guest.
 ///
 /// `AllocError`: the text may have a part of the line.
 pub fn push_action(

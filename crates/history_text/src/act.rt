@@ -1,4 +1,4 @@
-//! The reading of an operation from a word and its numbers.
+//! The parser of an operation from a word and its numbers.
 ghost use Rattle.std.specs.Prelude.{◌≡◌, ◌≤◌};
 ghost use Rattle.decimal_text.specs.Rows.{none, one, two, three, four};
 ghost use Rattle.decimal_text.specs.Written.{u8, u16};
@@ -25,7 +25,7 @@ const U8: u32 = 255;
 
 const U16: u32 = 65_535;
 
-/// The most numbers that an operation has: the granule and the number of a REC, and 16 auxiliary granules.
+/// The maximum count of numbers of an operation: the granule and the number of a REC, and 16 auxiliary granules.
 const MOST_NUMBERS: usize = 18;
 
 fn order_of(number: u32) -> Order
@@ -176,7 +176,7 @@ fn data_act(word: &str, numbers: &[u32]) -> Option<Act>
     }
 }
 
-// The granule of a REC, its auxiliary granules, and its number.
+// The granule of a REC, the REC's auxiliary granules, and the REC's number.
 fn rec(numbers: &[u32]) -> Option<(Gran, ArrayVec<Gran, 16>, RecNo)>
     ensures { result ≡ rec_row (λ g auxiliaries number. (g, auxiliaries, number)) numbers.now }
 {
@@ -195,7 +195,7 @@ fn rec_number(numbers: &[u32]) -> Option<RecNo>
     Some(RecNo::new(number as u16))
 }
 
-// The number of a REC, the IPA granule and the offset of its write, and the value.
+// The number of a REC, the IPA granule and the offset at which the REC writes, and the value.
 fn written(numbers: &[u32]) -> Option<(RecNo, IpaGran, PageOff, u8)>
     ensures { result ≡ four u16 ipa offset u8 (λ number i o value. (number, i, o, value)) numbers.now }
 {

@@ -29,7 +29,7 @@ impl fmt::Display for EventText<'_> {
     }
 }
 
-// The build whose number is the digit.
+// The build whose number is the ASCII digit, if there is one.
 fn build_of(digit: u8) -> Option<BuildId>
     ensures found { IfSome result (λ build. (build < 8) × (decimal build ≡ digit ∷ [])) }
     ensures none { IfNone result ((build : ℕ) → build < 8 → decimal build ≢ digit ∷ []) }
@@ -40,7 +40,7 @@ fn build_of(digit: u8) -> Option<BuildId>
     BuildId::new(digit - b'0')
 }
 
-/// The event whose text the line is; `None` if there is none. No memory is taken.
+/// The event that the line spells, or `None` if it spells none. No memory is taken.
 pub fn parse_event(line: &[u8]) -> Option<Event>
     // The event that is returned has this text.
     ensures found { IfSome result (λ event. IsEventText line.now event) }

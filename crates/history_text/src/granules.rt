@@ -12,7 +12,7 @@ pub const GRANULE: u32 = 4095;
 /// The largest IPA granule number.
 pub const IPA: u32 = 2_147_483_647;
 
-/// The largest number of auxiliary granules of a REC.
+/// The maximum number of auxiliary granules of a REC.
 const MOST_AUXILIARIES: usize = 16;
 
 /// The width of the widest address space, in bits.

@@ -10,7 +10,7 @@ ghost use Rattle.history_text.specs.Histories.{IsOpeningText};
 use granule_addr::{Gran, RecNo, Root, Vmid};
 use realm_model::{Act, Event};
 
-/// The largest number of bytes of a line, without its line feed.
+/// The maximum number of bytes of a line, without its line feed.
 pub const MOST_LINE: u16 = 256;
 
 /// Event texts are injective: different events have different texts.

@@ -10,8 +10,8 @@ use std::fmt;
 /// The largest numbers of pages, VMIDs, auxiliary granules of a REC, events of a build, and builds.
 const MAXIMA: [u32; 5] = [4096, 255, 16, 16_384, 8];
 
-/// The size of the machine of a history: pages, VMIDs, auxiliary granules of each REC, each build's room in the
-/// history, and builds.
+/// The size of a history's machine: the numbers of pages, VMIDs, auxiliary granules of each REC, events of each build,
+/// and builds.
 #[derive(Clone, Copy)]
 pub struct Opening {
     pub pages: u16,
@@ -50,7 +50,7 @@ impl Opening {
         }
     }
 
-    // Whether no number is too low.
+    // Whether each number is at least its minimum.
     fn has_enough(&self) -> bool
         ensures { (result ≡ true) ↔ HasEnough self.now }
     {
@@ -58,7 +58,7 @@ impl Opening {
     }
 }
 
-/// The opening that the line spells, if the line spells one whose size a machine can have. A machine has 1 to 4,096
+/// The opening that the line spells, if it spells one whose numbers are in their ranges. A machine has 1 to 4,096
 /// pages, 1 to 255 VMIDs and up to 16 auxiliary granules. The room is 16 to 16,384, and there are 1 to 8 builds. No
 /// memory is taken.
 pub fn parse_opening(line: &[u8]) -> Option<Opening>

@@ -6,7 +6,7 @@ use arrayvec::ArrayVec;
 use granule_addr::{Gran, IpaGran, PageOff, RecNo, Root, Vmid};
 use realm_model::Act;
 
-/// The most numbers that an operation has: the granule and the number of a REC, and 16 auxiliary granules.
+/// The maximum count of numbers of an operation: the granule and the number of a REC, and 16 auxiliary granules.
 const MOST_NUMBERS: usize = 18;
 
 /// The word of an operation.
@@ -80,7 +80,8 @@ fn realm_numbers(rd: Gran, root: Root, vmid: Vmid) -> ArrayVec<u32, MOST_NUMBERS
     numbers(&[rd, first, width, vmid])
 }
 
-// The numbers of a REC's operation: the REC's granule, its number, and its auxiliary granules.
+// The numbers of an operation that creates or destroys a REC: the REC's granule, its number, and its auxiliary
+// granules.
 fn rec_numbers(granule: Gran, number: RecNo, auxiliaries: &[Gran]) -> ArrayVec<u32, MOST_NUMBERS>
     requires { length auxiliaries.now ≤ 16 }
     ensures { result.items ≡ granule ∷ number ∷ auxiliaries.now }
@@ -92,7 +93,7 @@ fn rec_numbers(granule: Gran, number: RecNo, auxiliaries: &[Gran]) -> ArrayVec<u
     numbers
 }
 
-/// The numbers of an operation, in the order of its text.
+/// The numbers of an operation, in the order in which its text has them.
 pub fn numbers_of(act: &Act) -> ArrayVec<u32, MOST_NUMBERS>
     ensures { result.items ≡ (written_act act.now).numbers }
 {

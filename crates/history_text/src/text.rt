@@ -1,4 +1,4 @@
-//! The writing of a whole history.
+//! The writer of a history's text.
 ghost use Rattle.std.specs.Prelude.{◌≡◌, ◌++◌, OnOk, string_bytes};
 ghost use Rattle.history_text.specs.Histories.{history_text, shown};
 

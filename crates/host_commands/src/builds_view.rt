@@ -12,7 +12,7 @@ pub trait BuildsView {
     fn has_build(&self, build: BuildId) -> bool
         ensures { result ≡ nat_lt build (seen self.now).builds };
 
-    /// Whether the build is in abort.
+    /// Whether the build is being aborted.
     fn is_aborting(&self, build: BuildId) -> bool
         requires { build < (seen self.now).builds }
         ensures { result ≡ (seen self.now).aborting build };

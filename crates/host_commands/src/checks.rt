@@ -8,7 +8,7 @@ use arrayvec::ArrayVec;
 use granule_addr::{BuildId, Gran};
 use realm_model::JOURNAL_ROOM;
 
-/// Checks that the build exists and is not in abort: refusals 1 and 2.
+/// Checks that the build exists and is not being aborted; refuses with `NoBuild` or `Aborting` otherwise.
 pub fn check_build<D: BuildsView>(view: &D, build: BuildId) -> Result<(), Refusal>
     ensures { result ≡ checked (build_checks (D.seen view.now) build) }
 {
@@ -21,7 +21,7 @@ pub fn check_build<D: BuildsView>(view: &D, build: BuildId) -> Result<(), Refusa
     Ok(())
 }
 
-// Checks that the order of a block to take is at most 9: refusal 3.
+// Checks that the order of a block to take is at most 9; refuses with `BadOrder` otherwise.
 fn check_order(cmd: &Cmd) -> Result<(), Refusal>
     ensures { result ≡ checked (order_checks cmd.now) }
 {
@@ -31,7 +31,8 @@ fn check_order(cmd: &Cmd) -> Result<(), Refusal>
     }
 }
 
-// Checks that the build has a realm, or has none, as the command requires: refusals 5 and 6.
+// Checks that the build has a realm, or has none, as the command requires; refuses with `NoRealm` or `RealmThere`
+// otherwise.
 fn check_realm<D: BuildsView>(
     view: &D,
     build: BuildId,
@@ -47,7 +48,7 @@ fn check_realm<D: BuildsView>(
     }
 }
 
-// Checks that the build's journal has an entry left, if the command needs one: refusal 9.
+// Checks that the build's journal has an entry left, if the command needs one; refuses with `JournalFull` otherwise.
 fn check_journal<D: BuildsView>(view: &D, build: BuildId, paired: bool) -> Result<(), Refusal>
     requires { build < (D.seen view.now).builds }
     ensures { result ≡ checked (journal_checks (D.seen view.now) build paired) }
@@ -58,7 +59,7 @@ fn check_journal<D: BuildsView>(view: &D, build: BuildId, paired: bool) -> Resul
     Ok(())
 }
 
-// Checks that the build has at least `needed` entries of its room left: refusal 10.
+// Checks that the build has at least `needed` entries of its room left; refuses with `HistoryFull` otherwise.
 fn check_room<D: BuildsView>(view: &D, build: BuildId, needed: u16) -> Result<(), Refusal>
     requires { build < (D.seen view.now).builds }
     ensures { result ≡ checked (room_checks (D.seen view.now) build needed) }
@@ -69,7 +70,7 @@ fn check_room<D: BuildsView>(view: &D, build: BuildId, needed: u16) -> Result<()
     Ok(())
 }
 
-// Checks that a VMID is free, if the command needs one: refusal 12.
+// Checks that a VMID is free, if the command needs one; refuses with `NoVmid` otherwise.
 fn check_vmid<D: BuildsView>(view: &D, wanted: bool) -> Result<(), Refusal>
     ensures { result ≡ checked (vmid_checks (D.seen view.now) wanted) }
 {
@@ -79,7 +80,7 @@ fn check_vmid<D: BuildsView>(view: &D, wanted: bool) -> Result<(), Refusal>
     Ok(())
 }
 
-// Checks the requirements of a command on the state of its build: refusals 5, 6, 9, 10 and 12.
+// Checks the requirements of a command on its build's realm, journal and room, and on a free VMID.
 fn check_state<D: BuildsView>(view: &D, build: BuildId, needs: &Needs) -> Result<(), Refusal>
     requires { build < (D.seen view.now).builds }
     ensures { result ≡ checked (state_checks (D.seen view.now) build needs.now) }

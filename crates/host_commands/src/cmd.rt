@@ -51,12 +51,12 @@ pub enum Cmd {
         ipa: u32,
         source: u16,
     },
-    /// Turns a page into memory of the realm, with zeros. RMI_DATA_CREATE_UNKNOWN
+    /// Turns a page into zeroed memory of the realm. RMI_DATA_CREATE_UNKNOWN
     Unknown {
         page: u16,
         ipa: u32,
     },
-    /// Turns pages into a REC and its auxiliaries. RMI_REC_CREATE
+    /// Turns pages into a REC and its auxiliary granules. RMI_REC_CREATE
     Rec {
         page: u16,
         auxiliaries: ArrayVec<u16, 16>,
@@ -71,7 +71,7 @@ pub enum Cmd {
     Exit {
         number: RecNo,
     },
-    /// Lets a running REC write a byte of the realm's memory.
+    /// Lets a running REC write a byte to the realm's memory.
     Poke {
         number: RecNo,
         ipa: u32,
@@ -94,7 +94,7 @@ pub enum Step {
     Back,
 }
 
-// A copy of the pages.
+// A copy of a list of page numbers.
 fn clone_pages(pages: &ArrayVec<u16, 16>) -> ArrayVec<u16, 16>
     ensures { result ≡ pages.now }
 {

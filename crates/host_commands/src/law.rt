@@ -12,7 +12,7 @@ pub fn act_is_that_of_its_command()
     ensures { (cmd : Cmd) (granules : List ℕ) (allocated : Allocated) (act : Act) → ActIsOfCommand cmd granules allocated act }
 {}
 
-/// The operation of a command agrees with the machine, if the values that were allocated for it do.
+/// A command's operation agrees with the machine if the values that were allocated for the command do.
 pub fn act_fits_what_is_there()
     ensures { (cmd : Cmd) (granules : List ℕ) (allocated : Allocated) (act : Act) (realm : Option Seen) (cells : List Seen) → ActFits cmd granules allocated act realm cells }
 {}

@@ -5,7 +5,7 @@ ghost use Rattle.host_commands.specs.Needs.{needs_of, needs_but_vmid, tables_nam
 use crate::Cmd;
 use granule_addr::IpaWidth;
 
-/// The requirement of a command on its build: to have a realm, to have none, or either.
+/// What a command requires of its build's realm: that there is one, that there is none, or nothing.
 #[derive(Clone, Copy)]
 pub enum RealmRequirement {
     Either,
@@ -13,7 +13,7 @@ pub enum RealmRequirement {
     NoRealm,
 }
 
-/// The requirements of a command on its build: a row of the table.
+/// The requirements of a command on its build: one row of the table of all commands.
 #[derive(Clone, Copy)]
 pub struct Needs {
     /// The requirement on the build's realm.
@@ -27,7 +27,7 @@ pub struct Needs {
     pub vmid: bool,
 }
 
-/// The number of starting tables that a command with this width names, which is 1 if no realm has the width.
+/// The number of starting tables that a command with this width names; 1 if no realm can have the width.
 pub fn tables_named(width: u8) -> u16
     ensures value { result ≡ tables_named width }
     ensures few { result ≤ 16 }

@@ -10,10 +10,10 @@ pub enum Refusal {
     /// Refusal 1: a build that the host does not have.
     #[error("there is no such build")]
     NoBuild,
-    /// Refusal 2: a build that is in abort.
+    /// Refusal 2: a build that is being aborted.
     #[error("the build is being aborted")]
     Aborting,
-    /// Refusal 3: an order of a block above 9.
+    /// Refusal 3: a block whose order is above 9.
     #[error("a block has at most 512 pages")]
     BadOrder,
     /// Refusal 4: a page that the build does not have.
@@ -37,10 +37,10 @@ pub enum Refusal {
     /// Refusal 10: a command that would take room that the build's reverses and exits need.
     #[error("the history is full")]
     HistoryFull,
-    /// Refusal 11: a lack of a free aligned block of the order.
+    /// Refusal 11: no free aligned block of the order.
     #[error("no block of order {} is free", .0.number())]
     NoBlock(Order),
-    /// Refusal 12: a lack of a free VMID.
+    /// Refusal 12: no free VMID.
     #[error("no VMID is free")]
     NoVmid,
     /// Refusal 13: a refusal by the RMM.

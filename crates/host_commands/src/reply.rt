@@ -9,7 +9,7 @@ use realm_model::{Act, Kind};
 #[derive(Clone, Copy, Debug, PartialEq, Eq)]
 pub enum Reply {
     Done,
-    /// The build's number of the first page that was taken.
+    /// The build's own number for the first page that was taken.
     FirstPage(u16),
     /// The byte that was read.
     Byte(u8),

@@ -38,7 +38,7 @@ impl Build {
         })
     }
 
-    /// Updates the record for an operation of the build.
+    /// Updates the record after an operation of the build.
     pub(crate) fn follow(&mut self, act: &Act)
         requires { CanFollow self.old act.now }
         ensures { self.new ≡ build_after self.old act.now }
@@ -75,7 +75,7 @@ impl Build {
         }
     }
 
-    /// Begins an abort, if anything is open.
+    /// Begins an abort, if the build has operations open.
     pub(crate) fn begin_abort(&mut self)
         ensures { self.new ≡ record self.old { aborting = nat_lt 0 (length self.old.journal) } }
     {

@@ -60,7 +60,7 @@ fn new_builds(alloc: Global, count: u8) -> Result<Vec<Build>, AllocError>
     Ok(builds)
 }
 
-// Updates the pages of a build for an operation. The pages of a taken block follow the build's other pages, and the
+// Updates the list of a build's pages after an operation. The pages of a taken block follow the build's other pages, and the
 // pages of a block that is given back are removed.
 fn follow_pages(leases: &mut Leases, build: BuildId, act: &Act)
     requires there { build < length leases.old.stacks }
@@ -74,7 +74,7 @@ fn follow_pages(leases: &mut Leases, build: BuildId, act: &Act)
     }
 }
 
-// Updates the holders of the granules for an operation. A build leases the granules of a block that it takes, and
+// Updates the holders of the granules after an operation. A build leases the granules of a block that it takes, and
 // nobody leases those of a block that it gives back.
 fn follow_holders(holders: &mut Holders, build: BuildId, act: &Act)
     requires { CanFollowHolders holders.old act.now }
@@ -87,7 +87,7 @@ fn follow_holders(holders: &mut Holders, build: BuildId, act: &Act)
     }
 }
 
-// Updates the VMIDs in use for an operation. The VMID of a created realm comes into use, and the VMID of a destroyed
+// Updates the VMIDs in use after an operation. The VMID of a created realm comes into use, and the VMID of a destroyed
 // realm becomes free.
 fn follow_vmids(vmids: &mut VmidPool, act: &Act)
     requires { CanFollowVmids vmids.old act.now }
@@ -133,9 +133,9 @@ impl HostLedger {
         })
     }
 
-    /// The events so far: a legal history. No build has used more than its room in it, or had more than 512 operations
-    /// open at any time. A build in abort has something open, and each mark is one that its build can go back to. Each
-    /// build can be left out of the history.
+    /// The events recorded so far, which form a legal history. No build has used more than its room in it, or had more
+    /// than 512 operations open at any time. A build in abort has something open, and each mark is one that its build
+    /// can go back to. Each build can be left out of the history.
     pub fn history(&self) -> &[Event]
         ensures events { result.now ≡ self.now.history }
         ensures legal { IsLegal self.now.limits self.now.history }
@@ -197,7 +197,7 @@ impl HostLedger {
         self.builds[build.number() as usize].journal.len()
     }
 
-    /// The newest operation that a build has open.
+    /// The newest open operation of a build.
     pub fn newest(&self, build: BuildId) -> Option<&Act>
         requires { build < self.now.limits.builds }
         ensures value { option_map (λ act. act.now) result ≡ last_or None (open_of self.now build) }
@@ -207,7 +207,7 @@ impl HostLedger {
         kept.journal.newest()
     }
 
-    /// The operations that a build has open above the first `count`, the newest last.
+    /// The open operations of a build after its first `count`, the newest last.
     pub fn open_above(&self, build: BuildId, count: u16) -> &[Act]
         requires there { build < self.now.limits.builds }
         requires enough { count ≤ length (open_of self.now build) }
@@ -243,7 +243,7 @@ impl HostLedger {
         kept.recs.granule(number)
     }
 
-    /// The RD of a build's realm, and the granule of the REC in the realm that an operation names.
+    /// The RD of a build's realm, and the granule of the realm's REC that an operation names.
     pub fn place(&self, build: BuildId, act: &Act) -> RealmAndRec
         requires { build < self.now.limits.builds }
         ensures { IsPlaceOf (world_of self.now) build act.now result }
@@ -293,7 +293,7 @@ impl HostLedger {
         self.leases.count(build)
     }
 
-    /// Whether the granule is one of the machine's, and the build leases it.
+    /// Whether the granule is one of the machine's and is leased by the build.
     pub fn is_leased_by(&self, granule: Gran, build: BuildId) -> bool
         ensures { result ≡ is_leased_to (Some build) (world_of self.now).leases granule }
     {
@@ -307,7 +307,7 @@ impl HostLedger {
         self.holders.holder(granule)
     }
 
-    /// Puts a build into abort, if it has anything open.
+    /// Begins the abort of a build, if the build has operations open.
     pub fn begin_abort(&mut self, build: BuildId)
         requires { build < self.old.limits.builds }
         ensures begun { self.new ≡ begun self.old build }
@@ -316,7 +316,7 @@ impl HostLedger {
         self.builds[build.number() as usize].begin_abort();
     }
 
-    /// The mark of a build at the present end of the history.
+    /// A mark for a build at the current end of the history.
     pub fn mark_now(&self, build: BuildId) -> Mark
         requires { build < self.now.limits.builds }
         ensures { result ≡ mark_now self.now build }
@@ -328,7 +328,7 @@ impl HostLedger {
         }
     }
 
-    /// Keeps the mark of a build at the present end of the history, in place of an older mark.
+    /// Keeps a build's mark at the current end of the history, in place of any older mark.
     pub fn keep_mark(&mut self, build: BuildId, mark: &Mark)
         requires there { build < self.old.limits.builds }
         requires now { mark.now ≡ mark_now self.old build }

@@ -8,7 +8,7 @@ use realm_model::JOURNAL_ROOM;
 use std::alloc::{AllocError, Global};
 use std::marker::Model;
 
-/// The RECs of a realm, each by its number and its granule. Their numbers rise, so a binary search finds one. All
+/// The RECs of a realm, each with its number and its granule. Their numbers rise, so a binary search finds one. All
 /// memory is taken when the list is built: each REC is that of an open operation.
 #[derive(Drop)]
 pub(crate) struct Recs {

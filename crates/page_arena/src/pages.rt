@@ -58,7 +58,7 @@ impl RawPages {
         self.slots.count() as u16
     }
 
-    /// A page, by reference.
+    /// A reference to a page.
     pub fn page(&self, index: usize) -> &[u8; 4096]
         requires { index < length self.now }
         ensures { result.now ≡ page_at self.now index }
@@ -66,7 +66,7 @@ impl RawPages {
         self.row.get(self.start, self.slots.slot(index))
     }
 
-    /// A page, by mutable reference.
+    /// A mutable reference to a page.
     pub fn page_mut(&mut self, index: usize) -> &mut [u8; 4096]
         requires { index < length self.old }
         ensures* writes_back { sem 𝓛 (lends_page self.entry index result) }

@@ -1,4 +1,4 @@
-//! Items side by side in one allocation. All pointers of the crate are in the six functions of this file.
+//! Rows of items, each row in one allocation. All pointers of the crate are in the six functions of this file.
 ghost use Rattle.std.specs.Prelude.{◌≡◌, ◌≢◌, ◌<◌, ◌≤◌, ℕ, List, [], length, get_or, IfOk, ⊤};
 ghost use Rattle.std.specs.Borrow.{sem};
 ghost use denote.RawPtr.{Ptr};
@@ -8,7 +8,7 @@ use std::alloc::{AllocError, Allocator};
 use std::marker::{Model, PhantomData, Send, Sync};
 use std::mem::{align_of, size_of};
 
-/// The start of a row. It owns nothing.
+/// A pointer to the first item of a row. It owns nothing.
 pub(crate) struct Start<T> {
     first: *mut T,
 }
@@ -66,7 +66,7 @@ pub(crate) fn allocate<T, A: Allocator>(
     }
 }
 
-/// Gives the allocation of a row back.
+/// Gives back the allocation of a row.
 pub(crate) fn release<T, A: Allocator>(alloc: &A, start: Start<T>, room: usize, row: Row<T, A>)
     requires { (row.at ≡ start.first) × (row.room ≡ room) × (length row.items ≤ room) × (row.alloc ≡ alloc.now) × Reaches T.row room }
 {
@@ -83,7 +83,7 @@ pub(crate) fn release<T, A: Allocator>(alloc: &A, start: Start<T>, room: usize, 
 impl<T, A: Allocator> Row<T, A> {
     ghost use Rattle.page_arena.specs.Lends.{HasItem, lends_item};
 
-    /// An item, by reference.
+    /// A reference to an item.
     pub(crate) fn get(&self, start: Start<T>, index: usize) -> &T
         requires { HasItem T.row start self.now index }
         ensures { result.now ≡ get_or self.now.items index result.now }
@@ -91,7 +91,7 @@ impl<T, A: Allocator> Row<T, A> {
         unsafe { &*start.first.add(index) }
     }
 
-    /// An item, by mutable reference.
+    /// A mutable reference to an item.
     pub(crate) fn get_mut(&mut self, start: Start<T>, index: usize) -> &mut T
         requires { HasItem T.row start self.old index }
         ensures* writes_back { sem 𝓛 (lends_item T.row A.row A.Allocator self.entry index result) }
@@ -100,7 +100,7 @@ impl<T, A: Allocator> Row<T, A> {
         unsafe { &mut *start.first.add(index) }
     }
 
-    /// An item by reference, and another one by mutable reference.
+    /// A reference to an item, and a mutable reference to another.
     pub(crate) fn two(&mut self, start: Start<T>, read: usize, write: usize) -> (&T, &mut T)
         requires { HasItem T.row start self.old read × HasItem T.row start self.old write × (read ≢ write) }
         ensures* writes_back { sem 𝓛 (lends_item T.row A.row A.Allocator self.entry write result.1) }

@@ -31,7 +31,8 @@ pub trait PageStore {
     fn free_count(&self) -> u16
         ensures { result ≡ length (filter (λ flag. flag) (free_flags self.now)) };
 
-    /// Takes a free block of the store's choice. `None` comes exactly when there is no free block of the order.
+    /// Takes a free block of an order, by the store's choice. `None` comes exactly when there is no free block of the
+    /// order.
     fn take(&mut self, order: Order) -> Option<Gran>
         ensures first { result ≡ choice self.old order }
         ensures block { IfSome result (IsFreeBlock (free_flags self.old) order) }
@@ -89,13 +90,13 @@ pub trait PageStore {
             ≡ slice_set (page_bytes self.old) target (page_at (page_bytes self.old) source) }
         ensures flags { free_flags self.new ≡ free_flags self.old };
 
-    /// Word `index` of a page's 512 words, little endian.
+    /// Word `index` of a page's 512 words, little-endian.
     fn word(&self, granule: Gran, index: u16) -> u64
         requires inside { granule < length (page_bytes self.now) }
         requires index { index < 512 }
         ensures { result ≡ word_at (page_bytes self.now) granule index };
 
-    /// Writes word `index` of a page, little endian.
+    /// Writes word `index` of a page, little-endian.
     fn set_word(&mut self, granule: Gran, index: u16, word: u64)
         requires inside { granule < length (page_bytes self.old) }
         requires taken { is_free (free_flags self.old) granule ≡ false }
@@ -103,7 +104,7 @@ pub trait PageStore {
         ensures written { page_bytes self.new ≡ with_word (page_bytes self.old) granule index word }
         ensures flags { free_flags self.new ≡ free_flags self.old };
 
-    /// Writes bytes into a page, side by side from an offset on.
+    /// Writes bytes into a page, from an offset on.
     fn write(&mut self, granule: Gran, offset: u16, bytes: &[u8])
         requires inside { granule < length (page_bytes self.old) }
         requires taken { is_free (free_flags self.old) granule ≡ false }

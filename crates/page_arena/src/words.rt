@@ -1,8 +1,8 @@
-//! Words of a page's bytes.
+//! Words in the bytes of a page.
 ghost use Rattle.std.specs.Prelude.{◌≡◌, ◌+◌, ◌^◌, ◌<◌, ◌≤◌, length};
 ghost use Rattle.page_arena.specs.Word.{with_bytes, word_of_page, page_with_word, bytes_of_words, rising_word};
 
-/// Word `index` of a page's bytes.
+/// Word `index` of a page, little-endian.
 #[tactic(auto, unfolding(crate::specs::Word::word_of_page))]
 pub fn word_in(page: &[u8], index: usize) -> u64
     requires page { length page.now ≡ 4096 }
@@ -14,7 +14,7 @@ pub fn word_in(page: &[u8], index: usize) -> u64
     u64::from_le_bytes(bytes)
 }
 
-/// Writes word `index` of a page's bytes.
+/// Writes word `index` of a page, little-endian.
 #[tactic(auto, unfolding(crate::specs::Word::page_with_word, crate::specs::Word::with_bytes))]
 pub fn set_word_in(page: &mut [u8], index: usize, word: u64)
     requires page { length page.old ≡ 4096 }
@@ -24,7 +24,7 @@ pub fn set_word_in(page: &mut [u8], index: usize, word: u64)
     page[8 * index..8 * index + 8].copy_from_slice(&word.to_le_bytes());
 }
 
-/// Writes bytes into a page's bytes, side by side from an offset on.
+/// Writes bytes into a page, from an offset on.
 #[tactic(auto, unfolding(crate::specs::Word::with_bytes))]
 pub fn write_in(page: &mut [u8], offset: usize, bytes: &[u8])
     requires page { length page.old ≡ 4096 }

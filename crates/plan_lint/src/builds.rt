@@ -67,7 +67,7 @@ fn no_build(outline: &Outline, value: &Value, found: &mut Findings) {
     );
 }
 
-// Finds the mistakes in a build, which is a table with the one key `steps`.
+// Finds the mistakes in a build, which should be a table with `steps` as its only key.
 fn of_build(text: &str, number: usize, build: &Build, found: &mut Findings) {
     if !matches!(build.value.content, Content::Table | Content::Tables) {
         return of_kind(&build.value, "a table", found);

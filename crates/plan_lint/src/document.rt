@@ -1,4 +1,4 @@
-//! All mistakes in bytes that are no plan.
+//! The search for mistakes in bytes that are not a plan.
 use crate::builds::{builds, count_of_builds};
 use crate::finding::{Finding, Findings, Span};
 use crate::keys::{numbers, unknown_keys};
@@ -10,7 +10,7 @@ use realm_plan::{MOST_BYTES, PlanFault};
 use std::alloc::{AllocError, Global};
 use std::str::from_utf8;
 
-/// Finds the mistakes in bytes that are no plan because of a given fault. The one error is that allocation failed.
+/// Finds the mistakes in bytes that were rejected as a plan with this fault. The one error is that allocation failed.
 pub(crate) fn errors_in(
     alloc: Global,
     bytes: &[u8],

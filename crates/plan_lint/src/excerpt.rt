@@ -1,13 +1,13 @@
-//! Places in a text, and excerpts: a line of the text, with carets under a part of the line.
+//! Positions in a text, and excerpts: a line of the text with carets under a part of it.
 use std::alloc::{AllocError, Global};
 
 /// The largest number of bytes that are shown before the first caret, and from the first caret on.
 const MOST: usize = 80;
 
-/// The number of bytes that are shown on a side of the first caret if the line is cut on that side.
+/// The number of the line's bytes that are shown on a side of the first caret where the line is cut.
 const LESS: usize = 78;
 
-/// A place of a text, with its line and its column, both from 1.
+/// A position in a text, with its line and its column, both counted from 1.
 #[derive(Clone, Copy)]
 pub struct Cursor {
     pub at: usize,
@@ -17,7 +17,7 @@ pub struct Cursor {
     pub start: usize,
 }
 
-/// The place at the beginning of a text.
+/// The position at the beginning of a text.
 pub const FIRST: Cursor = Cursor {
     at: 0,
     line: 1,
@@ -30,7 +30,7 @@ fn begins_char(byte: u8) -> bool {
     byte < 128 || byte >= 192
 }
 
-/// The place after the first `at` bytes. The text is gone through from the place `from` on.
+/// The position after the first `at` bytes. The text is gone through from the place `from` on.
 pub(crate) fn place_at(text: &[u8], from: Cursor, at: usize) -> Cursor {
     let mut place = from;
     for byte in text.get(from.at..at).unwrap_or(&[]) {
@@ -56,7 +56,7 @@ pub(crate) fn plain_text(alloc: Global, bytes: &[u8]) -> Result<String, AllocErr
     String::from_utf8_lossy(alloc, &shown)
 }
 
-// The shown part of a line before a place: the whole part, or two dots and its end if it is too long.
+// What is shown of a line before the first caret: all of it, or two dots and its end if it is too long.
 fn shown_front(alloc: Global, front: &[u8]) -> Result<Vec<u8>, AllocError> {
     let mut line = Vec::new(alloc);
     if front.len() <= MOST {
@@ -68,7 +68,7 @@ fn shown_front(alloc: Global, front: &[u8]) -> Result<Vec<u8>, AllocError> {
     Ok(line)
 }
 
-// The shown part of a line after a place: the whole part, or its beginning and two dots if it is too long.
+// What is shown of a line from the first caret on: all of it, or its beginning and two dots if it is too long.
 fn shown_back(alloc: Global, back: &[u8]) -> Result<Vec<u8>, AllocError> {
     let mut line = Vec::new(alloc);
     if back.len() <= MOST {
@@ -105,7 +105,7 @@ fn push_carets(text: &mut String, before: usize, count: usize) -> Result<(), All
     text.push('\n')
 }
 
-/// Appends the line that contains a place, and carets under the first `len` bytes after the place.
+/// Appends an excerpt of the line made of `front` and `back`, with carets under the first `len` bytes of `back`.
 pub(crate) fn push_excerpt(
     alloc: Global,
     text: &mut String,

@@ -1,10 +1,10 @@
-//! Findings on a plan, and their places.
+//! Findings on a plan, and their spans in its text.
 use crate::message_text::{Piece, filled};
 use crate::nearest::nearest;
 use realm_plan::PlanFault;
 use std::alloc::{AllocError, Global};
 
-/// A stretch of a text, by the offsets in bytes of its start and its end.
+/// A stretch of a text, given by the byte offsets of its start and its end.
 #[derive(Clone, Copy)]
 pub struct Span {
     pub start: usize,
@@ -12,7 +12,7 @@ pub struct Span {
 }
 
 impl Span {
-    /// The `len` bytes from a place on.
+    /// The span of the `len` bytes from `start` on.
     pub(crate) fn new(start: usize, len: usize) -> Span {
         let end = start.saturating_add(len);
         Span { start, end }
@@ -22,7 +22,7 @@ impl Span {
 /// The severity of a finding.
 #[derive(Clone, Copy, PartialEq, Eq)]
 pub enum Severity {
-    /// A mistake in bytes that are no plan, with its fault, and a second fault if the same mistake causes one.
+    /// A mistake in bytes that are not a plan, with its fault, and a second fault if the same mistake causes one.
     Error(PlanFault, Option<PlanFault>),
     /// A likely slip in a plan.
     Warning,

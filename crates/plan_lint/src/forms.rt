@@ -1,4 +1,4 @@
-//! The forms of steps, for findings on a text that is no step.
+//! The forms of steps, for findings on a string that is not a valid step.
 
 /// The kind of a numeric operand of a step.
 #[derive(Clone, Copy)]
@@ -15,7 +15,7 @@ pub enum OperandKind {
 }
 
 impl OperandKind {
-    /// The name of the operand, and the greatest number that the operand may be.
+    /// The operand's name in messages, and its greatest value.
     pub(crate) fn limits(self) -> (&'static str, u64) {
         match self {
             OperandKind::Order => ("the order of a block", 255),
@@ -35,7 +35,7 @@ impl OperandKind {
 #[derive(Clone, Copy)]
 pub struct Form {
     pub word: &'static str,
-    /// The number of arguments, and their names, in words.
+    /// The number and the names of the arguments, as words of a message.
     pub takes: &'static str,
     /// The kinds of the arguments. Further ones, if there may be any, are pages.
     pub kinds: &'static [OperandKind],
@@ -45,7 +45,7 @@ pub struct Form {
     other_names: &'static str,
 }
 
-/// The first words of all kinds of steps.
+/// The first word of each kind of step.
 pub const WORDS: [&str; 18] = [
     "take", "fill", "peek", "delegate", "realm", "activate", "rtt", "ripas", "data", "unknown",
     "rec", "enter", "exit", "poke", "undo", "abort", "mark", "back",
@@ -100,7 +100,7 @@ pub(crate) fn form_of(word: &str) -> Option<Form> {
     None
 }
 
-/// The step of the command that has this name in the RMI, in a trace or in a history.
+/// The word of the step for a command that has this name in the RMI, in a trace or in a history.
 pub(crate) fn step_of_command(name: &str) -> Option<&'static str> {
     for form in &FORMS {
         for other in form.other_names.split_whitespace() {

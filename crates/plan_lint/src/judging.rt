@@ -1,4 +1,4 @@
-//! The findings on a document: its errors if it is no plan, or else its likely slips.
+//! The findings on a document: its errors if it is not a plan, or else its likely slips.
 ghost use Rattle.std.specs.Prelude.{◌≡◌, ◌≤◌, ℕ, true, map, sum_by, All, Any, IfOk, length, vec_len};
 ghost use Rattle.std.specs.List.Sorted.{IsPermutation, IsNonDecreasingBy};
 ghost use Rattle.realm_plan.specs.PlanView.{plan_view};
@@ -21,7 +21,7 @@ pub struct Size {
 /// The findings on the bytes of a document, and the size of the plan if the document is one.
 #[derive(Drop)]
 pub struct Judged {
-    /// The findings in the order of their places.
+    /// The findings, sorted by where their spans begin.
     pub findings: Vec<Finding>,
     /// The size of the plan, or `None` if the bytes are no plan.
     pub size: Option<Size>,
@@ -49,7 +49,7 @@ fn size_of(plan: &Plan) -> Size
     }
 }
 
-// The description of a fault in general words, for bytes on which nothing else is found.
+// A description of a fault in general words, for bytes in which no other error reports the fault.
 fn general_words(fault: PlanFault) -> &'static str {
     match fault {
         PlanFault::Syntax => "this is no TOML",
@@ -60,7 +60,7 @@ fn general_words(fault: PlanFault) -> &'static str {
     }
 }
 
-// The part of a stretch that is inside a text of `end` bytes.
+// The span, clipped to a text of `end` bytes.
 fn clipped(span: Span, end: usize) -> Span
     ensures ordered { result.start ≤ result.end }
     ensures inside { result.end ≤ end }
@@ -106,7 +106,7 @@ fn is_error_of(severity: Severity, fault: PlanFault) -> bool
     }
 }
 
-// Whether one of the findings is an error of this fault.
+// Whether one of the findings is an error with this fault.
 fn tells(findings: &[Finding], fault: PlanFault) -> bool
     ensures { (result ≡ true) → Any (λ f. IsErrorOf fault f.severity) findings.now }
 {
@@ -132,7 +132,7 @@ fn general_finding(alloc: Global, fault: PlanFault) -> Result<Finding, AllocErro
     })
 }
 
-// The errors in bytes that are no plan because of a given fault. The fault is reported in general words if no other
+// The errors in bytes that were rejected as a plan with this fault. The fault is reported in general words if no other
 // error reports it.
 fn errors_of(alloc: Global, bytes: &[u8], fault: PlanFault) -> Result<Vec<Finding>, AllocError>
     ensures errors { IfOk result (λ v. AreErrors fault v.items) }
@@ -187,7 +187,8 @@ fn in_order(mut found: Vec<Finding>) -> Result<Vec<Finding>, AllocError>
     Ok(found)
 }
 
-/// The findings on the bytes. The one error is that allocation failed.
+/// The findings on the bytes of a document, and the size of the plan if the document is one. The one error is that
+/// allocation failed.
 pub fn judge(alloc: Global, bytes: &[u8]) -> Result<Judged, AllocError>
     ensures { IfOk result (IsJudged bytes.now) }
 {

@@ -1,4 +1,4 @@
-//! Unknown and missing keys, and the numbers of a plan.
+//! Findings on unknown and missing keys, and on the numbers in a plan.
 use crate::finding::Findings;
 use crate::message_text::Piece::{Quoted, Whole, Words};
 use crate::outline::{Build, KeyValue, Outline, PLAN_KEYS, Value, is_among};
@@ -56,7 +56,7 @@ fn unknown_keys_of(outline: &Outline, build: &Build, meant: &mut Meant, found: &
     }
 }
 
-// Reports a key that no plan has, and returns the missing key that it means.
+// Reports a key that no plan has, and returns the key that was probably meant, if there is one.
 fn unknown_key<'a>(outline: &Outline, key: &'a KeyValue, found: &mut Findings) -> Option<&'a str> {
     let name = key.name.as_str();
     if name == "steps" {
@@ -79,7 +79,7 @@ fn unknown_key<'a>(outline: &Outline, key: &'a KeyValue, found: &mut Findings) -
     near
 }
 
-// Reports a key of the plan below a build, and returns the key if the plan lacks it.
+// Reports a key of the plan that is written in a build, and returns the key if the plan lacks it.
 fn key_of_plan<'a>(outline: &Outline, key: &'a KeyValue, found: &mut Findings) -> Option<&'a str> {
     let name = key.name.as_str();
     let words = "{} is a key of the plan, not of a build";
@@ -95,7 +95,7 @@ fn is_near_steps(key: &KeyValue, found: &mut Findings) -> bool {
     found.nearest(&["steps"], key.name.as_str()).is_some()
 }
 
-/// Whether some unknown key of a build without the key `steps` was probably meant as that key.
+/// Whether one of the keys of a build that lacks `steps` was probably meant as `steps`.
 pub(crate) fn means_steps(build: &Build, found: &mut Findings) -> bool {
     for key in &build.keys {
         if is_near_steps(key, found) {
@@ -151,7 +151,7 @@ fn number(name: &str, low: i64, high: i64, value: &Value, found: &mut Findings) 
     }
 }
 
-/// Reports a value of another kind in the place of an integer.
+/// Reports a value that should be an integer and is of another kind.
 pub(crate) fn no_integer(value: &Value, found: &mut Findings) {
     of_kind(value, "an integer", found);
     if let Some(text) = value.as_text() {
@@ -161,7 +161,7 @@ pub(crate) fn no_integer(value: &Value, found: &mut Findings) {
     }
 }
 
-/// Reports a value of another kind than the expected one.
+/// Reports a value whose kind is not the expected one.
 pub(crate) fn of_kind(value: &Value, expected: &str, found: &mut Findings) {
     let pieces = [Words(expected), Words(value.content.kind())];
     let words = "expected {}, found {}";

@@ -37,7 +37,7 @@ pub(crate) fn slips_in(
     found.finish()
 }
 
-/// A build of a plan, with the outline that gives the places of its steps.
+/// A build of a plan, with the outline that has the positions of its steps in the text.
 #[derive(Clone, Copy)]
 struct PlannedBuild<'a> {
     plan: &'a Plan,
@@ -47,7 +47,7 @@ struct PlannedBuild<'a> {
 }
 
 impl PlannedBuild<'_> {
-    // The place of a step.
+    // The span of a step in the text.
     fn span(&self, step: usize) -> Span {
         self.outline.step_span(self.number, step)
     }
@@ -111,7 +111,7 @@ impl PlannedBuild<'_> {
         Ok(())
     }
 
-    // The number of turns of the build, and the place of its first turn beyond `most` turns.
+    // The number of the build's turns, and the index in `order` of its first turn beyond the limit `most`, if there is one.
     fn own_turns(&self, most: usize) -> (usize, Option<usize>) {
         let (mut count, mut further) = (0usize, None);
         for (place, turn) in self.plan.order.iter().enumerate() {
@@ -168,7 +168,7 @@ impl PlannedBuild<'_> {
         found.warning(self.span(place), words, &pieces);
     }
 
-    // Reports an `abort` or a `back` that lacks turns.
+    // Reports an `abort` or a `back` that has too few turns left.
     fn cut_off(
         &self,
         place: usize,
@@ -186,7 +186,7 @@ impl PlannedBuild<'_> {
     }
 }
 
-// The order of the block that a step takes.
+// The order of the block for which a step asks, if it is a `take`.
 fn taken(step: &PlanStep) -> Option<u8> {
     match step {
         PlanStep::Whole(Step::Ask(Cmd::Take { order })) => Some(*order),

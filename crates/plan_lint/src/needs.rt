@@ -1,4 +1,4 @@
-//! The turns that steps surely need, whatever other builds do.
+//! A lower bound on the turns that steps need, whatever other builds do.
 //!
 //! A `take` is surely accepted if all takes of the plan together ask for no more than the machine has. A `delegate` of
 //! a page of such a take is, and so is a `realm` in two such pages. No more is known without a run.
@@ -13,12 +13,12 @@ const MOST_OPEN: usize = 512;
 /// The greatest order of a block.
 pub const MOST_ORDER: u8 = 9;
 
-/// The number of pages of a block. Blocks that no machine has count as 4,096 pages.
+/// The number of pages in a block of this order. Blocks of more than 4,096 pages count as 4,096 pages.
 pub(crate) fn block_len(order: u8) -> usize {
     1 << order.min(12)
 }
 
-/// The state that a build surely has after the steps so far.
+/// The part of a build's state that is certain after the steps so far.
 #[derive(Drop)]
 pub struct KnownState {
     /// The number of operations that are surely open; `since_mark` is the number of those opened since the mark.
@@ -35,7 +35,7 @@ pub struct KnownState {
 }
 
 impl KnownState {
-    /// The state of a build before the first of its steps.
+    /// The known state of a build before its first step.
     pub(crate) fn new(alloc: Global, plan: &Plan, steps: &[PlanStep]) -> KnownState {
         let (mut pages, mut realms) = (0usize, 0usize);
         for steps in &plan.builds {
@@ -63,7 +63,7 @@ impl KnownState {
         }
     }
 
-    /// The least number of turns that the next step takes.
+    /// Records the next step in the state, and returns a lower bound on the turns that it takes.
     pub(crate) fn turns_of(&mut self, step: Step) -> Result<usize, AllocError> {
         let reversed = match step {
             Step::Ask(cmd) => {

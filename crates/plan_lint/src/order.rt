@@ -7,10 +7,10 @@ use realm_plan::{MOST_TURNS, PlanFault};
 use std::alloc::AllocError;
 use std::collections::BTreeMap;
 
-/// The turns that all name the same missing build: the place of the first turn, and their count.
+/// The turns that name the same build, which does not exist: the index of the first such turn, and their count.
 #[derive(Clone, Copy)]
 struct Stray {
-    /// The index of the first turn with the number.
+    /// The index of the first turn that names the build.
     place: usize,
     count: usize,
 }
@@ -55,7 +55,7 @@ fn of_turns(
     Ok(())
 }
 
-// Reports the turns that name missing builds, each missing build once.
+// Reports turns that name missing builds, with one finding for each such build.
 fn strays(turns: &[Value], builds: usize, found: &mut Findings) -> Result<(), AllocError> {
     let mut numbers = BTreeMap::new(found.alloc);
     for (place, turn) in turns.iter().enumerate() {

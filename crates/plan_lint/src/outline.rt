@@ -1,17 +1,17 @@
-//! The parts of a plan's text, each with its place.
+//! The parts of a plan's text, each with its span.
 use crate::finding::Span;
 use toml_parser::Scalar;
 
-/// The keys of a plan.
+/// All keys that a plan can have.
 pub const PLAN_KEYS: [&str; 6] = ["pages", "vmids", "aux", "history", "order", "build"];
 
-/// The kind of a value, with its content if a plan uses values of that kind.
+/// The kind of a value, with the content of a string or a scalar.
 #[derive(Drop)]
 pub enum Content {
     Text(String),
     Scalar(Scalar),
     Array,
-    /// A table that is written inline or by dotted keys.
+    /// A table that is written inline or with dotted keys.
     Table,
     /// A table that a header opens.
     Headed,
@@ -35,7 +35,7 @@ impl Content {
     }
 }
 
-/// A value and its place.
+/// A value and its span in the text.
 #[derive(Drop)]
 pub struct Value {
     pub span: Span,
@@ -65,7 +65,7 @@ impl Value {
 /// A key and its value.
 #[derive(Drop)]
 pub struct KeyValue {
-    /// The first part of the key.
+    /// The name of this key, or only the first part if the key is dotted.
     pub name: String,
     pub key: Span,
     pub value: Value,
@@ -112,7 +112,7 @@ impl Outline {
         is_among(&self.missing, name)
     }
 
-    /// The place before the first key or header of the text.
+    /// The empty span before the first key or header in the text.
     pub(crate) fn start(&self) -> Span {
         let start = match (self.keys.first(), self.builds.first()) {
             (Some(key), Some(build)) => key.key.start.min(build.value.span.start),
@@ -123,7 +123,7 @@ impl Outline {
         Span::new(start, 0)
     }
 
-    /// The place of the value of `order`, or else the beginning of the text.
+    /// The span of the value of `order`, or `start` if the text has no `order`.
     pub(crate) fn order_span(&self) -> Span {
         match self.value("order") {
             Some(value) => value.span,
@@ -131,7 +131,7 @@ impl Outline {
         }
     }
 
-    /// The place of a turn, or else of the value of `order`.
+    /// The span of a turn, or `order_span` if there is no such turn.
     pub(crate) fn turn_span(&self, place: usize) -> Span {
         match self.turns.get(place) {
             Some(turn) => turn.span,
@@ -139,7 +139,8 @@ impl Outline {
         }
     }
 
-    /// The place of a step of a build, or else of the build, or else the beginning of the text.
+    /// The span of a step, or of its build if there is no such step, or the beginning of the text if there is no such
+    /// build.
     pub(crate) fn step_span(&self, build: usize, step: usize) -> Span {
         match self.builds.get(build) {
             Some(build) => build.steps.get(step).unwrap_or(&build.value).span,

@@ -9,10 +9,10 @@ use crate::message_text::Piece::{Count, Plural, Words};
 use crate::message_text::push_filled;
 use std::alloc::{AllocError, Global};
 
-/// The largest number of bytes after a place that are searched for the end of the line.
+/// The largest number of bytes from a finding's position on that are searched for the end of its line.
 const AHEAD: usize = 81;
 
-/// The findings on a document, as a text.
+/// The report on a document: its text, and whether the document is a plan.
 #[derive(Drop)]
 pub struct LintReport {
     pub text: String,
@@ -20,7 +20,7 @@ pub struct LintReport {
     pub is_plan: bool,
 }
 
-// The rest of a line from a place on, cut after `AHEAD` bytes.
+// The rest of a line from the byte `at` on, cut after `AHEAD` bytes.
 fn back_of(bytes: &[u8], at: usize) -> &[u8] {
     let ahead = first_of(bytes.get(at..).unwrap_or(&[]), AHEAD);
     for (len, byte) in ahead.iter().enumerate() {
@@ -31,7 +31,7 @@ fn back_of(bytes: &[u8], at: usize) -> &[u8] {
     ahead
 }
 
-// Appends the place of a finding and its words.
+// Appends the first line of a finding: its position, severity and message.
 fn push_head(
     alloc: Global,
     text: &mut String,
@@ -54,7 +54,7 @@ fn push_head(
     push_filled(text, "{}:{}:{}: {}: {}\n", &pieces)
 }
 
-// Appends a finding: its place and words, an excerpt of its line, and its notes.
+// Appends a finding: its position, severity and message, an excerpt of its line, and its notes.
 fn push_finding(
     alloc: Global,
     text: &mut String,
@@ -107,7 +107,7 @@ fn push_size(text: &mut String, source: &str, size: Size) -> Result<(), AllocErr
 impl LintReport {
     ghost use Rattle.plan_lint.specs.Texts.{IsReport};
 
-    /// The report on bytes that were read from `source`, made as a whole in memory. The one error is that allocation
+    /// The report on bytes that were read from `source`, built completely in memory. The one error is that allocation
     /// failed.
     pub fn on(alloc: Global, source: &str, bytes: &[u8]) -> Result<LintReport, AllocError>
         ensures { IfOk result (IsReport source.now bytes.now) }

@@ -1,4 +1,4 @@
-//! Mistakes in a text that is no step.
+//! Mistakes in a string that is not a valid step.
 use crate::finding::{Findings, Span};
 use crate::forms::{ALL_STEPS, Form, OperandKind, WORDS, form_of, step_of_command};
 use crate::message_text::Piece::{self, Count, Number, Quoted, Words};
@@ -8,22 +8,22 @@ use realm_plan::PlanFault;
 /// The number of bytes of a page.
 const PAGE: u64 = 4096;
 
-/// The greatest length, in bytes, of a number that is shown whole.
+/// The greatest length, in bytes, of a too large number that a message shows without backquotes.
 const LONGEST: usize = 20;
 
-/// A string in a plan that should be a step and is none, with its fault and its place.
+/// A string in a plan that should be a step and is not one, with its fault and its position.
 #[derive(Clone, Copy)]
 pub struct InvalidStep<'a> {
     pub written: &'a str,
     pub fault: PlanFault,
-    /// The place of the string with its quotes.
+    /// The span of the string with its quotes.
     pub whole: Span,
-    /// Whether the text directly follows the opening quote, without an escape.
+    /// Whether the document has `written` byte for byte, directly after the string's opening quote.
     pub inside: bool,
 }
 
 impl InvalidStep<'_> {
-    // Adds an error on `len` bytes of the text, or on the whole string if the string has an escape.
+    // Adds an error on `len` bytes of the step from `at` on, or on the whole string if `inside` is false.
     fn error(
         &self,
         at: usize,
@@ -41,14 +41,14 @@ impl InvalidStep<'_> {
         found.error(self.fault, span, words, pieces);
     }
 
-    // Adds an error on an argument, and quotes the text of the argument in the words.
+    // Adds an error on an argument, whose text is quoted in the message.
     fn error_on(&self, argument: &Argument<'_>, words: &str, found: &mut Findings) {
         let text = argument.text;
         self.error(argument.at, text.len(), words, &[Quoted(text)], found);
     }
 }
 
-/// An argument of a step, after `at` bytes of the step's text.
+/// An argument of a step, which begins at the byte `at` of the step's text.
 #[derive(Clone, Copy)]
 struct Argument<'a> {
     kind: OperandKind,
@@ -56,7 +56,7 @@ struct Argument<'a> {
     text: &'a str,
 }
 
-/// Finds the first mistake in a text that is no step.
+/// Finds the first mistake in a string that is not a valid step.
 pub(crate) fn of_step(step: &InvalidStep<'_>, found: &mut Findings) {
     if step.written.is_empty() {
         let words = "expected a step, found an empty string";
@@ -91,7 +91,7 @@ fn stray_blank(bytes: &[u8]) -> Option<(usize, &'static str)> {
     }
 }
 
-// Reports a first word that is not the word of a step.
+// Reports a first word that names no step.
 fn of_word(step: &InvalidStep<'_>, word: &str, found: &mut Findings) {
     let bare = word.strip_prefix("RMI_").or(word.strip_prefix("rmi_"));
     let meant = match step_of_command(bare.unwrap_or(word)) {
@@ -128,7 +128,7 @@ fn of_arguments(step: &InvalidStep<'_>, form: &Form, rest: &str, found: &mut Fin
     of_count(step, form, 0, rest, found)
 }
 
-// Reports too few arguments, or too many from the byte `from` on.
+// Reports a wrong number of arguments, on the bytes of the step from `from` on.
 fn of_count(step: &InvalidStep<'_>, form: &Form, from: usize, rest: &str, found: &mut Findings) {
     let len = step.written.len().saturating_sub(from);
     if form.most == 0 {
@@ -203,7 +203,7 @@ fn help_of_hexadecimal(kind: OperandKind, number: u64, found: &mut Findings) {
     }
 }
 
-// The IPA granule of a number that may be an address.
+// The IPA granule at `number`, if `number` may have been meant as an address.
 fn granule_of(kind: OperandKind, number: u64) -> Option<u64> {
     if matches!(kind, OperandKind::Ipa) && number > 0 && number % PAGE == 0 {
         Some(number / PAGE)

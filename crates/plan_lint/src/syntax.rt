@@ -1,4 +1,4 @@
-//! Findings on a text that is no TOML.
+//! Findings on a text that is not valid TOML.
 use crate::finding::{Findings, Span};
 use crate::forms::WORDS;
 use crate::message_text::Piece::{self, Quoted, Words};
@@ -6,7 +6,7 @@ use realm_plan::PlanFault;
 use std::ops::Range;
 use std::str::from_utf8;
 
-/// Reports the mistake at which the reader of TOML stopped. The words are the reader's, unless the mistake is one that
+/// Reports the mistake at which the TOML reader stopped. The words are the reader's, unless the mistake is one that
 /// plans have.
 pub(crate) fn syntax(bytes: &[u8], range: Range<usize>, message: &str, found: &mut Findings) {
     let span = Span {
@@ -47,7 +47,7 @@ fn tell(span: Span, words: &str, pieces: &[Piece<'_>], found: &mut Findings) {
     found.error(PlanFault::Syntax, span, words, pieces);
 }
 
-// The text before and after a place.
+// The text before the byte `at`, and the text from that byte on.
 fn around(bytes: &[u8], at: usize) -> (&str, &str) {
     let text = from_utf8(bytes).unwrap_or("");
     match (text.get(..at), text.get(at..)) {
@@ -56,7 +56,7 @@ fn around(bytes: &[u8], at: usize) -> (&str, &str) {
     }
 }
 
-// Whether the line is a header of a build with other brackets than `[[build]]`.
+// Whether the line is a build's header with brackets other than those of `[[build]]`.
 fn is_other_header(before: &str, after: &str) -> bool {
     let before = before.trim_start();
     let line = if before.is_empty() { after } else { before };
@@ -64,7 +64,7 @@ fn is_other_header(before: &str, after: &str) -> bool {
     is_header && !after.starts_with("[[build]]") && !before.starts_with("[[build]]")
 }
 
-// Reports a header of a build with other brackets.
+// Reports a build's header with brackets other than those of `[[build]]`.
 fn other_header(at: usize, before: &str, after: &str, found: &mut Findings) {
     let span = Span::new(
         at.saturating_sub(before.len()),

@@ -8,7 +8,7 @@ use std::alloc::{AllocError, Global};
 use toml_parser::text::{first, skip, skip_blank, skip_ws};
 use toml_parser::{ErrorKind, Key, ParseError, dotted_key, quoted, starts_string, unquoted};
 
-/// A part of a plan that keys or items belong to.
+/// A part of a plan to which keys or items belong.
 #[derive(Clone, Copy)]
 enum Part {
     Plan,
@@ -25,7 +25,7 @@ enum Part {
 }
 
 impl Part {
-    // The part that the keys or items inside a value belong to.
+    // The part to which the keys or items inside a value belong.
     fn below(self, name: &str, content: &Content) -> Part {
         match (self, name, content) {
             (Part::Plan, "order", Content::Array) => Part::Turns,
@@ -40,26 +40,26 @@ impl Part {
 /// An array or an inline table that is still open.
 #[derive(Clone, Copy)]
 struct Open {
-    /// The part that the array or table belongs to; `part` is the part that it is.
+    /// The part to which the array or table belongs; `part` is the part to which its own keys or items belong.
     owner: Part,
     part: Part,
     is_table: bool,
 }
 
-/// The state of the walk at a place of the text.
+/// The state of the walk at a position in the text.
 #[derive(Drop)]
 struct Walk<'a> {
     alloc: Global,
     whole: usize,
     /// The text that is still to be read.
     rest: &'a str,
-    /// The owner of the keys below the last header.
+    /// The part of the plan to which the keys below the last header belong.
     section: Part,
     open: Vec<Open>,
     outline: Outline,
 }
 
-/// The parts of a plan's text.
+/// The parts of a plan's text, as far as the walk finds them.
 pub(crate) fn outline_of(alloc: Global, text: &str) -> Result<Outline, AllocError> {
     let mut walk = Walk {
         alloc,
@@ -124,7 +124,7 @@ impl<'a> Walk<'a> {
         self.whole.saturating_sub(self.rest.len())
     }
 
-    // The span from a place to the start of the rest of the text.
+    // The span from a byte offset to the start of the rest of the text.
     fn span_from(&self, start: usize) -> Span {
         let end = self.at();
         Span { start, end }
@@ -193,7 +193,8 @@ impl<'a> Walk<'a> {
         self.add(Part::Plan, name, span, Value { span, content })
     }
 
-    // Reads a key, and its value up to the first item of the value. A value below a key with dots is no part of a plan.
+    // Reads a key with its value, and of an array or an inline table only the opening bracket. A value below a key with
+    // dots is no part of a plan.
     fn pair(&mut self) -> Result<(), ParseError> {
         let (owner, start, from) = (self.owner(), self.at(), self.rest);
         let (key, rest) = dotted_key(self.alloc, from)?;
@@ -274,7 +275,7 @@ impl<'a> Walk<'a> {
         Ok(())
     }
 
-    // Ends the array or the inline table that was opened last.
+    // Closes the array or the inline table that was opened last.
     fn close(&mut self) -> Result<(), ParseError> {
         self.skip_byte()?;
         let end = self.at();

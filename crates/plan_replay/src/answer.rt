@@ -1,4 +1,4 @@
-//! The answer of a turn, and its text.
+//! The answer to the step of a turn, and the text of the answer.
 ghost use Rattle.std.specs.Prelude.{◌≡◌, ◌++◌, OnOk, string_bytes, [], IfOk};
 ghost use Rattle.plan_replay.specs.Text.{turn_line};
 
@@ -70,8 +70,8 @@ pub fn push_turn(
 /// The number of bytes that are reserved for each line of a turn or of a page. Most lines have fewer.
 const BYTES_A_LINE: usize = 24;
 
-/// An empty text, with capacity for the output of a run of the plan. A text that grows is copied, and takes the memory
-/// of both meanwhile. The one error is that allocation failed.
+/// An empty string, with the capacity that the output of a run of the plan is expected to need. A text that grows is
+/// copied, and takes the memory of both meanwhile. The one error is that allocation failed.
 pub fn text_for(alloc: Global, plan: &Plan) -> Result<String, AllocError>
     ensures { IfOk result (λ text. string_bytes text ≡ []) }
 {

@@ -1,4 +1,4 @@
-//! The turn of a step, by the kind of the step.
+//! The turns that steps take, one function for each kind of step.
 ghost use Rattle.std.specs.Prelude.{◌≡◌, ◌<◌};
 ghost use Rattle.realm_plan.specs.Asked.{asked};
 ghost use Rattle.plan_replay.specs.Turn.{to_go_back, IsCommandTurn, IsUndoTurn, IsMarkTurn, IsOneOfMany, IsTurnOfMany, IsToAbort, IsAbortTurn, IsStepTurn};

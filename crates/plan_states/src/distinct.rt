@@ -1,4 +1,4 @@
-//! The test that no outcome of a step and no map of a graph is listed twice.
+//! The check that a graph lists no outcome of a step twice, and no final map twice.
 ghost use Rattle.std.specs.Prelude.{◌≢◌, ◌<◌, length};
 ghost use Rattle.std.specs.Bool.{OnTrue, OnFalse};
 ghost use Rattle.plan_states.specs.Distinct.{AreEndsDistinct, AreMapsDistinct, IsGraphDistinct, IsNewEnd, IsNewMap};
@@ -20,7 +20,7 @@ fn is_same_map(one: &str, other: &str) -> bool
     one == other
 }
 
-// Whether no outcome of a step before `place` is the same as the outcome at `place`.
+// Whether the outcome at index `place` differs from each outcome before it.
 fn is_new_end(ends: &[EndOfStep], place: usize) -> bool
     requires { place < length ends.now }
     ensures { OnTrue result (IsNewEnd ends.now place) }
@@ -33,7 +33,7 @@ fn is_new_end(ends: &[EndOfStep], place: usize) -> bool
     true
 }
 
-// Whether no map before `place` is the same as the map at `place`.
+// Whether the map at index `place` differs from each map before it.
 fn is_new_map(maps: &[String], place: usize) -> bool
     requires { place < length maps.now }
     ensures { OnTrue result (IsNewMap maps.now place) }

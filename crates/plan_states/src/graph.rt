@@ -40,7 +40,7 @@ pub struct Graph {
     pub maps: Vec<String>,
 }
 
-/// The result of an exploration.
+/// The result of exploring all schedules of a plan.
 #[derive(Drop)]
 pub enum Exploration {
     All(Graph),
@@ -48,14 +48,15 @@ pub enum Exploration {
     TooMany,
 }
 
-// The turn by which a state was first reached: the place of the previous state, and the turn's build.
+// The turn by which a state was first reached: the previous state's index in its layer, and the turn's build.
 #[derive(Clone, Copy)]
 struct Came {
     from: usize,
     build: usize,
 }
 
-// A state of a layer: its place, the index of the pages held, and the index of the map if schedules end in the state.
+// A state of a layer: its index, the index of the pages that builds hold, and the index of the final map if schedules
+// end in the state.
 #[derive(Clone, Copy)]
 struct Target {
     to: usize,
@@ -100,7 +101,7 @@ impl Front {
         }
     }
 
-    // Adds a state, and returns its place.
+    // Adds a state to the layer, and returns the state's target.
     fn add(
         &mut self,
         state: State,
@@ -205,7 +206,7 @@ impl Explorer {
         self.turns.run(alloc, plan, before, &order, build)
     }
 
-    // Finds or adds a state of the next layer, and returns its place.
+    // Finds or adds a state of the next layer, and returns the state's target.
     fn target(
         &mut self,
         alloc: Global,
@@ -264,7 +265,8 @@ impl Explorer {
         Ok(edges)
     }
 
-    // Returns the edges of the last layer and the states of the next layer, or None if those are more than `room`.
+    // Returns the edges of the last layer and the states of the next layer, or None if the next layer has more than
+    // `room` states.
     fn layer(
         &mut self,
         alloc: Global,

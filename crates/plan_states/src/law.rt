@@ -11,9 +11,9 @@ ghost use Rattle.plan_states.specs.Whole.{IsWholeGraph};
 ghost use Rattle.plan_states.specs.declared.edges.Label.{Label};
 ghost use Rattle.plan_states.specs.declared.graph.Graph.{Graph};
 
-/// The paths of a whole graph have exactly the schedules of each rule that agrees with the paths. A rule says which of
-/// eight builds have a step left after which turns. Each schedule of the rule is the schedule of a path, and each path
-/// has a schedule of the rule.
+/// If a rule agrees with the paths of a whole graph, the paths' schedules are exactly the rule's schedules. A rule says
+/// which of eight builds have a step left after which turns. Each schedule of the rule is the schedule of a path, and
+/// each path has a schedule of the rule.
 pub fn every_schedule_is_a_path()
     ensures found { (plan : Plan) (graph : Graph) (left : List ℕ → ℕ → Bool) → IsWholeGraph plan graph → IsRuleOf plan graph left
         → (order : List ℕ) → IsSchedule left [] order → Contains (map builds_of_path (paths_of graph)) order }
@@ -29,9 +29,9 @@ pub fn paths_are_all_schedules()
         → (most : ℕ) → length graph.layers.items ≤ most + 1 → map builds_of_path (paths_of graph) ≡ schedules_after left most [] }
 {}
 
-/// The schedules of the paths of a whole graph rise in lexicographic order. Of two paths the earlier has the lower
-/// build at the first turn at which they differ. So no two paths have the same schedule, and a count of paths is one of
-/// schedules.
+/// The schedules of a whole graph's paths are in strictly ascending lexicographic order. Of two paths the earlier has
+/// the lower build at the first turn at which they differ. So no two paths have the same schedule, and a count of paths
+/// is one of schedules.
 pub fn path_schedules_rise()
     ensures rise { (plan : Plan) (graph : Graph) → IsWholeGraph plan graph
         → AllPairs (λ (one other : List ℕ). is_before one other ≡ true) (map builds_of_path (paths_of graph)) }

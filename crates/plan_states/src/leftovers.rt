@@ -1,4 +1,4 @@
-//! The test that a build with nothing open leaves nothing behind, which is a theorem too.
+//! The check that a build with no open operations leaves nothing behind, which is also a theorem.
 ghost use Rattle.std.specs.Prelude.{◌≡◌, true, [], IfOk, string_bytes};
 ghost use Rattle.host_ledger.specs.View.{open_of};
 ghost use Rattle.plan_replay.specs.Run.{map_text};
@@ -12,7 +12,7 @@ use realm_plan::Plan;
 use realm_program::map_without;
 use std::alloc::{AllocError, Global};
 
-// Whether a map is the same as the map of the history without one build.
+// Whether a map is the same as the map of the history without the events of one build.
 fn is_unseen(
     alloc: Global,
     plan: &Plan,
@@ -29,7 +29,7 @@ fn is_unseen(
     Ok(without.as_str() == map)
 }
 
-/// Whether a host's map stays the same if any one build that has nothing open is left out of the history. A theorem
+/// Whether a host's map stays the same if any one build with no open operations is left out of the history. A theorem
 /// says that it always does. The one error is that allocation failed.
 pub fn leave_nothing(
     alloc: Global,

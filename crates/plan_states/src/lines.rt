@@ -41,8 +41,7 @@ pub(crate) fn push_count(text: &mut String, orders: &Count) -> Result<(), AllocE
     text.push_str("\n")
 }
 
-// Appends the number of schedules with an outcome and the first of these schedules, or `in all` if all `orders` have
-// it.
+// Appends the number of schedules with an outcome and the first such schedule, or `in all` if every schedule has it.
 fn push_shown(
     text: &mut String,
     orders: &Count,

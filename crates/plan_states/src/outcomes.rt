@@ -100,7 +100,7 @@ fn is_before(one: &[usize], other: &[usize]) -> bool
     false
 }
 
-// The place of the first tally whose first schedule comes after the schedule `first`; the end if there is none.
+// The index of the first tally whose first schedule comes after `first`; the number of tallies if there is none.
 fn place_for<K>(tallies: &[PathTally<K>], first: &[usize]) -> usize
     ensures { result ≡ place_for first.now (map count_of_tally tallies.now) }
 {
@@ -148,7 +148,7 @@ fn wholes_of(
     Ok(wholes)
 }
 
-// The tally of an outcome of a step.
+// The tally of the schedules that have the step outcome at index `number`, if there are any.
 fn end_tally(
     alloc: Global,
     graph: &Graph,
@@ -196,7 +196,7 @@ fn smooth_tally(
     tally_without(alloc, &graph.layers, &sign, build)
 }
 
-// The tallies of the schedules in which a build is never refused, for each build.
+// For each build, the tally of the schedules in which the build is never refused, if there are any.
 fn smooth_of(
     alloc: Global,
     graph: &Graph,
@@ -212,7 +212,7 @@ fn smooth_of(
     Ok(smooth)
 }
 
-// The tally of a final map.
+// The tally of the schedules that end with the map at index `map`, if there are any.
 fn map_tally(
     alloc: Global,
     graph: &Graph,

@@ -14,14 +14,14 @@ use schedule_graph::Sign;
 /// The number of pages that each build holds.
 pub type PagesHeld = [u16; 8];
 
-/// The property that the last turn of a schedule is to show.
+/// A question about a schedule: the property that its last turn has to have.
 #[derive(Clone, Copy, Drop)]
 pub enum TurnQuestion {
     /// A refusal of step `step` of build `build`.
     Refused { build: usize, step: usize },
     /// A refusal of a step of the build, for want of a block or a VMID, while another build holds no page.
     Waiting { build: usize },
-    /// A total of at least `granules` granules that all builds together lease after the turn.
+    /// At least `granules` granules that are leased after the turn, by all builds together.
     Leased { granules: usize },
 }
 
@@ -56,7 +56,7 @@ fn waits(end: Option<EndOfStep>, build: usize) -> bool
     }
 }
 
-// Whether `other` is not `build`, and holds nothing.
+// Whether `other` is a build other than `build`, and holds no page.
 fn is_at_rest(held: &PagesHeld, build: usize, other: usize) -> bool
     ensures { result ≡ is_at_rest build held.now other }
 {

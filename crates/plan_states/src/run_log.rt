@@ -65,14 +65,14 @@ fn has_end(ends: &[EndOfStep], build: usize, taken: &TurnTaken, end: Option<usiz
     is_same_end(&end, named)
 }
 
-// Whether builds hold the same numbers of pages.
+// Whether each build holds the same number of pages in `one` and in `other`.
 fn is_same_held(one: &PagesHeld, other: &PagesHeld) -> bool
     ensures { OnTrue result (one.now ≡ other.now) }
 {
     one == other
 }
 
-// Whether builds hold the numbers of pages that a label names.
+// Whether the builds of a run hold the numbers of pages that `all` has at index `held`.
 fn has_held(all: &[PagesHeld], running: &Running, held: usize) -> bool
     ensures { OnTrue result (slice_get all.now held ≡ Some (pages_of_builds running.now.host)) }
 {
@@ -173,7 +173,7 @@ impl RunLog {
         Ok(number)
     }
 
-    /// Runs a plan in a schedule that has led to a snapshot.
+    /// Runs a plan in a schedule that has led to the snapshot at index `at`, and checks that it leads there again.
     ///
     /// Errors. `Memory`: allocation failed. `Mismatch`: it leads to another one.
     pub(crate) fn run_to(

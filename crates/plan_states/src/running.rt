@@ -1,4 +1,4 @@
-//! The run of a plan in a schedule from boot, and one turn more.
+//! Runs of a plan from boot in a given schedule, and single turns after them.
 ghost use Rattle.std.specs.Prelude.{◌≡◌, ◌<◌, IfOk, IfErr, IfSome, length, option_map};
 ghost use Rattle.std.specs.Bool.{OnFalse};
 ghost use Rattle.host_ledger.specs.View.{world_of, pages_of_build};
@@ -27,8 +27,8 @@ pub(crate) struct Running {
     pub(crate) places: [PlanCursor; 8],
 }
 
-/// The result of a turn: the steps done before and after the turn, the refusal, and the block that was moved. After the
-/// turn, the build's realm has the VMID, and the build has `pages` pages.
+/// The result of a turn: the number of steps done before and after it, its refusal, and the block that it leased or
+/// gave back. After the turn, the build's realm has the VMID, and the build has `pages` pages.
 #[derive(Clone, Copy)]
 pub(crate) struct TurnTaken {
     pub(crate) before: usize,
@@ -58,7 +58,7 @@ fn moved_by(act: &Act) -> Option<Moved>
     }
 }
 
-// The block that the event at the index `before` moved, if there is one.
+// The block that the event at index `before` leased or gave back, if there is one.
 fn moved_after<S: PageStore>(host: &Host<S>, before: usize) -> Option<Moved>
     ensures { result ≡ moved_after before host.now.history }
 {
@@ -68,7 +68,7 @@ fn moved_after<S: PageStore>(host: &Host<S>, before: usize) -> Option<Moved>
     }
 }
 
-// The refusal that an answer has, if the turn was refused.
+// The refusal in a turn's answer, if the turn was refused.
 fn told_refusal(answer: TurnAnswer) -> Option<Refusal>
     ensures { result ≡ told_refusal answer }
 {
@@ -97,7 +97,7 @@ pub(crate) fn pages_of<S: PageStore>(host: &Host<S>, build: usize) -> u16
     host.page_count(BuildId::new(build as u8).unwrap())
 }
 
-/// Runs a plan on a fresh host, in the schedule of these builds.
+/// Runs a plan on a fresh host, with a turn for each build in `order`, one after another.
 ///
 /// Errors. `Memory`: allocation failed. `Mismatch`: some turn is of a build that has no step left then.
 pub(crate) fn run_to(alloc: Global, plan: &Plan, order: &[usize]) -> Result<Running, Fault>

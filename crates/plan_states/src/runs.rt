@@ -1,4 +1,4 @@
-//! The test that each path of a graph is a run of the plan, with the outcomes and the map that the path names.
+//! The check that each path of a graph is a run of the plan whose outcomes and final map are those named by the path.
 ghost use Rattle.std.specs.Prelude.{◌≡◌, ◌+◌, ◌<◌, ◌^◌, ℕ, [], IfOk, IfErr, OnOk, length, map, slice_index_or, vec_items};
 ghost use Rattle.std.specs.Bool.{OnTrue};
 ghost use Rattle.realm_plan.specs.PlanView.{plan_view};
@@ -56,7 +56,7 @@ fn is_same_label(one: &Label, other: &Label) -> bool
         && is_same_number(one.map, other.map)
 }
 
-// Whether turn `number` was logged, with the label `label` and between the snapshots `from` and `to`.
+// Whether the log has a turn at index `number`, with the label `label`, and between the snapshots `from` and `to`.
 fn is_logged(
     turns: &[LoggedTurn],
     number: Option<usize>,
@@ -77,7 +77,7 @@ fn is_logged(
         && is_same_number(to, Some(turn.to))
 }
 
-// States that no run has visited.
+// A list of `count` states that no run has visited.
 fn unvisited(alloc: Global, count: usize) -> Result<Vec<Visit>, AllocError> {
     let mut visits = Vec::new(alloc);
     for _ in 0..count {
@@ -256,7 +256,7 @@ impl Walk {
         Ok(())
     }
 
-    // The index of the logged turn of a state's edge at `place`.
+    // The index in the log of the turn that ran a state's edge at index `place`.
     fn turn_at(&self, depth: usize, state: usize, place: usize) -> Option<usize> {
         self.visits_at(depth).get(state)?.turns.get(place).copied()
     }
@@ -291,7 +291,7 @@ impl Walk {
         true
     }
 
-    // Whether each edge was run.
+    // Whether each edge of the graph was run, and the first state has the snapshot at boot.
     fn is_complete(&self, graph: &Graph) -> bool
         ensures { OnTrue result (IsComplete graph.now self.now.log.turns.items self.now.visits.items) }
     {

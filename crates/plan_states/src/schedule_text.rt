@@ -1,7 +1,7 @@
 //! The text of a schedule in a plan.
 use std::fmt;
 
-/// Builds, each after a comma and a space.
+/// The further builds of a schedule as text, each after a comma and a space.
 #[derive(Clone, Copy)]
 struct MoreTurns<'a>(&'a [usize]);
 

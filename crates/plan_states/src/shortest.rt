@@ -178,8 +178,8 @@ pub fn answers(
 /// Finds the first of the shortest schedules whose last turn answers a question, if the graph has at most `most`
 /// states.
 ///
-/// Errors. `Memory`: allocation failed. `Mismatch`: a run does not go on as another run said, which never happens on a
-/// host that gives the same answers to the same calls.
+/// Errors. `Memory`: allocation failed. `Mismatch`: a run does not go on as another run said, a turn is missing in the
+/// graph, or an end or a map is there twice. None happens on a host that gives the same answers to the same calls.
 pub fn shortest_answer(
     alloc: Global,
     plan: &Plan,

@@ -16,7 +16,7 @@ fn has_number(number: usize, other: Option<usize>) -> bool
     }
 }
 
-/// A test of an edge label: whether the label has the outcome of a step with this index.
+/// A test of an edge label: whether the label names the step outcome at this index.
 #[derive(Clone, Copy)]
 pub(crate) struct EndSign(pub(crate) usize);
 
@@ -30,7 +30,7 @@ impl Sign<Label> for EndSign {
     }
 }
 
-/// A test of an edge label: whether the label has the final map with this index.
+/// A test of an edge label: whether the label names the final map at this index.
 #[derive(Clone, Copy)]
 pub(crate) struct MapSign(pub(crate) usize);
 
@@ -44,7 +44,7 @@ impl Sign<Label> for MapSign {
     }
 }
 
-/// A test of an edge label: whether the turn refuses a step of `build`, or of any build if `build` is `None`.
+/// A test of an edge label: whether a step of `build`, or of any build if `build` is `None`, is refused in the turn.
 #[derive(Clone, Copy)]
 pub(crate) struct RefusalSign<'a> {
     pub(crate) ends: &'a [EndOfStep],

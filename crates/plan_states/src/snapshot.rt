@@ -14,7 +14,7 @@ use realm_host::{Host, Mark};
 use realm_model::Event;
 use std::alloc::{AllocError, Global};
 
-/// The state of a build without its events: its cursor, its marks, and whether it is in abort. A mark is the number of
+/// The state of a build without its events: its cursor, its marks, and whether it is aborting. A mark is the number of
 /// operations that were open at it.
 #[derive(Clone, Copy)]
 pub(crate) struct BuildPoint {
@@ -76,7 +76,7 @@ fn kept_mark<S: PageStore>(host: &Host<S>, build: usize) -> Option<Mark>
     }
 }
 
-// Whether a build is in abort.
+// Whether a build is aborting.
 fn is_aborting<S: PageStore>(host: &Host<S>, build: usize) -> bool
     requires { build < 8 }
     ensures { result ≡ is_aborting host.now build }

@@ -10,7 +10,7 @@ pub struct PathTally<K> {
     pub first: Vec<usize>,
 }
 
-/// The outcomes of the steps of schedules.
+/// The outcomes of steps, counted over all schedules.
 #[derive(Drop)]
 pub struct StepOutcomes {
     /// The number of schedules.
@@ -19,7 +19,7 @@ pub struct StepOutcomes {
     pub wholes: Vec<PathTally<bool>>,
     /// The tallies of the outcomes of steps.
     pub ends: Vec<PathTally<EndOfStep>>,
-    /// The tallies of the schedules in which a build was never refused, for each build.
+    /// For each build, the tally of the schedules in which the build was never refused, if there are any.
     pub smooth: Vec<PathTally<usize>>,
 }
 
@@ -27,6 +27,6 @@ pub struct StepOutcomes {
 #[derive(Drop)]
 pub struct Outcomes {
     pub steps: StepOutcomes,
-    /// The tallies of the final maps, by the indices of the maps.
+    /// The tallies of the final maps, in which each map is given by its index.
     pub maps: Vec<PathTally<usize>>,
 }

@@ -85,7 +85,7 @@ fn push_map_of(
     }
 }
 
-// Appends the final maps, each with the number of its schedules.
+// Appends the final maps, each with the number of schedules that end with it.
 fn push_maps(
     text: &mut String,
     orders: &Count,
@@ -100,9 +100,10 @@ fn push_maps(
     Ok(())
 }
 
-/// Appends the outcomes of the steps of schedules. These are the number of schedules in which nothing was refused. For
-/// each step of each build, how it ended, in how many schedules and in which one first. For each build, the number of
-/// schedules in which it was never refused. At an `Err` allocation failed, and the text may have a part of it.
+/// Appends the text of the outcomes of steps over all schedules. It begins with the numbers of schedules with and
+/// without a refused step. For each step of each build follow its outcomes, each with the number of its schedules and
+/// the first of them. For each build follows the number of schedules in which it was never refused. At an `Err`
+/// allocation failed, and the text may have a part of it.
 pub fn push_step_outcomes(
     text: &mut String,
     plan: &Plan,
@@ -154,10 +155,11 @@ pub fn too_many_text(alloc: Global, most: usize) -> Result<String, AllocError>
     Ok(text)
 }
 
-/// Returns the text of the outcomes of a plan's schedules, or a line that the graph has more than `most` states.
+/// Returns the text of the outcomes of a plan's schedules, or a line that says that the graph has more than `most`
+/// states.
 ///
-/// Errors. `Memory`: allocation failed. `Mismatch`: a run does not go on as another one said, or a turn is missing in the
-/// graph. Neither happens on a host that gives the same answers to the same calls.
+/// Errors. `Memory`: allocation failed. `Mismatch`: a run does not go on as another one said, a turn is missing in the
+/// graph, or an end or a map is there twice. None happens on a host that gives the same answers to the same calls.
 pub fn states_text(alloc: Global, plan: &Plan, most: usize) -> Result<String, Fault>
     ensures ok { IfOk result (λ text. IsStatesText most (plan_view plan.now) (string_bytes text)) }
     ensures err { IfErr result HasNoGraph }

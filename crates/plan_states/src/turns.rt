@@ -1,4 +1,4 @@
-//! The turns of builds, each run once.
+//! The turns of builds; turns with the same inputs are run once.
 ghost use Rattle.std.specs.Prelude.{◌≡◌, ◌++◌, ◌<◌, [], All, OnOk, IfErr, Some};
 ghost use Rattle.realm_plan.specs.PlanView.{plan_view};
 ghost use Rattle.plan_states.specs.Exploration.{HasNoGraph};
@@ -139,7 +139,7 @@ fn place_of_end(ends: &mut Vec<EndOfStep>, end: EndOfStep) -> Result<usize, Allo
 }
 
 impl Turns {
-    /// A table with no turn.
+    /// Empty tables.
     pub(crate) fn new(alloc: Global) -> Turns
         ensures { result.ends.items ≡ [] }
     {
@@ -204,7 +204,7 @@ impl Turns {
         self.known.get(before).copied()
     }
 
-    /// Runs a turn of a build after a schedule, on a fresh host, and notes it.
+    /// Runs a schedule on a fresh host, then one more turn of a build, and notes that turn's outcome.
     ///
     /// Errors. `Memory`: allocation failed. `Mismatch`: the build has no step left then.
     pub(crate) fn run(
@@ -266,7 +266,7 @@ impl Turns {
         Ok(state.with(build, after.build, blocks))
     }
 
-    /// The outcomes of steps.
+    /// The outcomes of steps that the turns had.
     pub(crate) fn into_ends(self) -> Vec<EndOfStep>
         ensures { result ≡ self.ends }
     {

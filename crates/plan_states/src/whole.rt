@@ -1,5 +1,5 @@
-//! The test that a graph is whole: each state has an edge for each build that has a step left. Each edge leads to a
-//! state of the next layer that fits the edge's turn.
+//! The check that a graph is whole: in each state, each build that has a step left has exactly one edge. Each edge
+//! leads to a state of the next layer that fits the edge's turn.
 ghost use Rattle.std.specs.Prelude.{◌≡◌, ◌<◌, ◌^◌, [], map, filter, vec_items, slice_get, slice_index_or};
 ghost use Rattle.std.specs.Bool.{OnTrue};
 ghost use Rattle.std.specs.List.{list_all, range_with_len};
@@ -16,10 +16,10 @@ use plan_replay::{number_after, step_after};
 use realm_plan::{Plan, PlanStep};
 use schedule_graph::Edge;
 
-/// The number of steps that each build has done, or a number above those of all steps if the build gave up.
+/// The number of steps that each build has done; for a build that gave up, a number greater than that of any step.
 pub type StepsDone = [u16; 8];
 
-// The eight builds.
+// The numbers of the eight builds.
 fn all_builds() -> [usize; 8]
     ensures { result ≡ range_with_len 0 8 }
 {
@@ -44,7 +44,7 @@ fn has_step_left(plan: &Plan, done: &StepsDone, build: usize) -> bool
     step_after(plan, build, done_of(done, build)).is_some()
 }
 
-// Whether there is an edge at the place `at`, and it is a turn of build `build`.
+// Whether there is an edge at index `at`, and its turn is one of build `build`.
 fn is_of_build(edges: &[Edge<Label>], at: usize, build: usize) -> bool
     ensures { result ≡ is_of_build build (slice_get edges.now at) }
 {
@@ -54,7 +54,7 @@ fn is_of_build(edges: &[Edge<Label>], at: usize, build: usize) -> bool
     }
 }
 
-// Whether the edges are exactly one turn of each build with a step left, in sequence.
+// Whether the edges are exactly one turn of each build in `builds` that has a step left, in the same sequence.
 fn are_of_left(plan: &Plan, done: &StepsDone, builds: &[usize], edges: &[Edge<Label>]) -> bool
     ensures { OnTrue result (map (λ edge. edge.label.build) edges.now ≡ filter (has_step_left (plan_view plan.now) done.now) builds.now) }
 {
@@ -70,14 +70,14 @@ fn are_of_left(plan: &Plan, done: &StepsDone, builds: &[usize], edges: &[Edge<La
     at == edges.len()
 }
 
-// Whether a step undoes any number of operations, one a turn.
+// Whether a step may undo any number of operations, one in each turn.
 fn undoes_many(step: &PlanStep) -> bool
     ensures { result ≡ undoes_many step.now }
 {
     matches!(step, PlanStep::Whole(Step::Abort | Step::Back))
 }
 
-// Whether a build's step after `done` others may take more turns than one.
+// Whether the next step of a build that has done `done` steps may take more than one turn.
 fn takes_many(plan: &Plan, build: usize, done: usize) -> bool
     ensures { result ≡ takes_many (step_after (plan_view plan.now) build done) }
 {
@@ -87,7 +87,8 @@ fn takes_many(plan: &Plan, build: usize, done: usize) -> bool
     }
 }
 
-// Whether a turn after `done` steps uses up the next step, or none if the next step may take several turns.
+// Whether a turn of a build that has done `done` steps uses up the next step, or no step if the next one may take
+// several turns.
 fn uses_next(plan: &Plan, ends: &[EndOfStep], done: usize, label: &Label) -> bool
     ensures { result ≡ uses_next (plan_view plan.now) ends.now label.now.build done label.now.end }
 {
@@ -100,7 +101,7 @@ fn uses_next(plan: &Plan, ends: &[EndOfStep], done: usize, label: &Label) -> boo
     }
 }
 
-// Whether there is an outcome of a step at the index `number`, and it is a refusal.
+// Whether the step outcome at index `number` exists and is a refusal.
 fn is_end_refused(ends: &[EndOfStep], number: usize) -> bool
     ensures { result ≡ is_end_refused (slice_get ends.now number) }
 {
@@ -110,7 +111,7 @@ fn is_end_refused(ends: &[EndOfStep], number: usize) -> bool
     }
 }
 
-// The number of steps done after a turn that used up a step with this outcome, or used up none.
+// The number of steps done after a turn in which a step ended with the outcome `end`, or no step ended.
 fn number_with(plan: &Plan, ends: &[EndOfStep], done: usize, end: Option<usize>) -> usize
     requires { done < 2 ^ 32 }
     ensures { result ≡ number_with (plan_view plan.now) ends.now done end }
@@ -139,7 +140,7 @@ fn done_after(
     }
 }
 
-// Whether `then` has the number of steps that each build has done after a turn.
+// Whether `then` is the number of steps that each build has done after a turn.
 fn are_done_after(
     plan: &Plan,
     ends: &[EndOfStep],
@@ -173,7 +174,7 @@ fn has_map(maps: usize, over: bool, map: Option<usize>) -> bool
     }
 }
 
-// Whether a turn leads to a state in which builds have done the steps `then`.
+// Whether a turn fits the state that it leads to, in which builds have done as many steps as `then` says.
 fn leads_to_state(
     plan: &Plan,
     ends: &[EndOfStep],
@@ -273,7 +274,7 @@ fn is_layer_whole(
     true
 }
 
-// The states of a layer, as the steps that builds have done; none if there is no such layer.
+// The states of a layer, each as the number of steps that each build has done; empty if there is no such layer.
 fn states_at(graph: &Graph, depth: usize) -> &[StepsDone]
     ensures { result.now ≡ states_at graph.now depth }
 {
@@ -283,7 +284,7 @@ fn states_at(graph: &Graph, depth: usize) -> &[StepsDone]
     }
 }
 
-/// A layer; none if there is no such layer.
+/// The layer at index `depth`; empty if there is no such layer.
 pub(crate) fn layer_at(graph: &Graph, depth: usize) -> &[Vec<Edge<Label>>]
     ensures { result.now ≡ layer_at graph.now depth }
 {
@@ -293,14 +294,14 @@ pub(crate) fn layer_at(graph: &Graph, depth: usize) -> &[Vec<Edge<Label>>]
     }
 }
 
-// The outcomes of steps.
+// The outcomes of steps that a graph lists.
 fn ends_of(graph: &Graph) -> &[EndOfStep]
     ensures { result.now ≡ graph.now.ends.items }
 {
     &graph.ends
 }
 
-// Whether no step is done.
+// Whether no build has done a step.
 fn is_fresh(done: &StepsDone) -> bool
     ensures { result ≡ is_fresh done.now }
 {
@@ -308,7 +309,7 @@ fn is_fresh(done: &StepsDone) -> bool
     builds.iter().all(|build| done_of(done, *build) == 0)
 }
 
-// Whether a layer has one state alone, in which no step is done.
+// Whether a layer has a single state, in which no build has done a step.
 fn is_at_start(states: &[StepsDone]) -> bool
     ensures { result ≡ is_at_start states.now }
 {
@@ -318,7 +319,7 @@ fn is_at_start(states: &[StepsDone]) -> bool
     }
 }
 
-/// Whether a graph is whole.
+/// Whether a graph is whole: its first layer is the start alone, and each of its layers is whole.
 pub(crate) fn is_whole(plan: &Plan, graph: &Graph) -> bool
     ensures { OnTrue result (IsWholeGraph (plan_view plan.now) graph.now) }
 {

@@ -50,7 +50,7 @@ impl<S: PageStore> Host<S> {
         Ok(count)
     }
 
-    // Undoes what a build has open above the first `count` operations, the newest first. The caller has checked that
+    // Undoes all but the oldest `count` of a build's open operations, the newest first. The caller has checked that
     // none of these created a REC that runs.
     pub(crate) fn undo_down_to(&mut self, build: BuildId, count: u16)
         requires there { build < self.old.limits.builds }

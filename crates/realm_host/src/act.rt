@@ -1,4 +1,4 @@
-//! Operations other than Take and its reverse: each is performed and recorded.
+//! The performing and recording of operations other than Take and its reverse.
 ghost use Rattle.realm_host.specs.Acting.{CanAct, IsActed};
 
 use crate::Host;
@@ -8,7 +8,7 @@ use realm_model::{Act, Rmi};
 use rmi_monitor::perform;
 
 impl<S: PageStore> Host<S> {
-    // Performs an operation that is asked for, and records it. A refusal changes nothing.
+    // Performs an operation of a build, and records it. A refusal changes nothing.
     pub(crate) fn act(&mut self, build: BuildId, act: Act) -> Result<(), Rmi>
         requires { CanAct self.old build act }
         ensures { IsActed self.old build act result self.new }

@@ -1,4 +1,4 @@
-//! Recorded events that are applied again, each with the block, the VMID or the REC number that it has.
+//! The application of recorded events, each with the block, the VMID or the REC number that it records.
 ghost use Rattle.std.specs.Prelude.{◌≡◌, ◌↔◌, ◌<◌, Some, true, false};
 ghost use Rattle.std.specs.Bool.{OnTrue, OnFalse};
 ghost use Rattle.std.specs.List.{list_all};
@@ -20,7 +20,7 @@ use granule_addr::{BuildId, Gran, Order, Root};
 use page_arena::PageStore;
 use realm_model::{Act, Event, JOURNAL_ROOM};
 
-// The number of entries that an operation takes of its build's room.
+// The number of entries that an operation takes up of its build's room in the history.
 #[tactic(auto, unfolding(realm_model::specs::Room::room_taken, realm_model::specs::Act::reverse_of, realm_model::specs::Act::is_reverse))]
 fn room_taken(act: &Act) -> u16
     ensures { result ≡ room_taken act.now }
@@ -34,8 +34,8 @@ fn room_taken(act: &Act) -> u16
     }
 }
 
-// Shows the ranges of those numbers of a command that the RMM does not check. Reading a number shows the range of its
-// type.
+// Shows that those numbers of a command that the RMM does not check are in range. Reading a number shows the range of
+// its type.
 fn check_ranges(act: &Act)
     requires { is_command act.now ≡ true }
     ensures { is_in_range act.now ≡ true }
@@ -56,7 +56,7 @@ fn check_ranges(act: &Act)
 }
 
 impl<S: PageStore> Host<S> {
-    /// Applies a recorded event as the last of the history, with the block, the VMID and the number that it has.
+    /// Applies a recorded event at the end of the history, with the block, the VMID or the REC number that it records.
     /// Returns whether it was applied.
     ///
     /// Returns `false`, and changes nothing, if and only if one of three things holds. The history with the event would

@@ -1,4 +1,4 @@
-//! Blocks of pages, taken and given back.
+//! The taking and giving back of blocks of pages.
 ghost use Rattle.std.specs.Prelude.{◌≡◌, ℕ, ◌<◌, ◌≤◌, Some, None};
 ghost use Rattle.std.specs.List.{last_or};
 ghost use Rattle.realm_model.specs.declared.act.Act.TheVariants as acts;
@@ -27,7 +27,7 @@ impl<S: PageStore> Host<S> {
         }
     }
 
-    // Gives back the block that a build has taken last.
+    // Gives back a block whose take is the build's newest open operation.
     pub(crate) fn give_back(&mut self, build: BuildId, order: Order, first: Gran)
         requires there { build < self.old.limits.builds }
         requires newest { last_or None (open_of self.old build) ≡ Some (acts.Take order first) }

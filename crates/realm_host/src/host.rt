@@ -67,7 +67,7 @@ impl<S: PageStore> Host<S> {
         }
     }
 
-    /// Returns the accepted commands of all builds, in sequence.
+    /// Returns the accepted operations of all builds, in sequence.
     ///
     /// They are a legal history, in which no build has used more than its room, or had more than 512 operations open at
     /// any time. If a build is in abort, it has something open. If it has a mark, it can go back to it.
@@ -94,7 +94,7 @@ impl<S: PageStore> Host<S> {
         &self.ledger
     }
 
-    /// The room of each build in the history.
+    /// The room that each build has in the history.
     pub fn capacity(&self) -> u16
         ensures { result ≡ self.now.capacity }
     {
@@ -153,7 +153,7 @@ impl<S: PageStore> Host<S> {
         Some(*realm.measurement())
     }
 
-    /// The number of pages that nobody leases.
+    /// The number of pages that no build leases.
     pub fn free_count(&self) -> u16
         ensures { result ≡ length (free_set (world_of self.now)) }
     {
@@ -189,7 +189,7 @@ impl<S: PageStore> Host<S> {
 }
 
 impl<S: PageStore + Drop> Host<S> {
-    /// Returns the ledger, and gives back all memory of the machine.
+    /// Returns the ledger, and frees all memory of the machine.
     pub fn into_ledger(self) -> HostLedger
         ensures { result ≡ self }
     {

@@ -9,8 +9,8 @@ ghost use Rattle.realm_host.specs.Sharing.{AnsweredCall, AreWhileAborting, IsInA
 ghost use Rattle.realm_host.specs.declared.command.HostAnswer.{HostAnswer};
 ghost use Rattle.realm_model.specs.History.{IsLegal};
 
-/// Two hosts of the same machine agree on the model's world and on each build's record if each build did the same on
-/// both.
+/// If each build did the same on two hosts of the same machine, both have the same world and the same record of each
+/// build.
 pub fn schedule_is_not_observed()
     ensures { (host twin : HostView) → DidTheSame host twin → AreIndistinguishable host twin }
 {}

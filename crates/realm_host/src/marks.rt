@@ -1,4 +1,4 @@
-//! Marks of what a build has open, to which the build can go back.
+//! Marks in the open operations of a build, to which the build can roll back.
 ghost use Rattle.std.specs.Prelude.{◌≡◌, ◌<◌};
 ghost use Rattle.std.specs.Bool.{OnTrue};
 ghost use Rattle.std.specs.List.{list_any};
@@ -18,7 +18,7 @@ use page_arena::PageStore;
 use realm_model::Act;
 
 impl<S: PageStore> Host<S> {
-    /// Keeps a mark at the operations that a build has open now, in place of an older mark, and returns the new mark.
+    /// Sets a build's mark at the operations that it has open now, in place of an older mark, and returns the new mark.
     /// The mark is dropped by the reverse that leaves the build with fewer operations open than it has now.
     ///
     /// Refused with NoBuild or with Aborting. This is no event.
@@ -49,9 +49,9 @@ impl<S: PageStore> Host<S> {
         Ok(self.ledger.open_count(build) - mark.length())
     }
 
-    /// Undoes what a build has opened above a mark, the newest first, and returns the number of operations that were
-    /// undone. The world then owns the same as that of the history without what the build did after the mark; what is
-    /// not the build's is exactly the same. The mark stays.
+    /// Undoes the operations that a build opened after a mark, the newest first, and returns their number. The world
+    /// then owns the same as that of the history without what the build did after the mark; what is not the build's is
+    /// exactly the same. The mark stays.
     ///
     /// Refused with NoBuild or Aborting. Refused with NothingToUndo if this is not the mark that is kept for the build,
     /// and with RecRunning if an operation above it created a REC that runs. Then nothing changes.
@@ -75,7 +75,7 @@ impl<S: PageStore> Host<S> {
         }
     }
 
-    // Whether any of a build's operations created a REC that runs.
+    // Whether any of the given operations of a build created a REC that runs.
     fn is_any_running(&self, build: BuildId, acts: &[Act]) -> bool
         requires { build < self.now.limits.builds }
         ensures { result ≡ list_any (is_running (realm_of build (world_of self.now))) acts.now }

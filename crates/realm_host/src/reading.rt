@@ -115,7 +115,7 @@ impl<S: PageStore> Host<S> {
         Some((granule, rec))
     }
 
-    /// Returns the row of a build's realm at which the walk of an IPA granule towards a level ends. That is the first
+    /// Returns the row of a build's realm at which the walk for an IPA granule to a given level ends. That is the first
     /// row on the way that is not TABLE, or the one of that level. Returns None if the build has no realm, or if the
     /// IPA granule is not in the realm's address space.
     ///
@@ -159,7 +159,7 @@ impl<S: PageStore> Host<S> {
         }
     }
 
-    /// Whether a build is in abort.
+    /// Whether a build is aborting.
     pub fn is_aborting(&self, build: BuildId) -> bool
         ensures { result ≡ is_aborting self.now build }
     {

@@ -3,8 +3,8 @@ ghost use Rattle.std.specs.Prelude.{◌≡◌, ◌≤◌, ◌↔◌, IsSome, IfS
 
 use realm_model::{LEAST_HISTORY, MOST_HISTORY};
 
-/// The numbers that a host is booted with: VMIDs, auxiliary granules of each REC, events of each build in the history,
-/// and builds.
+/// The numbers that a host is booted with: of VMIDs, of auxiliary granules for each REC, of events for each build, and
+/// of builds.
 #[derive(Clone, Copy)]
 pub struct Settings {
     pub vmids: u8,

@@ -64,7 +64,7 @@ impl<S: PageStore> Host<S> {
         }
     }
 
-    // Performs a reverse. The RMM refuses only the reverse of a REC that runs.
+    // Performs the reverse of a build's newest open operation. The RMM refuses only the reverse of a REC that runs.
     pub(crate) fn reverse(&mut self, build: BuildId, back: Act)
         requires there { build < self.old.limits.builds }
         requires legal { IsLegal self.old.limits self.old.history }

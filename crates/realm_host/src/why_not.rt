@@ -9,14 +9,14 @@ use thiserror::Error;
 /// The reason why a recorded event cannot be applied.
 #[derive(Clone, Copy, Debug, Error)]
 pub enum WhyNot {
-    /// An event that takes more room of the history than its build has left, or that would be its build's 513th open
-    /// operation.
+    /// An event that does not fit: its build has too little room left in the history, or already has 512 open
+    /// operations.
     #[error("its build has not the room that it takes")]
     NoRoom,
     /// A reverse of an operation that is not its build's newest open operation, or that created a REC that runs.
     #[error("it is not the reverse of the newest act that its build has open")]
     NotNewest,
-    /// An event that the rules do not allow at its place in the history.
+    /// An event that the model's rules do not allow as the next event of the history.
     #[error("it is no step of the rules")]
     NoStep,
 }

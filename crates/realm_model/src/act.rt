@@ -5,7 +5,7 @@ ghost use Rattle.realm_model.specs.Kind.{act_kind};
 use arrayvec::ArrayVec;
 use granule_addr::{BuildId, Gran, IpaGran, Level, Order, PageOff, RecNo, Root, Vmid};
 
-/// One accepted command, with the granules that it named and the answer that it got.
+/// An operation: one accepted command, with the granules that it named and the answer that it got.
 ///
 /// `UnTake`, `Undelegate`, `UnRealm`, `UnRtt`, `UnData` and `UnRec` are reverses. `UnData` is the reverse of `Data` and
 /// of `Unknown`.
@@ -66,7 +66,7 @@ pub enum Act {
         ipa: IpaGran,
         level: Level,
     },
-    /// RMI_RTT_INIT_RIPAS, of a number of pages
+    /// RMI_RTT_INIT_RIPAS, for `count` pages
     Ripas {
         ipa: IpaGran,
         count: u16,

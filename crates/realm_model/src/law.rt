@@ -1,4 +1,4 @@
-//! Theorems on every history.
+//! Theorems about every history of the model.
 ghost use Rattle.std.specs.Prelude.{◌≡◌, ℕ, List, ◌++◌, Some};
 ghost use Rattle.realm_model.specs.declared.act.Act.{Act};
 ghost use Rattle.realm_model.specs.declared.act.Event.{Event};
@@ -46,8 +46,8 @@ pub fn step_is_exact()
     ensures { (limits : Limits) (history : List Event) (world : World) (event : Event) → replay limits history ≡ Some world → StepIsExact limits world event }
 {}
 
-/// If paired operations are pushed on a stack and reverses pop it, exactly the operations without a matching reverse
-/// remain.
+/// A stack on which each operation with a reverse is pushed, and which each reverse pops, holds exactly the operations
+/// without a matching reverse.
 pub fn matching_is_a_stack()
     ensures { (acts : List Act) → MatchingIsAStack acts }
 {}
@@ -72,7 +72,7 @@ pub fn at_rest_is_none_running()
     ensures { (limits : Limits) (history : List Event) (world : World) (build : ℕ) → replay limits history ≡ Some world → RestIsOfAll world build }
 {}
 
-/// An accepted event takes the room of its operation from its own build, and none from another.
+/// An accepted event adds the room of its operation to what its own build has used, and none to what others have used.
 pub fn room_is_taken()
     ensures { (limits : Limits) (history : List Event) (world : World) (event : Event) (next : World)
         → IsLegal limits history → replay limits history ≡ Some world → RoomIsTaken limits history world event next }
@@ -83,13 +83,13 @@ pub fn room_is_a_sum()
     ensures { (limits : Limits) (history : List Event) (world : World) (build : ℕ) → IsLegal limits history → replay limits history ≡ Some world → RoomIsSum history world build }
 {}
 
-/// In a history without another build, a build has the same operations open, and has used the same amount of room.
+/// If another build's events are left out, a build has the same operations open, and has used the same amount of room.
 pub fn others_keep_their_room()
     ensures { (limits : Limits) (history : List Event) (world : World) (build other : ℕ) → IsLegal limits history → replay limits history ≡ Some world → OthersKeepTheirRoom history world build other }
 {}
 
-/// Each event that remains in a history without a build is accepted in sequence, from the empty history on. The machine
-/// has the same limits and room, and each build can have as many operations open.
+/// If a build's events are left out of a history, each other event is accepted in sequence, from the empty history on.
+/// The machine has the same limits and room, and each build can have as many operations open.
 pub fn what_is_left_is_accepted()
     ensures { (limits : Limits) (capacity most : ℕ) (history : List Event) (world : World) (build : ℕ)
         → IsLegal limits history → replay limits history ≡ Some world → WhatIsLeftIsAccepted limits capacity most history world build }
@@ -123,14 +123,14 @@ pub fn ownership_follows()
         → replay limits history ≡ Some world → replay limits past ≡ Some twin → OwnershipFollows limits build act world twin next other }
 {}
 
-/// The newest open operation of a build can be undone, whatever other builds did since, unless the operation created a
-/// running REC.
+/// The newest open operation of a build can be undone, whatever other builds did since, unless it created a REC that is
+/// running.
 pub fn newest_can_be_undone()
     ensures { (limits : Limits) (history : List Event) (world : World) (build : ℕ) (act : Act)
         → IsLegal limits history → replay limits history ≡ Some world → NewestCanBeUndone limits history build world act }
 {}
 
-/// If a build has nothing open, the model's world is that of the history without the build.
+/// If a build has no operation open, the model's world is that of the history without the build's events.
 pub fn nothing_open_is_noninterference()
     ensures { (limits : Limits) (history : List Event) (world : World) (build : ℕ) → IsLegal limits history → replay limits history ≡ Some world → NothingOpenIsNoninterference limits history build world }
 {}

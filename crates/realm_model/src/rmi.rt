@@ -1,4 +1,4 @@
-//! The result words of the RMM.
+//! The refusals of the RMM, and their result words.
 ghost use Rattle.std.specs.Prelude.{◌≡◌, ◌+◌, ◌*◌};
 
 /// The reason why a command is refused. RMM 1.0, RMI status codes.
@@ -36,19 +36,19 @@ pub struct Rmi {
 impl Rmi {
     ghost use Rattle.realm_model.specs.Rmi.{result_word};
 
-    /// The refusal RMI_ERROR_INPUT, because of an input.
+    /// The refusal with the status RMI_ERROR_INPUT, which is due to an input.
     pub const INPUT: Rmi = Rmi {
         status: Status::Input,
         index: 0,
     };
 
-    /// The refusal RMI_ERROR_REALM, because of the state of a realm.
+    /// The refusal with the status RMI_ERROR_REALM, which is due to the state of a realm.
     pub const REALM: Rmi = Rmi {
         status: Status::Realm,
         index: 0,
     };
 
-    /// The refusal RMI_ERROR_REC, because of the state of a REC.
+    /// The refusal with the status RMI_ERROR_REC, which is due to the state of a REC.
     pub const REC: Rmi = Rmi {
         status: Status::Rec,
         index: 0,

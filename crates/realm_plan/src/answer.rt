@@ -9,11 +9,11 @@ use host_commands::{Refusal, Reply};
 use realm_model::Kind;
 use std::fmt;
 
-/// The word for an operation that was undone.
+/// The word for the kind of an operation that was undone.
 #[derive(Clone, Copy)]
 pub struct KindWord(pub Kind);
 
-/// The text of a refusal: its number and its name, and the numbers that the refusal has.
+/// The text of a refusal: its number, its name, and the numbers that it carries.
 #[derive(Clone, Copy)]
 pub struct RefusalText(pub Refusal);
 
@@ -96,7 +96,7 @@ fn refusal_name(refusal: Refusal) -> &'static str
     }
 }
 
-// The numbers that a refusal names.
+// The numbers that a refusal carries: a page, a block order, or the two numbers of an RMI result.
 fn refusal_numbers(refusal: Refusal) -> ArrayVec<u32, MOST_NUMBERS>
     ensures { result.items ≡ refusal_numbers refusal }
 {

@@ -1,4 +1,4 @@
-//! The reading of a step from a word and its numbers.
+//! The parser of a step from a word and its numbers.
 ghost use Rattle.std.specs.Prelude.{◌≡◌, codes};
 ghost use Rattle.decimal_text.specs.Rows.{none, one};
 ghost use Rattle.decimal_text.specs.Written.{u16};
@@ -13,7 +13,7 @@ use decimal_text::{
 use granule_addr::RecNo;
 use host_commands::{Cmd, Step};
 
-/// The most auxiliary pages of a REC.
+/// The maximum number of auxiliary pages of a REC.
 const MOST_AUXILIARIES: usize = 16;
 
 // The step that asks the host for a command.
@@ -122,7 +122,7 @@ fn rec_step(word: &str, numbers: &[u32]) -> Option<PlanStep>
     }
 }
 
-// The step, if it is written as a word alone.
+// The step, if no numbers follow its word.
 fn word_alone(step: Step, numbers: &[u32]) -> Option<PlanStep>
     ensures { result ≡ none (Whole step) numbers.now }
 {

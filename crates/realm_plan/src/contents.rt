@@ -25,7 +25,7 @@ fn array_at<'a>(table: &'a Table, key: &str) -> Option<&'a Array>
     value_at(table, key)?.as_array()
 }
 
-/// The whole number at the key, or the default if the key is missing.
+/// The integer at a key, or the default if the key is missing.
 fn whole_at(table: &Table, key: &str, default: Option<i64>) -> Option<i64>
     ensures { result ≡ whole_of default (get_member key.now (table_view table.now)) }
 {
@@ -35,7 +35,7 @@ fn whole_at(table: &Table, key: &str, default: Option<i64>) -> Option<i64>
     }
 }
 
-/// The whole numbers of a plan.
+/// The integers at the keys of a plan.
 #[derive(Clone, Copy)]
 struct Wholes {
     pages: i64,
@@ -44,7 +44,7 @@ struct Wholes {
     history: i64,
 }
 
-/// The whole numbers that the document has. There is no default for `pages`.
+/// The integers at the keys of the document, with defaults for missing keys. There is no default for `pages`.
 #[tactic(auto, unfolding(crate::specs::Contents::wholes_at))]
 fn wholes_at(table: &Table) -> Option<Wholes>
     ensures { result ≡ wholes_at (table_view table.now) }
@@ -61,7 +61,7 @@ fn wholes_at(table: &Table) -> Option<Wholes>
     })
 }
 
-/// The whole numbers of an array that has nothing else.
+/// The integers of an array, or `None` if an element is not an integer.
 fn wholes_of(alloc: Global, array: &Array) -> Result<Option<Vec<i64>>, AllocError>
     ensures { IfOk result (λ r. option_map (λ v. v.items) r ≡ wholes_of (array_view array.now)) }
 {
@@ -75,7 +75,7 @@ fn wholes_of(alloc: Global, array: &Array) -> Result<Option<Vec<i64>>, AllocErro
     Ok(Some(found))
 }
 
-/// The texts of an array that has nothing else.
+/// The strings of an array, or `None` if an element is not a string.
 fn texts_of<'a>(alloc: Global, array: &'a Array) -> Result<Option<Vec<&'a str>>, AllocError>
     ensures { IfOk result (λ r. option_map (λ v. map (λ t. t.now) v.items) r ≡ texts_of (array_view array.now)) }
 {
@@ -112,7 +112,7 @@ fn has_only_keys(table: &Table, names: &[&str]) -> bool
     true
 }
 
-/// The texts of a build's steps, from a table whose one key `steps` has an array of texts.
+/// The texts of a build's steps, from a table whose only key is `steps`, with an array of strings.
 fn steps_of<'a>(alloc: Global, value: &'a Value) -> Result<Option<Vec<&'a str>>, AllocError>
     ensures { IfOk result (λ r. option_map (λ v. map (λ t. t.now) v.items) r ≡ step_texts_of (view value.now)) }
 {
@@ -128,7 +128,7 @@ fn steps_of<'a>(alloc: Global, value: &'a Value) -> Result<Option<Vec<&'a str>>,
     texts_of(alloc, array)
 }
 
-/// The texts of the steps of each build.
+/// The step texts of each build in an array of builds.
 fn builds_of<'a>(alloc: Global, array: &'a Array) -> Result<Option<Vec<Vec<&'a str>>>, AllocError>
     ensures { IfOk result (λ r. option_map (λ v. map (λ b. map (λ t. t.now) b.items) v.items) r
         ≡ build_texts_of (array_view array.now)) }
@@ -143,7 +143,7 @@ fn builds_of<'a>(alloc: Global, array: &'a Array) -> Result<Option<Vec<Vec<&'a s
     Ok(Some(found))
 }
 
-/// The texts of the steps of each build that the document has.
+/// The step texts of each build in the document.
 fn builds_at<'a>(alloc: Global, table: &'a Table) -> Result<Option<Vec<Vec<&'a str>>>, AllocError>
     ensures { IfOk result (λ r. option_map (λ v. map (λ b. map (λ t. t.now) b.items) v.items) r
         ≡ builds_at (table_view table.now)) }
@@ -183,7 +183,7 @@ impl<'a> Contents<'a> {
     ghost use Rattle.realm_plan.specs.Contents.{contents_of};
     ghost use Rattle.realm_plan.specs.ContentsView.{contents_view};
 
-    /// The contents of the document, or nothing if a key is missing, unknown or of the wrong kind.
+    /// The contents of the document, or `None` if a key is missing, unknown or of the wrong kind.
     #[tactic(auto, unfolding(crate::specs::Contents::contents_of))]
     pub fn of(alloc: Global, table: &'a Table) -> Result<Option<Contents<'a>>, AllocError>
         ensures { IfOk result (λ r. option_map contents_view r ≡ contents_of (table_view table.now)) }

@@ -1,11 +1,11 @@
-//! The faults of bytes that are no plan.
+//! The faults of bytes that are not a valid plan.
 ghost use Rattle.std.specs.Prelude.{◌≡◌};
 ghost use Rattle.realm_plan.specs.declared.fault.PlanError.TheVariants.{Memory};
 
 use std::alloc::{AllocError, AllocFailed};
 use thiserror::Error;
 
-/// The reason why bytes are no plan. Of several reasons, it is the first in this list.
+/// The reason why bytes are not a valid plan. Of several reasons, it is the first in this list.
 #[derive(Clone, Copy, Debug, PartialEq, Eq, Error)]
 pub enum PlanFault {
     /// Bytes that are not UTF-8, or not TOML.
@@ -14,10 +14,10 @@ pub enum PlanFault {
     /// A key that is missing, unknown or of the wrong kind.
     #[error("plan 21 key")]
     Key,
-    /// A text that is no step. It is the first one of the lowest build; builds and steps are counted from 0.
+    /// A text that is not a step. It is the first one of the lowest build; builds and steps are counted from 0.
     #[error("plan 22 step {build} {step}")]
     Step { build: usize, step: usize },
-    /// The first entry of `order` that names no build, with its place counted from 0.
+    /// The first entry of `order` that names no build, with its index `place`, counted from 0.
     #[error("plan 23 order {place}")]
     Order { place: usize },
     /// A number or a length outside its limits. If there are too many bytes, this comes before all others.

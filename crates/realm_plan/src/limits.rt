@@ -11,13 +11,13 @@ use crate::fault::{PlanError, PlanFault};
 use granule_addr::MOST_PAGES;
 use realm_model::{LEAST_HISTORY, MOST_HISTORY};
 
-/// The most builds of a plan.
+/// The maximum number of builds of a plan.
 pub const MOST_BUILDS: usize = 8;
 
-/// The most steps of a build.
+/// The maximum number of steps of a build.
 pub const MOST_STEPS: usize = 1024;
 
-/// The most turns of a plan.
+/// The maximum number of turns of a plan.
 pub const MOST_TURNS: usize = 16384;
 
 /// The numbers of a plan, each within its limits.
@@ -29,7 +29,7 @@ pub struct Numbers {
     pub history: u16,
 }
 
-/// Returns the number, or the fault `Limit` unless the number is from `low` to `high`.
+/// Returns the number if it is from `low` to `high`, and the fault `Limit` otherwise.
 fn between(low: u16, high: u16, whole: i64) -> Result<u16, PlanError>
     ensures value { Gives (λ n. n) result (between_at low high whole) }
     ensures low { IfOk result (λ n. low ≤ n) }

@@ -25,7 +25,7 @@ pub fn state_word(state: GranuleState) -> &'static str
     }
 }
 
-// The sum of a granule's bytes, if the granule's line in the map has the sum.
+// The sum of a granule's bytes, if the granule's state is one whose line in the map has the sum.
 fn sum_numbers(state: GranuleState, sum: u32) -> ArrayVec<u32, MOST_NUMBERS>
     ensures { result.items ≡ sum_numbers state sum }
 {
@@ -45,14 +45,14 @@ pub fn realm_word(state: RealmState) -> &'static str
     }
 }
 
-/// Appends the line of a turn of a build that has no step left.
+/// Appends the line for the turn of a build that has no step left.
 pub fn push_idle(text: &mut String, build: BuildId) -> Result<(), AllocError>
     ensures { OnOk result (string_bytes text.new ≡ string_bytes text.old ++ idle_line build) }
 {
     writeln!(text, "{} - idle", build.number())
 }
 
-/// Appends the line of a build's page in the map. The line has the sum of its bytes if it is UNDELEGATED or DATA.
+/// Appends the map's line for a page of a build. The line has the sum of its bytes if it is UNDELEGATED or DATA.
 pub fn push_page(
     text: &mut String,
     build: BuildId,
@@ -72,7 +72,7 @@ pub fn push_page(
     )
 }
 
-/// Appends the line of a build's realm in the map.
+/// Appends the map's line for the realm of a build.
 pub fn push_realm(
     text: &mut String,
     build: BuildId,

@@ -49,7 +49,7 @@ impl Operand for Offset {
     }
 }
 
-/// The most numbers that follow a word: the page of a REC, and 16 auxiliary pages.
+/// The maximum count of numbers after a word: the page of a REC, and 16 auxiliary pages.
 pub const MOST_NUMBERS: usize = 17;
 
 pub fn one(first: u32) -> ArrayVec<u32, MOST_NUMBERS>

@@ -13,7 +13,7 @@ use host_commands::Step;
 use std::alloc::Global;
 use toml::Table;
 
-/// The most bytes of a plan.
+/// The maximum number of bytes of a plan.
 pub const MOST_BYTES: usize = 1_048_576;
 
 /// A machine, the builds on it, and their turns.
@@ -23,13 +23,13 @@ pub struct Plan {
     pub vmids: u8,
     /// The number of auxiliary granules of a REC.
     pub aux: u8,
-    /// The number of events that the history holds for each build.
+    /// The number of events that the history can hold for each build.
     pub history: u16,
     /// The steps of each build.
     pub builds: Vec<Vec<PlanStep>>,
     /// The build of each turn.
     pub order: Vec<BuildId>,
-    /// Whether a build whose step is refused leaves out its other steps, and aborts.
+    /// Whether a build whose step is refused skips its remaining steps, and aborts.
     pub gives_up: bool,
     /// The step of a build that gives up: an abort.
     pub abort: PlanStep,
@@ -110,7 +110,7 @@ impl Plan {
         Plan::from_contents(alloc, &contents)
     }
 
-    /// The same plan with builds that give up. The bytes of a plan never say so.
+    /// The same plan, with `gives_up` set. The bytes of a plan never say so.
     pub fn giving_up(self) -> Plan
         ensures { plan_view result ≡ record (plan_view self) { gives_up = true } }
     {

@@ -1,4 +1,4 @@
-//! Steps of a plan, and their reading from a text.
+//! Steps of a plan, and their parser.
 ghost use Rattle.std.specs.Prelude.{◌≡◌, IfSome, IfNone};
 ghost use Rattle.realm_plan.specs.Asked.{asked};
 ghost use Rattle.realm_plan.specs.declared.step.PlanStep.{PlanStep};
@@ -14,14 +14,14 @@ use host_commands::{Cmd, Step};
 /// A step as a plan writes it.
 #[derive(Drop)]
 pub enum PlanStep {
-    /// A step with every number written.
+    /// A step whose numbers are all written.
     Whole(Step),
-    /// A realm whose width is left out, and is the least one, 39. RMI_REALM_CREATE
+    /// A `realm` step without a width, for which the least one, 39, is used. RMI_REALM_CREATE
     WidthLeftOut { rd: u16, root: u16 },
 }
 
 impl PlanStep {
-    /// The request of the step to the host. No memory is taken.
+    /// The step that is asked of the host, with all its numbers. No memory is taken.
     pub fn asked(&self) -> Step
         ensures { result ≡ asked self.now }
     {

@@ -8,7 +8,7 @@ use crate::{PlanStep, step_from_text};
 use granule_addr::BuildId;
 use std::alloc::{AllocError, Global};
 
-/// The steps of one build.
+/// The steps of build `build`, parsed from their texts.
 fn steps_of(alloc: Global, build: usize, texts: &[&str]) -> Result<Vec<PlanStep>, PlanError>
     ensures { Gives (λ v. v.items) result (steps_of build 0 (map (λ t. t.now) texts.now)) }
 {
@@ -22,7 +22,7 @@ fn steps_of(alloc: Global, build: usize, texts: &[&str]) -> Result<Vec<PlanStep>
     Ok(found)
 }
 
-/// The steps of each build.
+/// The steps of each build, parsed from their texts.
 pub(crate) fn builds_of(alloc: Global, texts: &[Vec<&str>]) -> Result<Vec<Vec<PlanStep>>, PlanError>
     ensures { Gives (λ v. map (λ b. b.items) v.items) result
         (builds_of 0 (map (λ b. map (λ t. t.now) b.items) texts.now)) }
@@ -46,7 +46,7 @@ fn build_named(count: usize, entry: i64) -> Option<usize>
     }
 }
 
-/// The builds of the turns, each one of `count` builds.
+/// The build of each turn, from the entries of the schedule and the number of builds.
 pub fn order_of(alloc: Global, count: usize, entries: &[i64]) -> Result<Vec<usize>, PlanError>
     ensures value { Gives (λ v. v.items) result (order_of count 0 entries.now) }
     ensures below { IfOk result (λ v. All (λ build. build < count) v.items) }
@@ -61,7 +61,7 @@ pub fn order_of(alloc: Global, count: usize, entries: &[i64]) -> Result<Vec<usiz
     Ok(found)
 }
 
-/// The builds by their numbers, in a byte each.
+/// The builds with the given numbers, as a byte each.
 pub(crate) fn turns_of(alloc: Global, builds: &[usize]) -> Result<Vec<BuildId>, AllocError>
     requires { All (λ build. build < 8) builds.now }
     ensures { IfOk result (λ turns. turns.items ≡ builds.now) }

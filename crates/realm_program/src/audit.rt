@@ -1,4 +1,4 @@
-//! The comparison of a report with a history.
+//! The comparison of a worker's report with a history of events.
 ghost use Rattle.std.specs.Prelude.{◌≡◌, ◌↔◌, ◌≤◌, length, drop, slice_get, true, IfOk, IfSome, OnOk};
 ghost use Rattle.std.specs.List.{All};
 ghost use Rattle.realm_model.specs.Stack.{pushed};
@@ -12,7 +12,7 @@ use host_commands::Step;
 use realm_model::{Act, Event};
 use std::alloc::{AllocError, Global};
 
-// The index of a build's next event from `from` on, or the end of the history.
+// The index of a build's first event at or after index `from`, or the length of the history if there is none.
 fn next_of(history: &[Event], build: BuildId, from: usize) -> usize
     requires { from ≤ length history.now }
     ensures within { result ≤ length history.now }
@@ -70,7 +70,7 @@ pub fn fits(
     Ok(next == history.len())
 }
 
-/// Whether each report fits the history, as `fits` says for the steps of the report's build.
+/// Whether each report fits the history, by `fits` with the steps that are paired with the report.
 pub fn fit_all(
     alloc: Global,
     history: &[Event],

@@ -11,7 +11,7 @@ use granule_addr::{RecNo, Vmid};
 use host_commands::{Allocated, Cmd, Reply, act_of, reply_of};
 use realm_model::Act;
 
-// The values that were allocated for an operation, as far as the operation holds them.
+// The values that were allocated for an operation, with defaults for those that the operation does not hold.
 fn allocated_for(act: &Act) -> Allocated
     ensures { result ≡ allocated_in act.now }
 {

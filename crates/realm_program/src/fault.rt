@@ -1,4 +1,4 @@
-//! The faults because of which the text of a run is printed only in part or not at all.
+//! The reasons why the text of a run is printed only in part, or not at all.
 ghost use Rattle.std.specs.Prelude.{◌≡◌};
 ghost use Rattle.realm_program.specs.declared.fault.Fault.TheVariants.{Memory, Device};
 
@@ -12,10 +12,10 @@ use thiserror::Error;
 /// The reason why nothing is printed, or only a prefix of the text. Its line goes to standard error.
 #[derive(Clone, Copy, Debug, PartialEq, Eq, Error)]
 pub enum Fault {
-    /// An input that is no plan.
+    /// An input that is not a plan.
     #[error(transparent)]
     Plan(PlanFault),
-    /// A build to be left out that the plan does not have.
+    /// A build that is to be left out, but is not in the plan.
     #[error("erase names no build")]
     EraseNamesNoBuild,
     /// A failed allocation.

@@ -7,14 +7,14 @@ use checked_io::{ReadError, Told};
 use std::alloc::Global;
 use std::io::Read;
 
-/// The number of bytes that are kept of an input: one more than a plan may have.
+/// The largest number of bytes that are kept of an input: one more than a plan may have.
 pub const KEPT: usize = 1_048_577;
 
 /// The largest number of reads of one input.
 pub const MOST_READS: usize = 1_048_578;
 
-// An empty list of bytes with capacity for all that is kept, if there is memory for it. A list that grows is copied,
-// and takes the memory of both meanwhile.
+// An empty list of bytes, with capacity for `KEPT` bytes if there is memory for them. A list that grows is copied, and
+// takes the memory of both meanwhile.
 fn room(alloc: Global) -> Vec<u8>
     ensures { result.items ≡ [] }
 {

@@ -1,5 +1,4 @@
-//! The part of the program that reads a plan, and prints the text of its replay or of its run in threads. The faults
-//! with which the program ends.
+//! The program that replays a plan or runs it in threads, and prints the result.
 //!
 //! `print` goes from the bytes of a plan to a text of it, over any reader and any writer. `Fault` is each reason not to
 //! have printed the text, with its exit status. `replay` prints the text of a run, and `run` that of a run in threads.

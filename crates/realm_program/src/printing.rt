@@ -13,7 +13,7 @@ use realm_plan::Plan;
 use std::alloc::Global;
 use std::io::{Read, Write};
 
-/// A kind of text of a plan.
+/// A kind of text that can be made from a plan.
 pub trait PlanText {
     ghost is_text: { Self → PlanModel → List ℕ → Type 0 };
 

@@ -10,7 +10,7 @@ use plan_replay::{TurnAnswer, push_turn};
 use realm_plan::PlanStep;
 use std::alloc::AllocError;
 
-// Whether a step undoes any number of operations, with a line for each.
+// Whether a step may undo any number of operations, with a line for each of them.
 fn undoes_many(step: &PlanStep) -> bool
     ensures { result ≡ undoes_many step.now }
 {
@@ -30,7 +30,7 @@ fn ends_step(asked: Asked, next: Option<ReportLine>) -> bool
     }
 }
 
-// The answer of a turn for the answer of a report's line; an undo with `ends` is the last of its step.
+// The answer of a turn for the answer in a report's line; `ends` says whether an undo is the last of its step.
 fn answer_of_line(answer: Answer, ends: bool) -> TurnAnswer
     ensures { result ≡ answer_of_line answer ends }
 {

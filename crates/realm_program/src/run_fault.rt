@@ -1,4 +1,4 @@
-//! The faults of a run in threads that has no text.
+//! The reasons why a run in threads has no text.
 ghost use Rattle.std.specs.Prelude.{◌≡◌};
 ghost use Rattle.realm_program.specs.declared.run_fault.RunFault.TheVariants.{Memory};
 
@@ -15,7 +15,7 @@ pub enum RunFault {
     /// The lowest build whose worker waited in vain for a turn.
     #[error("thread")]
     Stuck(BuildId),
-    /// The list of events of a build's seat, or a line of its report, that does not fit the history.
+    /// A build whose report, or whose seat's list of events, does not fit the history.
     #[error("mismatch")]
     Mismatch,
 }

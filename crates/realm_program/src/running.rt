@@ -1,4 +1,4 @@
-//! The run of a plan in threads, from a reader to a writer.
+//! The reading of a plan, its run in threads, and the writing of the text of the run.
 ghost use Rattle.std.specs.Prelude.{◌≡◌, ◌+◌, ◌≤◌, ◌↔◌, ◌⊎◌, false, true, Err, IfOk, IfErr, string_bytes};
 ghost use Rattle.realm_plan.specs.PlanView.{plan_view};
 ghost use Rattle.realm_program.specs.Printed.{IsEnd};

@@ -112,7 +112,7 @@ fn asked_text_of(alloc: Global, plan: &Plan, erase: Option<BuildId>) -> Result<S
     }
 }
 
-// The text of a replay, or of the map without the build `erase`.
+// A request for the text of a replay, or for the map without the build `erase`.
 #[derive(Drop)]
 struct Replayed {
     erase: Option<BuildId>,

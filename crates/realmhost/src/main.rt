@@ -17,7 +17,7 @@ use std::rt::Env;
 use std::sync::Wait;
 use std::thread::Threads;
 
-/// Performs what the command line asks for, from an input to an output.
+/// Performs what the command line asks for, with the plan from `input` and the text of its run to `output`.
 fn perform<H: Env + AllocGlobal + Threads + Wait + Sync, R: Read, W: Write>(
     rt: &H,
     input: &mut Told<R>,

@@ -1,6 +1,6 @@
-//! The program that shows plans and histories. It prints the faults of a plan, the reasons of its refusals and the
-//! results of its other schedules. It prints the history of its run, its run as data and as a page, and the map of a
-//! history. The plan or the history is a file, or standard input.
+//! The program `realmview`, which shows plans and histories. It prints the faults of a plan, the reasons of its
+//! refusals and the results of its other schedules. It prints the history of its run, its run as data and as a page,
+//! and the map of a history. The plan or the history is a file, or standard input.
 #![tactic(auto)]
 
 ghost use Rattle.std.specs.Prelude.{◌≡◌, IfErr};
@@ -16,7 +16,7 @@ use meter::Meter;
 use std::process::ExitCode;
 use view_program::{ViewError, ViewOutcome, ViewSubcommand, run};
 
-/// The kind of input that is awaited.
+/// The kind of input that a subcommand reads.
 fn awaited(asked: ViewSubcommand) -> &'static str {
     match asked {
         ViewSubcommand::Apply(_) => "a history",
@@ -24,7 +24,7 @@ fn awaited(asked: ViewSubcommand) -> &'static str {
     }
 }
 
-/// The lines of the output that are coloured on a terminal.
+/// The kind of a subcommand's output that a terminal shows in colour, if any.
 fn painting(asked: ViewSubcommand) -> Option<Painting> {
     match asked {
         ViewSubcommand::Check | ViewSubcommand::Why { .. } => Some(Painting::Messages),
@@ -49,7 +49,8 @@ fn show(rt: &HostRuntime) -> Result<Ended<ViewOutcome>, Stop<ViewError>> {
     Ended::of_run(outcome, output.is_closed())
 }
 
-/// The exit status. If the program stops, standard error has the reason. The faults of a plan are on standard output.
+/// The exit status for an outcome. If the program stops, standard error has the reason. The faults of a plan are on
+/// standard output.
 fn end(rt: &HostRuntime, outcome: Result<Ended<ViewOutcome>, Stop<ViewError>>) -> ExitCode
     ensures value { exit_status result ≡ view_exit_status outcome }
     ensures stops { IfErr outcome (λ _. IsStatus (exit_status result)) }

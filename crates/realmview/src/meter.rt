@@ -4,7 +4,7 @@ use std::io::IsTerminal;
 use std::time::Instant;
 use view_program::schedules::Progress;
 
-/// The least number of milliseconds from one progress line to the next.
+/// The minimum time between two progress lines, in milliseconds.
 const PAUSE: u128 = 200;
 
 /// A progress line with the number of schedules run so far, on standard error if that is a terminal. It is written over
@@ -17,7 +17,7 @@ pub struct Meter<'a> {
 }
 
 impl Meter<'_> {
-    /// Begins to count the time. If standard error is no terminal, nothing is printed.
+    /// Starts the meter's clock. If standard error is no terminal, nothing is printed.
     pub fn new(rt: &HostRuntime) -> Meter<'_> {
         let begun = if rt.stderr().is_terminal() {
             Instant::now(rt).ok()
@@ -31,13 +31,13 @@ impl Meter<'_> {
         }
     }
 
-    // The number of pauses since the beginning, if anything is printed.
+    // The number of pauses that have passed since the meter's start, if it prints anything.
     fn passed(&self) -> Option<u128> {
         let since = self.begun?.elapsed(self.rt).ok()?;
         Some(since.as_millis() / PAUSE)
     }
 
-    /// Clears the last line.
+    /// Clears the last progress line.
     pub fn end(&self) {
         if self.pauses.get() > 0 {
             let _lost = eprint!(self.rt; "\r\x1b[K");

@@ -5,8 +5,8 @@ ghost use Rattle.rhm_c.specs.Action as shown;
 use history_calls::HostAction;
 use rmi_abi::{Call, Registers, encode_call};
 
-/// The kind, the registers of a call, and the operands of a host's operation on an RMM. Fields that the kind does not
-/// use are 0.
+/// A host's operation on an RMM: its kind, its registers if it is a call, and its operands. Fields that the kind does
+/// not use are 0.
 #[repr(C)]
 #[derive(Clone, Copy)]
 pub struct RawAction {
@@ -29,8 +29,8 @@ pub struct RawAction {
     pub aux: [u64; 16],
 }
 
-/// The operations of a host for a command, with their number, which is at most 5. `expected` is the model's X0: 0 if
-/// the model performs the call, or else the word of the refusal.
+/// The operations, at most 5, by which a host performs a command or an undo on its RMM. `expected` is the model's X0: 0
+/// if the model performs the call, or else the word of the refusal.
 #[repr(C)]
 #[derive(Clone, Copy)]
 pub struct RawActions {
@@ -93,7 +93,7 @@ fn address_at(auxiliaries: &[u64], place: usize) -> u64
     }
 }
 
-/// The addresses of auxiliary granules, and zeros after them.
+/// The addresses of auxiliary granules, padded with zeros to 16.
 pub(crate) fn padded(auxiliaries: &[u64]) -> [u64; 16]
     ensures { result ≡ shown.padded auxiliaries.now }
 {

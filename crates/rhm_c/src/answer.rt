@@ -4,7 +4,7 @@ ghost use Rattle.rhm_c.specs.Answer as answers;
 
 use host_commands::{Refusal, Reply};
 
-/// The status of a call, and a value, which is 0 for a status without one.
+/// The answer to a call: a status, and a value, which is 0 if the status has none.
 #[derive(Clone, Copy)]
 pub(crate) struct CallAnswer {
     pub(crate) status: u64,
@@ -38,7 +38,7 @@ pub(crate) fn done(value: u64) -> CallAnswer
     CallAnswer { status: 0, value }
 }
 
-// The value of a reply.
+// The number that a reply carries; 0 for `Done`.
 pub(crate) fn reply_value(reply: Reply) -> u64
     ensures { result ≡ answers.reply_value reply }
 {
@@ -72,7 +72,7 @@ pub(crate) fn refusal_status(refusal: &Refusal) -> u64
     }
 }
 
-// The value of a refusal.
+// The value that goes with a refusal: its page, its order or its result word, or else 0.
 pub(crate) fn refusal_value(refusal: &Refusal) -> u64
     ensures { result ≡ answers.refusal_value refusal.now }
 {

@@ -1,4 +1,4 @@
-//! Calls on a build other than its commands: undos, aborts, marks and rollbacks.
+//! Calls that concern a build and are not commands: undos, aborts, marks and rollbacks.
 ghost use Rattle.std.specs.Prelude.{◌≡◌};
 ghost use Rattle.rhm_c.specs.Command.{build_in};
 ghost use Rattle.rhm_c.specs.Answer.{IsOnHandle};
@@ -15,7 +15,7 @@ use crate::undo::undo;
 use granule_addr::BuildId;
 use std::alloc::Global;
 
-/// A call on a build other than a command.
+/// A call that concerns a build and is not a command.
 #[derive(Clone, Copy)]
 pub(crate) enum BuildCall {
     Undo,
@@ -38,7 +38,7 @@ fn perform(host: &mut PlainHost, build: BuildId, call: BuildCall) -> CallAnswer
     }
 }
 
-// Performs a call on a build given by number.
+// Performs a call on the build with the given number.
 fn perform_of(host: &mut PlainHost, build: u64, call: BuildCall) -> CallAnswer
     ensures { IsOfBuild (IsCalledHere call) (build_in build) host.old result host.new }
 {

@@ -192,7 +192,7 @@ pub(crate) fn build_of(number: u64) -> Option<BuildId>
 // The status for operands that are no command.
 const NO_COMMAND: u64 = 15;
 
-// The build and its command, or the status for a number that is no build or operands that are no command.
+// The build and its command, or the status if the number is no build or the operands are no command.
 pub(crate) fn asked(build: u64, raw: &RawCommand) -> Result<(BuildId, Cmd), u64>
     ensures { result ≡ commands.command_asked build raw.now }
 {

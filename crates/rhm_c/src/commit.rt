@@ -16,7 +16,7 @@ use history_calls::{Actions, Frame, HostAction, actions_asked, actions_back, ref
 use host_commands::Refusal;
 use std::alloc::Global;
 
-/// The registers X0 and X1 after the call. They do not matter if no call was to be made.
+/// The registers X0 and X1 with which the RMM answered the prepared call. They do not matter if no call was to be made.
 #[repr(C)]
 #[derive(Drop)]
 pub struct FirmwareAnswer {
@@ -24,7 +24,7 @@ pub struct FirmwareAnswer {
     pub x1: u64,
 }
 
-// The X0 with which this repository's RMM by registers answers the entry of a REC that runs on.
+// The X0 that the RMM of the crate `rmm` returns from the entry of a REC that keeps running.
 const RUNNING: u64 = 0xFFFF_FFFF_FFFF_FFFE;
 
 // The statuses for an X0 that is not the model's, and for an X1 that is not the known output.
@@ -32,7 +32,7 @@ const DIVERGED: u64 = 16;
 
 const OTHER_OUTPUT: u64 = 17;
 
-// The answer to an X0 other than `word`, the model's X0.
+// The answer to a commit with an X0 other than `word`, which is the model's X0.
 fn diverged(word: u64) -> CallAnswer
     ensures { result ≡ commits.diverged word }
 {
@@ -142,7 +142,7 @@ fn commit(
     }
 }
 
-// Commits an undo of a build given by number.
+// Commits an undo of the build with the given number.
 fn commit_undo(
     frame: Frame,
     host: &mut PlainHost,

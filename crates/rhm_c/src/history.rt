@@ -1,4 +1,4 @@
-//! The history of a host, event by event.
+//! Readings of a host's history, event by event.
 ghost use Rattle.std.specs.Prelude.{◌≡◌, map};
 ghost use Rattle.history_calls.specs.Frame as frames;
 ghost use Rattle.rhm_c.specs.History as histories;
@@ -14,7 +14,7 @@ use history_calls::Frame;
 use realm_model::{Act, Event};
 use std::alloc::Global;
 
-/// The build, the kind and the operands of an event. Operands that the kind does not have are 0.
+/// The C form of an event: its build, its kind and its operands. Operands that the kind does not have are 0.
 ///
 /// `granule` is the address of the granule that the operation names first, and `second` that of the first starting table
 /// or of the source. `count` is a number of granules or of IPA granules. `aux` has the addresses of a REC's auxiliaries.
@@ -67,7 +67,7 @@ fn on_granule(frame: Frame, kind: u64, granule: Gran) -> RawEvent
     }
 }
 
-// The event of a realm that is created or removed.
+// The event by which a realm is created or destroyed.
 fn on_realm(frame: Frame, kind: u64, rd: Gran, root: Root, vmid: Vmid) -> RawEvent
     ensures { result ≡ histories.realm_event frame kind rd root vmid }
 {
@@ -90,7 +90,7 @@ fn addresses(frame: Frame, granules: &ArrayVec<Gran, 16>) -> ArrayVec<u64, 16>
     addresses
 }
 
-// The event of a REC that is created or removed.
+// The event by which a REC is created or destroyed.
 fn on_rec(
     frame: Frame,
     kind: u64,

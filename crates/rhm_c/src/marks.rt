@@ -22,7 +22,7 @@ pub(crate) fn mark(host: &mut PlainHost, build: BuildId) -> CallAnswer
     }
 }
 
-// The refusal of a rollback of a build without a mark.
+// The refusal of a rollback for a build that has no mark.
 fn refusal_without_mark(host: &PlainHost, build: BuildId) -> Refusal
     ensures { result ≡ refusal_without_mark host.now build }
 {

@@ -5,7 +5,7 @@ ghost use Rattle.rhm_c.specs.Settings.{are_settings, opened_host};
 use crate::{HostHandle, HostSettings, PlacedHost};
 use std::alloc::Global;
 
-// The answers of `rhm_open`.
+// The values that `rhm_open` returns.
 const OPENED: u64 = 0;
 
 const NO_HOST: u64 = 1;
@@ -14,7 +14,7 @@ const NO_MEMORY: u64 = 2;
 
 const ALREADY_OPEN: u64 = 3;
 
-/// Opens a closed handle, with a fresh host of these settings. Each granule is UNDELEGATED and nobody's.
+/// Opens a closed handle, and gives it a new host with these settings. Each granule is UNDELEGATED and nobody's.
 ///
 /// Returns 0 if the handle is open now; else nothing changes. 3 comes exactly if it was open, and 2 if allocation
 /// failed. 1 comes exactly if it was closed and a setting is out of its range.
@@ -43,7 +43,7 @@ pub extern "C" fn rhm_open(alloc: Global, handle: &mut HostHandle, settings: &Ho
     OPENED
 }
 
-/// Closes a handle, and gives its memory back. A closed one stays closed.
+/// Closes a handle, and frees its memory. A closed one stays closed.
 #[unsafe(no_mangle)]
 pub extern "C" fn rhm_close(alloc: Global, handle: &mut HostHandle)
     ensures { handle.new.held.host ≡ None }

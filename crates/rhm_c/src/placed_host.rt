@@ -1,4 +1,4 @@
-//! A host, at its place in the address space.
+//! A host, with the addresses of its granules.
 ghost use Rattle.std.specs.Prelude.{◌≡◌, true, IfSome};
 ghost use Rattle.rhm_c.specs.Settings.{are_settings, opened_host};
 
@@ -11,7 +11,7 @@ use std::alloc::Global;
 /// A host over a plain store of pages.
 pub(crate) type PlainHost = Host<PlainStore>;
 
-/// A host, and the place of its granules in the address space.
+/// A host, with the frame that gives the addresses of its granules.
 #[derive(Drop)]
 pub struct PlacedHost {
     pub(crate) host: Host<PlainStore>,
@@ -19,7 +19,7 @@ pub struct PlacedHost {
 }
 
 impl PlacedHost {
-    /// Opens a fresh host of these settings. `None` comes if there is no memory.
+    /// Opens a new host with these settings. `None` comes if there is no memory.
     pub(crate) fn open(alloc: Global, settings: &HostSettings) -> Option<PlacedHost>
         requires { are_settings settings.now ≡ true }
         ensures { IfSome result (λ placed. placed ≡ opened_host settings.now) }

@@ -56,7 +56,7 @@ fn prepare(
     }
 }
 
-// Writes the operations for an undo of a build given by number, and returns the status.
+// Writes the operations for an undo of the build with the given number, and returns the status.
 fn prepare_undo(frame: Frame, host: &PlainHost, build: u64, into: &mut RawActions) -> u64
     ensures { (result, into.new) ≡ preparing.prepared_undo build into.old frame host.now }
 {
@@ -90,7 +90,7 @@ pub extern "C" fn rhm_prepare(
     status
 }
 
-/// Prepares an undo of a build, as `rhm_prepare` does a command. The refusals are 1, 7 and 8, and 14 is a closed
+/// Prepares an undo of a build, as `rhm_prepare` prepares a command. The refusals are 1, 7 and 8, and 14 is a closed
 /// handle.
 #[unsafe(no_mangle)]
 pub extern "C" fn rhm_prepare_undo(

@@ -1,4 +1,4 @@
-//! Readings of a host: builds, their pages and realms, and granules.
+//! Readings of a host: its free pages, and its builds with their pages, realms and RECs.
 ghost use Rattle.std.specs.Prelude.{◌≡◌};
 ghost use Rattle.rhm_c.specs.Reading as readings;
 ghost use Rattle.rhm_c.specs.Reading.{IsRead};
@@ -100,7 +100,7 @@ fn rec_state_number(state: RecState) -> u64
     }
 }
 
-// The number of operations at a mark; 0 without a mark.
+// The number of operations that were open at a mark; 0 if there is no mark.
 fn mark_length(mark: Option<Mark>) -> u64
     ensures { result ≡ readings.mark_length mark }
 {
@@ -186,7 +186,7 @@ fn rec_at(frame: Frame, host: &PlainHost, build: u64, number: u64) -> Option<Rec
     }
 }
 
-/// The number of pages that nobody leases; 0 for a closed handle.
+/// Returns the number of pages that no build leases; 0 for a closed handle.
 #[unsafe(no_mangle)]
 pub extern "C" fn rhm_free_count(alloc: Global, handle: &mut HostHandle) -> u64
     ensures count { result ≡ readings.free_pages handle.old.held.host }

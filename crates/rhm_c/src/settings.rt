@@ -1,4 +1,4 @@
-//! The C form of settings.
+//! The C form of a host's settings.
 ghost use Rattle.std.specs.Prelude.{◌≡◌};
 ghost use Rattle.rhm_c.specs.Settings.{are_settings};
 

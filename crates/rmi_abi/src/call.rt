@@ -4,7 +4,7 @@ ghost use Rattle.rmi_abi.specs.Call as calls;
 
 use crate::Registers;
 
-/// The 23 commands of the RMI with their operands. RMM 1.0, RMI commands.
+/// A call of one of the 23 RMI commands, with its operands. RMM 1.0, RMI commands.
 #[derive(Clone, Copy)]
 pub enum Call {
     Version {
@@ -112,7 +112,7 @@ pub enum Call {
 
 // ---- from registers
 
-// The call in registers, if its function identifier is that of a command up to REC_ENTER.
+// The call in registers, if its function identifier is that of a command, and at most that of REC_ENTER.
 fn decode_first(r: Registers) -> Option<Call>
     ensures { result ≡ calls.first_call_in r }
 {
@@ -156,7 +156,7 @@ fn decode_first(r: Registers) -> Option<Call>
     }
 }
 
-// The call in registers, if its function identifier is that of a command from RTT_CREATE on.
+// The call in registers, if its function identifier is that of a command, and at least that of RTT_CREATE.
 fn decode_last(r: Registers) -> Option<Call>
     ensures { result ≡ calls.last_call_in r }
 {

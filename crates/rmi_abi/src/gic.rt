@@ -1,10 +1,10 @@
-//! The GIC fields of a run page: gicv3_hcr, and after it 16 list registers.
+//! The GIC fields of a run page: gicv3_hcr, followed by 16 list registers.
 ghost use Rattle.std.specs.Prelude.{◌≡◌, ◌<◌, length};
 ghost use Rattle.rmi_abi.specs.Gic as gic;
 
 use page_arena::word_in;
 
-/// Functions that read and check the GIC fields of a run page, which a host gives at an entry. RMM 1.0, RmiRecEnter.
+/// Functions that read and check the GIC fields that a host sets in a run page for an entry. RMM 1.0, RmiRecEnter.
 pub struct GicFields;
 
 impl GicFields {
@@ -25,7 +25,7 @@ impl GicFields {
         word_in(page, 97 + k as usize)
     }
 
-    /// Whether a host may set gicv3_hcr to that value.
+    /// Whether a host may set gicv3_hcr to this value.
     pub fn is_hcr(hcr: u64) -> bool
         ensures { result ≡ gic.is_gicv3_hcr hcr }
     {

@@ -1,6 +1,6 @@
 //! Hash algorithms.
 
-/// The hash of a realm's measurements. RMM 1.0, RmiHashAlgorithm.
+/// The hash algorithm of a realm's measurements. RMM 1.0, RmiHashAlgorithm.
 #[derive(Clone, Copy)]
 pub enum HashAlgorithm {
     Sha256,

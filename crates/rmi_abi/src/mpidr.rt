@@ -2,7 +2,7 @@
 ghost use Rattle.std.specs.Prelude.{◌≡◌};
 ghost use Rattle.rmi_abi.specs.Mpidr as affinities;
 
-/// Whether a number has no bits set but those of the affinity fields. RMM 1.0, RmiRecMpidr.
+/// Whether all bits that are set in a number belong to the affinity fields. RMM 1.0, RmiRecMpidr.
 pub fn is_mpidr(mpidr: u64) -> bool
     ensures { result ≡ affinities.is_mpidr mpidr }
 {

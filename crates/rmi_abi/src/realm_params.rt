@@ -22,7 +22,7 @@ pub struct RealmParams {
     pub rtt_num_start: u32,
 }
 
-// The byte at the start of a word of a page.
+// The first byte of word `index` of a page.
 fn byte_in(page: &[u8], index: usize) -> u8
     requires page { length page.now ≡ 4096 }
     requires index { index < 512 }

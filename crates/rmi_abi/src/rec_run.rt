@@ -56,7 +56,7 @@ pub fn entry_gpr(page: &[u8], k: u8) -> u64
     word_in(page, 64 + k as usize)
 }
 
-/// The reason of an exit. RMM 1.0, RmiRecExitReason; a simulated guest causes no FIQ and no SError.
+/// The reason for an exit. RMM 1.0, RmiRecExitReason; a simulated guest causes no FIQ and no SError.
 #[derive(Clone, Copy)]
 pub enum ExitReason {
     Sync,
@@ -98,7 +98,7 @@ impl ExitReason {
 }
 
 impl RecExit {
-    /// An exit with no field but its reason.
+    /// An exit whose fields are 0, apart from its reason.
     pub fn only(reason: ExitReason) -> RecExit
         ensures { result ≡ runs.only_reason reason }
     {

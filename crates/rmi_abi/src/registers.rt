@@ -27,7 +27,7 @@ pub struct SmcResult {
 }
 
 impl SmcResult {
-    /// An answer without outputs.
+    /// An answer whose outputs are 0.
     pub fn only(word: Word) -> SmcResult
         ensures { result ≡ answers.only word }
     {
@@ -41,7 +41,7 @@ impl SmcResult {
     }
 }
 
-/// The registers with an answer in X0 to X4.
+/// The registers after a call: its answer in X0 to X4, and X5 and X6 unchanged.
 pub fn answer_registers(regs: Registers, answer: SmcResult) -> Registers
     ensures { result ≡ answers.with_answer regs answer }
 {

@@ -25,7 +25,7 @@ pub struct RmmSettings {
     /// The widest address space of a realm, in bits.
     pub s2sz: u8,
     pub max_recs_order: u8,
-    /// The least level of a block.
+    /// The smallest level number that a block can have.
     pub block_level: u8,
     /// NUM_BPS of feature register 0; NUM_WPS and GICV3_NUM_LRS are in the next two fields.
     pub bps: u8,
@@ -42,7 +42,7 @@ pub struct RmmSettings {
     pub data_needs_ram: bool,
     /// Whether `top` of a live entry is the address at which the entry begins.
     pub aligns_live_top: bool,
-    /// Whether a PSCI exit shows the function and the target alone.
+    /// Whether a PSCI exit shows only the function and the target.
     pub shows_target_alone: bool,
     /// Whether a host may choose bits 9:8 of a descriptor, except the value 0b01.
     pub takes_shareability: bool,
@@ -78,7 +78,7 @@ impl RmmSettings {
         checks_gic: false,
     };
 
-    // Whether both addresses are those of granules below 2^47.
+    // Whether both base addresses are those of granules below 2^47.
     fn has_addresses(&self) -> bool
         ensures { result ≡ ranges.has_addresses self.now }
     {

@@ -16,7 +16,7 @@ pub enum Word {
 }
 
 impl Word {
-    /// The value of X0 for a word: the status in bits 7:0, the index in bits 15:8.
+    /// The value of X0 for a word: the status in bits 7:0 and the index in bits 15:8, or -2 for `Running`.
     pub fn number(self) -> u64
         ensures { result ≡ words.number self }
     {

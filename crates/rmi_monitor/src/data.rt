@@ -1,4 +1,4 @@
-//! Commands on pages of data.
+//! Commands on data pages of realms.
 ghost use Rattle.std.specs.Prelude.{◌≡◌, ◌&&◌, true, IfOk, IfErr, Err};
 ghost use Rattle.realm_model.specs.Command.Check.{is_delegated, is_undelegated};
 ghost use Rattle.realm_model.specs.Command.Data as command;
@@ -14,8 +14,8 @@ use realm_model::{Ripas, Rmi};
 use rtt::Tables;
 
 impl<S: PageStore> Monitor<S> {
-    /// Makes a DELEGATED granule a page of a NEW realm, with the bytes of an UNDELEGATED one, and extends the realm's
-    /// measurement.
+    /// Maps a DELEGATED granule into a NEW realm as a data page, with the bytes of an UNDELEGATED granule, and extends
+    /// the realm's measurement.
     ///
     /// RMM 1.0, RMI_DATA_CREATE. RMI_ERROR_INPUT comes if `rd` is no RD, `page` is not DELEGATED, `source` is not
     /// UNDELEGATED, or the IPA granule `ipa` is not protected. RMI_ERROR_REALM comes if the realm is not NEW.
@@ -77,7 +77,7 @@ impl<S: PageStore> Monitor<S> {
         Ok(at)
     }
 
-    /// Makes a DELEGATED granule a page of zeros of a realm; the RIPAS stays.
+    /// Maps a DELEGATED granule into a realm as a data page of zeros, and leaves the RIPAS unchanged.
     ///
     /// RMM 1.0, RMI_DATA_CREATE_UNKNOWN. RMI_ERROR_INPUT comes if `rd` is no RD, `page` is not DELEGATED, or the IPA
     /// granule `ipa` is not protected. RMI_ERROR_RTT comes with the level at which the walk ended, unless that is 3 and
@@ -97,8 +97,8 @@ impl<S: PageStore> Monitor<S> {
         Ok(())
     }
 
-    /// Removes a page of a realm: the page's granule is zero and DELEGATED from now on. If it was RAM, the IPA granule
-    /// is DESTROYED.
+    /// Unmaps a data page of a realm, and makes the page's granule zero and DELEGATED. If the RIPAS of the IPA granule
+    /// was RAM, it becomes DESTROYED.
     ///
     /// RMM 1.0, RMI_DATA_DESTROY. RMI_ERROR_INPUT comes if `rd` is no RD, or the IPA granule `ipa` is not protected.
     /// RMI_ERROR_RTT comes with the level at which the walk ended, unless that is 3 and the entry there is ASSIGNED.

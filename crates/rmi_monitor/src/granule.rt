@@ -10,7 +10,7 @@ use page_arena::PageStore;
 use realm_model::{GranuleState, Rmi};
 
 impl<S: PageStore> Monitor<S> {
-    /// Delegates a granule: it is UNDELEGATED before, and DELEGATED and zero after.
+    /// Delegates an UNDELEGATED granule, which becomes DELEGATED and zero.
     ///
     /// RMM 1.0, RMI_GRANULE_DELEGATE. RMI_ERROR_INPUT comes if it is not UNDELEGATED.
     pub fn granule_delegate(&mut self, granule: Gran) -> Result<(), Rmi>
@@ -31,7 +31,7 @@ impl<S: PageStore> Monitor<S> {
         }
     }
 
-    /// Undelegates a granule: it is DELEGATED before, and UNDELEGATED after.
+    /// Undelegates a DELEGATED granule, which becomes UNDELEGATED.
     ///
     /// RMM 1.0, RMI_GRANULE_UNDELEGATE. RMI_ERROR_INPUT comes if it is not DELEGATED.
     pub fn granule_undelegate(&mut self, granule: Gran) -> Result<(), Rmi>

@@ -5,7 +5,7 @@ ghost use Rattle.realm_model.specs.Rows.{is_table_place, is_page_run};
 
 use granule_addr::{IpaGran, IpaWidth, Level, is_protected};
 
-// IPA granule `ipa`, if it is protected in an address space of width `width`.
+// The IPA granule with the number `ipa`, if it is protected in an address space of width `width`.
 pub fn protected(ipa: u32, width: IpaWidth) -> Option<IpaGran>
     ensures { result ≡ (if is_protected_at ipa width then Some ipa else None) }
 {
@@ -29,7 +29,7 @@ pub(crate) fn protected_run(ipa: u32, count: u16, width: IpaWidth) -> Option<Ipa
     Some(first)
 }
 
-// The level of a table below the root, if a table of that level can start at IPA granule `ipa`.
+// The level with the number `level`, if it is 2 or 3 and a table of that level can start at IPA granule `ipa`.
 pub(crate) fn table_level(ipa: u32, level: u8) -> Option<Level>
     ensures some { IfSome result (λ given. (given ≡ level) × (is_table_place ipa level ≡ true)) }
     ensures none { IfNone result (is_table_place ipa level ≡ false) }

@@ -1,4 +1,4 @@
-//! Theorems on operations that are performed.
+//! Theorems on the operations that the RMM performs.
 ghost use Rattle.std.specs.Prelude.{ℕ, List};
 ghost use Rattle.realm_model.specs.declared.act.Act.{Act};
 ghost use Rattle.realm_model.specs.declared.act.Event.{Event};
@@ -31,7 +31,7 @@ pub fn newest_is_accepted()
         → NewestIsAccepted limits history world monitor build act back place }
 {}
 
-/// The granule of a destroyed REC is the granule that the operation names.
+/// The granule of the REC that an UnRec operation destroys is the granule that the operation names.
 pub fn rec_taken_away_is_the_one_named()
     ensures { (limits : Limits) (world : World) (build : ℕ) (act : Act) → UnRecNamesItsRec limits world build act }
 {}

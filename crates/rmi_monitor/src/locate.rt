@@ -1,4 +1,4 @@
-//! The realm's tables and the IPA granule of a command.
+//! The lookup of a realm's tables and of an IPA granule for a command.
 ghost use Rattle.std.specs.Prelude.{◌≡◌, ◌&&◌, true, false, IfOk, IfErr, IfSome, IfNone};
 ghost use Rattle.granule_addr.specs.Ipa.{is_protected_at};
 ghost use Rattle.realm_model.specs.Rows.{is_page_run};
@@ -14,7 +14,7 @@ use page_arena::PageStore;
 use realm_model::Rmi;
 use rtt::Tables;
 
-// The tables of the realm of an RD, and IPA granule `ipa`, if it is protected in that realm.
+// The tables of the realm with RD `rd`, and IPA granule `ipa`, if that granule is protected in the realm.
 pub(crate) fn located(rd: Gran, realm: &RealmDesc, ipa: u32) -> Option<(Tables, IpaGran)>
     ensures some { IfSome result (IsLocated realm.now rd ipa) }
     ensures none { IfNone result (is_protected_at ipa realm.now.root.width ≡ false) }
@@ -23,8 +23,8 @@ pub(crate) fn located(rd: Gran, realm: &RealmDesc, ipa: u32) -> Option<(Tables, 
     Some((tables_of(rd, realm), ipa))
 }
 
-// The tables of the realm of an RD, and IPA granule `ipa`, if `protected_run` accepts the `count` granules from `ipa`
-// on.
+// The tables of the realm with RD `rd`, and IPA granule `ipa`, if `protected_run` accepts the `count` granules from
+// `ipa` on.
 pub(crate) fn located_run(
     rd: Gran,
     realm: &RealmDesc,

@@ -5,7 +5,7 @@ ghost use Rattle.realm_model.specs.Measurement as measured;
 use granule_addr::{IpaGran, RecNo};
 use sha2::{Digest, Sha256};
 
-// The kinds of events, each the first byte of its event: a page of data, RIPAS, and a REC.
+// The codes of the kinds of events (data, RIPAS and REC), each of which is the first byte of its events.
 const DATA: u8 = 1;
 
 const RIPAS: u8 = 2;
@@ -39,8 +39,8 @@ pub fn data_event(ipa: IpaGran, page: &[u8]) -> [u8; 37]
     event
 }
 
-/// The bytes of a RIPAS event: 2, the first IPA granule, and the number of IPA granules that become RAM. Both numbers
-/// are four bytes, big endian.
+/// The bytes of a RIPAS event: the tag 2, the first IPA granule, and the number of IPA granules that become RAM. The
+/// last two are four bytes each, big endian.
 ///
 /// RMM 1.0, Realm measurement, RMI_RTT_INIT_RIPAS; the bytes are this profile's own.
 #[tactic(auto, unfolding(realm_model::specs::Measurement::ripas_event))]

@@ -17,16 +17,17 @@ use rtt::GranuleTable;
 use std::alloc::{AllocError, Global};
 use std::marker::Model;
 
-/// An RMM of realms over a store of pages. All its memory is taken when it is built.
+/// A Realm Management Monitor over a store of pages. All its memory is taken when it is built.
 #[derive(Drop)]
 pub struct Monitor<S: PageStore> {
     pub(crate) store: S,
     pub(crate) granules: GranuleTable,
-    // For each granule: the realm if it is an RD, the number of that realm's RECs, and the REC if it is a REC.
+    // For each granule: the realm whose RD it is, if any, the number of that realm's RECs, and the REC in the granule,
+    // if any.
     pub(crate) realms: Vec<Option<RealmDesc>>,
     pub(crate) rec_counts: Vec<u16>,
     pub(crate) recs: Vec<Option<Rec>>,
-    // The VMIDs that realms have, and the greatest VMID that a realm can have.
+    // The VMIDs in use by realms, and the greatest VMID that a realm can have.
     pub(crate) used: VmidSet,
     pub(crate) vmids: u8,
     pub(crate) aux: u8,
@@ -100,7 +101,7 @@ impl<S: PageStore> Monitor<S> {
         self.store.take_at(order, first)
     }
 
-    /// Gives a block of UNDELEGATED granules back: they are zero and free from now on.
+    /// Gives a block of UNDELEGATED granules back to the store, which makes them zero and free.
     pub fn give(&mut self, first: Gran, order: Order)
         requires { IsGivable self.old order first }
         ensures { self.new ≡ without_block self.old order first }
@@ -132,7 +133,7 @@ impl<S: PageStore> Monitor<S> {
         self.granules.state(granule)
     }
 
-    /// The 4,096 bytes of a granule that is no table. The contract says nothing of a table's bytes: its contents are
+    /// The 4,096 bytes of a granule that is not a table. The contract says nothing of a table's bytes: its contents are
     /// rows.
     pub fn bytes(&self, granule: Gran) -> &[u8]
         requires { granule < length self.now.machine }
@@ -177,7 +178,7 @@ fn nothing<T: Drop>(alloc: Global, count: u16) -> Result<Vec<Option<T>>, AllocEr
     Ok(places)
 }
 
-// The granules of a machine, with the realm and the REC of each granule.
+// Arrays with an entry for each granule of a machine: granule states, realms, REC counts, and RECs.
 struct Places {
     granules: GranuleTable,
     realms: Vec<Option<RealmDesc>>,
@@ -206,10 +207,10 @@ fn empty_places(alloc: Global, pages: u16) -> Result<Places, AllocError>
     })
 }
 
-// The largest number of bytes whose sum fits 16 bits.
+// A number of bytes whose sum always fits in 16 bits.
 const SHORT: usize = 256;
 
-// The sum of a few bytes. Lanes of 16 bits add twice as many at once as lanes of 32.
+// The sum of at most `SHORT` bytes. Lanes of 16 bits add twice as many at once as lanes of 32.
 fn short_sum(bytes: &[u8]) -> u16
     requires { length bytes.now ≤ 256 }
     ensures { result ≡ sum bytes.now }

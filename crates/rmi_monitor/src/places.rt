@@ -1,4 +1,4 @@
-//! Checks and moves of granules: whether granules can become a page or a REC, and their changes of state.
+//! Checks on granules that are to become a page or a REC, and changes of the states of granules.
 ghost use Rattle.std.specs.Prelude.{◌≡◌, ◌<◌, ◌&&◌, ◌∷◌, All, IsTrue, length, Some, None, option_map, slice_set};
 ghost use Rattle.std.specs.List.{list_all};
 ghost use Rattle.granule_addr.specs.Page.{zero_page};
@@ -13,7 +13,7 @@ use page_arena::PageStore;
 use realm_model::GranuleState;
 use rtt::{GranuleTable, Tables};
 
-// The tables of the realm of an RD granule.
+// The tables of the realm with RD `rd`.
 pub(crate) fn tables_of(rd: Gran, realm: &RealmDesc) -> Tables
     ensures { result ≡ record { rd = rd; root = realm.now.root } }
 {
@@ -57,7 +57,7 @@ pub(crate) fn can_be_copied(granules: &GranuleTable, source: Gran, page: Gran) -
     is_delegated(granules, page) && is_undelegated(granules, source)
 }
 
-// Whether granules are all DELEGATED.
+// Whether all the given granules are DELEGATED.
 pub(crate) fn are_delegated(granules: &GranuleTable, all: &[Gran]) -> bool
     requires { All (λ granule. granule < length granules.now) all.now }
     ensures { result ≡ list_all (is_delegated_at granules.now) all.now }
@@ -70,7 +70,7 @@ pub(crate) fn are_delegated(granules: &GranuleTable, all: &[Gran]) -> bool
     true
 }
 
-// Whether `granule` is none of `others`.
+// Whether `granule` is not one of `others`.
 pub(crate) fn is_apart(granule: Gran, others: &[Gran]) -> bool
     ensures { result ≡ is_apart_from granule others.now }
 {
@@ -82,7 +82,7 @@ pub(crate) fn is_apart(granule: Gran, others: &[Gran]) -> bool
     true
 }
 
-// Whether a granule and the others are all different.
+// Whether `first` and the granules of `others` are all distinct.
 pub(crate) fn are_different(first: Gran, others: &[Gran]) -> bool
     ensures { result ≡ are_distinct (first ∷ others.now) }
 {
@@ -94,7 +94,7 @@ pub(crate) fn are_different(first: Gran, others: &[Gran]) -> bool
     is_apart(first, others)
 }
 
-// Whether `first` and `others` are DELEGATED and all different, and there are `count` others.
+// Whether `first` and `others` are DELEGATED and all distinct, and `others` has `count` granules.
 pub(crate) fn can_be_rec(granules: &GranuleTable, first: Gran, others: &[Gran], count: u8) -> bool
     requires first { first < length granules.now }
     requires others { All (λ granule. granule < length granules.now) others.now }
@@ -106,7 +106,7 @@ pub(crate) fn can_be_rec(granules: &GranuleTable, first: Gran, others: &[Gran], 
         && are_different(first, others)
 }
 
-// Moves distinct granules from one state to another, as granules of a realm.
+// Moves distinct granules from the state `from` to the state `to`, and makes them granules of the realm with RD `rd`.
 pub(crate) fn shift_all(
     granules: &mut GranuleTable,
     all: &[Gran],
@@ -123,7 +123,7 @@ pub(crate) fn shift_all(
     }
 }
 
-// Clears a granule's page, and moves the granule from its state to DELEGATED, without a realm.
+// Clears a granule's page, and makes the granule DELEGATED and a granule of no realm.
 pub(crate) fn release<S: PageStore>(
     store: &mut S,
     granules: &mut GranuleTable,
@@ -141,7 +141,7 @@ pub(crate) fn release<S: PageStore>(
     granules.shift(granule, from, GranuleState::Delegated, None);
 }
 
-// Clears the pages of distinct granules, and moves the granules from their state to DELEGATED, without a realm.
+// Clears the pages of distinct granules, and makes the granules DELEGATED and granules of no realm.
 pub(crate) fn release_all<S: PageStore>(
     store: &mut S,
     granules: &mut GranuleTable,

@@ -1,4 +1,4 @@
-//! Readings of granules, of RECs, and of translation tables.
+//! Queries of granules, RECs and translation tables, which change nothing.
 ghost use Rattle.std.specs.Prelude.{◌≡◌, ◌<◌, length};
 ghost use Rattle.std.specs.Option.{option_copied};
 ghost use Rattle.realm_model.specs.Machine.{cell_at};
@@ -12,8 +12,8 @@ use page_arena::PageStore;
 use rtt::Walk;
 
 impl<S: PageStore> Monitor<S> {
-    /// The RD of the realm that a granule belongs to; `None` comes exactly when it belongs to none. An RD belongs to
-    /// its own realm.
+    /// The RD of the realm that a granule belongs to, or `None` if it belongs to no realm. An RD belongs to its own
+    /// realm.
     pub fn realm_of(&self, granule: Gran) -> Option<Gran>
         requires { granule < length self.now.machine }
         ensures { result ≡ (cell_at self.now.machine granule).realm }
@@ -21,8 +21,8 @@ impl<S: PageStore> Monitor<S> {
         self.granules.realm_of(granule)
     }
 
-    /// Returns the REC that a granule is: its number in the realm, state and auxiliaries, or `None` if the granule is
-    /// no REC.
+    /// Returns the REC in a granule, with its number in the realm, its state and its auxiliaries, or `None` if the
+    /// granule is not a REC.
     pub fn rec_at(&self, granule: Gran) -> Option<&Rec>
         requires { granule < length self.now.machine }
         ensures { option_copied result ≡ rec_attributes_at self.now.machine granule }

@@ -25,7 +25,7 @@ fn can_start(granules: &GranuleTable, rd: Gran, number: u16) -> bool
     }
 }
 
-// Whether all granules of the starting tables can be starting tables of a realm with their RD.
+// Whether each granule of the starting tables in `tables` can be a starting table of a realm with the RD in `tables`.
 fn can_all_start(granules: &GranuleTable, tables: &Tables) -> bool
     ensures { result ≡ list_all (is_fit_to_start granules.now tables.now.rd) (starting_tables tables.now.root) }
 {
@@ -37,7 +37,7 @@ fn can_all_start(granules: &GranuleTable, tables: &Tables) -> bool
     true
 }
 
-// Whether an RD, starting tables and a VMID can be those of a new realm, apart from what depends on other realms.
+// Whether an RD, starting tables and a VMID can be those of a new realm, if other realms are disregarded.
 fn can_be_realm(granules: &GranuleTable, tables: &Tables, vmid: Vmid, vmids: u8) -> bool
     requires { tables.now.rd < length granules.now }
     ensures { result ≡ are_fit_for_realm granules.now tables.now.rd tables.now.root vmid vmids }
@@ -68,7 +68,7 @@ impl<S: PageStore> Monitor<S> {
         Ok(())
     }
 
-    /// Makes DELEGATED granules the RD and the starting tables of a new realm, whose IPAs have `width` bits.
+    /// Creates a realm whose RD and starting tables are DELEGATED granules, and whose IPAs have `width` bits.
     ///
     /// `root` is the first starting table; there are 2^(width - 39), one after another. RMM 1.0, RMI_REALM_CREATE.
     ///
@@ -102,7 +102,7 @@ impl<S: PageStore> Monitor<S> {
         Ok(())
     }
 
-    /// Removes a realm that has no REC and no table below its starting tables. The starting tables and the RD are then
+    /// Destroys a realm that has no REC and no table below its starting tables. The starting tables and the RD are then
     /// zero and DELEGATED.
     ///
     /// RMM 1.0, RMI_REALM_DESTROY. RMI_ERROR_INPUT comes if the granule is no RD, RMI_ERROR_REALM if the realm has a
@@ -128,7 +128,8 @@ impl<S: PageStore> Monitor<S> {
         Ok(())
     }
 
-    /// The realm whose RD a granule is: state, VMID, starting tables, the number of its next REC, and measurement.
+    /// The realm with RD `rd`: its state, its VMID, its starting tables, the number of its next REC, and its
+    /// measurement.
     pub fn realm(&self, rd: Gran) -> Option<&RealmDesc>
         requires { rd < length self.now.machine }
         ensures { option_copied result ≡ option_map attributes_of (cell_at self.now.machine rd).descriptor }

@@ -40,7 +40,7 @@ impl Model for RealmDesc {
 }
 
 impl RealmDesc {
-    /// A new realm: NEW, with no REC yet, and a measurement of 32 zero bytes.
+    /// The descriptor of a new realm: NEW, with no REC yet, and a measurement of 32 zero bytes.
     ///
     /// `root` has its starting tables. RMM 1.0, RMI_REALM_CREATE.
     #[tactic(auto, unfolding(realm_model::specs::Measurement::zero_measurement, realm_model::specs::Command::Realm::new_realm))]
@@ -107,7 +107,7 @@ impl RealmDesc {
         self.next
     }
 
-    /// Returns the number of the realm's next REC, and raises it by one.
+    /// Returns the number of the realm's next REC, and then increments the stored number.
     ///
     /// RMM 1.0, RMI_REC_CREATE.
     pub fn next_rec(&mut self) -> RecNo
@@ -120,7 +120,7 @@ impl RealmDesc {
         number
     }
 
-    /// The VMID.
+    /// The VMID of the realm.
     pub fn vmid(&self) -> Vmid
         ensures { result ≡ self.now.vmid }
     {

@@ -17,7 +17,7 @@ use page_arena::PageStore;
 use realm_model::{GranuleState, Rmi};
 use rtt::GranuleTable;
 
-// Gives the realm's next number to a REC, and extends the realm's measurement by the event of that REC.
+// Takes and returns the realm's next REC number, and extends the realm's measurement by the event of that REC.
 fn number_rec(realm: &mut RealmDesc) -> RecNo
     requires { realm.old.next < 65535 }
     ensures number { result ≡ realm.old.next }
@@ -37,7 +37,8 @@ impl<S: PageStore> Monitor<S> {
         self.aux
     }
 
-    /// Makes DELEGATED granules a REC of a NEW realm and the auxiliaries of the REC, and returns the REC's number.
+    /// Creates a REC of a NEW realm, with DELEGATED granules for the REC and its auxiliaries, and returns the REC's
+    /// number.
     ///
     /// RMM 1.0, RMI_REC_CREATE. RMI_ERROR_INPUT comes if the first granule is no RD, one of the others is not
     /// DELEGATED, or two of these are the same. It also comes if there are not as many auxiliaries as each REC has.
@@ -82,7 +83,8 @@ impl<S: PageStore> Monitor<S> {
         Ok(number)
     }
 
-    /// Removes a READY REC: its granule and its auxiliaries are zero and DELEGATED. Its number is not used again.
+    /// Destroys a READY REC, and makes its granule and its auxiliaries zero and DELEGATED. Its number is not used
+    /// again.
     ///
     /// RMM 1.0, RMI_REC_DESTROY. RMI_ERROR_INPUT comes if the granule is no REC, RMI_ERROR_REC if it is not READY.
     pub fn rec_destroy(&mut self, rec: Gran) -> Result<(), Rmi>
@@ -108,7 +110,7 @@ impl<S: PageStore> Monitor<S> {
         Ok(())
     }
 
-    /// REC `number` of a realm, and its granule; `None` if and only if there is no such realm or REC.
+    /// The granule of REC `number` of a realm, and the REC itself; `None` if and only if there is no such realm or REC.
     pub fn rec(&self, rd: Gran, number: RecNo) -> Option<(Gran, &Rec)>
         requires { rd < length self.now.machine }
         ensures value { option_map (λ r. rec_row r.0 r.1.now) result ≡ rec_in self.now.machine rd number }
@@ -121,7 +123,7 @@ impl<S: PageStore> Monitor<S> {
     }
 }
 
-// The granule of the realm's REC with the number `number`.
+// The granule of REC `number` of the realm with RD `rd`, if the realm has that REC.
 pub(crate) fn find_rec(
     granules: &GranuleTable,
     recs: &[Option<Rec>],

@@ -77,7 +77,7 @@ impl Rec {
         matches!(self.state, RecState::Ready)
     }
 
-    /// Enters the REC, which runs from now on. The caller checks that it is READY, and its realm ACTIVE. RMM 1.0,
+    /// Enters the REC, which becomes RUNNING. The caller checks that it is READY, and its realm ACTIVE. RMM 1.0,
     /// RMI_REC_ENTER.
     pub fn enter(&mut self)
         ensures { self.new ≡ record self.old { state = Running } }
@@ -85,7 +85,7 @@ impl Rec {
         self.state = RecState::Running;
     }
 
-    /// Stops the REC, which can be entered again. The caller checks that it is RUNNING. RMM 1.0, REC exit.
+    /// Stops the REC, which becomes READY. The caller checks that it is RUNNING. RMM 1.0, REC exit.
     pub fn exit(&mut self)
         ensures { self.new ≡ record self.old { state = Ready } }
     {

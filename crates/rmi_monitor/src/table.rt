@@ -15,7 +15,7 @@ use realm_model::Rmi;
 use rtt::Tables;
 
 impl<S: PageStore> Monitor<S> {
-    /// Makes a DELEGATED granule a table of level 2 or 3 of a realm.
+    /// Creates a table of level 2 or 3 of a realm in a DELEGATED granule.
     ///
     /// `ipa` is the first IPA granule that the table serves. RMM 1.0, RMI_RTT_CREATE. RMI_ERROR_INPUT comes if `rd` is
     /// no RD, `table` is not DELEGATED, no table of that level starts at `ipa`, or `ipa` is not protected.
@@ -39,7 +39,7 @@ impl<S: PageStore> Monitor<S> {
         Ok(())
     }
 
-    /// Removes a table of level 2 or 3 of a realm: its granule is zero and DELEGATED.
+    /// Destroys a table of level 2 or 3 of a realm, and makes the table's granule zero and DELEGATED.
     ///
     /// `ipa` is the first IPA granule that the table serves. RMM 1.0, RMI_RTT_DESTROY. RMI_ERROR_INPUT comes if `rd` is
     /// no RD, no table of that level starts at `ipa`, or `ipa` is not protected. RMI_ERROR_RTT comes with the level at
@@ -58,7 +58,8 @@ impl<S: PageStore> Monitor<S> {
         Ok(())
     }
 
-    /// Sets the RIPAS of `count` IPA granules from `ipa` on to RAM, all or none, and extends the realm's measurement.
+    /// Sets to RAM the RIPAS of the `count` IPA granules from `ipa` on, all or none, and extends the realm's
+    /// measurement.
     ///
     /// RMM 1.0, RMI_RTT_INIT_RIPAS. RMI_ERROR_INPUT comes if `rd` is no RD, `count` is not 1 to 512, one table of level
     /// 3 does not serve all of them, or `ipa` is not protected. RMI_ERROR_REALM comes if the realm is not NEW.

@@ -9,7 +9,7 @@ use page_arena::PageStore;
 use rmm_granules::{Granules, granule_named};
 use rmm_model::{RmmGranule, aux_address};
 
-// Gives a granule other attributes, and zeros its page.
+// Replaces the attributes of a granule, and zeros its page.
 fn wipe<S: PageStore>(granules: &mut Granules<S>, granule: Gran, kept: &RmmGranule)
     requires inside { granule < granule_count granules.old }
     requires plain { realm_of kept.now.state ≡ None }
@@ -25,7 +25,7 @@ fn wipe<S: PageStore>(granules: &mut Granules<S>, granule: Gran, kept: &RmmGranu
     granules.fill(granule, 0);
 }
 
-// Auxiliary granule k of a REC, if its address in the REC's page is that of a granule of the machine.
+// Auxiliary granule k of a REC, if the address for it in the REC's page lies in the machine.
 fn aux_granule<S: PageStore>(granules: &Granules<S>, rec: Gran, k: u8) -> Option<Gran>
     requires inside { rec < granule_count granules.now }
     requires below { k < 16 }
@@ -35,7 +35,7 @@ fn aux_granule<S: PageStore>(granules: &Granules<S>, rec: Gran, k: u8) -> Option
     granule_named(granules, aux_address(granules.page(rec), k))
 }
 
-// Gives auxiliary granule k of a REC other attributes, and wipes it.
+// Replaces the attributes of auxiliary granule k of a REC, and zeros its page.
 fn set_one<S: PageStore>(granules: &mut Granules<S>, rec: Gran, kept: &RmmGranule, k: u8)
     requires inside { rec < granule_count granules.old }
     requires plain { realm_of kept.now.state ≡ None }
@@ -49,7 +49,7 @@ fn set_one<S: PageStore>(granules: &mut Granules<S>, rec: Gran, kept: &RmmGranul
     }
 }
 
-// Gives the first `count` auxiliary granules of a REC other attributes, and wipes them.
+// Replaces the attributes of the first `count` auxiliary granules of a REC, and zeros their pages.
 pub fn set_aux<S: PageStore>(granules: &mut Granules<S>, rec: Gran, kept: &RmmGranule, count: u8)
     requires inside { rec < granule_count granules.old }
     requires plain { realm_of kept.now.state ≡ None }

@@ -19,7 +19,7 @@ use rmm_model::{
     Condition, FailedCondition, RmmGranule, RmmGranuleState, RmmRipas, RmmRttEntry, RttWalk,
 };
 
-// A place for a new page: the RD, the page's granule, and the entry.
+// A vacant entry for a new page, with the RD and the page's granule.
 #[derive(Clone, Copy)]
 pub struct PageVacancy {
     pub rd: Gran,
@@ -38,7 +38,7 @@ pub struct Mapped {
 
 // ---- making
 
-// Returns the place of the page that RMI_DATA_CREATE_UNKNOWN maps, or the failed condition.
+// Returns the vacant entry for the page that RMI_DATA_CREATE_UNKNOWN maps, or the failed condition.
 #[tactic(auto, unfolding(rmm_model::specs::Command::DataCreateUnknown::data_create_unknown))]
 fn find_vacancy<S: PageStore>(
     granules: &Granules<S>,
@@ -95,7 +95,7 @@ pub fn data_create_unknown<S: PageStore>(
 
 // ---- removing
 
-// The RIPAS that an entry has after its page is removed, by its RIPAS before.
+// The RIPAS of an entry after its page is removed: EMPTY if it was EMPTY, and DESTROYED otherwise.
 fn left_ripas(ripas: RmmRipas) -> RmmRipas
     ensures { result ≡ destroying.left_ripas ripas }
 {

@@ -18,21 +18,21 @@ use rmm_model::{
     RmmRttEntry, RttWalk, error_input, error_rtt, extend, page_digest,
 };
 
-// A page of the host, and the granule that becomes a page of data.
+// The host's page to copy, and the granule that becomes the page of data.
 #[derive(Clone, Copy)]
 pub struct Source {
     pub page: Gran,
     pub granule: Gran,
 }
 
-// The RD and the realm of a new page, and the table of the page's entry.
+// The RD and the realm of a new page, and the table with the page's entry.
 #[derive(Clone, Copy)]
 pub struct Target {
     pub owner: Rd,
     pub found: RttWalk,
 }
 
-// A page that can be made: its source, its granule, its RD with the realm, and the table of its entry.
+// A page of data that can be created: its source, its granule, its RD with the realm, and the table with its entry.
 #[derive(Clone, Copy)]
 pub struct NewPage {
     pub source: Gran,
@@ -89,7 +89,7 @@ fn check_vacant(
     Ok(())
 }
 
-// Returns the realm of a page of data and the table of its entry, or the failed condition.
+// Returns the realm of a new page of data and the table with the page's entry, or the failed condition.
 #[tactic(auto, unfolding(rmm_model::specs::Command::DataCreate::target_checks))]
 fn find_target<S: PageStore>(
     granules: &Granules<S>,
@@ -107,7 +107,7 @@ fn find_target<S: PageStore>(
     Ok(Target { owner, found })
 }
 
-// Returns the page that RMI_DATA_CREATE makes, or the failed condition.
+// Returns the page that RMI_DATA_CREATE creates, or the failed condition.
 fn find_page<S: PageStore>(
     granules: &Granules<S>,
     rd: u64,
@@ -132,7 +132,7 @@ fn find_page<S: PageStore>(
 
 // ---- the measurement
 
-// The digest of a page if it is measured, and zeros otherwise.
+// The digest of a page if the flags ask for its measurement, and zeros otherwise.
 #[tactic(auto, unfolding(rmm_model::specs::Command::DataCreate::content_digest, rmm_model::specs::Bytes::zeros))]
 fn content_digest(hash: HashAlgorithm, flags: u64, page: &[u8]) -> [u8; 64]
     ensures { result ≡ command.content_digest hash flags page.now }
@@ -144,7 +144,7 @@ fn content_digest(hash: HashAlgorithm, flags: u64, page: &[u8]) -> [u8; 64]
     }
 }
 
-// The measurement of a realm after a page of data.
+// The measurement of a realm after a page of data is created.
 #[tactic(auto, unfolding(rmm_model::specs::Command::DataCreate::rim_with_data))]
 fn rim_with_data(realm: &RmmRealm, ipa: u64, flags: u64, page: &[u8]) -> [u8; 64]
     ensures { result ≡ command.rim_with_data realm.now ipa flags page.now }
@@ -159,7 +159,7 @@ fn rim_with_data(realm: &RmmRealm, ipa: u64, flags: u64, page: &[u8]) -> [u8; 64
 
 // ---- the command
 
-// Makes a granule a page of data with the bytes of a source granule, and writes the entry that leads to the page.
+// Turns a granule into a page of data with the bytes of the source, and writes the entry that leads to the page.
 fn write_page<S: PageStore>(granules: &mut Granules<S>, place: &NewPage, page: u64, ipa: u64)
     requires source { place.now.source < granule_count granules.old }
     requires inside { place.now.granule < granule_count granules.old }

@@ -13,7 +13,7 @@ use rmi_abi::{SmcResult, Word};
 use rmm_granules::{Granules, OperandConditions};
 use rmm_model::{Condition, FailedCondition, RmmGranule, RmmGranuleState, error_input};
 
-// Gives a granule a state and no realm, and zeros its page.
+// Sets the state of a granule, removes its owner, and zeros its page.
 pub fn blank<S: PageStore>(granules: &mut Granules<S>, granule: Gran, state: RmmGranuleState)
     requires inside { granule < granule_count granules.old }
     requires plain { realm_of state ≡ None }

@@ -10,7 +10,7 @@ use page_arena::PageStore;
 use rmm_granules::{Granules, RecEdit, realm_in};
 use rmm_model::{GuestStep, Queued, RmmRealm, RmmRec, StepResult, StepWords};
 
-// The attributes of a REC, or those of a new REC if the granule is no REC.
+// The attributes of the REC in a granule; those of a new REC if the granule is not a REC.
 pub fn rec_in<S: PageStore>(granules: &Granules<S>, g: Gran) -> RmmRec
     requires { g < granule_count granules.now }
     ensures { result ≡ guests.rec_in granules.now g }
@@ -86,7 +86,7 @@ pub fn rec_named<S: PageStore>(granules: &Granules<S>, address: u64) -> Option<G
     }
 }
 
-// Writes the words of a step at a place of the guest's ring of steps.
+// Writes the words of a step into slot `place` of the guest's ring of steps.
 fn write_step<S: PageStore>(granules: &mut Granules<S>, g: Gran, place: u8, words: &StepWords)
     requires inside { g < granule_count granules.old }
     requires below { place < 16 }
@@ -100,7 +100,7 @@ fn write_step<S: PageStore>(granules: &mut Granules<S>, g: Gran, place: u8, word
     granules.set_word(g, first + 4, words.d);
 }
 
-// Gives a step to the guest of the REC at an address.
+// Queues a step for the guest of the REC at an address.
 #[tactic(auto, unfolding(rmm_model::specs::Guest::with_step))]
 pub fn queue<S: PageStore>(granules: &mut Granules<S>, address: u64, words: &StepWords) -> Queued
     ensures { (result, granules.new) ≡ guests.queued granules.old address words.now }

@@ -41,7 +41,7 @@ pub fn load<S: PageStore>(granules: &Granules<S>, address: u64) -> Option<u64>
     }
 }
 
-// The bytes from an address on, if they are in one granule and the host may load them.
+// The `count` bytes from an address on, if they are in one granule and the host may load them.
 pub fn load_bytes<S: PageStore>(granules: &Granules<S>, address: u64, count: usize) -> Option<&[u8]>
     ensures bytes { option_copied result ≡ by_bytes.loaded_bytes granules.now address count }
     ensures count { IfSome result (λ bytes. length bytes.now ≡ count) }
@@ -96,7 +96,8 @@ pub fn store<S: PageStore>(granules: &mut Granules<S>, address: u64, word: u64) 
     }
 }
 
-// Stores bytes from an address on, in one granule; `false`, with nothing changed, if the host may not store there.
+// Stores bytes from an address on; `false`, with nothing changed, if the host may not store there, or if they do not
+// fit in one granule.
 pub fn store_bytes<S: PageStore>(granules: &mut Granules<S>, address: u64, bytes: &[u8]) -> bool
     ensures answer { result ≡ by_bytes.can_access_bytes granules.old address (length bytes.now) }
     ensures machine { granules.new ≡ by_bytes.after_store_bytes granules.old address bytes.now }
@@ -114,7 +115,7 @@ pub fn store_bytes<S: PageStore>(granules: &mut Granules<S>, address: u64, bytes
     }
 }
 
-// Fills the page at an address; `false`, with nothing changed, if the host may not store there.
+// Fills the page at an address with one value; `false`, with nothing changed, if the host may not store there.
 pub fn fill<S: PageStore>(granules: &mut Granules<S>, address: u64, value: u8) -> bool
     ensures answer { result ≡ hosts.can_fill granules.old address }
     ensures machine { granules.new ≡ hosts.after_fill granules.old address value }

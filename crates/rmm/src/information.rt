@@ -10,7 +10,7 @@ use page_arena::PageStore;
 use rmi_abi::{SmcResult, Word, feature_register};
 use rmm_granules::Granules;
 
-// Version 1.0, the only one that there is.
+// Version 1.0 of the RMI, the only one that this RMM supports.
 const VERSION: u64 = 0x1_0000;
 
 // Performs RMI_VERSION.

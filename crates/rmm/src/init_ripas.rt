@@ -15,7 +15,7 @@ use rmm_model::{
     error_input, extend,
 };
 
-// The RD and the realm of a range, and the table of the range's first entry.
+// The RD and the realm of a range, and the table with the range's first entry.
 #[derive(Clone, Copy)]
 pub struct RipasRange {
     pub owner: Rd,
@@ -79,7 +79,7 @@ fn find_range<S: PageStore>(
 
 // ---- the measurement
 
-// The measurement of a realm after `count` entries of `size` bytes, from `base` on, became RAM.
+// The measurement of a realm after the RIPAS of `count` entries of `size` bytes, from `base` on, is set to RAM.
 fn rim_with_ripas(realm: &RmmRealm, size: u64, base: u64, count: u16) -> [u8; 64]
     requires low { base < 2 ^ 48 }
     requires size { size ≤ 2 ^ 39 }

@@ -1,4 +1,4 @@
-//! A Realm Management Monitor that is called by registers. RMM 1.0, RMI.
+//! A Realm Management Monitor that takes its calls in registers. RMM 1.0, RMI.
 //!
 //! Each command makes its checks one after another, and the first that fails decides the answer. A command changes
 //! something only if all of them pass. No call takes memory, and no call has a precondition.

@@ -1,4 +1,4 @@
-//! The RMM: its call by registers, and the loads and stores of the host.
+//! The RMM: its calls in registers, and the host's loads and stores.
 ghost use Rattle.std.specs.Prelude.{◌≡◌, length, IfSome};
 ghost use Rattle.std.specs.Option.{option_copied};
 ghost use Rattle.rmm_model.specs.Call.{rmi, performed};
@@ -36,7 +36,7 @@ use rmm_granules::Granules;
 use rmm_model::{Queued, RmmGranuleState, StepWords};
 use std::marker::Model;
 
-/// An RMM of a platform over a store of pages. It is seen as its machine.
+/// The RMM of a platform, with the platform's memory in a store of pages. It is seen as its machine.
 #[derive(Drop)]
 pub struct Rmm<S: PageStore> {
     granules: Granules<S>,
@@ -54,7 +54,7 @@ impl<S: PageStore> Model for Rmm<S> {
 }
 
 impl<S: PageStore> Rmm<S> {
-    /// An RMM over granules.
+    /// An RMM with the given granules.
     pub fn over(granules: Granules<S>) -> Rmm<S>
         ensures { result ≡ granules }
     {
@@ -68,14 +68,14 @@ impl<S: PageStore> Rmm<S> {
         self.granules.settings()
     }
 
-    /// The granules of an RMM, for reads that no host can make.
+    /// The granules of an RMM, with what no call shows to a host.
     pub fn granules(&self) -> &Granules<S>
         ensures { result.now ≡ self.now }
     {
         &self.granules
     }
 
-    /// Gives up an RMM, and returns its granules.
+    /// Consumes an RMM, and returns its granules.
     pub fn into_granules(self) -> Granules<S>
         ensures { result ≡ self }
     {
@@ -89,7 +89,7 @@ impl<S: PageStore> Rmm<S> {
         load(&self.granules, address)
     }
 
-    /// Loads `count` bytes from an address on; `None` if the host faults, or if they are not in one granule.
+    /// Loads `count` bytes from an address on; `None` if the host faults, or if the bytes are not all in one granule.
     pub fn load_bytes(&self, address: u64, count: usize) -> Option<&[u8]>
         ensures bytes { option_copied result ≡ loaded_bytes self.now address count }
         ensures count { IfSome result (λ bytes. length bytes.now ≡ count) }
@@ -121,8 +121,8 @@ impl<S: PageStore> Rmm<S> {
         store(&mut self.granules, address, word)
     }
 
-    /// Stores bytes from an address on; `false`, with nothing changed, if the host faults, or if they are not in one
-    /// granule.
+    /// Stores bytes from an address on; `false`, with nothing changed, if the host faults, or if the bytes do not fit
+    /// in one granule.
     pub fn store_bytes(&mut self, address: u64, bytes: &[u8]) -> bool
         ensures answer { result ≡ can_access_bytes self.old address (length bytes.now) }
         ensures machine { self.new ≡ after_store_bytes self.old address bytes.now }
@@ -138,21 +138,21 @@ impl<S: PageStore> Rmm<S> {
         fill(&mut self.granules, address, value)
     }
 
-    /// Gives the guest of a REC a step.
+    /// Queues a step for the guest of a REC.
     pub fn guest(&mut self, rec: u64, step: &StepWords) -> Queued
         ensures { (result, self.new) ≡ queued self.old rec step.now }
     {
         queue(&mut self.granules, rec, step)
     }
 
-    /// Ends the run of a REC; `None` if there is no such REC, or if it does not run.
+    /// Ends the run of a REC by an interrupt of the host; `None` if there is no such REC, or if it does not run.
     pub fn interrupt(&mut self, rec: u64) -> Option<rmi_abi::Word>
         ensures { (result, self.new) ≡ interrupted self.old rec }
     {
         interrupt(&mut self.granules, rec)
     }
 
-    /// Performs a call by registers, and returns the registers after the call.
+    /// Performs the call in the given registers, and returns the registers after it.
     #[tactic(auto, unfolding(rmm_model::specs::Call::rmi))]
     pub fn smc(&mut self, regs: Registers) -> Registers
         ensures { (result, self.new) ≡ rmi regs self.old }

@@ -117,7 +117,8 @@ pub fn is_protected(realm: &RmmRealm, ipa: u64) -> bool
     ipa < 1 << realm.s2sz.saturating_sub(1)
 }
 
-// Checks that a level is at least `least`, and that an entry `above` levels higher begins at an address of the realm.
+// Checks that a level is from `least` to 3, and that an entry `above` levels higher begins at `ipa`, in the realm's
+// address space.
 pub fn check_ipa(
     realm: &RmmRealm,
     least: u8,
@@ -148,7 +149,7 @@ pub fn check_ipa(
     Ok(found)
 }
 
-// Checks that a page begins at an address, and that the address is in a realm's protected half.
+// Checks that an address is page-aligned and in the protected half of a realm's address space.
 pub fn check_page(realm: &RmmRealm, ipa: u64) -> Result<(), FailedCondition>
     requires { realm.now.s2sz ≤ 48 }
     ensures refusal { refusal_in result ≡ first_failing (operands.page_checks realm.now ipa) }
@@ -173,8 +174,7 @@ fn is_unprotected(realm: &RmmRealm, ipa: u64) -> bool
     ipa >= half && ipa - half < half
 }
 
-// Checks that there are pages or blocks at a level, and that an entry of it begins at an address of a realm's
-// unprotected half.
+// Checks that a level can have pages or blocks, and that one of them can begin at `ipa`, in a realm's unprotected half.
 pub fn check_unprotected(
     settings: &RmmSettings,
     realm: &RmmRealm,
@@ -203,7 +203,8 @@ pub fn check_unprotected(
 
 // ---- walks
 
-// The refusal RMI_ERROR_RTT for a failed condition, with the level of a table and the next live entry.
+// The refusal RMI_ERROR_RTT for a failed condition, with the level of a table, and the address of the next live entry
+// in X2.
 pub fn error_rtt_top(condition: Condition, level: u8, top: u64) -> FailedCondition
     ensures { result ≡ record { condition = condition; answer = with_top top level } }
 {
@@ -216,7 +217,7 @@ pub fn error_rtt_top(condition: Condition, level: u8, top: u64) -> FailedConditi
     }
 }
 
-// Checks that a walk reached a level, and that `fits` holds for its entry.
+// Checks that a walk reached a level, and that `fits`, the caller's check of the entry there, is `true`.
 pub fn check_entry(found: &RttWalk, level: u8, fits: bool) -> Result<(), FailedCondition>
     ensures { refusal_in result
         ≡ first_failing (operands.entry_checks [] found.now level fits error_rtt) }

@@ -34,7 +34,7 @@ pub struct Completion {
 
 // ---- requests
 
-// The result of a request, by whether its target is on and by the host's status.
+// The result of a request, from the host's status and whether the target is on.
 fn psci_result(request: PsciRequest, on: bool, status: u64) -> u64
     ensures { result ≡ command.psci_result request on status }
 {
@@ -44,8 +44,8 @@ fn psci_result(request: PsciRequest, on: bool, status: u64) -> u64
     }
 }
 
-// Checks that two RECs belong to one realm, that the first has a request to the second, and that the status fits the
-// request.
+// Checks that two RECs belong to one realm, that the first has a pending request for the second, and that the status
+// fits the request.
 #[tactic(auto, unfolding(rmm_model::specs::Command::PsciComplete::request_checks))]
 fn check_request<S: PageStore>(
     granules: &Granules<S>,
@@ -79,7 +79,7 @@ fn check_request<S: PageStore>(
 
 // ---- the effect
 
-// Starts the target of a CPU_ON that succeeds.
+// Makes the target of a CPU_ON runnable, at the requested entry point.
 fn begin_target<S: PageStore>(granules: &mut Granules<S>, granule: Gran, request: PsciRequest)
     requires { granule < granule_count granules.old }
     ensures { granules.new

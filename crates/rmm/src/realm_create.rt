@@ -21,7 +21,7 @@ use rmm_model::{
     RmmRttEntry, entry_size, error_input, initial,
 };
 
-// A realm that can be made, and the granule that becomes its RD.
+// A realm that can be created, and the granule that becomes its RD.
 #[derive(Clone, Copy)]
 pub struct NewRealm {
     pub rd: Gran,
@@ -44,7 +44,7 @@ fn read_params<S: PageStore>(
     Ok(RealmParams::read(granules.page(source)))
 }
 
-// Checks that there can be a realm with these parameters, and that its RD is none of its starting tables.
+// Checks that a realm can have these parameters, and that its RD is not one of its starting tables.
 #[tactic(auto, unfolding(rmm_model::specs::Command::RealmCreate::params_checks))]
 fn check_params(settings: &RmmSettings, p: &RealmParams, rd: u64) -> Result<(), FailedCondition>
     requires { settings.now.s2sz ≤ 48 }
@@ -73,7 +73,7 @@ fn check_params(settings: &RmmSettings, p: &RealmParams, rd: u64) -> Result<(), 
 
 // ---- what the realm takes
 
-// Checks that starting tables can be used, and that a VMID is free.
+// Checks that the starting tables are DELEGATED granules, and that the VMID is in range and free.
 fn check_free<S: PageStore>(granules: &Granules<S>, p: &RealmParams) -> Result<(), FailedCondition>
     ensures refusal { refusal_in result ≡ first_failing (command.free_checks granules.now p.now) }
     ensures start { OnOk result (command.can_start granules.now p.now ≡ true) }
@@ -90,7 +90,7 @@ fn check_free<S: PageStore>(granules: &Granules<S>, p: &RealmParams) -> Result<(
 
 // ---- the new realm
 
-// The hash algorithm of a code.
+// The hash algorithm with a code: SHA-512 for 1, and SHA-256 otherwise.
 fn hash_of(code: u8) -> HashAlgorithm
     ensures { result ≡ command.hash_of code }
 {
@@ -100,7 +100,7 @@ fn hash_of(code: u8) -> HashAlgorithm
     }
 }
 
-// The realm that parameters ask for.
+// The new realm that parameters describe.
 #[tactic(auto, unfolding(rmm_model::specs::Command::RealmCreate::realm_for))]
 fn realm_for<S: PageStore>(granules: &Granules<S>, p: &RealmParams) -> RmmRealm
     requires width { p.now.s2sz ≤ 48 }
@@ -125,7 +125,7 @@ fn realm_for<S: PageStore>(granules: &Granules<S>, p: &RealmParams) -> RmmRealm
     }
 }
 
-// Entry n of the starting tables of a new realm.
+// Entry n of a new realm's starting tables, counted through all of them.
 fn start_entry(realm: &RmmRealm, n: u16) -> RmmRttEntry
     requires width { realm.now.s2sz ≤ 48 }
     requires below { n < 8192 }
@@ -155,7 +155,7 @@ fn write_start_page<S: PageStore>(granules: &mut Granules<S>, table: Gran, realm
     }
 }
 
-// Makes the starting tables of a realm.
+// Creates the starting tables of a realm.
 fn write_tables<S: PageStore>(granules: &mut Granules<S>, rd: Gran, realm: &RmmRealm)
     requires { IsServed (granule_count granules.old) realm.now }
     ensures tables { granules.new
@@ -175,7 +175,7 @@ fn write_tables<S: PageStore>(granules: &mut Granules<S>, rd: Gran, realm: &RmmR
 
 // ---- the command
 
-// Returns the realm that RMI_REALM_CREATE makes, or the failed condition.
+// Returns the realm that RMI_REALM_CREATE creates, or the failed condition.
 fn find_realm<S: PageStore>(
     granules: &Granules<S>,
     rd: u64,

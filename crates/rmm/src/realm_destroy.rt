@@ -31,7 +31,7 @@ fn find_unused<S: PageStore>(granules: &Granules<S>, rd: u64) -> Result<Rd, Fail
     }
 }
 
-// Makes the starting tables of a realm DELEGATED.
+// Turns the starting tables of a realm back into DELEGATED granules.
 fn remove_tables<S: PageStore>(granules: &mut Granules<S>, realm: &RmmRealm)
     requires { IsServed (granule_count granules.old) realm.now }
     ensures tables { granules.new ≡ command.without_tables granules.old realm.now realm.now.table_count }

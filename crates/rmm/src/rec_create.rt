@@ -20,7 +20,7 @@ use rmm_model::{
     error_input, extend, rec_digest,
 };
 
-// A REC that can be made: its granule, the granule of its parameters, its RD, and its realm.
+// A REC that can be created: its granule, the granule of its parameters, the RD of its realm, and the realm.
 #[derive(Clone, Copy)]
 pub struct NewRec {
     pub rec: Gran,
@@ -133,7 +133,7 @@ fn write_rec_page<S: PageStore>(granules: &mut Granules<S>, rec: Gran, source: G
     }
 }
 
-// Turns a DELEGATED granule into a REC of the realm of an RD, with the parameters from the page of `source`.
+// Turns a granule into a REC of an RD's realm, with the parameters from the page of `source`.
 fn write_rec<S: PageStore>(granules: &mut Granules<S>, rd: Gran, rec: Gran, source: Gran)
     requires inside { rec < granule_count granules.old }
     requires source { source < granule_count granules.old }
@@ -152,7 +152,7 @@ fn write_rec<S: PageStore>(granules: &mut Granules<S>, rd: Gran, rec: Gran, sour
 
 // ---- the measurement
 
-// The measurement of a realm after a new REC with the parameters of a page.
+// The measurement of a realm after a REC with the parameters in a page is created.
 #[tactic(auto, unfolding(rmm_model::specs::Command::RecMeasurement::rim_with_rec))]
 fn rim_with_rec(settings: &RmmSettings, realm: &RmmRealm, page: &[u8]) -> [u8; 64]
     requires { length page.now ≡ 4096 }
@@ -168,7 +168,7 @@ fn rim_with_rec(settings: &RmmSettings, realm: &RmmRealm, page: &[u8]) -> [u8; 6
     }
 }
 
-// The measurement of a new REC's realm after the REC is made.
+// The measurement of a new REC's realm after the REC is created.
 fn measured_rim<S: PageStore>(granules: &Granules<S>, found: &NewRec) -> [u8; 64]
     requires { found.now.source < granule_count granules.now }
     ensures { result
@@ -183,7 +183,7 @@ fn measured_rim<S: PageStore>(granules: &Granules<S>, found: &NewRec) -> [u8; 64
 
 // ---- the command
 
-// Returns the REC that RMI_REC_CREATE makes, or the failed condition.
+// Returns the REC that RMI_REC_CREATE creates, or the failed condition.
 fn find_new<S: PageStore>(
     granules: &Granules<S>,
     rd: u64,

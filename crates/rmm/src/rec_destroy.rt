@@ -13,7 +13,7 @@ use rmi_abi::{SmcResult, Word};
 use rmm_granules::{Granules, OperandConditions, RealmEdit};
 use rmm_model::{Condition, FailedCondition, RmmGranule, RmmGranuleState};
 
-// Takes one from the REC count of the realm that owns a REC.
+// Subtracts one from the REC count of the realm that owns a REC.
 fn leave_realm<S: PageStore>(granules: &mut Granules<S>, owner: Option<Gran>)
     ensures machine { granules.new ≡ command.without_rec granules.old owner }
     ensures count { granule_count granules.new ≡ granule_count granules.old }

@@ -51,7 +51,7 @@ pub fn leave<S: PageStore>(granules: &mut Granules<S>, g: Gran, exit: &RecExit, 
 
 // ---- entries
 
-// The result of a change of RIPAS.
+// The result that a guest gets for its request to change RIPAS.
 fn ripas_result(asked: &RipasRequest, flags: u64) -> StepResult
     ensures { result ≡ command.ripas_result asked.now flags }
 {
@@ -95,7 +95,7 @@ fn push_psci<S: PageStore>(granules: &mut Granules<S>, g: Gran, request: PsciReq
     }
 }
 
-// Gives the guest the result of a change of RIPAS: how far the change came.
+// Gives the guest the result of its request to change RIPAS, with the address that the change reached.
 fn push_ripas<S: PageStore>(granules: &mut Granules<S>, g: Gran, flags: u64)
     requires { g < granule_count granules.old }
     ensures machine { granules.new ≡ command.with_host_answer granules.old g RipasChange 0 flags }
@@ -118,7 +118,7 @@ fn push_return<S: PageStore>(granules: &mut Granules<S>, g: Gran, run: Gran)
     push_result(granules, g, &StepResult::Returned(value));
 }
 
-// Gives the guest the host's answer to an abort.
+// Gives the guest the host's answer to an emulatable abort, if the host has one.
 fn push_abort<S: PageStore>(granules: &mut Granules<S>, g: Gran, run: Gran, flags: u64)
     requires inside { g < granule_count granules.old }
     requires run { run < granule_count granules.old }
@@ -164,7 +164,7 @@ fn answer_exit<S: PageStore>(
     }
 }
 
-// Enters a REC.
+// Enters a REC, without performing its guest's steps.
 #[tactic(auto, unfolding(rmm_model::specs::Command::RecEnter::after_entry))]
 fn enter<S: PageStore>(granules: &mut Granules<S>, g: Gran, address: u64, run: Gran, flags: u64)
     requires inside { g < granule_count granules.old }
@@ -192,7 +192,7 @@ fn system_off<S: PageStore>(granules: &mut Granules<S>, g: Gran)
     }
 }
 
-// Performs a call of a guest, and changes its REC as an exit of the call requires.
+// Performs a guest's call, and updates its REC if the call causes an exit.
 fn call<S: PageStore>(
     granules: &mut Granules<S>,
     realm: &RmmRealm,
@@ -215,7 +215,7 @@ fn call<S: PageStore>(
     outcome
 }
 
-// Performs a call of a guest that turns its realm off.
+// Performs a guest's PSCI call that turns off the guest's realm.
 #[inline(always)]
 fn turn_off<S: PageStore>(
     granules: &mut Granules<S>,
@@ -263,7 +263,7 @@ fn perform<S: PageStore>(
     }
 }
 
-// Whether a guest retries a step that made an exit.
+// Whether a guest retries a step that caused an exit.
 fn is_tried_again(reason: ExitReason, last: LastExit) -> bool
     ensures { result ≡ (command.is_sync reason && not (command.is_done last)) }
 {
@@ -287,7 +287,7 @@ fn pass_step<S: PageStore>(granules: &mut Granules<S>, g: Gran, outcome: StepOut
     }
 }
 
-// The outcome if no step can be performed: an exit as by a timer of the host.
+// The outcome if no step can be performed: an IRQ exit, as after a timer interrupt of the host.
 fn no_step() -> StepOutcome
     ensures { result ≡ command.no_step }
 {
@@ -302,7 +302,7 @@ fn is_idle<S: PageStore>(granules: &Granules<S>, g: Gran) -> bool
     rec_in(granules, g).step_count == 0
 }
 
-// Performs the first step of a guest that has a step.
+// Performs the first step of a guest that has at least one.
 #[tactic(auto, unfolding(rmm_model::specs::Command::RecEnter::first_step_outcome, rmm_model::specs::Command::RecEnter::after_first_step))]
 fn perform_first<S: PageStore>(granules: &mut Granules<S>, g: Gran, flags: u64) -> StepOutcome
     requires inside { g < granule_count granules.old }
@@ -322,7 +322,7 @@ fn perform_first<S: PageStore>(granules: &mut Granules<S>, g: Gran, flags: u64) 
     }
 }
 
-// Performs the steps of a guest, up to a step that makes an exit or spins. Returns whether the REC left.
+// Performs up to 16 steps of a guest, and stops after one that causes an exit or spins. Returns whether the REC left.
 fn perform_steps<S: PageStore>(granules: &mut Granules<S>, g: Gran, flags: u64) -> bool
     requires { g < granule_count granules.old }
     ensures { (result, granules.new) ≡ command.after_steps granules.old g flags 16 }
@@ -351,7 +351,8 @@ fn perform_steps<S: PageStore>(granules: &mut Granules<S>, g: Gran, flags: u64) 
 
 // ---- the command
 
-// Checks that a realm is ACTIVE, and that its REC is READY and runnable, with right GIC fields and nothing pending.
+// Checks that a realm is ACTIVE, its REC READY and runnable, the run page's MMIO flag and GIC fields valid, and no PSCI
+// request pending.
 #[tactic(auto, unfolding(rmm_model::specs::Command::RecEnter::enter_checks))]
 fn check_enter(
     state: RmmRealmState,
@@ -430,7 +431,7 @@ pub fn rec_enter<S: PageStore>(granules: &mut Granules<S>, rec: u64, address: u6
     }
 }
 
-// Ends the run of a REC by an interrupt of the host; `None` if no REC runs at the address.
+// Ends the run of the REC at an address by an interrupt of the host; `None` if no REC runs there.
 #[tactic(auto, unfolding(rmm_model::specs::Command::RecEnter::interrupted))]
 pub fn interrupt<S: PageStore>(granules: &mut Granules<S>, address: u64) -> Option<Word>
     ensures { (result, granules.new) ≡ command.interrupted granules.old address }

@@ -1,4 +1,4 @@
-//! Changes of the RIPAS of a range, as far as one table goes.
+//! Changes of the RIPAS of a range, within one table.
 ghost use Rattle.std.specs.Prelude.{◌≡◌, ◌+◌, ◌^◌, ◌<◌, ◌≤◌, [], OnOk};
 ghost use Rattle.rmm_model.specs.Check.{first_failing, refusal_in};
 ghost use Rattle.rmm_model.specs.Level.{entry_index as index_of};
@@ -23,7 +23,7 @@ pub fn check_size(base: u64, top: u64) -> Result<(), FailedCondition>
     Ok(())
 }
 
-// Checks that a range begins with a whole entry that can be changed.
+// Checks that a range begins with a complete entry whose RIPAS can be changed.
 pub fn check_progress<S: PageStore>(
     granules: &Granules<S>,
     changeable: Changeable,
@@ -48,7 +48,7 @@ pub fn check_progress<S: PageStore>(
     Ok(())
 }
 
-// The number of entries of a table from the entry of `base` on that lie below `top`.
+// The number of a table's entries that lie below `top`, from the entry of `base` on.
 #[tactic(auto, unfolding(rmm_model::specs::Command::RipasRange::entries_below))]
 fn entries_below(found: &RttWalk, base: u64, top: u64) -> u16
     requires { base ≤ top }
@@ -64,7 +64,7 @@ fn entries_below(found: &RttWalk, base: u64, top: u64) -> u16
     }
 }
 
-// The number of entries of a table from `base` to `top` that can be changed before the first fixed entry.
+// The number of a table's entries from `base` to `top` that precede the first entry whose RIPAS cannot be changed.
 pub fn change_count<S: PageStore>(
     granules: &Granules<S>,
     changeable: Changeable,

@@ -15,7 +15,7 @@ use rmi_abi::{SmcResult, Word};
 use rmm_granules::{Granules, OperandConditions, entry_at, walk};
 use rmm_model::{FailedCondition, RmmGranule, RmmGranuleState, RmmRttEntry, RttWalk};
 
-// A place for a new table: the RD, the table, and the entry that the table replaces.
+// An entry that a new table can replace, together with the realm's RD, the new table, and the new table's level.
 #[derive(Clone, Copy)]
 pub struct Vacancy {
     pub rd: Gran,
@@ -25,7 +25,7 @@ pub struct Vacancy {
     pub parent: RmmRttEntry,
 }
 
-// Writes the children of a mapping to a table.
+// Fills a table with the children of a mapping, which together replace it.
 #[inline(always)]
 fn write_mappings<S: PageStore>(
     granules: &mut Granules<S>,
@@ -42,7 +42,8 @@ fn write_mappings<S: PageStore>(
     granules.write_rising(table, kind, parent.descriptor(), step);
 }
 
-// Writes the children of an entry to a table. The children of an entry that is not mapped are one byte throughout.
+// Fills a table with the children of an entry, which together replace it. The children of an entry that is not mapped
+// are one byte throughout.
 #[tactic(auto, unfolding(rmm_model::specs::Table::children_page))]
 fn write_children<S: PageStore>(
     granules: &mut Granules<S>,
@@ -60,7 +61,7 @@ fn write_children<S: PageStore>(
     }
 }
 
-// Returns the place of the table that RMI_RTT_CREATE makes, or the failed condition.
+// Returns the entry that the table of RMI_RTT_CREATE replaces, or the failed condition.
 #[tactic(auto, unfolding(rmm_model::specs::Command::RttCreate::rtt_create))]
 fn find_vacancy<S: PageStore>(
     granules: &Granules<S>,

@@ -1,4 +1,4 @@
-//! Registers of a REC in its page and in its run page.
+//! Copies of registers between a REC's page and its run page, and writes of exits.
 ghost use Rattle.std.specs.Prelude.{◌≡◌, ◌+◌, ◌<◌, ◌≤◌, ◌⊎◌, length};
 ghost use Rattle.rmm_model.specs.Machine.{granule_count, page_in, with_page};
 ghost use Rattle.rmm_model.specs.Table.{with_words_from};
@@ -10,8 +10,7 @@ use page_arena::{PageStore, word_in};
 use rmi_abi::RecExit;
 use rmm_granules::{Granules, refuses_gic};
 
-// Copies `count` words, from word `first` of one page to word `place` of another page, or of the same page without
-// overlap.
+// Copies `count` words from word `first` of one page to word `place` of another or the same page, without overlap.
 fn copy_words<S: PageStore>(
     granules: &mut Granules<S>,
     from: Gran,
@@ -34,7 +33,7 @@ fn copy_words<S: PageStore>(
     }
 }
 
-// Copies the general-purpose registers that the host gives, from a run page to its REC.
+// Copies the host's values of the general-purpose registers from a run page to its REC.
 pub fn copy_gprs<S: PageStore>(granules: &mut Granules<S>, g: Gran, run: Gran)
     requires inside { g < granule_count granules.old }
     requires run { run < granule_count granules.old }
@@ -46,7 +45,7 @@ pub fn copy_gprs<S: PageStore>(granules: &mut Granules<S>, g: Gran, run: Gran)
 
 // ---- GIC fields
 
-// Copies the GIC fields of a run page to its REC, if they are checked.
+// Copies the GIC fields of a run page to its REC, if the settings check such fields.
 #[tactic(auto, unfolding(rmm_model::specs::Command::RecEnter::with_gic))]
 pub fn copy_gic<S: PageStore>(granules: &mut Granules<S>, g: Gran, run: Gran)
     requires inside { g < granule_count granules.old }
@@ -59,7 +58,7 @@ pub fn copy_gic<S: PageStore>(granules: &mut Granules<S>, g: Gran, run: Gran)
     }
 }
 
-// Copies the GIC fields of a REC to its run page, if they are checked.
+// Copies the GIC fields of a REC to its run page, if the settings check such fields.
 #[tactic(auto, unfolding(rmm_model::specs::Command::RecEnter::with_exit_gic))]
 fn write_gic<S: PageStore>(granules: &mut Granules<S>, g: Gran, run: Gran)
     requires inside { g < granule_count granules.old }
@@ -72,7 +71,7 @@ fn write_gic<S: PageStore>(granules: &mut Granules<S>, g: Gran, run: Gran)
     }
 }
 
-// Whether the GIC fields of a run page are checked, and have values that a host may not set.
+// Whether the settings check the GIC fields of a run page, and one of them has a value that a host may not set.
 pub fn is_gic_wrong<S: PageStore>(granules: &Granules<S>, run: Gran) -> bool
     requires { run < granule_count granules.now }
     ensures { result ≡ entering.is_gic_wrong granules.now.settings (page_in granules.now run) }
@@ -94,7 +93,7 @@ fn clear_exit<S: PageStore>(granules: &mut Granules<S>, page: Gran)
     granules.write(page, 2048, &[0; 2048]);
 }
 
-// Writes an exit into a page. Words that are no field of it are zero.
+// Writes an exit into the upper half of a page. Words there that are no field of it are zero.
 fn write_exit<S: PageStore>(granules: &mut Granules<S>, page: Gran, exit: &RecExit)
     requires { page < granule_count granules.old }
     ensures machine { granules.new ≡ entering.with_exit_words granules.old page exit.now }

@@ -17,7 +17,7 @@ use rmm_model::{
     error_input,
 };
 
-// A range that a REC asked for, and the table of its first entry.
+// A range whose RIPAS a REC asked to change, and the table with the range's first entry.
 #[derive(Clone, Copy)]
 pub struct RequestedRange {
     pub granule: Gran,
@@ -25,8 +25,8 @@ pub struct RequestedRange {
     pub found: RttWalk,
 }
 
-// Whether a range ends within what a REC asked for. A range that has addresses also has to begin at a protected one, if
-// the REC is one of the realm.
+// Whether a range ends within the range that a REC asked to change. A range that has addresses also has to begin at a
+// protected one, if the REC is one of the realm.
 fn is_within(realm: &RmmRealm, asking: &RmmRec, is_owner: bool, base: u64, top: u64) -> bool
     requires { realm.now.s2sz ≤ 48 }
     ensures { result ≡ command.is_within realm.now asking.now is_owner base top }
@@ -50,7 +50,7 @@ fn is_rec_of<S: PageStore>(
     is_same_owner(granules.owner(asking.granule), Some(owner.granule))
 }
 
-// Checks that a REC belongs to the realm and does not run, and that it asked for a range.
+// Checks that a REC belongs to the realm and does not run, and that it asked to change a range.
 #[tactic(auto, unfolding(rmm_model::specs::Command::RttSetRipas::ripas_request_checks))]
 fn check_request(
     realm: &RmmRealm,

@@ -19,7 +19,7 @@ use rmm_model::{
 
 // ---- accesses to memory
 
-// An abort at an address.
+// The exit for an abort at an address.
 fn abort(esr: u64, ipa: u64) -> RecExit
     ensures { result ≡ steps.abort esr ipa }
 {
@@ -30,7 +30,7 @@ fn abort(esr: u64, ipa: u64) -> RecExit
     }
 }
 
-// An abort that the host can emulate, with a value that the guest writes.
+// The exit for an access that the host can emulate, with the value that the guest writes.
 fn emulatable(esr: u64, ipa: u64, value: u64) -> RecExit
     ensures { result ≡ steps.emulatable esr ipa value }
 {
@@ -93,7 +93,7 @@ fn protected_access<S: PageStore>(
     }
 }
 
-// Whether the S2AP field of a descriptor lets a guest write, or read.
+// Whether the S2AP field of a descriptor permits a write if `writes` is `true`, and a read otherwise.
 fn may_access(desc: u64, writes: bool) -> bool
     ensures { result ≡ steps.may_access desc writes }
 {
@@ -210,7 +210,7 @@ pub fn fetched<S: PageStore>(
     protected_access(granules, 0x8000_0000, entry, found.level, ipa)
 }
 
-// The outcome of a step that only tries an access.
+// The outcome of an access that gives the guest no value.
 pub fn tried(found: Result<Gran, StepOutcome>) -> StepOutcome
     ensures { result ≡ steps.tried found }
 {
@@ -265,7 +265,7 @@ fn ripas_exit(base: u64, top: u64, ripas: u64) -> StepOutcome
     StepOutcome::Exit(exit, LastExit::RipasChange)
 }
 
-// The second or third operand of a PSCI call, as its exit shows it.
+// The value that a PSCI exit shows for the second or third operand of the call.
 fn shown(settings: &RmmSettings, operand: u64) -> u64
     ensures { result ≡ steps.shown settings.now operand }
 {
@@ -360,7 +360,7 @@ fn wait(traps: bool, esr: u64) -> StepOutcome
     }
 }
 
-// The outcome of a write of a system register.
+// The outcome of a write to a system register.
 fn system_register(iss: u64, value: u64) -> StepOutcome
     ensures { result ≡ steps.system_register iss value }
 {
@@ -422,7 +422,7 @@ pub fn call_outcome(
     }
 }
 
-// The change of a REC when a step of its guest makes an exit.
+// The edit of a REC when a step of its guest causes an exit.
 #[inline(always)]
 pub fn exit_edit(step: GuestStep) -> RecEdit
     ensures { result ≡ edits.exit_edit step }

@@ -17,7 +17,7 @@ use rmm_model::{Condition, FailedCondition, RmmRttEntry, RttWalk, entry_offset, 
 
 // ---- descriptors
 
-// Whether a number is a valid descriptor for an entry of a level.
+// Whether a number is a valid descriptor of an unprotected mapping at a level.
 #[tactic(auto, unfolding(rmm_model::specs::Command::RttMapUnprotected::is_descriptor))]
 fn is_descriptor(settings: &RmmSettings, level: u8, desc: u64) -> bool
     ensures { result ≡ mapping.is_descriptor settings.now level desc }
@@ -78,7 +78,8 @@ pub fn rtt_map_unprotected<S: PageStore>(
 
 // ---- unmapping
 
-// The refusal RMI_ERROR_RTT for a failed condition, with the level of a table and the next live entry in X1.
+// The refusal RMI_ERROR_RTT for a failed condition, with the level of a table, and the address of the next live entry
+// in X1.
 fn error_rtt_next(condition: Condition, level: u8, top: u64) -> FailedCondition
     ensures { result ≡ record { condition = condition; answer = unmapping.error_rtt_next top level } }
 {

@@ -7,7 +7,7 @@ use page_arena::PageStore;
 use rmm_granules::Granules;
 use rmm_model::{RmmRttEntry, RttWalk, entry_index};
 
-// Writes the entry of a table that covers an address.
+// Writes the entry that covers an address in the table at which a walk ended.
 pub fn write<S: PageStore>(
     granules: &mut Granules<S>,
     found: &RttWalk,

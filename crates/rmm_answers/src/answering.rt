@@ -1,4 +1,4 @@
-//! The answer to each question.
+//! Functions that answer the questions of a trace.
 ghost use Rattle.std.specs.Prelude.{◌≡◌, ◌-◌, []};
 ghost use Rattle.rmm_trace.specs.Access.{operand_at};
 ghost use Rattle.rmm_trace.specs.Compare.{rest_of};
@@ -24,7 +24,7 @@ use rmm_trace::place::{
 };
 use rmm_trace::{Atom, Sentence, TraceWord, operand};
 
-// Appends whether fills are done, and after a fault also the number of earlier fills, if any.
+// Appends whether the fills were done, and after a fault the number of earlier fills, if there were any.
 fn put_fill(answer: &mut Sentence, round: u64, is_done: bool)
     requires { answer.old.items ≡ [] }
     ensures { answer.new.items ≡ specs.fill_words round is_done }
@@ -59,7 +59,7 @@ fn answer_rounds<S: PageStore>(
     }
 }
 
-// Answers a reading.
+// Answers a reading of the machine's state.
 #[tactic(auto, unfolding(crate::specs::Answering::reading_answered))]
 fn answer_reading<S: PageStore>(
     reply: &mut TraceReply,
@@ -88,7 +88,7 @@ fn answer_reading<S: PageStore>(
     }
 }
 
-// Answers a parameter page, or a reading.
+// Answers a question that writes a parameter page or reads the machine's state.
 #[tactic(auto, unfolding(crate::specs::Answering::page_answered))]
 fn answer_page<S: PageStore>(
     reply: &mut TraceReply,
@@ -113,7 +113,7 @@ fn answer_page<S: PageStore>(
     }
 }
 
-// Answers a question that is no call and no fill, by the words after its name.
+// Answers a question that is neither a call nor a fill, given the words after its name.
 #[tactic(auto, unfolding(crate::specs::Answering::other_answered))]
 fn answer_other<S: PageStore>(
     reply: &mut TraceReply,
@@ -148,7 +148,7 @@ fn answer_smc<S: PageStore>(reply: &mut TraceReply, rmm: &mut Rmm<S>, call: &[Tr
     answer_raw(reply, registers_at(call, 0), &last);
 }
 
-// Answers a repeated call or fill, by the words after `repeat`.
+// Answers a repeated call or fill, given the words after `repeat`.
 fn answer_repeat<S: PageStore>(reply: &mut TraceReply, rmm: &mut Rmm<S>, words: &[TraceWord])
     requires { reply.old ≡ no_answer }
     ensures { (reply.new, rmm.new)
@@ -176,7 +176,7 @@ pub fn answer_on<S: PageStore>(rmm: &mut Rmm<S>, question: &[TraceWord], reply: 
     }
 }
 
-// The words of a call, without `repeat` and the count before the call.
+// The words of a question without a leading `repeat` and its count.
 fn call_in(question: &[TraceWord]) -> &[TraceWord]
     ensures { result.now ≡ specs.unrepeated question.now }
 {

@@ -33,7 +33,7 @@ fn registers(x: [u64; 7]) -> Registers
     }
 }
 
-// The registers of a call in a round of a `repeat`; zeros if the words are no call.
+// The registers of a call in a round of a `repeat`; zeros if the words encode no call.
 #[tactic(auto, unfolding(crate::specs::Rounds::asked))]
 pub(crate) fn registers_at(call: &[TraceWord], round: u64) -> Registers
     ensures { result ≡ asked call.now round }
@@ -44,14 +44,14 @@ pub(crate) fn registers_at(call: &[TraceWord], round: u64) -> Registers
     }
 }
 
-// Whether X0 refuses a call, that is, differs from RMI_SUCCESS and from the X0 of a REC that runs on.
+// Whether X0 reports a refused call, that is, it is neither RMI_SUCCESS nor the value for a REC that runs on.
 pub(crate) fn is_refused(x0: u64) -> bool
     ensures { result ≡ calls.is_refused x0 }
 {
     x0 != 0 && x0 != RUNS_ON
 }
 
-// The evaluated checks of a call on a machine; `None` if the registers are no call.
+// The evaluated checks of a call on a machine; `None` if the registers encode no call.
 #[tactic(auto, unfolding(crate::specs::Call::checks_at))]
 pub(crate) fn checks_at<S: PageStore>(rmm: &Rmm<S>, asked: Registers) -> Option<EvaluatedChecks>
     ensures { result ≡ calls.checks_at asked rmm.now }
@@ -69,14 +69,14 @@ fn deciding<S: PageStore>(rmm: &Rmm<S>, asked: Registers) -> Option<Condition>
     Some(refusal.condition)
 }
 
-// The place of the name of a check.
+// The place of a check's name in the table of names.
 fn check_place(condition: Condition) -> usize
     ensures { result ≡ 179 + condition_number condition }
 {
     FIRST_CHECK + condition as usize
 }
 
-// Appends the name of the check that decides a refused call.
+// Appends the name of the check by which a call is refused, if it is refused.
 #[tactic(auto, unfolding(crate::specs::Call::put_check))]
 fn put_check<S: PageStore>(answer: &mut Sentence, rmm: &Rmm<S>, asked: Registers, x0: u64)
     requires { length answer.old.items < 64 }
@@ -91,7 +91,7 @@ fn put_check<S: PageStore>(answer: &mut Sentence, rmm: &Rmm<S>, asked: Registers
     }
 }
 
-// Appends the number of rounds of a `repeat` before the first one without RMI_SUCCESS, if any.
+// Appends the number of earlier rounds, if there were any and the last round did not return RMI_SUCCESS.
 #[tactic(auto, unfolding(crate::specs::Call::put_after))]
 fn put_after(answer: &mut Sentence, x0: u64, round: u64)
     requires { length answer.old.items ≤ 62 }
@@ -113,7 +113,7 @@ fn refused_round(last: &LastCall) -> Option<u64>
     }
 }
 
-// Appends the exit of a REC after an RMI_REC_ENTER with RMI_SUCCESS.
+// Appends the exit of a REC, if the call is an RMI_REC_ENTER that returned RMI_SUCCESS.
 #[tactic(auto, unfolding(crate::specs::Call::put_exit_of))]
 fn put_exit_of<S: PageStore>(answer: &mut Sentence, rmm: &Rmm<S>, place: usize, x0: u64, run: u64)
     requires { length answer.old.items ≤ 51 }
@@ -125,7 +125,7 @@ fn put_exit_of<S: PageStore>(answer: &mut Sentence, rmm: &Rmm<S>, place: usize, 
     }
 }
 
-// Answers a call from its last round, with the outputs by name.
+// Answers a call with the result of its last round, in which outputs are named.
 #[tactic(auto, unfolding(crate::specs::Call::call_reply))]
 pub(crate) fn answer_call<S: PageStore>(
     reply: &mut TraceReply,
@@ -146,7 +146,7 @@ pub(crate) fn answer_call<S: PageStore>(
     reply.refused = refused_round(last);
 }
 
-// Answers a raw call by its registers.
+// Answers a raw call with X0 and its output registers.
 #[tactic(auto, unfolding(crate::specs::Call::raw_reply))]
 pub(crate) fn answer_raw(reply: &mut TraceReply, asked: Registers, last: &LastCall)
     requires { reply.old ≡ no_answer }

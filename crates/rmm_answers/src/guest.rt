@@ -53,7 +53,7 @@ fn kind_in(steps: &[usize], name: usize) -> Option<usize>
     None
 }
 
-// The number of the kind of the step with a name; 15, which no kind has, if there is no such step.
+// The kind number of the step with this name; 15, which is no kind, if no step has the name.
 #[tactic(auto, unfolding(crate::specs::Guest::step_kind))]
 fn step_kind(name: usize) -> u64
     ensures { result ≡ guests.step_kind name }
@@ -64,7 +64,7 @@ fn step_kind(name: usize) -> u64
     }
 }
 
-// The last operand of a step. `destroyed` after a change of RIPAS is 1.
+// The fourth and last operand of a step. `destroyed` after a change of RIPAS is 1.
 fn last_operand(name: usize, operands: &[TraceWord]) -> u64
     ensures { result ≡ guests.last_operand name operands.now }
 {
@@ -106,7 +106,7 @@ fn step_in(words: &[TraceWord]) -> Option<StepWords>
     Some(step_words(name, operands))
 }
 
-// Appends the answer to a step.
+// Appends the outcome of queuing a guest's step.
 fn put_queued(answer: &mut Sentence, queued: Queued)
     requires { answer.old.items ≡ [] }
     ensures { answer.new.items ≡ guests.queued_words queued }
@@ -121,7 +121,7 @@ fn put_queued(answer: &mut Sentence, queued: Queued)
     }
 }
 
-// Answers a step of a guest.
+// Queues the step that a question gives a guest, and answers with the outcome.
 #[tactic(auto, unfolding(crate::specs::Guest::guest_answered))]
 pub(crate) fn answer_guest<S: PageStore>(
     reply: &mut TraceReply,
@@ -169,7 +169,7 @@ fn put_left<S: PageStore>(answer: &mut Sentence, rmm: &Rmm<S>, x0: u64, run: u64
     }
 }
 
-// Answers an interrupt.
+// Interrupts the REC at an address, and answers with the result of its entry, or that the REC is not running.
 #[tactic(auto, unfolding(crate::specs::Guest::interrupt_answered))]
 pub(crate) fn answer_interrupt<S: PageStore>(answer: &mut Sentence, rmm: &mut Rmm<S>, address: u64)
     requires { answer.old.items ≡ [] }
@@ -223,7 +223,7 @@ fn result_atom(kind: u64, value: u64) -> Atom
     Atom::Hexadecimal(value)
 }
 
-// Appends a result, with a comma before a further result.
+// Appends a result, with a comma before it if it is not the first.
 #[tactic(auto, unfolding(crate::specs::Guest::put_result))]
 fn put_result(answer: &mut Sentence, is_further: bool, kind: u64, value: u64)
     requires { length answer.old.items ≤ 62 }

@@ -37,7 +37,7 @@ fn allows_number(checks: &EvaluatedChecks, x0: u64) -> bool
     }
 }
 
-// Whether a check failed with a word that has a status and differs from the word of the deciding check.
+// Whether a check failed with a word that has the given status and is not the word of the deciding check.
 fn has_status(checks: &EvaluatedChecks, row: &EvaluatedCheck, status: u64) -> bool
     ensures { result ≡ judging.has_status checks.now status row.now.outcome }
 {
@@ -51,7 +51,7 @@ fn has_status(checks: &EvaluatedChecks, row: &EvaluatedCheck, status: u64) -> bo
     }
 }
 
-// Whether the checks allow a word with a status and some index, other than the word of the deciding check.
+// Whether the checks allow some word with the given status, other than the word of the deciding check.
 fn allows_status(checks: &EvaluatedChecks, rows: &[EvaluatedCheck], status: u64) -> bool
     ensures { result ≡ list_any (λ row. judging.has_status checks.now status row.outcome) rows.now }
 {

@@ -1,4 +1,4 @@
-//! The machine of a trace.
+//! The RMM that a trace opens and calls.
 ghost use Rattle.std.specs.Prelude.{◌≡◌, None, OnOk, OnErr, option_and_then};
 ghost use Rattle.rmm_answers.specs.Answering as specs;
 ghost use Rattle.rmm_answers.specs.Platform.{machine_of_platform};
@@ -14,7 +14,7 @@ use rmm_trace::TraceWord;
 use std::alloc::{AllocError, Global};
 use std::marker::Model;
 
-/// The machine of a trace: none before the first platform.
+/// The machine of a trace, if a platform has already opened one.
 #[derive(Drop)]
 pub struct TraceMachine {
     rmm: Option<Rmm<PlainStore>>,
@@ -61,7 +61,7 @@ impl TraceMachine {
         Ok(())
     }
 
-    // Answers a question that is no platform.
+    // Answers a question that is not a platform.
     fn answer_here(&mut self, question: &[TraceWord], reply: &mut TraceReply)
         ensures { (reply.new, self.new) ≡ specs.answered_in question.now self.old }
     {

@@ -7,7 +7,7 @@ use crate::place::{DONE, FAULT};
 use crate::put::put;
 use rmm_trace::{Atom, Sentence};
 
-// Appends whether the host's access is done.
+// Appends `done` or `fault` for an access by the host.
 pub(crate) fn put_access(answer: &mut Sentence, is_done: bool)
     requires { length answer.old.items < 64 }
     ensures items { answer.new.items ≡ put_word (memory.access_atom is_done) answer.old.items }
@@ -16,7 +16,7 @@ pub(crate) fn put_access(answer: &mut Sentence, is_done: bool)
     put(answer, Atom::Name(if is_done { DONE } else { FAULT }));
 }
 
-// Appends the word that a load returns.
+// Appends the word that a load returned, or `fault`.
 pub(crate) fn put_load(answer: &mut Sentence, loaded: Option<u64>)
     requires { length answer.old.items < 64 }
     ensures { answer.new.items ≡ put_word (memory.load_atom loaded) answer.old.items }

@@ -58,7 +58,7 @@ pub const OPERANDS: [[OperandForm; 5]; 23] = [
     [Hexadecimal, Hexadecimal, Psci, Absent, Absent],
 ];
 
-// A status of PSCI as a word: the name of SUCCESS or DENIED, or else a number.
+// The atom for a PSCI status: a name for SUCCESS or DENIED, and a number for any other status.
 fn psci_atom(status: u64) -> Atom
     ensures { result ≡ naming.psci_atom status }
 {
@@ -89,7 +89,7 @@ fn put_operand(call: &mut Sentence, form: OperandForm, number: u64)
 /// The operand forms of a command without operands.
 pub const NO_OPERANDS: [OperandForm; 5] = [Absent, Absent, Absent, Absent, Absent];
 
-// The forms of the operands in a row; none past the last row.
+// The operand forms in row `place`; `NO_OPERANDS` past the last row.
 fn row_at(rows: &[[OperandForm; 5]], place: usize) -> [OperandForm; 5]
     ensures { result ≡ slice_index_or rows.now place NO_OPERANDS }
 {
@@ -100,7 +100,7 @@ fn row_at(rows: &[[OperandForm; 5]], place: usize) -> [OperandForm; 5]
     }
 }
 
-// The named call of a command, with its operands from the second word on.
+// The named call of a command, given the words after `smc`: the function identifier and the operands.
 #[tactic(auto, unfolding(crate::specs::Naming::named_call))]
 fn named_call(place: usize, words: &[TraceWord]) -> Sentence
     ensures { result.items ≡ naming.named_call place words.now }
@@ -132,7 +132,7 @@ pub fn named_question(question: &[TraceWord]) -> Option<Sentence>
 
 // ---- answers
 
-// The number of register `k` in a raw answer; `None` if the register is missing, or is `-`.
+// The number written for register `k` in a raw answer; `None` if the register is missing, or is `-`.
 fn written_number(words: &[TraceWord], k: usize) -> Option<u64>
     ensures { result ≡ naming.written_number words.now k }
 {

@@ -51,7 +51,7 @@ pub const OUTPUTS: [[usize; 4]; 23] = [
 // The output names of a command without outputs.
 pub const NO_OUTPUTS: [usize; 4] = [0, 0, 0, 0];
 
-// The names of the outputs in a row; none past the last row.
+// The output names in row `place`; `NO_OUTPUTS` past the last row.
 fn row_at(rows: &[[usize; 4]], place: usize) -> [usize; 4]
     ensures { result ≡ slice_index_or rows.now place NO_OUTPUTS }
 {
@@ -62,7 +62,7 @@ fn row_at(rows: &[[usize; 4]], place: usize) -> [usize; 4]
     }
 }
 
-// The names of the outputs of a command; none for a place that is no command's.
+// The output names of a command; `NO_OUTPUTS` if no command has its name at this place.
 #[tactic(auto, unfolding(crate::specs::Outputs::outputs_of))]
 pub(crate) fn outputs_of(place: usize) -> [usize; 4]
     ensures { result ≡ specs.outputs_of place }
@@ -70,7 +70,7 @@ pub(crate) fn outputs_of(place: usize) -> [usize; 4]
     row_at(&OUTPUTS, place)
 }
 
-// The place of a function identifier in a list.
+// The index of a function identifier in a list, if the list has it.
 fn place_in(functions: &[u64], function: u64) -> Option<usize>
     ensures { result ≡ position_from (λ f. f == function) 0 functions.now }
 {
@@ -82,7 +82,7 @@ fn place_in(functions: &[u64], function: u64) -> Option<usize>
     None
 }
 
-// The place of the command with a function identifier; the place after the last command for any other number.
+// The place of the command with this function identifier; for any other number, the place after the last command.
 #[tactic(auto, unfolding(crate::specs::Outputs::command_place))]
 pub(crate) fn command_place(function: u64) -> usize
     ensures { result ≡ specs.command_place function }
@@ -97,7 +97,7 @@ fn has_top(place: usize) -> bool
     place == RMI_RTT_DESTROY || place == RMI_DATA_DESTROY || place == RMI_RTT_UNMAP_UNPROTECTED
 }
 
-// Whether a command returns an output together with a result in X0.
+// Whether a command that returns this X0 also returns the output with this name.
 #[tactic(auto, unfolding(crate::specs::Outputs::is_returned))]
 pub(crate) fn is_returned(place: usize, x0: u64, name: usize) -> bool
     ensures { result ≡ specs.is_returned place x0 name }
@@ -120,7 +120,7 @@ pub(crate) fn put_returned(answer: &mut Sentence, place: usize, x0: u64, name: u
     }
 }
 
-// Appends the result word of a call, with its index.
+// Appends the status in X0, and its index if an index is shown.
 #[tactic(auto, unfolding(crate::specs::Outputs::put_status))]
 pub(crate) fn put_status(answer: &mut Sentence, x0: u64)
     requires { length answer.old.items ≤ 62 }
@@ -159,7 +159,7 @@ fn put_register(answer: &mut Sentence, name: usize, value: u64)
     }
 }
 
-// Appends X0 and the outputs of a raw call.
+// Appends X0 and the output registers of a raw call.
 #[tactic(auto, unfolding(crate::specs::Outputs::put_registers))]
 pub(crate) fn put_registers(answer: &mut Sentence, place: usize, after: &Registers)
     requires { length answer.old.items ≤ 56 }

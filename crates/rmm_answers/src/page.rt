@@ -61,7 +61,8 @@ fn offset_in(fields: &[(usize, u64)], name: usize) -> u64
     0
 }
 
-// The offset of the next value: that of the field after a field's name, and eight bytes further after a value.
+// The offset for the value that follows a word: the field's offset if the word names a field, and otherwise eight bytes
+// further.
 fn next_offset(fields: &[(usize, u64)], at: u64, atom: Atom) -> u64
     ensures { result ≡ pages.next_offset fields.now at atom }
 {

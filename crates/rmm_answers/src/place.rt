@@ -1,5 +1,5 @@
-//! The places of the names that occur in answers. The theorem `answer_places_are_of_their_names` says which name is at
-//! each place.
+//! Constants for names that occur in answers: the place of each name in the table of names. The theorem
+//! `answer_places_are_of_their_names` says which name is at each place.
 pub const DONE: usize = 116;
 
 pub const FAULT: usize = 117;

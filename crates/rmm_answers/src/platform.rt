@@ -1,4 +1,4 @@
-//! Platforms, and their settings in the words of a question.
+//! Platforms, and the settings that the words of a question give them.
 ghost use Rattle.std.specs.Prelude.{◌≡◌, ◌<◌, ◌≤◌, ◌==◌, IfOk, Some, replicate};
 ghost use Rattle.granule_addr.specs.Page.{zero_page};
 ghost use Rattle.rmm_granules.specs.Inside.{platform_machine};
@@ -19,7 +19,7 @@ use rmm_trace::place::{
 use rmm_trace::{Atom, TraceWord, after_name, operand};
 use std::alloc::{AllocError, Global};
 
-// The number after a setting's name, or its default.
+// The number that the words give a setting, or the setting's default.
 fn number_after(words: &[TraceWord], name: usize, default: u8) -> u8
     ensures { result ≡ platforms.number_after words.now name default }
 {
@@ -100,7 +100,7 @@ fn open_granules(
     }
 }
 
-// Opens the fresh RMM of a platform, by the words after the name `platform`.
+// Opens a fresh RMM for a platform, given the words after the name `platform`.
 #[tactic(auto, unfolding(crate::specs::Platform::machine_of_platform))]
 fn open(alloc: Global, words: &[TraceWord]) -> Result<Option<Rmm<PlainStore>>, AllocError>
     ensures { IfOk result (λ rmm. rmm ≡ platforms.machine_of_platform words.now) }
@@ -122,7 +122,7 @@ pub fn is_platform(question: &[TraceWord]) -> bool
     first_place(question) == PLATFORM
 }
 
-/// Opens the fresh RMM of a platform. None comes if this RMM has no such platform. A platform has 1 to 4,096 granules
+/// Opens a fresh RMM for a platform. None comes if this RMM has no such platform. A platform has 1 to 4,096 granules
 /// below 2^47.
 pub fn open_platform(
     alloc: Global,

@@ -1,4 +1,4 @@
-//! Answers to readings of the machine. No firmware offers a host these readings.
+//! Answers to readings of the machine's state. No firmware offers a host these readings.
 ghost use Rattle.std.specs.Prelude.{◌≡◌, ◌+◌, ◌<◌, ◌≤◌, length, take, []};
 ghost use Rattle.std.specs.List.{sum};
 ghost use Rattle.rmm_model.specs.Command.PsciComplete as completion;
@@ -50,7 +50,7 @@ pub(crate) fn state_atom(state: Option<RmmGranuleState>) -> Atom
 
 // ---- sums
 
-// Whether the page of a granule has the RMM's own content.
+// Whether the page of a granule in this state holds the RMM's own data.
 fn is_own(state: RmmGranuleState) -> bool
     ensures { result ≡ readings.is_own state }
 {
@@ -153,7 +153,7 @@ fn put_realm(answer: &mut Sentence, realm: &RmmRealm, base: u64)
     put_number(answer, RECS, u64::from(realm.rec_count));
 }
 
-// Answers the attributes of a realm.
+// Answers with the attributes of the realm whose RD is at an address, or with `none`.
 pub(crate) fn answer_realm<S: PageStore>(answer: &mut Sentence, rmm: &Rmm<S>, address: u64)
     requires { answer.old.items ≡ [] }
     ensures { answer.new.items ≡ readings.realm_answer (readings.realm_named rmm.now address) rmm.now.settings.base }
@@ -174,7 +174,8 @@ fn first_half(bytes: &[u8]) -> [u8; 32]
     half
 }
 
-// The digest that a measurement has with a hash algorithm. In a measurement a digest of 32 bytes has zeros after it.
+// The digest in a measurement that was made with a hash algorithm. In a measurement a digest of 32 bytes has zeros
+// after it.
 fn digest_of(hash: HashAlgorithm, rim: [u8; 64]) -> Digest
     ensures { result ≡ readings.digest_of hash rim }
 {
@@ -184,7 +185,7 @@ fn digest_of(hash: HashAlgorithm, rim: [u8; 64]) -> Digest
     }
 }
 
-// Answers the initial measurement of a realm.
+// Answers with the initial measurement of the realm whose RD is at an address, or with `none`.
 pub(crate) fn answer_rim<S: PageStore>(reply: &mut TraceReply, rmm: &Rmm<S>, address: u64)
     requires { reply.old ≡ no_answer }
     ensures { reply.new ≡ readings.rim_reply (readings.realm_named rmm.now address) }
@@ -197,7 +198,7 @@ pub(crate) fn answer_rim<S: PageStore>(reply: &mut TraceReply, rmm: &Rmm<S>, add
 
 // ---- RECs
 
-// Whether the host has to complete a request.
+// Whether a PSCI request is one that the host has to complete.
 fn is_pending(psci: PsciRequest) -> bool
     ensures { result ≡ completion.is_pending psci }
 {
@@ -255,7 +256,7 @@ fn put_rec<S: PageStore>(answer: &mut Sentence, rmm: &Rmm<S>, address: u64, rec:
     put_word(answer, GPR0, rmm.word(address, 0).unwrap_or(0));
 }
 
-// Answers the attributes of a REC.
+// Answers with the attributes of the REC at an address, or with `none`.
 pub(crate) fn answer_rec<S: PageStore>(answer: &mut Sentence, rmm: &Rmm<S>, address: u64)
     requires { answer.old.items ≡ [] }
     ensures { answer.new.items ≡ readings.rec_answer rmm.now address (rec_named rmm.now address) }

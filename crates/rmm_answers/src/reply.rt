@@ -1,4 +1,4 @@
-//! Answers to questions.
+//! The reply to a question, and its comparison with a written answer.
 ghost use Rattle.std.specs.Prelude.{◌≡◌, ◌++◌, OnErr, OnOk};
 ghost use Rattle.std.specs.Str.{bytes_eq};
 ghost use Rattle.rmm_answers.specs.Replies as replies;
@@ -29,7 +29,7 @@ pub struct TraceReply {
 }
 
 impl Digest {
-    // Whether a text has the digits of the digest.
+    // Whether a text consists of the digest's digits.
     fn is_text(&self, text: &[u8]) -> bool
         ensures { result ≡ bytes_eq text.now (replies.digest_text self.now) }
     {
@@ -100,7 +100,7 @@ impl TraceReply {
         self.refused = None;
     }
 
-    /// Sets the answer to a line that is no command.
+    /// Sets the answer to `no command`, which is the answer to a line that is not a command.
     #[tactic(auto, unfolding(crate::specs::Replies::no_command))]
     pub fn no_command(&mut self)
         ensures { self.new ≡ replies.no_command }

@@ -6,7 +6,7 @@ ghost use Rattle.rmm_answers.specs.Words as specs;
 use rmm_trace::place::DASH;
 use rmm_trace::{Atom, TraceWord};
 
-// The place of the name that a question begins with; the place of `-` if it begins with no name.
+// The place of the name that a question begins with; the place of `-` if it does not begin with a name.
 pub(crate) fn first_place(words: &[TraceWord]) -> usize
     ensures { result ≡ specs.first_place words.now }
 {

@@ -93,7 +93,7 @@ fn flag(holds: bool) -> u64
     if holds { 1 } else { 0 }
 }
 
-// Whether the host has to complete a request.
+// Whether the host has to complete a PSCI request.
 fn is_pending(psci: PsciRequest) -> bool
     ensures { result ≡ completion.is_pending psci }
 {

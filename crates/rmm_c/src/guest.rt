@@ -19,7 +19,7 @@ pub struct RawStep {
     pub d: u64,
 }
 
-/// The result of a step: its kind, and its value, 0 if there is none.
+/// The result of a guest's step: its kind, and its value, or 0 if it has no value.
 #[repr(C)]
 #[derive(Drop)]
 pub struct GuestStepResult {
@@ -42,10 +42,10 @@ impl RawStep {
     }
 }
 
-// The answer to a step if no REC is at the address.
+// The return value of `rmm_guest` if no REC is at the address.
 const NO_REC: u64 = 2;
 
-// The number of the answer to a step.
+// The return value of `rmm_guest` for the answer to a step.
 fn code(queued: Queued) -> u64
     ensures { result ≡ queued_code queued }
 {

@@ -1,4 +1,4 @@
-//! The handles by which C keeps RMMs.
+//! The handles through which C programs keep RMMs.
 ghost use Rattle.std.specs.Prelude.{◌≡◌, Some, None, IfSome, IfNone, is_some};
 
 use crate::{HeldRmm, PlainRmm};
@@ -6,7 +6,8 @@ use box_parts::BoxParts;
 use std::alloc::Global;
 use std::mem::replace;
 
-/// The handle by which C keeps an RMM. A closed handle has no RMM. A handle whose bytes are all 0 is closed.
+/// A handle through which a C program keeps an RMM. A closed handle has no RMM. A handle whose bytes are all 0 is
+/// closed.
 #[repr(C)]
 #[derive(Drop)]
 pub struct RmmHandle {

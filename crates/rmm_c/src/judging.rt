@@ -1,4 +1,4 @@
-//! Judgements of calls: the check that decides, and the words that an RMM may answer with.
+//! Judgements of calls: the check that decides a call, and the result words that an RMM may return.
 ghost use Rattle.std.specs.Prelude.{◌≡◌};
 ghost use Rattle.std.specs.List.{list_any};
 ghost use Rattle.rmi_abi.specs.Call.{call_in};
@@ -12,10 +12,10 @@ use rmm_checks::{CheckOutcome, EvaluatedCheck, checks_of};
 use rmm_model::FailedCondition;
 use std::alloc::Global;
 
-// The X0 after a function that is no command. SMCCC 1.2, NOT_SUPPORTED.
+// The value of X0 after a call of a function that is not a command. SMCCC 1.2, NOT_SUPPORTED.
 const NOT_SUPPORTED: u64 = 0xFFFF_FFFF_FFFF_FFFF;
 
-// The number of the check by which a call is refused; 0 if it is not.
+// The number of the check by which a call is refused, or 0 if it is not refused.
 fn check_number(refusal: Option<FailedCondition>) -> u64
     ensures { result ≡ judging.check_number refusal }
 {
@@ -59,7 +59,7 @@ fn has_word(rows: &[EvaluatedCheck], x0: u64) -> bool
     rows.iter().any(|row| refuses_with(&row.outcome, x0))
 }
 
-// Whether evaluated checks allow an X0.
+// Whether evaluated checks allow this value of X0.
 #[tactic(auto, using(crate::proofs::Allowed::failed_any, crate::proofs::Allowed::passed_any))]
 fn allows(rows: &[EvaluatedCheck], x0: u64) -> bool
     ensures { result ≡ judging.is_among_words x0 (or_success (failed_words rows.now)) }
@@ -71,7 +71,7 @@ fn allows(rows: &[EvaluatedCheck], x0: u64) -> bool
     }
 }
 
-// Whether an RMM may answer a call with an X0.
+// Whether an RMM may answer a call with this value of X0.
 fn is_allowed(plain: &PlainRmm, registers: Registers, x0: u64) -> bool
     ensures { result ≡ judging.is_answer_of_call (call_in registers) x0 plain.now }
 {
@@ -81,7 +81,8 @@ fn is_allowed(plain: &PlainRmm, registers: Registers, x0: u64) -> bool
     }
 }
 
-/// The number of the check that decides a call with these registers on the machine as it is. The call is not performed.
+/// The number of the check that decides a call with these registers in the machine's current state. The call is not
+/// performed.
 ///
 /// It is 0 if no check fails, for a function that is no command, and on a closed handle. The numbers are those of the
 /// failure conditions in `rmm_model::Condition`, from 1 on.
@@ -103,7 +104,7 @@ pub extern "C" fn rmm_deciding_check(
     check
 }
 
-/// Whether an RMM may return this X0 for a call with these registers on the machine as it is. The call is not
+/// Whether an RMM may return this X0 for a call with these registers in the machine's current state. The call is not
 /// performed.
 ///
 /// It may be the word of each check that is made and fails, and RMI_SUCCESS if none does. For a function that is no

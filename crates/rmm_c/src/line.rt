@@ -1,4 +1,4 @@
-//! Lines of a trace on a handle.
+//! The function that performs a line of a trace on a handle.
 ghost use Rattle.std.specs.Prelude.{◌≡◌, ◌≢◌, None, Some, IfOk, OnOk, OnErr, option_map};
 ghost use Rattle.rmm_answers.specs.Answering.{answered};
 ghost use Rattle.rmm_answers.specs.Replies.{reply_text};
@@ -9,7 +9,7 @@ use rmm_answers::{TraceReply, answer_on, is_platform, open_platform};
 use rmm_trace::{LineKind, RmmTraceLine, SentenceText, TraceWord};
 use std::alloc::{AllocError, Global};
 
-// The result of a line that is not answered.
+// The return value for a line that is not answered.
 const NOT_ANSWERED: u64 = 0xFFFF_FFFF_FFFF_FFFF;
 
 // ---- questions
@@ -39,7 +39,7 @@ fn answer_here(
     Ok(())
 }
 
-// Answers a question on a closed handle: a platform opens an RMM.
+// Answers a question on a closed handle, where a `platform` question opens an RMM.
 #[tactic(auto, unfolding(rmm_answers::specs::Answering::answered))]
 fn answer_closed(
     alloc: Global,
@@ -83,7 +83,7 @@ fn answer_question(
     answered
 }
 
-// Answers a line on a handle. After an error nothing has changed.
+// Performs a line of a trace on a handle, and returns the answer. After an error nothing has changed.
 fn answer_line(alloc: Global, handle: &mut RmmHandle, line: &[u8]) -> Result<TraceReply, AllocError>
     ensures ok { IfOk result (λ reply. (reply, handle.new.held.machine) ≡ lines.on_line line.now handle.old.held.machine) }
     ensures err { OnErr result (handle.new.held.machine ≡ handle.old.held.machine) }
@@ -130,7 +130,7 @@ fn put_text(text: &[u8], buffer: &mut [u8])
     buffer[kept] = 0;
 }
 
-/// Performs a line of a trace, and writes our answer to it: the text that `rmitrace answer` puts after ` = `.
+/// Performs a line of a trace, and writes the answer to it: the text that `rmitrace answer` puts after ` = `.
 ///
 /// A zero ends the text, and a text without enough room is cut before it. Returns the length of the whole text, which is
 /// 0 for a comment and for a platform. A platform gives the handle a fresh RMM, also a closed one.

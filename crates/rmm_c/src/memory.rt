@@ -1,4 +1,4 @@
-//! Loads and stores of the host, by bytes within one granule.
+//! The host's loads and stores of bytes within one granule.
 ghost use Rattle.std.specs.Prelude.{◌≡◌, length};
 ghost use Rattle.rmm.specs.Bytes.{loaded_bytes};
 ghost use Rattle.rmm_c.specs.Memory as memory;
@@ -7,7 +7,7 @@ ghost use Rattle.rmm_c.specs.Reading.{Reports, Reads};
 use crate::{PlainRmm, RmmHandle};
 use std::alloc::Global;
 
-// Loads the bytes from an address on; if the host faults, the buffer stays as it is.
+// Loads the bytes from an address on, or leaves the buffer unchanged if the host faults.
 fn load_bytes(plain: &PlainRmm, address: u64, bytes: &mut [u8]) -> bool
     ensures { Reports (loaded_bytes plain.now address (length bytes.old)) bytes.old result bytes.new }
 {

@@ -5,7 +5,7 @@ ghost use Rattle.rmm_c.specs.Settings.{is_machine, opened_machine};
 use crate::{PlainRmm, PlatformSettings, RmmHandle};
 use std::alloc::Global;
 
-// The answers of `rmm_open`.
+// The return values of `rmm_open`.
 const OPENED: u64 = 0;
 
 const NO_MACHINE: u64 = 1;
@@ -14,7 +14,7 @@ const NO_MEMORY: u64 = 2;
 
 const ALREADY_OPEN: u64 = 3;
 
-/// Opens a closed handle, with a fresh RMM of these settings. Each granule is UNDELEGATED, and its bytes are 0.
+/// Opens a closed handle with a fresh RMM that has these settings. Each granule is UNDELEGATED, and its bytes are 0.
 ///
 /// Returns 0 if the handle is open now; else nothing changes. 3 comes exactly if it was open, and 2 if allocation
 /// failed. 1 comes exactly if it was closed and no machine has these settings.
@@ -51,7 +51,7 @@ pub extern "C" fn rmm_open(
     OPENED
 }
 
-/// Closes a handle, and gives its memory back. A closed one stays closed.
+/// Closes a handle, and frees the memory of its RMM. A closed one stays closed.
 #[unsafe(no_mangle)]
 pub extern "C" fn rmm_close(alloc: Global, handle: &mut RmmHandle)
     ensures { handle.new.held.machine ≡ None }

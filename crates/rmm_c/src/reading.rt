@@ -1,4 +1,4 @@
-//! Readings of a machine. No firmware offers a host these readings.
+//! Readings of a machine's state. No firmware offers a host these readings.
 ghost use Rattle.std.specs.Prelude.{◌≡◌};
 ghost use Rattle.rmm.specs.Reading.{word_shown};
 ghost use Rattle.rmm_c.specs.Reading as shown;
@@ -21,7 +21,7 @@ pub(crate) fn report<T: Drop>(read: Option<T>, into: &mut T) -> bool
     }
 }
 
-// The number of the state of the granule at an address.
+// The number for the state of the granule at an address.
 fn state_of(plain: &PlainRmm, address: u64) -> Option<u64>
     ensures { result ≡ shown.state_code_shown address plain.now }
 {
@@ -95,7 +95,7 @@ pub extern "C" fn rmm_read_word(
     report(found, word)
 }
 
-/// Writes the attributes of the realm whose RD is at an address to `realm`. Returns false, and writes nothing, if no RD
+/// Writes to `realm` the attributes of the realm whose RD is at an address. Returns false, and writes nothing, if no RD
 /// is there.
 #[unsafe(no_mangle)]
 pub extern "C" fn rmm_read_realm(

@@ -1,4 +1,4 @@
-//! The C form of settings.
+//! The C form of a platform's settings.
 ghost use Rattle.std.specs.Prelude.{◌≡◌, true};
 ghost use Rattle.rmm_c.specs.Settings as settings;
 
@@ -84,7 +84,7 @@ impl PlatformSettings {
         }
     }
 
-    // The platform of the settings; `None` comes for a setting out of its range.
+    // The platform with these settings, or `None` if a setting is out of its range.
     pub(crate) fn platform(&self) -> Option<Platform>
         ensures { result ≡ settings.platform_of self.now }
     {

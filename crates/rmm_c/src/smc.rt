@@ -1,4 +1,4 @@
-//! Calls by registers.
+//! Calls made in registers.
 ghost use Rattle.std.specs.Prelude.{◌≡◌};
 ghost use Rattle.rmm_c.specs.Smc.{call_of, smc_registers, on_smc};
 

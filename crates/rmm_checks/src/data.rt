@@ -65,21 +65,21 @@ pub fn data_destroy<S: PageStore>(granules: &Granules<S>, rd: u64, ipa: u64) -> 
 
 // ---- RMI_DATA_CREATE
 
-// Whether the flags above bit 0 are clear, or the settings ignore these flags.
+// Whether the flags above bit 0 are clear, or the RMM's settings ignore them.
 fn are_flags_valid(settings: &RmmSettings, flags: u64) -> bool
     ensures { result ≡ creating.are_flags_valid settings.now flags }
 {
     settings.ignores_data_flags || flags <= 1
 }
 
-// Whether the RIPAS of an entry is RAM, or the settings do not require RAM.
+// Whether the RIPAS of an entry is RAM, or the RMM's settings do not require RAM.
 fn is_ripas_right(settings: &RmmSettings, entry: RmmRttEntry) -> bool
     ensures { result ≡ creating.is_ripas_right settings.now entry }
 {
     !settings.data_needs_ram || entry.ripas().is_ram()
 }
 
-// Adds the checks of flags, of a source page of the host, and of a DELEGATED granule.
+// Adds the checks that flags are valid, that a source is a page of the host, and that a granule is DELEGATED.
 fn add_source<S: PageStore>(
     checks: &mut EvaluatedChecks,
     granules: &Granules<S>,

@@ -1,4 +1,4 @@
-//! Entries where walks end, and their checks.
+//! Entries at which walks end, and the checks on them.
 ghost use Rattle.std.specs.Prelude.{◌≡◌, ◌+◌, ◌≤◌, ◌==◌, Bool, not, nat_le, true, false, [], ◌∷◌, length, is_some};
 ghost use Rattle.rmi_abi.specs.declared.registers.SmcResult.{SmcResult as Registers};
 ghost use Rattle.rmm_model.specs.declared.condition.Condition.TheVariants.{RttWalk as WalkEnds, RtteState};
@@ -18,7 +18,7 @@ use rmm_model::{Condition, RmmRttEntry, has_live};
 
 // ---- answers
 
-// RMI_ERROR_RTT with the level of a table, and the address of the next live entry in X2.
+// The answer RMI_ERROR_RTT with the level of a table, and with the address `top` in X2.
 pub fn rtt_top(level: u8, top: u64) -> SmcResult
     ensures { result ≡ error_rtt_top top level }
 {
@@ -28,7 +28,7 @@ pub fn rtt_top(level: u8, top: u64) -> SmcResult
     }
 }
 
-// RMI_ERROR_RTT with the level of a table, and the address of the next live entry in X1.
+// The answer RMI_ERROR_RTT with the level of a table, and with the address `top` in X1.
 pub fn rtt_next(level: u8, top: u64) -> SmcResult
     ensures { result ≡ error_rtt_next top level }
 {

@@ -1,4 +1,4 @@
-//! Evaluated checks.
+//! The checks of a call with their outcomes.
 ghost use Rattle.std.specs.Prelude.{◌≡◌, ◌+◌, ◌<◌, [], ◌∷◌, length};
 ghost use Rattle.rmm_model.specs.Allowed.{condition_number};
 ghost use Rattle.rmm_model.specs.Check.{check, error_input, error_realm, error_rec, error_rtt};
@@ -14,11 +14,11 @@ use std::marker::Model;
 pub enum CheckOutcome {
     NotMade,
     Passed,
-    /// A failed check, with the answer of the command if this check decides.
+    /// A failed check, with the answer that the command gives if this check decides.
     Failed(SmcResult),
 }
 
-/// A check of a call, by its failure condition, and its outcome.
+/// A check of a call, given by its failure condition, with its outcome.
 #[derive(Clone, Copy)]
 pub struct EvaluatedCheck {
     pub condition: Condition,

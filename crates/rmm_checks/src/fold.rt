@@ -38,7 +38,7 @@ fn is_homogeneous_below<S: PageStore>(granules: &Granules<S>, entry: RmmRttEntry
     }
 }
 
-// Whether a fold of the table that an entry leads to would give a block at a level without blocks.
+// Whether folding the table that an entry leads to would make a block at a level that cannot have blocks.
 fn is_too_high_below<S: PageStore>(granules: &Granules<S>, entry: RmmRttEntry, level: u8) -> bool
     ensures { is_some (walks.table_below granules.now entry) ≡ true
         → result ≡ command.is_block_too_high granules.now.settings (page_below granules.now entry) level }

@@ -1,4 +1,4 @@
-//! Answers that evaluated checks allow.
+//! The answers to a call that its evaluated checks allow.
 ghost use Rattle.std.specs.Prelude.{◌≡◌, None};
 ghost use Rattle.std.specs.List.{list_any};
 ghost use Rattle.rmm_checks.specs.Evaluated as specs;
@@ -74,14 +74,14 @@ fn has_word(rows: &[EvaluatedCheck], word: Word) -> bool
 }
 
 impl EvaluatedChecks {
-    /// The refusal by the check that decides.
+    /// The refusal by the check that decides, which is the first one that was made and failed.
     pub fn deciding(&self) -> Option<FailedCondition>
         ensures { result ≡ specs.first_failed self.now }
     {
         first_failed(self.rows())
     }
 
-    /// Whether an RMM may answer with a word.
+    /// Whether an RMM may answer the call with a given word.
     #[tactic(auto, using(crate::proofs::Words::allowed_failed, crate::proofs::Words::allowed_success))]
     pub fn allows(&self, word: Word) -> bool
         ensures { result ≡ specs.is_allowed self.now word }

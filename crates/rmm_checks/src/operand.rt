@@ -1,4 +1,4 @@
-//! Operands that are addresses of granules, and their checks.
+//! Operands that are addresses of granules, and the checks on them.
 ghost use Rattle.std.specs.Prelude.{◌≡◌, ◌+◌, ◌<◌, ◌≤◌, length, IfSome, IfNone};
 ghost use Rattle.rmm_model.specs.Machine as machine;
 ghost use Rattle.rmm_model.specs.Machine.{granule_count, granule_at, number_of};
@@ -28,7 +28,7 @@ pub fn number_at<S: PageStore>(granules: &Granules<S>, address: u64) -> u64
     address.saturating_sub(granules.settings().base) / 4096
 }
 
-// The granule that an address lies in.
+// The granule that an address lies in, if the machine has it.
 pub fn covering<S: PageStore>(granules: &Granules<S>, address: u64) -> Option<Gran>
     ensures number { IfSome result (λ granule. granule ≡ number_of granules.now address) }
     ensures inside { IfSome result (λ granule. granule < granule_count granules.now) }

@@ -19,7 +19,7 @@ fn is_same(a: u64, b: u64) -> bool
     a == b
 }
 
-// Adds the checks of a PSCI request and its completion. The request is pending, both RECs belong to one realm, the
+// Adds the checks that a PSCI request can be completed. The request is pending, both RECs belong to one realm, the
 // second is the target, and the status is one that the host may give.
 #[tactic(auto, unfolding(rmm_model::specs::Command::PsciComplete::request_checks))]
 fn add_request<S: PageStore>(

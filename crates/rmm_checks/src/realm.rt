@@ -1,4 +1,4 @@
-//! RDs as operands, and IPAs of their realms.
+//! RDs and IPAs as operands, and the checks of RMI_REALM_ACTIVATE.
 ghost use Rattle.std.specs.Prelude.{◌≡◌, ◌+◌, ◌<◌, ◌≤◌, ◌&&◌, nat_le, length, IfSome};
 ghost use Rattle.rmm_model.specs.Granule.{realm_of};
 ghost use Rattle.rmm_model.specs.Level as levels;
@@ -18,7 +18,7 @@ use rmm_model::{Condition, RmmRealm, RmmRealmState};
 
 // ---- realms
 
-// The realm of the RD at an address.
+// The realm of the RD at an address, if there is one.
 #[tactic(auto, using(crate::proofs::Outside::outside))]
 pub fn realm_named<S: PageStore>(granules: &Granules<S>, rd: u64) -> Option<RmmRealm>
     ensures value { result ≡ realm_of (state_at granules.now rd) }
@@ -30,7 +30,7 @@ pub fn realm_named<S: PageStore>(granules: &Granules<S>, rd: u64) -> Option<RmmR
     }
 }
 
-// The width of the realm at an address; 0 if there is no realm.
+// The IPA width of an RD's realm, in bits; 0 if there is no realm.
 pub fn s2sz_at<S: PageStore>(granules: &Granules<S>, rd: u64) -> u8
     ensures value { result ≡ (realm_at granules.now rd).s2sz }
     ensures narrow { result ≤ 48 }
@@ -41,7 +41,7 @@ pub fn s2sz_at<S: PageStore>(granules: &Granules<S>, rd: u64) -> u8
     }
 }
 
-// The starting level of the realm at an address; 0 if there is no realm.
+// The starting level of an RD's realm; 0 if there is no realm.
 pub fn start_level_at<S: PageStore>(granules: &Granules<S>, rd: u64) -> u8
     ensures value { result ≡ (realm_at granules.now rd).start_level }
     ensures low { result ≤ 3 }
@@ -52,7 +52,7 @@ pub fn start_level_at<S: PageStore>(granules: &Granules<S>, rd: u64) -> u8
     }
 }
 
-// Whether the realm at an address is NEW; `true` if there is no realm.
+// Whether an RD's realm is NEW; `true` if there is no realm.
 pub fn is_new_at<S: PageStore>(granules: &Granules<S>, rd: u64) -> bool
     ensures { result ≡ realms.is_new (realm_at granules.now rd).state }
 {
@@ -149,7 +149,7 @@ pub fn add_new<S: PageStore>(checks: &mut EvaluatedChecks, granules: &Granules<S
     );
 }
 
-// Adds the checks of a level from `least` on, and of an IPA at which an entry `above` levels higher begins.
+// Adds the checks that a level is from `least` to 3, and that an entry `above` levels higher begins at an IPA.
 pub fn add_ipa<S: PageStore>(
     checks: &mut EvaluatedChecks,
     granules: &Granules<S>,

@@ -49,7 +49,7 @@ fn is_hash(code: u8) -> bool
     code <= 1
 }
 
-// Whether the starting tables in the parameters of a realm serve its IPA width; `false` for more than 48 bits.
+// Whether the starting tables that a realm's parameters ask for serve its IPA width; `false` for more than 48 bits.
 fn is_served(p: &RealmParams) -> bool
     ensures { p.now.s2sz ≤ 48
         → result ≡ can_begin p.now.s2sz p.now.rtt_level_start p.now.rtt_num_start }
@@ -57,8 +57,8 @@ fn is_served(p: &RealmParams) -> bool
     p.s2sz <= 48 && is_start(p.s2sz, p.rtt_level_start, p.rtt_num_start)
 }
 
-// Whether the starting tables in the parameters of a realm begin at a multiple of their size; `false` if there are
-// none.
+// Whether the starting tables that a realm's parameters ask for begin at a multiple of their total size; `false` if
+// there are none.
 fn is_base_aligned(p: &RealmParams) -> bool
     ensures { 0 < p.now.rtt_num_start
         → result ≡ (p.now.rtt_base % (p.now.rtt_num_start * 4096) == 0) }
@@ -70,7 +70,7 @@ fn is_base_aligned(p: &RealmParams) -> bool
     p.rtt_base % size == 0
 }
 
-// Adds the checks that a realm can have the parameters, and that its RD is none of its starting tables.
+// Adds the checks that a realm's parameters are valid and supported, and that its RD is none of its starting tables.
 #[tactic(auto, unfolding(rmm_model::specs::Command::RealmCreate::params_checks))]
 fn add_params(checks: &mut EvaluatedChecks, settings: &RmmSettings, p: &RealmParams, rd: u64)
     requires room { length checks.old + 5 ≤ 18 }
@@ -97,7 +97,7 @@ fn add_params(checks: &mut EvaluatedChecks, settings: &RmmSettings, p: &RealmPar
 
 // ---- what the realm takes
 
-// Adds the checks that the starting tables can be used, and that the VMID is valid and free.
+// Adds the checks that a realm's starting tables can be used, and that its VMID is valid and free.
 fn add_free<S: PageStore>(checks: &mut EvaluatedChecks, granules: &Granules<S>, p: &RealmParams)
     requires room { length checks.old + 2 ≤ 18 }
     ensures rows { (q : Params) → (is_made checks.old (RttAlign ∷ []) ≡ true → p.now ≡ q)

@@ -12,7 +12,7 @@ use page_arena::PageStore;
 use rmm_granules::{Granules, OperandConditions};
 use rmm_model::{Condition, RmmRec};
 
-// The REC at an address.
+// The REC at an address, if there is one.
 pub fn rec_named<S: PageStore>(granules: &Granules<S>, address: u64) -> Option<RmmRec>
     ensures { result ≡ rec_in (machine.state_at granules.now address) }
 {

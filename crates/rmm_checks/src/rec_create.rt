@@ -33,7 +33,7 @@ pub struct RecFacts {
 
 // ---- parameters
 
-// The facts of the parameters in a page.
+// The facts about the REC parameters in a page.
 fn facts_of<S: PageStore>(granules: &Granules<S>, page: &[u8], rec: u64) -> RecFacts
     requires { length page.now ≡ 4096 }
     ensures { result ≡ facts_in granules.now page.now rec }
@@ -51,7 +51,7 @@ fn facts_of<S: PageStore>(granules: &Granules<S>, page: &[u8], rec: u64) -> RecF
     }
 }
 
-// The facts of the parameters at an address.
+// The facts about the REC parameters in the page at an address.
 fn facts_at<S: PageStore>(granules: &Granules<S>, params: u64, rec: u64) -> RecFacts
     ensures { is_inside granules.now params ≡ true
         → result ≡ facts_in granules.now (page_in granules.now (number_of granules.now params)) rec }
@@ -72,7 +72,7 @@ fn facts_at<S: PageStore>(granules: &Granules<S>, params: u64, rec: u64) -> RecF
 
 // ---- the realm
 
-// The number of the next REC of the realm at an address; 0 if there is no realm.
+// The number of the next REC of an RD's realm; 0 if there is no realm.
 fn next_rec_at<S: PageStore>(granules: &Granules<S>, rd: u64) -> u32
     ensures { result ≡ (realm_at granules.now rd).next_rec }
 {
@@ -82,7 +82,7 @@ fn next_rec_at<S: PageStore>(granules: &Granules<S>, rd: u64) -> u32
     }
 }
 
-// The number of RECs of the realm at an address; 0 if there is no realm.
+// The number of RECs of an RD's realm; 0 if there is no realm.
 fn rec_count_at<S: PageStore>(granules: &Granules<S>, rd: u64) -> u16
     ensures { result ≡ (realm_at granules.now rd).rec_count }
 {
@@ -92,7 +92,7 @@ fn rec_count_at<S: PageStore>(granules: &Granules<S>, rd: u64) -> u16
     }
 }
 
-// Whether the realm at an address has fewer RECs than it can have.
+// Whether an RD's realm has fewer RECs than it can have.
 fn can_have_more<S: PageStore>(granules: &Granules<S>, rd: u64) -> bool
     ensures { result
         ≡ nat_lt (realm_at granules.now rd).rec_count (2 ^ granules.now.settings.max_recs_order) }
@@ -100,7 +100,7 @@ fn can_have_more<S: PageStore>(granules: &Granules<S>, rd: u64) -> bool
     (rec_count_at(granules, rd) as u64) < 1 << granules.settings().max_recs_order
 }
 
-// Whether a number is that of the next REC of the realm at an address.
+// Whether a number is that of the next REC of an RD's realm.
 fn is_next<S: PageStore>(granules: &Granules<S>, rd: u64, number: u64) -> bool
     ensures { result ≡ nat_eq number (realm_at granules.now rd).next_rec }
 {
@@ -109,7 +109,7 @@ fn is_next<S: PageStore>(granules: &Granules<S>, rd: u64, number: u64) -> bool
 
 // ---- checks
 
-// Adds the checks of a REC's auxiliary granules: their number, addresses, distinctness and states.
+// Adds the checks of a REC's auxiliary granules: their number, their addresses, that they differ, and their states.
 fn add_aux(checks: &mut EvaluatedChecks, facts: &RecFacts)
     requires room { length checks.old + 5 ≤ 18 }
     ensures rows { (known : Facts) → (is_made checks.old (ParamsPas ∷ []) ≡ true → facts.now ≡ known)
@@ -136,7 +136,7 @@ fn add_aux(checks: &mut EvaluatedChecks, facts: &RecFacts)
     );
 }
 
-// Adds the checks that the MPIDR is the next one of a NEW realm, and that the realm can have one more REC.
+// Adds the checks that an MPIDR is that of a NEW realm's next REC, and that the realm can have one more REC.
 fn add_number<S: PageStore>(
     checks: &mut EvaluatedChecks,
     granules: &Granules<S>,

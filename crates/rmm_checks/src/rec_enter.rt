@@ -31,7 +31,7 @@ fn owner_realm<S: PageStore>(granules: &Granules<S>, address: u64) -> Option<Rmm
 
 // ---- the run page
 
-// The flags of the run page at an address.
+// The flags in the run page at an address.
 fn flags_at<S: PageStore>(granules: &Granules<S>, address: u64) -> u64
     ensures { is_inside granules.now address ≡ true
         → result ≡ flags_in (page_in granules.now (number_of granules.now address)) }
@@ -43,7 +43,7 @@ fn flags_at<S: PageStore>(granules: &Granules<S>, address: u64) -> u64
     }
 }
 
-// Whether the RMM's settings refuse the GIC fields of the run page at an address.
+// Whether the RMM's settings refuse the GIC fields in the run page at an address.
 fn is_gic_wrong<S: PageStore>(granules: &Granules<S>, address: u64) -> bool
     ensures { is_inside granules.now address ≡ true
         → result

@@ -26,14 +26,14 @@ fn is_empty(base: u64, top: u64) -> bool
     top <= base
 }
 
-// Whether the `size` addresses from `base` on end at `top` or below it.
+// Whether a range of `size` addresses from `base` on ends at `top` or below it.
 fn ends_within(base: u64, size: u64, top: u64) -> bool
     ensures { result ≡ nat_le (base + size) top }
 {
     size <= top && base <= top - size
 }
 
-// Adds the checks that a range begins with a whole entry, and that the entry can be changed.
+// Adds the checks that a range begins at the address of an entry and covers it, and that the entry can be changed.
 fn add_progress(
     checks: &mut EvaluatedChecks,
     after: &[Condition],
@@ -73,7 +73,7 @@ fn add_progress(
 
 // ---- RMI_RTT_INIT_RIPAS
 
-// Adds the checks of a range of pages in the protected half of a NEW realm.
+// Adds the checks that a range consists of pages at protected addresses, and that the realm is NEW.
 #[tactic(auto, unfolding(rmm_model::specs::Command::RttInitRipas::range_checks))]
 fn add_range<S: PageStore>(
     checks: &mut EvaluatedChecks,
@@ -167,7 +167,7 @@ fn is_rec_of<S: PageStore>(granules: &Granules<S>, rd: u64, rec: u64) -> bool
     }
 }
 
-// Adds the checks that a REC belongs to the realm and does not run, and that a range fits the REC's RIPAS request.
+// Adds the checks that a REC belongs to an RD's realm and does not run, and that a range fits the REC's RIPAS request.
 #[tactic(auto, unfolding(rmm_model::specs::Command::RttSetRipas::ripas_request_checks))]
 fn add_request<S: PageStore>(
     checks: &mut EvaluatedChecks,

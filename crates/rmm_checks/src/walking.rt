@@ -12,7 +12,7 @@ use rmm_model::{RmmRttEntry, RttWalk};
 
 // ---- walks of calls
 
-// The end of a walk, and the entry there.
+// The level at which a walk ends, the entry there, and the top that the walk gives.
 #[derive(Clone, Copy)]
 pub struct Reached {
     pub level: u8,
@@ -20,7 +20,7 @@ pub struct Reached {
     pub top: u64,
 }
 
-// The end of the walk of an IPA in an RD's realm towards a level, if the walk can be made.
+// The end of the walk towards a level for an IPA of an RD's realm, if the walk can be made.
 fn find<S: PageStore>(granules: &Granules<S>, rd: u64, ipa: u64, to: u64) -> Option<RttWalk>
     ensures found { can_walk granules.now rd ipa to ≡ true
         → IfSome result (λ found. found ≡ walks.walk granules.now (realm_at granules.now rd) ipa to) }
@@ -39,7 +39,7 @@ fn find<S: PageStore>(granules: &Granules<S>, rd: u64, ipa: u64, to: u64) -> Opt
     }
 }
 
-// The end of the walk of an IPA in an RD's realm towards a level, and the entry there.
+// The end of the walk towards a level for an IPA of an RD's realm, with the entry there.
 pub fn reach<S: PageStore>(granules: &Granules<S>, rd: u64, ipa: u64, to: u64) -> Reached
     ensures level { can_walk granules.now rd ipa to ≡ true
         → result.level ≡ (walks.walk granules.now (realm_at granules.now rd) ipa to).level }

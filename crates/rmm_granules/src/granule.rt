@@ -11,7 +11,7 @@ use granule_addr::Gran;
 use page_arena::PageStore;
 use rmm_model::RmmRealm;
 
-/// The granule `k` places after another.
+/// The granule whose number is `k` above that of `first`.
 pub fn granule_after(first: Gran, k: u16) -> Gran
     requires { first + k < 4096 }
     ensures { result ≡ first + k }
@@ -19,7 +19,7 @@ pub fn granule_after(first: Gran, k: u16) -> Gran
     Gran::from_number(first.number() + k)
 }
 
-/// The granule of the machine that an address lies in.
+/// The granule of the machine in which an address lies.
 #[tactic(auto, unfolding(rmm_model::specs::Walk::granule_named))]
 pub fn granule_named<S: PageStore>(granules: &Granules<S>, address: u64) -> Option<Gran>
     ensures value { result ≡ walks.granule_named granules.now address }
@@ -45,7 +45,7 @@ pub fn realm_in<S: PageStore>(granules: &Granules<S>, rd: Gran) -> Option<RmmRea
     }
 }
 
-/// Whether two owners of granules are the same: one RD, or none.
+/// Whether two granules have the same owner: the same RD, or none.
 pub fn is_same_owner(a: Option<Gran>, b: Option<Gran>) -> bool
     ensures { result ≡ completing.is_same_owner a b }
 {

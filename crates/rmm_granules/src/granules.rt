@@ -27,7 +27,7 @@ use std::marker::Model;
 // The number of 16-bit VMIDs.
 const VMIDS: u32 = 0x1_0000;
 
-/// The granules of a platform, each a page of a store with attributes, and the set of VMIDs that realms have.
+/// The granules of a platform, each with attributes and a page of a store, and the set of VMIDs that realms have.
 #[derive(Drop)]
 pub struct Granules<S: PageStore> {
     platform: Platform,
@@ -50,7 +50,7 @@ impl<S: PageStore> Model for Granules<S> {
     ghost invariant = { λ m. IsWhole m.platform m.granules.items m.vmids.items (S.page_bytes m.store) (S.free_flags m.store) };
 }
 
-// The attributes of UNDELEGATED granules.
+// The attributes of `count` UNDELEGATED granules.
 fn undelegated(alloc: Global, count: u16) -> Result<Vec<RmmGranule>, AllocError>
     ensures { IfOk result (λ v. v.items ≡ replicate count (of_no_realm Undelegated)) }
 {
@@ -64,7 +64,7 @@ fn no_vmids(alloc: Global, count: u32) -> Result<Vec<bool>, AllocError>
     vec![in alloc; false; count as usize]
 }
 
-// The attributes of UNDELEGATED granules, and the empty set of VMIDs.
+// The attributes of `count` UNDELEGATED granules, and the empty set of VMIDs.
 fn rows(alloc: Global, count: u16, vmids: u32) -> Result<(Vec<RmmGranule>, Vec<bool>), AllocError>
     ensures granules { IfOk result (λ r. r.0.items ≡ replicate count (of_no_realm Undelegated)) }
     ensures set { IfOk result (λ r. r.1.items ≡ replicate vmids false) }
@@ -75,8 +75,8 @@ fn rows(alloc: Global, count: u16, vmids: u32) -> Result<(Vec<RmmGranule>, Vec<b
 }
 
 impl<S: PageStore> Granules<S> {
-    /// The granules of a platform, all UNDELEGATED, over the pages of a store. There are as many as the store has pages.
-    /// An error returns the store as it was.
+    /// The granules of a platform, all UNDELEGATED, with the pages of a store. There are as many as the store has
+    /// pages. An error returns the store as it was.
     pub fn open(
         alloc: Global,
         platform: Platform,
@@ -263,7 +263,7 @@ impl<S: PageStore> Granules<S> {
         self.store.set_word(granule, index, word);
     }
 
-    /// Writes bytes into a granule's page, side by side from an offset on.
+    /// Writes bytes into a granule's page, from an offset on.
     pub fn write(&mut self, granule: Gran, offset: u16, bytes: &[u8])
         requires inside { granule < granule_count self.old }
         requires fits { offset + length bytes.now ≤ 4096 }
@@ -308,7 +308,7 @@ impl<S: PageStore> Granules<S> {
         self.store.fill(granule, value);
     }
 
-    /// Copies the page of a granule to another one.
+    /// Copies the bytes of one granule's page to that of another.
     pub fn copy(&mut self, target: Gran, source: Gran)
         requires target { target < granule_count self.old }
         requires source { source < granule_count self.old }

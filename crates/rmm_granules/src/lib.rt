@@ -1,8 +1,8 @@
-//! The granules of a platform over a store of pages, seen as a machine, with the readings that failure conditions need.
-//! RMM 1.0, RMI.
+//! The granules of a platform, kept in a store of pages and seen as a machine, and the readings that failure conditions
+//! need. RMM 1.0, RMI.
 //!
-//! Each call of `Granules` reads or writes one granule or VMID, and its contract says which in the words of `rmm_model`.
-//! So nothing above sees a store, its flags or its bytes. Memory is taken by `open` alone.
+//! Each call of `Granules` reads or writes one granule or VMID, and its contract says which in the words of
+//! `rmm_model`. So nothing above sees a store, its flags or its bytes. Memory is taken by `open` alone.
 //!
 //! The readings are granules by their addresses, walks and the entries where they end, pages of parameters, and
 //! requests of RECs. An RMM that ends at the first check that fails makes them, and a judge that evaluates all checks.

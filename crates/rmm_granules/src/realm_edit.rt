@@ -15,7 +15,7 @@ pub enum RealmEdit {
 }
 
 impl RealmEdit {
-    // Makes the edit.
+    // Applies the edit to a realm.
     #[inline(always)]
     fn make(self, realm: &mut RmmRealm)
         ensures { realm.new ≡ edited_realm self realm.old }

@@ -13,15 +13,15 @@ use rmm_model::{entry_size, start_count};
 
 // ---- parameters
 
-// Whether breakpoints, watchpoints and vectors are at most those of feature register 0.
+// Whether the numbers of breakpoints and watchpoints and the vector length are within feature register 0.
 fn fits_features(settings: &RmmSettings, p: &RealmParams) -> bool
     ensures { result ≡ command.fits_features settings.now p.now }
 {
     p.num_bps <= settings.bps && p.num_wps <= settings.wps && p.sve_vl == 0
 }
 
-/// Whether no flag is set, and the width is one that the RMM supports. If settings say so, breakpoints, watchpoints and
-/// vectors are within feature register 0 too.
+/// Whether a realm's parameters set no flag and have a width that the RMM supports. If settings say so, breakpoints,
+/// watchpoints and vectors are within feature register 0 too.
 pub fn is_supported(settings: &RmmSettings, p: &RealmParams) -> bool
     ensures { result ≡ command.is_supported settings.now p.now }
 {
@@ -31,7 +31,7 @@ pub fn is_supported(settings: &RmmSettings, p: &RealmParams) -> bool
         && (!settings.checks_params || fits_features(settings, p))
 }
 
-/// Whether `count` starting tables of a level serve an address space of a width.
+/// Whether `count` tables at a level can be the starting tables of an address space of `s2sz` bits.
 #[tactic(auto, unfolding(rmm_model::specs::Realm::is_start))]
 pub fn is_start(s2sz: u8, level: u64, count: u32) -> bool
     requires { s2sz ≤ 48 }
@@ -45,7 +45,7 @@ pub fn is_start(s2sz: u8, level: u64, count: u32) -> bool
         && count as u64 == start_count(s2sz, level as u8)
 }
 
-/// Whether an address is that of a starting table.
+/// Whether `rd` is the address of one of the starting tables.
 pub fn is_start_table(p: &RealmParams, rd: u64) -> bool
     ensures { result ≡ command.is_start_table p.now rd }
 {

@@ -29,7 +29,7 @@ pub enum RecEdit {
 }
 
 impl RecEdit {
-    // Makes the edit.
+    // Applies the edit to a REC.
     #[inline(always)]
     fn make(self, rec: &mut RmmRec)
         ensures { rec.new ≡ edited self rec.old }

@@ -33,7 +33,7 @@ fn passes<S: PageStore>(granules: &Granules<S>, test: AuxTest, address: u64) -> 
     }
 }
 
-// Whether each of the first `count` auxiliary granules that parameters name passes a test.
+// Whether the addresses of the first `count` auxiliary granules that parameters name all pass a test.
 fn all_aux<S: PageStore>(granules: &Granules<S>, page: &[u8], test: AuxTest, count: u8) -> bool
     requires page { length page.now ≡ 4096 }
     requires few { count ≤ 16 }

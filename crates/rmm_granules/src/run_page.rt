@@ -1,4 +1,4 @@
-//! Requests of the host in a run page. RMM 1.0, RMI_REC_ENTER.
+//! Checks of what the host requests in a run page. RMM 1.0, RMI_REC_ENTER.
 ghost use Rattle.std.specs.Prelude.{◌≡◌, length};
 ghost use Rattle.rmi_abi.specs.Gic.{is_gicv3_lr};
 ghost use Rattle.rmm_model.specs.Command.RecCreate.{all_from};
@@ -14,7 +14,7 @@ pub fn is_no_mmio(rec: &RmmRec, flags: u64) -> bool
     EnterFlags::emulates_mmio(flags) && !matches!(rec.exit, LastExit::EmulatableAbort)
 }
 
-// Whether a host may set the list registers as a run page has them.
+// Whether a host may set the list registers to their values in a run page.
 fn are_lrs(num_lrs: u8, page: &[u8]) -> bool
     requires { length page.now ≡ 4096 }
     ensures { result ≡ all_from (is_gicv3_lr num_lrs page.now) 0 16 }
@@ -27,7 +27,7 @@ fn are_lrs(num_lrs: u8, page: &[u8]) -> bool
     true
 }
 
-/// Whether settings check the GIC fields of a run page, and the fields have values that a host may not set.
+/// Whether the settings check the GIC fields of a run page, and one of them has a value that a host may not set.
 #[tactic(auto, unfolding(rmm_model::specs::Command::RecEnter::is_gic_wrong))]
 pub fn refuses_gic(settings: &RmmSettings, page: &[u8]) -> bool
     requires { length page.now ≡ 4096 }

@@ -8,7 +8,7 @@ use page_arena::word_in;
 use rmi_abi::RmmSettings;
 use rmm_model::{RmmRttEntry, entry_from_word, entry_offset, has_parts};
 
-/// The first entry of a table, which is a page of 512 words.
+/// The first entry in the page of a table.
 #[tactic(auto, unfolding(rmm_model::specs::Table::entry_in_page))]
 pub fn first_entry(page: &[u8]) -> RmmRttEntry
     requires { length page.now ≡ 4096 }
@@ -26,7 +26,7 @@ fn is_aligned_above(entry: RmmRttEntry, level: u8) -> bool
     !entry.is_mapping() || entry_offset(level - 1, entry.descriptor() / 4096 * 4096) == 0
 }
 
-/// Whether one entry in the table above can replace a whole table of a level.
+/// Whether one entry of the level above can replace a table.
 #[tactic(auto, unfolding(rmm_model::specs::Command::RttFold::is_homogeneous))]
 pub fn is_homogeneous(page: &[u8], level: u8) -> bool
     requires page { length page.now ≡ 4096 }
@@ -37,7 +37,7 @@ pub fn is_homogeneous(page: &[u8], level: u8) -> bool
     !first.is_table() && is_aligned_above(first, level) && has_parts(page, first, level)
 }
 
-/// Whether the fold of a table would make a block at a level that has no blocks.
+/// Whether folding a table would make a block at a level that has no blocks.
 pub fn is_block_too_high(settings: &RmmSettings, page: &[u8], level: u8) -> bool
     requires { length page.now ≡ 4096 }
     ensures { result ≡ command.is_block_too_high settings.now page.now level }

@@ -5,7 +5,7 @@ ghost use Rattle.page_arena.specs.Page.{is_free};
 use granule_addr::{Gran, Order};
 use page_arena::PageStore;
 
-// Takes each page that is free.
+// Takes every free page of a store.
 pub(crate) fn take_all<S: PageStore>(store: &mut S)
     ensures taken { (page : ℕ) → page < length (S.page_bytes store.new) → is_free (S.free_flags store.new) page ≡ false }
     ensures bytes { S.page_bytes store.new ≡ S.page_bytes store.old }

@@ -62,7 +62,7 @@ fn start_of(realm: &RmmRealm, ipa: u64, count: u16) -> RttWalk
     }
 }
 
-/// The end of the walk of an address towards a level. RMM 1.0, RttWalk.
+/// The end of the walk for an address towards a level. RMM 1.0, RttWalk.
 ///
 /// It is at the level, or above it at an entry that leads to no table.
 #[inline(always)]

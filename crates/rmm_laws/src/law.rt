@@ -1,4 +1,4 @@
-//! Theorems about calls by registers, about stores of the host, and about guests.
+//! Theorems about RMI calls made in registers, stores and fills by the host, and steps of guests.
 ghost use Rattle.std.specs.Prelude.{◌≡◌, ◌≢◌, ℕ, ◌+◌, ◌-◌, ◌*◌, ◌/◌, ◌%◌, ◌^◌, ◌<◌, ◌≤◌, ◌⊎◌, true, false, List, [], ◌∷◌, length, Some, None};
 ghost use Rattle.granule_addr.specs.Page.{zero_page};
 ghost use Rattle.page_arena.specs.Page.{page_at};
@@ -64,10 +64,10 @@ ghost use Rattle.rmm_laws.specs.State.{IsRealmIn, IsRealmMadeOf, KeepsStates, Ke
 ghost use Rattle.rmm_laws.specs.Step.{HasNextStep, HasRemoval, CanBeTornDown};
 ghost use Rattle.rmm_laws.specs.Walk.{IsTableOf, Serves, EndsWell, IsPassed, IsAtLive, IsNextTop, LeadsToTable, walked_to};
 
-/// A refused call by registers changes nothing, and neither does a refused store or fill of the host. Nor do steps that
-/// no REC takes, and accesses of guests that are not done. An interrupt that is answered `None`, as of each REC that
-/// does not run, changes nothing. Only a call that enters a REC is answered with the word of a REC that runs on. That
-/// REC is RUNNING then, and was not before. A REC that is entered with RMI_SUCCESS does not run after the call.
+/// A refused call made in registers changes nothing, and neither does a refused store or fill by the host. Nor do steps
+/// that no REC takes, and accesses of guests that are not done. An interrupt that is answered `None`, as of each REC
+/// that does not run, changes nothing. Only a call that enters a REC is answered with the word of a REC that runs on.
+/// That REC is RUNNING then, and was not before. A REC that is entered with RMI_SUCCESS does not run after the call.
 pub fn refusals_change_nothing()
     ensures calls { (r : Registers) (m : Machine) → IsRefused (rmi r m).0.x0 → (rmi r m).1 ≡ m }
     ensures running { (r : Registers) (m : Machine) → (rmi r m).0.x0 ≡ 2 ^ 64 - 2 → IsRecEnter m (rmi r m).1 (call_in r) }
@@ -112,7 +112,7 @@ pub fn granules_have_one_role()
         → (x ≡ y) × (i ≡ j) × (k ≡ l) }
 {}
 
-/// A walk that goes to the level of the starting tables, or below, ends at a table of its realm that serves the address.
+/// A walk of an address to the level of the starting tables, or below, ends at a table of the realm for that address.
 /// The table is of the level that the walk goes to, or its entry is no TABLE.
 pub fn walks_end()
     ensures { (m : Machine) (rd ipa level : ℕ) (realm : RmmRealm) (proper : IsProper m) → (granule_at m rd).state ≡ Rd realm → ipa < 2 ^ realm.s2sz → realm.start_level ≤ level
@@ -128,8 +128,8 @@ pub fn halves_are_apart()
         → IsPlaced m.settings (walk m realm ipa level).level (entry_at m (walk m realm ipa level) ipa) }
 {}
 
-/// Each table of a realm covers 512 entries from some address on, and a walk of any address in that range reaches the
-/// table.
+/// Each table of a realm covers the addresses of 512 entries, from some address on, and a walk of any of them reaches
+/// the table.
 pub fn tables_are_reached()
     ensures some { (m : Machine) (rd table : ℕ) (realm : RmmRealm) (proper : IsProper m) → (granule_at m rd).state ≡ Rd realm → IsTableOf m rd table
         → (levels : ℕ) × (first : ℕ) × Serves m realm levels table first × (proper.linked.level table ≡ realm.start_level + levels) }
@@ -137,7 +137,7 @@ pub fn tables_are_reached()
         → ipa < first + 512 * entry_size (realm.start_level + levels) → walk m realm ipa (realm.start_level + levels) ≡ walked_to table (realm.start_level + levels) }
 {}
 
-/// Each TABLE entry has the start address of the granule of a table, which is of the same realm and one level below.
+/// Each TABLE entry has the start address of a table's granule; the table is of the same realm, and one level below.
 pub fn tables_lead_to_tables()
     ensures { (m : Machine) (proper : IsProper m) (rd table i address : ℕ) → IsTableOf m rd table → i < 512 → entry_in_page (page_in m table) i ≡ Table address
         → LeadsToTable m proper.linked.level rd table address }
@@ -158,7 +158,7 @@ pub fn granules_come_back()
     ensures named { (m : Machine) (rd ipa : ℕ) → (performed (DataDestroy rd ipa) m).0.word ≡ Success → IsAssignedTo m rd ipa (performed (DataDestroy rd ipa) m).0.x1 }
 {}
 
-/// There is no live entry from an address up to the top that the walk of that address gives. The top is at the next
+/// No entry is live from an address up to the top that a walk of that address gives. The top is at the next
 /// live entry of the table, or at its end. RTT_DESTROY, DATA_DESTROY and RTT_UNMAP_UNPROTECTED return such a top of the
 /// machine after them, and it is after the address.
 pub fn tops_are_complete()
@@ -174,7 +174,7 @@ pub fn tops_are_complete()
         → IsNextTop n (realm_at m rd) (walk n (realm_at m rd) ipa level) ipa answer.x1 }
 {}
 
-/// Steps of a teardown succeed: RMI_REC_DESTROY of a REC that does not run, and RMI_DATA_DESTROY of a page. So do
+/// These steps of a teardown succeed: RMI_REC_DESTROY of a REC that does not run, and RMI_DATA_DESTROY of a page. So do
 /// RMI_RTT_UNMAP_UNPROTECTED of a mapping, and RMI_RTT_DESTROY of a table without live entries. RMI_REALM_DESTROY
 /// succeeds for a realm without RECs and live entries, and RMI_GRANULE_UNDELEGATE for a DELEGATED granule, which is
 /// UNDELEGATED and zero then. After RMI_GRANULE_DELEGATE a granule is DELEGATED and zero. If a granule is DELEGATED, a
@@ -210,19 +210,19 @@ pub fn teardown_steps_succeed()
 {}
 
 /// Realms can be torn down. If no REC of a realm runs, and some granule is DELEGATED, there are calls that all succeed.
-/// After them each granule that the realm has now is UNDELEGATED and zero, and its VMID is free. Those of other realms are
-/// as they were. They are the calls of a teardown alone. The DELEGATED granule is for the table of a block that has to be
-/// unfolded.
+/// After them each granule that the realm has now is UNDELEGATED and zero, and its VMID is free. Those of other realms
+/// are as they were. They are the calls of a teardown alone. The DELEGATED granule is for the table of a block that has
+/// to be unfolded.
 pub fn realms_can_be_torn_down()
     ensures { (m : Machine) (rd spare : ℕ) → IsProper m → rd_named m rd ≡ Some (number_of m rd) → (granule_at m spare).state ≡ Delegated
         → ((granule : ℕ) (rec : RmmRec) → granule_at m granule ≡ of_realm (number_of m rd) (Rec rec) → is_running rec.state ≡ false) → CanBeTornDown m rd }
 {}
 
-/// A realm is activated once. It is NEW when it is created, and RMI_REALM_ACTIVATE makes it ACTIVE if it is NEW. An
-/// RMI_REC_ENTER of a REC of it can make it SYSTEM_OFF if it is ACTIVE. Nothing else changes its state: no other call,
-/// no step that a guest is given, and no interrupt. A REC is entered only while its realm is ACTIVE. A realm that is
-/// created has what its parameters ask for. Its VMID is used then, if the machine has a flag for it. It stays until its
-/// RMI_REALM_DESTROY, with what it was created with.
+/// A realm is activated at most once. It is NEW when it is created, and RMI_REALM_ACTIVATE makes it ACTIVE if it is
+/// NEW. An RMI_REC_ENTER of a REC of it can make it SYSTEM_OFF if it is ACTIVE. Nothing else changes its state: no
+/// other call, no step that a guest is given, and no interrupt. A REC is entered only while its realm is ACTIVE. A
+/// realm that is created has what its parameters ask for. Its VMID is used then, if the machine has a flag for it. It
+/// stays until its RMI_REALM_DESTROY, with what it was created with.
 pub fn activated_once()
     ensures calls { (r : Registers) (m : Machine) → IsProper m → KeepsStates m (call_in r) (rmi r m).1 }
     ensures steps { (m : Machine) (rec : ℕ) (w : StepWords) → KeepsStates m None (queued m rec w).1 }
@@ -269,7 +269,7 @@ pub fn requests_are_the_guest_s()
     ensures left { (m : Machine) (g : ℕ) (exit : RecExit) (last : LastExit) → KeepsRequests m None (after_exit m g exit last) }
 {}
 
-/// The RIPAS of a protected address changes only while its realm is NEW, to DESTROYED, or at the guest's request.
+/// Once a realm is no longer NEW, the RIPAS of its protected addresses changes only to DESTROYED, or as its guest asks.
 /// RMI_RTT_INIT_RIPAS and RMI_DATA_CREATE can make it RAM, if the realm is NEW. RMI_DATA_DESTROY can make it DESTROYED
 /// where it was RAM, and RMI_RTT_DESTROY whatever it was. A page that is destroyed leaves RIPAS that is not RAM.
 /// RMI_RTT_SET_RIPAS can make it what a REC of the realm asks for, within the range that it asks for. If it succeeds,

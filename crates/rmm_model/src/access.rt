@@ -14,7 +14,7 @@ pub enum AccessSize {
 }
 
 impl AccessSize {
-    /// The access size of `bytes` bytes; a number that is no size is read as one byte.
+    /// The access size of `bytes` bytes; any number that is not a size means one byte.
     pub fn of(bytes: u64) -> AccessSize
         ensures { result ≡ accesses.access_size bytes }
     {
@@ -26,7 +26,7 @@ impl AccessSize {
         }
     }
 
-    /// SAS of a data abort, at its place in ESR_EL2.
+    /// The SAS field of a data abort, in its bit position in ESR_EL2.
     pub fn syndrome(self) -> u64
         ensures value { result ≡ accesses.syndrome self }
         ensures below { result ≤ 0xC0_0000 }
@@ -39,7 +39,7 @@ impl AccessSize {
         }
     }
 
-    /// The low bytes of a value, cut to the size of the access.
+    /// The low bytes of a value, as many as the access has.
     pub fn low(self, value: u64) -> u64
         ensures { result ≡ accesses.low_bytes self value }
     {
@@ -67,7 +67,7 @@ impl AccessSize {
     }
 }
 
-// The value of two bytes of a page.
+// The little-endian value of the two bytes at an offset of a page.
 #[tactic(auto, unfolding(crate::specs::Access::two_bytes_in))]
 fn two_bytes(page: &[u8], offset: usize) -> u64
     requires page { length page.now ≡ 4096 }
@@ -78,7 +78,7 @@ fn two_bytes(page: &[u8], offset: usize) -> u64
     page[offset] as u64 + page[offset + 1] as u64 * 0x100
 }
 
-// The value of four bytes of a page.
+// The little-endian value of the four bytes at an offset of a page.
 #[tactic(auto, unfolding(crate::specs::Access::four_bytes_in))]
 fn four_bytes(page: &[u8], offset: usize) -> u64
     requires page { length page.now ≡ 4096 }

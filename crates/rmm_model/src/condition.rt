@@ -1,6 +1,6 @@
 //! Failure conditions of commands.
 
-/// The conditions by which commands fail, by their names in the standard. RMM 1.0, failure conditions of RMI commands.
+/// The failure conditions of commands, named as in the standard. RMM 1.0, failure conditions of RMI commands.
 #[derive(Clone, Copy)]
 pub enum Condition {
     Version,

@@ -7,14 +7,14 @@ use sha2::Digest;
 
 const ZEROS: [u8; 64] = [0; 64];
 
-// Feeds a word, little endian.
+// Feeds the eight bytes of a word to a hash, in little-endian order.
 pub fn feed_word<D: Digest>(hasher: &mut D, word: u64)
     ensures { (m : List ℕ) → D.holds hasher.old m → D.holds hasher.new (m ++ to_le_bytes w64 word) }
 {
     hasher.update(word.to_le_bytes());
 }
 
-// Feeds at most 64 zeros.
+// Feeds `count` zero bytes to a hash, at most 64.
 fn feed_some_zeros<D: Digest>(hasher: &mut D, count: usize)
     requires { count ≤ 64 }
     ensures { (m : List ℕ) → D.holds hasher.old m → D.holds hasher.new (m ++ zeros count) }
@@ -22,7 +22,7 @@ fn feed_some_zeros<D: Digest>(hasher: &mut D, count: usize)
     hasher.update(&ZEROS[..count]);
 }
 
-// Feeds `count` zeros.
+// Feeds `count` zero bytes to a hash.
 pub fn feed_zeros<D: Digest>(hasher: &mut D, count: usize)
     ensures { (m : List ℕ) → D.holds hasher.old m → D.holds hasher.new (m ++ zeros count) }
 {

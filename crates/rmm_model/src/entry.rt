@@ -1,4 +1,4 @@
-//! Entries of translation tables, and their words.
+//! Entries of translation tables, and the words that encode them.
 ghost use Rattle.std.specs.Prelude.{◌≡◌, ◌<◌, ◌≤◌, ◌^◌};
 ghost use Rattle.rmm_model.specs.Entry as entries;
 
@@ -39,7 +39,7 @@ const REPEATED: u64 = 0x0101_0101_0101_0101;
 
 const KIND: u64 = 0x100_0000_0000_0000;
 
-// The least word of a live entry.
+// The smallest word that encodes a live entry.
 pub(crate) const LEAST_LIVE: u64 = 4 * KIND;
 
 pub(crate) const ADDRESSES: u64 = 0x1_0000_0000_0000;
@@ -91,8 +91,9 @@ impl RmmRipas {
 }
 
 impl RmmRttEntry {
-    /// The word of the entry without its descriptor. Bits 63:56 have the kind and the RIPAS of the entry. The bytes of
-    /// an entry that is not live are all the same, so that a page of such entries is written as one byte.
+    /// The word that encodes the entry's kind and RIPAS, to which its descriptor is added. Bits 63:56 have the kind and
+    /// the RIPAS of the entry. The bytes of an entry that is not live are all the same, so that a page of such entries
+    /// is written as one byte.
     pub fn kind_word(self) -> u64
         ensures value { result ≡ entries.kind_word self }
         ensures most { result ≤ 2 ^ 60 }
@@ -106,7 +107,7 @@ impl RmmRttEntry {
         }
     }
 
-    /// The word of the entry. A live one has its descriptor in bits 47:0.
+    /// The word that encodes the entry. A live one has its descriptor in bits 47:0.
     #[tactic(auto, unfolding(crate::specs::Entry::entry_word))]
     pub fn word(self) -> u64
         ensures { result ≡ entries.entry_word self }
@@ -196,7 +197,7 @@ impl RmmRttEntry {
         }
     }
 
-    /// An UNASSIGNED or ASSIGNED entry with another RIPAS; any other entry as it is.
+    /// The entry with another RIPAS if it is UNASSIGNED or ASSIGNED; any other entry unchanged.
     pub fn with_ripas(self, ripas: RmmRipas) -> RmmRttEntry
         ensures { result ≡ entries.entry_with_ripas ripas self }
     {
@@ -231,8 +232,8 @@ impl RmmRttEntry {
         }
     }
 
-    /// The step by which the descriptors of this entry's children rise in a table of a level. Only those of a mapping
-    /// rise.
+    /// The step by which the descriptors of this entry's children rise in a table at the given level. Only those of a
+    /// mapping rise.
     pub fn child_step(self, level: u8) -> u64
         ensures value { result ≡ entries.child_step self level }
         ensures most { result ≤ 2 ^ 39 }
@@ -244,7 +245,7 @@ impl RmmRttEntry {
         }
     }
 
-    /// The byte that fills a table whose entries are the children of this entry; `None` for a live entry.
+    /// The byte that fills a table of this entry's children; `None` for a live entry.
     pub fn repeated_byte(self) -> Option<u8>
         ensures { result ≡ entries.repeated_byte self }
     {

@@ -17,7 +17,7 @@ pub enum RmmGranuleState {
     Rtt,
 }
 
-/// The attributes of a granule beside its page: its state, and the RD of the realm that owns it.
+/// The attributes of a granule, apart from its page: its state, and the RD of the realm that owns it.
 #[derive(Clone, Copy)]
 pub struct RmmGranule {
     pub state: RmmGranuleState,
@@ -25,7 +25,7 @@ pub struct RmmGranule {
 }
 
 impl RmmGranule {
-    /// An UNDELEGATED granule, as each one is at the start.
+    /// The attributes of an UNDELEGATED granule, which each granule has at the start.
     pub const UNDELEGATED: RmmGranule = RmmGranule {
         state: RmmGranuleState::Undelegated,
         owner: None,
@@ -47,7 +47,7 @@ impl RmmGranuleState {
         matches!(self, RmmGranuleState::Delegated)
     }
 
-    /// The realm of an RD.
+    /// The realm, if the granule is an RD.
     pub fn realm(&self) -> Option<RmmRealm>
         ensures { result ≡ realm_of self.now }
     {
@@ -57,7 +57,7 @@ impl RmmGranuleState {
         }
     }
 
-    /// The attributes of a REC.
+    /// The attributes of the REC, if the granule is one.
     pub fn rec(&self) -> Option<RmmRec>
         ensures { result ≡ rec_of self.now }
     {

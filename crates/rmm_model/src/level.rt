@@ -5,7 +5,7 @@
 ghost use Rattle.std.specs.Prelude.{◌≡◌, ◌<◌, ◌≤◌, ◌/◌, ◌%◌, ◌^◌};
 ghost use Rattle.rmm_model.specs.Level as levels;
 
-// The logarithm of the bytes that an entry of a level covers.
+// The base-2 logarithm of the number of bytes that an entry at a level covers.
 #[tactic(auto, unfolding(crate::specs::Level::entry_size))]
 fn entry_shift(level: u8) -> u8
     ensures value { 2 ^ result ≡ levels.entry_size level }
@@ -19,7 +19,7 @@ fn entry_shift(level: u8) -> u8
     }
 }
 
-/// The bytes that an entry of a level covers: 4 KiB, 2 MiB, 1 GiB or 512 GiB. RMM 1.0, RTT level.
+/// The number of bytes that an entry at a level covers: 4 KiB, 2 MiB, 1 GiB or 512 GiB. RMM 1.0, RTT level.
 #[tactic(auto, unfolding(crate::specs::Level::entry_size))]
 pub fn entry_size(level: u8) -> u64
     ensures value { result ≡ levels.entry_size level }
@@ -36,7 +36,7 @@ pub fn entry_number(level: u8, address: u64) -> u64
     address >> entry_shift(level)
 }
 
-/// The offset of an address in the entry that covers it at a level.
+/// The offset of an address within the entry that covers it at a level.
 #[tactic(auto, unfolding(crate::specs::Level::entry_size))]
 pub fn entry_offset(level: u8, address: u64) -> u64
     ensures value { result ≡ address % levels.entry_size level }

@@ -92,7 +92,7 @@ fn feed_content<D: Digest>(hasher: &mut D, extension: &Extension)
     }
 }
 
-// The type of a descriptor.
+// The type of an extension's descriptor.
 fn type_of(extension: &Extension) -> u64
     ensures { result ≡ measures.type_of extension.now }
 {

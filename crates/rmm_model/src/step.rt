@@ -1,4 +1,4 @@
-//! Guests of RECs: their steps, and the results.
+//! The steps of a REC's guest, and their results.
 ghost use Rattle.std.specs.Prelude.{◌≡◌, ◌<◌, length};
 ghost use Rattle.rmm_model.specs.Guest as guests;
 
@@ -6,7 +6,7 @@ use crate::{AccessSize, LastExit};
 use page_arena::word_in;
 use rmi_abi::RecExit;
 
-/// A step of a guest: an access, an RSI or PSCI call, or a wait. This RMM's own: a guest is simulated.
+/// A step of a guest, such as an access, an RSI or PSCI call, or a wait. This RMM's own: a guest is simulated.
 #[derive(Clone, Copy)]
 pub enum GuestStep {
     Write {
@@ -64,7 +64,7 @@ pub enum StepResult {
     Sea,
     Psci(u64),
     RsiErrorInput,
-    /// A change of RIPAS up to an address.
+    /// An accepted change of RIPAS, up to an address.
     Accepted(u64),
     Rejected(u64),
     /// The host's answer to a host call.
@@ -79,7 +79,7 @@ pub enum StepOutcome {
     Spin,
 }
 
-/// The answer to the queuing of a guest's step.
+/// The outcome of queuing a guest's step.
 #[derive(Clone, Copy)]
 pub enum Queued {
     Queued,
@@ -87,7 +87,7 @@ pub enum Queued {
     NoRec,
 }
 
-/// The words of a step: its kind, and four operands.
+/// The words that encode a step: its kind, and four operands.
 #[derive(Clone, Copy)]
 pub struct StepWords {
     pub kind: u64,
@@ -146,7 +146,7 @@ impl StepWords {
         }
     }
 
-    /// The words of step `place` of the ring in the page of a REC.
+    /// The words at position `place` in the ring of steps in a REC's page.
     #[tactic(auto, unfolding(crate::specs::Guest::words_at))]
     pub fn read(page: &[u8], place: u8) -> StepWords
         requires page { length page.now ≡ 4096 }
@@ -165,7 +165,7 @@ impl StepWords {
 }
 
 impl StepResult {
-    /// The number of the kind of a result.
+    /// The number of the result's kind.
     pub fn code(&self) -> u64
         ensures { result ≡ guests.result_code self.now }
     {
@@ -181,7 +181,7 @@ impl StepResult {
         }
     }
 
-    /// The value of a result; 0 for a result without a value.
+    /// The result's value; 0 for a result without one.
     pub fn value(&self) -> u64
         ensures { result ≡ guests.result_value self.now }
     {

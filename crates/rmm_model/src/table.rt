@@ -1,4 +1,4 @@
-//! Tables: pages of 512 entries.
+//! Translation tables: pages of 512 entries.
 ghost use Rattle.std.specs.Prelude.{◌≡◌, ◌+◌, ◌-◌, ◌^◌, ◌<◌, ◌≤◌, length};
 ghost use Rattle.std.specs.Bool.{OnTrue};
 ghost use Rattle.rmm_model.specs.Table as tables;
@@ -8,7 +8,7 @@ use crate::entry::LEAST_LIVE;
 use crate::{Changeable, ChildWords, RmmRttEntry, entry_from_word};
 use page_arena::word_in;
 
-/// The first live entry of a table from `from` on, or 512.
+/// The index of a table's first live entry from `from` on, or 512 if there is none.
 #[tactic(auto, unfolding(crate::specs::Table::entry_in_page))]
 pub fn first_live(page: &[u8], from: u16) -> u16
     requires page { length page.now ≡ 4096 }
@@ -77,7 +77,7 @@ pub fn first_fixed(page: &[u8], changeable: Changeable, from: u16, end: u16) -> 
     end
 }
 
-/// Whether the entries of a table of a level are the children of an entry above it.
+/// Whether a table at the given level consists of the children of `whole`, an entry above it.
 pub fn has_parts(page: &[u8], whole: RmmRttEntry, level: u8) -> bool
     requires page { length page.now ≡ 4096 }
     requires whole { descriptor_of whole < 2 ^ 48 }

@@ -6,7 +6,7 @@ use crate::compare::atom_number;
 use crate::place::{PLATFORM, SMC};
 use crate::word::{Atom, TraceWord};
 
-/// The function identifiers of the commands, at the places of their names. RMM 1.0, RMI commands.
+/// The function identifiers of the commands, each at the index of the command's name. RMM 1.0, RMI commands.
 pub const FUNCTIONS: [u64; 23] = [
     // rmi_version to rmi_granule_undelegate
     0xC400_0150,
@@ -54,7 +54,7 @@ pub(crate) fn number_at(word: TraceWord, round: u64) -> u64
     number_or_zero(Some(word.value)).wrapping_add(number_or_zero(word.step).wrapping_mul(round))
 }
 
-/// The number of the word at a place, in a round of a `repeat`; 0 if there is no word.
+/// The number of the word at an index in a round of a `repeat`, or 0 if there is no such word.
 pub fn operand(words: &[TraceWord], place: usize, round: u64) -> u64
     ensures { result ≡ operand_at words.now place round }
 {
@@ -80,7 +80,7 @@ pub fn after_name(words: &[TraceWord], name: usize) -> &[TraceWord]
     left
 }
 
-/// The registers X0 to X6 of a call by name or by number, in a round of a `repeat`.
+/// The registers X0 to X6 of a call, written with its name or as `smc`, in a round of a `repeat`.
 pub fn call_registers(call: &[TraceWord], round: u64) -> Option<[u64; 7]>
     ensures { result ≡ call_registers call.now round }
 {

@@ -8,10 +8,10 @@ use crate::place::{
 use crate::sentence::Sentence;
 use crate::word::{Atom, TraceWord};
 
-/// The value of X0 if the guest of an entered REC runs on.
+/// The value of X0 if the guest of an entered REC keeps running.
 pub const RUNS_ON: u64 = 0xFFFF_FFFF_FFFF_FFFE;
 
-/// The word that is an atom alone.
+/// The word that is an atom alone, without mask, step and comma.
 pub fn plain(value: Atom) -> TraceWord
     ensures { result ≡ plain value }
 {
@@ -49,7 +49,8 @@ pub fn index_of(x0: u64) -> Option<Atom>
     Some(Atom::Decimal(x0 / 256))
 }
 
-/// The value of an output: a level and a count in decimal, a state or a reason by its name, and others in hexadecimal.
+/// The atom for the value of an output: in decimal for levels and counts, by name for states and reasons, else in
+/// hexadecimal.
 pub fn output_atom(name: usize, value: u64) -> Atom
     ensures { result ≡ output_atom name value }
 {
@@ -83,7 +84,7 @@ fn list_last(answer: &mut Sentence)
     });
 }
 
-/// Appends a word; the first word of a further part comes after a comma.
+/// Appends a word to an answer, with a comma before it if it begins a further part.
 pub fn push_word(answer: &mut Sentence, word: TraceWord, is_part: bool)
     requires { length answer.old.items < 64 }
     ensures { answer.new.items ≡ listed is_part answer.old.items ++ word ∷ [] }

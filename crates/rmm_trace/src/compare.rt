@@ -1,4 +1,5 @@
-//! The comparison of a written answer with ours. What is not written is not compared.
+//! The comparison of an answer written in a trace with the answer of our model of an RMM. What is not written is not
+//! compared.
 ghost use Rattle.std.specs.Prelude.{◌≡◌, ◌<◌, ◌∷◌, length};
 ghost use Rattle.std.specs.List.{list_any};
 ghost use Rattle.rmm_trace.specs.Compare.{is_name_among, ordinal, atom_number, mask_of, is_same_number, is_same_atom};
@@ -20,14 +21,14 @@ use crate::word::{Atom, TraceWord};
 
 // ---- values
 
-// Whether a place is one of `count` places from `first` on.
+// Whether an index is one of the `count` indices from `first` on.
 fn is_name_among(first: usize, count: usize, place: usize) -> bool
     ensures { result ≡ is_name_among first count place }
 {
     first <= place && place - first < count
 }
 
-// The number that a name means: a state, a reason, or a status of PSCI.
+// The number that the name of a state, a RIPAS, an exit reason or a PSCI status means.
 fn ordinal(place: usize) -> Option<u64>
     ensures { result ≡ ordinal place }
 {
@@ -99,21 +100,22 @@ fn is_dash(atom: Atom) -> bool
     }
 }
 
-// Whether a written value agrees with ours: `-` agrees with any value, and with a mask only its bits are compared.
+// Whether a written value agrees with the model's: `-` agrees with any value, and a mask restricts the comparison to
+// its bits.
 fn is_same_value(written: TraceWord, ours: TraceWord) -> bool
     ensures { result ≡ is_same_value written ours }
 {
     is_dash(written.value) || is_same_atom(mask_of(written.mask), written.value, ours.value)
 }
 
-/// Whether a word can be written in the place of a register: a number or `-`, with no comma after it.
+/// Whether a word can be written for a register: a number or `-`, with no comma after it.
 pub fn is_register(word: TraceWord) -> bool
     ensures { result ≡ is_register word }
 {
     !word.is_listed && (is_dash(word.value) || atom_number(word.value).is_some())
 }
 
-/// Whether a written register agrees with ours.
+/// Whether the value written for a register agrees with the model's.
 pub fn is_same_register(written: TraceWord, ours: TraceWord) -> bool
     ensures { result ≡ is_same_register written ours }
 {
@@ -138,7 +140,7 @@ pub fn split_word(words: &[TraceWord]) -> (TraceWord, &[TraceWord])
     }
 }
 
-// Whether two lists of values are the same; the shorter list goes on with zeros.
+// Whether the written values agree with the model's, if zeros follow the shorter list.
 fn are_values(written: &[TraceWord], ours: &[TraceWord]) -> bool
     ensures { result ≡ are_values written.now ours.now }
 {
@@ -177,7 +179,7 @@ fn starts_check(words: &[TraceWord]) -> bool
     }
 }
 
-// Whether a part ends with a word: the word has a comma, or a check follows.
+// Whether a word is the last of its part: the word has a comma, or a check follows.
 fn ends_part(word: TraceWord, rest: &[TraceWord]) -> bool
     ensures { result ≡ ends_part word rest.now }
 {
@@ -202,7 +204,7 @@ fn split_part(words: &[TraceWord]) -> (&[TraceWord], &[TraceWord])
     (words, left)
 }
 
-// Whether missing values of a part count as zeros: the index of a status, and the values of `gprs`.
+// Whether missing values count as zeros in a part that begins with this atom: a status, or `gprs`.
 fn is_open(atom: Atom) -> bool
     ensures { result ≡ is_open atom }
 {
@@ -213,7 +215,7 @@ fn is_open(atom: Atom) -> bool
     }
 }
 
-// Whether the words that begin two parts are the same. Any two checks are, if checks are not compared.
+// Whether the first words of two parts are the same. Any two checks are, if checks are not compared.
 fn is_same_name(are_checks_compared: bool, written: TraceWord, ours: TraceWord) -> bool
     ensures { result ≡ is_same_name are_checks_compared written ours }
 {
@@ -241,7 +243,7 @@ fn is_same_part(are_checks_compared: bool, written: &[TraceWord], ours: &[TraceW
     are_values(left, right)
 }
 
-// Whether an answer has a part.
+// Whether the model's answer has a part that agrees with a written one.
 fn has_part(are_checks_compared: bool, part: &[TraceWord], ours: &[TraceWord]) -> bool
     ensures { result ≡ has_part are_checks_compared ours.now part.now }
 {
@@ -256,7 +258,7 @@ fn has_part(are_checks_compared: bool, part: &[TraceWord], ours: &[TraceWord]) -
     false
 }
 
-// Whether our answer has each part of a written answer.
+// Whether the model's answer has each part of a written answer.
 fn are_parts(are_checks_compared: bool, written: &[TraceWord], ours: &[TraceWord]) -> bool
     ensures { result ≡ are_parts are_checks_compared written.now ours.now }
 {
@@ -271,7 +273,7 @@ fn are_parts(are_checks_compared: bool, written: &[TraceWord], ours: &[TraceWord
     true
 }
 
-// Whether our answer begins with the words of a written answer.
+// Whether the model's answer begins with the words of a written answer.
 fn are_first(written: &[TraceWord], ours: &[TraceWord]) -> bool
     ensures { result ≡ are_first written.now ours.now }
 {
@@ -382,7 +384,7 @@ fn command_in(question: &[TraceWord]) -> usize
     }
 }
 
-// Whether a written answer agrees with ours, for a question whose name has the place `kind`.
+// Whether a written answer agrees with the model's, for a question whose name has the index `kind`.
 fn is_same_by(
     kind: usize,
     are_checks_compared: bool,
@@ -410,9 +412,10 @@ fn is_same_with(
     is_same_by(command, !has_unsure, written, ours)
 }
 
-/// Whether the written answer to a question agrees with ours. A raw call is no question here.
+/// Whether the written answer to a question agrees with the model's. A raw call is no question here.
 ///
-/// Calls are compared by their parts, and others word by word. A name of a check that is unsure is not compared.
+/// Calls, interrupts and fills are compared by their parts, and others word by word. A name of a check that is unsure
+/// is not compared.
 pub fn is_same(question: &[TraceWord], written: &[TraceWord], ours: &[TraceWord]) -> bool
     ensures { result ≡ is_same UNSURE question.now written.now ours.now }
 {

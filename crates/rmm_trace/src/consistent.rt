@@ -1,4 +1,4 @@
-//! The conditions between the numbers of a question.
+//! Conditions on the numbers of a question in relation to each other.
 ghost use Rattle.std.specs.Prelude.{◌≡◌, ◌+◌, ◌*◌};
 ghost use Rattle.rmm_trace.specs.Consistent.{is_secure_right, is_platform_right, limit_of, is_access, is_step_right};
 ghost use Rattle.rmm_trace.specs.Consistent.{is_guest_right, are_bytes, is_fill_right, is_repeat_right};
@@ -15,7 +15,7 @@ fn end_of(base: u64, count: u64) -> u128
     u128::from(base) + 4096 * u128::from(count)
 }
 
-// Whether the granules after `secure` are inside the machine.
+// Whether the granules of a `secure` setting, if there is one, are inside the machine.
 fn is_secure_right(secure: &[TraceWord], base: u64, end: u128) -> bool
     ensures { result ≡ is_secure_right secure.now base end }
 {
@@ -28,7 +28,7 @@ fn is_secure_right(secure: &[TraceWord], base: u64, end: u128) -> bool
     }
 }
 
-// Whether a machine ends within 48 bits.
+// Whether a machine ends within 48 bits, and the granules of its `secure` setting are inside it.
 fn is_platform_right(words: &[TraceWord]) -> bool
     ensures { result ≡ is_platform_right words.now }
 {
@@ -78,7 +78,7 @@ fn is_step_right(step: &[TraceWord]) -> bool
     true
 }
 
-// Whether the guest's step in a `guest` question is right.
+// Whether the numbers of the step in a `guest` question are consistent.
 fn is_guest_right(words: &[TraceWord]) -> bool
     ensures { result ≡ is_guest_right words.now }
 {

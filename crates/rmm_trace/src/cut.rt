@@ -1,4 +1,4 @@
-//! Texts that are cut at a mark.
+//! The cutting of texts at a mark.
 ghost use Rattle.std.specs.Prelude.{◌≡◌};
 ghost use Rattle.std.specs.Option.{option_copied};
 ghost use Rattle.rmm_trace.specs.Cuts.{before_mark, after_mark};

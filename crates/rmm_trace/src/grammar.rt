@@ -1,4 +1,4 @@
-//! The grammar of questions: a table of the groups of words that a question can have.
+//! The grammar of questions: the types of its table of word groups, and the check that words are a question.
 ghost use Rattle.std.specs.Prelude.{◌≡◌, Some};
 ghost use Rattle.std.specs.Option.{option_copied};
 ghost use Rattle.rmm_trace.specs.Grammar.{is_number_of, is_of_kind, kind_at, row_of};
@@ -6,7 +6,7 @@ ghost use Rattle.rmm_trace.specs.Grammar.{if_place, enter, opened, next, is_comp
 
 use crate::word::{Atom, TraceWord};
 
-/// The values that a place of a group can have.
+/// The values that are allowed at a position in a group.
 ///
 /// A number is in the range, a multiple of the unit, and a divisor of the multiple if that is not 0. A name is one of
 /// so many, from the first on.
@@ -32,7 +32,7 @@ pub struct Group {
     pub second: ValueKind,
     pub third: ValueKind,
     pub others: ValueKind,
-    /// The context of the groups that follow; 0 if none may.
+    /// The context of the groups that may follow, or 0 if none may.
     pub opens: u64,
     /// Whether a question may end with the group.
     pub is_last: bool,
@@ -89,7 +89,7 @@ fn kind_at(group: &Group, count: usize) -> &ValueKind
     }
 }
 
-// The first group with a name that may come in a context.
+// The first group that has this name and may come in this context.
 fn row_of(groups: &[Group], context: u64, name: usize) -> Option<&Group>
     ensures { option_copied result ≡ row_of context name groups.now }
 {
@@ -116,7 +116,7 @@ impl Place {
         true
     }
 
-    // Goes on with the name of a group, and returns whether such a group may follow.
+    // Enters the group that a name begins, and returns whether such a group may follow.
     fn open(&mut self, groups: &[Group], atom: Atom) -> bool
         ensures { if_place result self.new ≡ opened groups.now self.old atom }
     {
@@ -129,7 +129,7 @@ impl Place {
         }
     }
 
-    // Goes on with a word, and returns whether a question may have that word here.
+    // Advances by a word, and returns whether a question may have that word here.
     fn advance(&mut self, groups: &[Group], word: &TraceWord) -> bool
         ensures { if_place result self.new ≡ next groups.now self.old word.now }
     {
@@ -159,7 +159,8 @@ impl Place {
     }
 }
 
-/// Whether words go on from a place to the end of a question. One place is kept, and changed by each word.
+/// Whether words continue a question from the place `start` to the question's end. One place is kept, and changed by
+/// each word.
 pub fn accepts(groups: &[Group], start: Place, words: &[TraceWord]) -> bool
     ensures { result ≡ accepts groups.now (Some start) words.now }
 {

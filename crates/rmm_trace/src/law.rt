@@ -1,4 +1,4 @@
-//! Theorems about texts.
+//! Theorems about the text of traces: what is printed is read back, and names are unique.
 ghost use Rattle.std.specs.Prelude.{◌≡◌, ◌≤◌, ◌==◌, ◌++◌, true, ℕ, List, Some, length, codes};
 ghost use Rattle.hex.specs.Hex.{encode_lower, IsBytes};
 ghost use Rattle.std.specs.List.{slice_split};
@@ -29,7 +29,7 @@ pub fn printed_questions_are_read_back()
         → line_in groups start (sentence_text ws) ≡ question_of (record { items = ws }) }
 {}
 
-/// A line of a question's text and an answer's text is read as that question.
+/// A line that has a question's text, ` = ` and an answer's text is read as that question.
 pub fn answered_questions_are_read_back()
     ensures { (groups : List Group) (start : Place) (ws vs : List TraceWord)
         → IsSentence ws → IsSentence vs → is_question groups start ws ≡ true
@@ -38,7 +38,7 @@ pub fn answered_questions_are_read_back()
         ≡ question_of (record { items = ws }) }
 {}
 
-/// An answer's text is read back from a line of a question's text and that answer's text.
+/// The text of an answer is read back from a line that has it after a question's text and ` = `.
 pub fn printed_answers_are_read_back()
     ensures { (ws vs : List TraceWord) → IsSentence vs
         → answer_in (bare_text (sentence_text ws ++ (codes " = " ++ sentence_text vs))) ≡ Some (sentence_text vs) }
@@ -49,7 +49,7 @@ pub fn measurement_texts_are_injective()
     ensures { (a b : List ℕ) → IsBytes a → IsBytes b → encode_lower a ≡ encode_lower b → a ≡ b }
 {}
 
-/// Each constant for the place of a name is the place of that name.
+/// Each constant for the index of a name is the index of that name in the table of names.
 pub fn places_are_of_their_names()
     ensures { are_places_named ≡ true }
 {}

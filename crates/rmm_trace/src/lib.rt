@@ -1,4 +1,5 @@
-//! Traces of an RMM by registers: the reading of lines, the text of words, and the comparison of answers.
+//! Traces of an RMM that is called in registers: the reading of lines, the text of words, and the comparison of
+//! answers.
 //!
 //! A line is words with one space between two. A word is a name or a number, with what may stand after it: a mask after
 //! `/`, a step after `+`, and a comma. A number keeps its base, so words and their texts determine each other: what is
@@ -6,14 +7,14 @@
 //!
 //! | Module | It has |
 //! |---|---|
-//! | `name`, `place` | the names, and the places of those that the grammar has |
+//! | `name`, `place` | the names, and constants for the indices of some of them |
 //! | `word`, `sentence` | words and sentences, read and printed |
 //! | `grammar`, `table` | the grammar of questions: a row for each group of words, and one reader for all rows |
 //! | `consistent` | the conditions on the numbers of a question together |
 //! | `line` | lines: remarks, questions, and neither |
 //! | `access` | the registers of a call, and the values of groups |
 //! | `answer`, `digest` | parts of answers, and measurements |
-//! | `compare` | the comparison of an answer that is written with ours |
+//! | `compare` | the comparison of a written answer with the model's |
 //!
 //! A question is groups of words, each a name and its values: `platform BASE GRANULES`, and after it settings as
 //! `layout eac5`; `realm_params ADDR`, and after it fields. A row says where its group may come, how many values it has

@@ -13,16 +13,16 @@ use crate::sentence::{Sentence, read_into};
 use crate::table::{GROUPS, START};
 use crate::word::TraceWord;
 
-/// The most bytes of a line that is a question.
+/// The largest number of bytes in a line that is a question.
 pub const MOST_LINE: usize = 65_536;
 
-/// The kinds of lines.
+/// The kind of a line.
 #[derive(Clone, Copy)]
 pub enum LineKind {
     /// A comment, or an empty line.
     Remark,
     Question,
-    /// A line that is no command.
+    /// A line that is neither a remark nor a question.
     Neither,
 }
 
@@ -63,7 +63,7 @@ fn bare(line: &[u8]) -> &[u8]
     trim_end(cut_at(line, b'#').0)
 }
 
-// Whether the ` = ` before an answer begins at a place. Most bytes are no space.
+// Whether the ` = ` before an answer begins at the index `at`. Most bytes are no space.
 fn is_sign_at(text: &[u8], at: usize) -> bool
     requires { at < length text.now }
     ensures sign { result ≡ starts_with nat_eq (drop at text.now) (codes " = ") }
@@ -75,7 +75,7 @@ fn is_sign_at(text: &[u8], at: usize) -> bool
     text[at..].starts_with(b" = ")
 }
 
-// A text cut at its first ` = `.
+// The text before the first ` = `, and the text after it if there is one.
 fn cut_sign(text: &[u8]) -> (&[u8], Option<&[u8]>)
     ensures before { result.0.now ≡ before_answer text.now }
     ensures answer { option_copied result.1 ≡ answer_in text.now }
@@ -96,7 +96,7 @@ pub fn cut_line(line: &[u8]) -> (&[u8], Option<&[u8]>)
     cut_sign(bare(line))
 }
 
-// Whether words are a question, by a grammar.
+// Whether a grammar accepts words as a question, and their numbers are consistent.
 fn is_question(groups: &[Group], start: Place, words: &[TraceWord]) -> bool
     ensures { result ≡ is_question groups.now start words.now }
 {
@@ -122,7 +122,7 @@ impl RmmTraceLine {
         self.kind = kind;
     }
 
-    // Makes this line the question of a text by a grammar, or no command if the text is no question.
+    // Makes this line the question that a text spells in a grammar, or `Neither` if the text spells none.
     fn fill(&mut self, groups: &[Group], start: Place, text: &[u8])
         ensures { self.new ≡ as_line (question_in groups.now start text.now) }
     {
@@ -136,7 +136,8 @@ impl RmmTraceLine {
         }
     }
 
-    // Makes this line a remark if `question` is empty, no command if the line is too long, and otherwise the question.
+    // Makes this line a remark if `question` is empty, `Neither` if the line is too long, and otherwise what `fill`
+    // makes it.
     fn fill_by(&mut self, groups: &[Group], start: Place, question: &[u8], bytes: usize)
         ensures { self.new ≡ line_of_question groups.now start question.now bytes }
     {

@@ -1,4 +1,4 @@
-//! Names: the words of traces that are no numbers.
+//! Names: the words in traces that are not numbers.
 ghost use Rattle.std.specs.Prelude.{◌≡◌, map, drop};
 ghost use Rattle.std.specs.List.{position_from};
 ghost use Rattle.std.specs.Str.{bytes_eq};
@@ -277,7 +277,7 @@ const NAMES: [&str; 256] = [
     "(status)",
 ];
 
-// The place of a text among `texts`, from the place `first` on.
+// The index of a text in `texts`, searched for from the index `first` on.
 fn place_from(texts: &[&str], first: usize, text: &[u8]) -> Option<usize>
     ensures { result ≡ position_from (bytes_eq text.now) first (map (λ t. t.now) (drop first texts.now)) }
 {
@@ -289,7 +289,7 @@ fn place_from(texts: &[&str], first: usize, text: &[u8]) -> Option<usize>
     None
 }
 
-// The text at a place; past the end it is empty.
+// The text at an index, or an empty text past the end.
 fn text_at<'a>(texts: &[&'a str], place: usize) -> &'a str
     ensures { result.now ≡ nth_text place (map (λ t. t.now) texts.now) }
 {
@@ -299,7 +299,8 @@ fn text_at<'a>(texts: &[&'a str], place: usize) -> &'a str
     }
 }
 
-/// The place of a text among the names. Names of checks and of results are after the others, and begin otherwise.
+/// The index of the name with this text, if there is one. Names of checks and of results are after the others, and
+/// begin otherwise.
 pub fn find_name(text: &[u8]) -> Option<usize>
     ensures { result ≡ position_from (bytes_eq text.now) 0 names }
 {
@@ -312,7 +313,7 @@ pub fn find_name(text: &[u8]) -> Option<usize>
     place_from(&NAMES, 0, text)
 }
 
-/// The text of the name at a place; past the last name it is empty.
+/// The text of the name at an index, or an empty text past the last name.
 pub fn name_text(place: usize) -> &'static str
     ensures { result.now ≡ nth_text place names }
 {

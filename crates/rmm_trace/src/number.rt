@@ -2,7 +2,7 @@
 ghost use Rattle.std.specs.Prelude.{◌≡◌};
 ghost use Rattle.rmm_trace.specs.Numbers.{digit_of, value_after, plain_value};
 
-// The value of a digit; 16 if the byte is none.
+// The value of a digit, or 16 if the byte is not a digit.
 fn digit(byte: u8) -> u8
     ensures { result ≡ digit_of byte }
 {
@@ -30,7 +30,7 @@ fn value(base: u64, digits: &[u8]) -> Option<u64>
     Some(value)
 }
 
-/// The 64-bit number that the digits spell in a base, if there are digits, without leading zeros.
+/// The 64-bit number that the digits spell in a base, if there is a digit and there are no leading zeros.
 pub(crate) fn plain_value(base: u64, digits: &[u8]) -> Option<u64>
     ensures { result ≡ plain_value base digits.now }
 {

@@ -8,7 +8,7 @@ use crate::word::{TraceWord, read_word};
 use arrayvec::ArrayVec;
 use std::fmt;
 
-/// The most words of a sentence.
+/// The largest number of words in a sentence.
 pub const MOST_WORDS: usize = 64;
 
 /// A sentence: its words.
@@ -66,7 +66,7 @@ impl fmt::Display for SpacedWords<'_> {
     }
 }
 
-/// The text of words.
+/// The text of words, with one space between two.
 #[derive(Clone, Copy)]
 pub struct SentenceText<'a>(pub &'a [TraceWord]);
 

@@ -1,4 +1,4 @@
-//! The table of the groups of questions, with a row for each group.
+//! The table of the groups of words that make up questions, with a row for each group.
 use crate::grammar::{Group, Place, REPEATED, ValueKind};
 use crate::place::*;
 
@@ -33,7 +33,7 @@ macro_rules! number {
     };
 }
 
-// Names alone: no number is at least 1 and at most 0.
+// A kind whose values are names alone: no number is at least 1 and at most 0.
 macro_rules! names {
     ($first:expr, $count:expr) => {
         ValueKind {
@@ -92,7 +92,7 @@ const PAGE: ValueKind = ValueKind {
     first_name: 0,
     name_count: 0,
 };
-// A status of PSCI.
+// A PSCI status: a number, or one of two names.
 const PSCI: ValueKind = ValueKind {
     least: 0,
     most: u64::MAX,
@@ -150,7 +150,7 @@ macro_rules! plain {
     };
 }
 
-// A setting, which has `$count` values and comes once.
+// A setting of a platform, which has `$count` values and comes at most once.
 macro_rules! setting {
     ($name:expr, $place:expr, $count:expr, [$first:expr, $second:expr]) => {
         Group {
@@ -170,7 +170,8 @@ macro_rules! setting {
     };
 }
 
-// A field, which has up to `$most` values, and comes before the fields that follow it in the table.
+// A field of a parameter page, with 1 to `$most` values, which comes at most once and before the fields after it in the
+// table.
 macro_rules! field {
     ($context:expr, $name:expr, $place:expr, $most:expr, $kind:expr) => {
         Group {
@@ -198,7 +199,7 @@ pub const START: Place = Place {
     seen: 0,
 };
 
-/// The groups of questions.
+/// All groups of words that a question can have.
 pub const GROUPS: [Group; 95] = [
     // calls, which can be repeated
     plain!(CALLS, RMI_VERSION, 1, 1),

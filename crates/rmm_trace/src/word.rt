@@ -11,14 +11,14 @@ use std::fmt;
 /// A name or a number.
 #[derive(Clone, Copy)]
 pub enum Atom {
-    /// The name at a place of the names.
+    /// The name at an index in the table of names.
     Name(usize),
     Decimal(u64),
     /// A number after `0x`.
     Hexadecimal(u64),
 }
 
-/// A word: a value, a mask after `/`, a step after `+`, and a comma.
+/// A word: a value, with an optional mask after `/`, step after `+`, and comma.
 #[derive(Clone, Copy)]
 pub struct TraceWord {
     pub value: Atom,
@@ -60,7 +60,7 @@ fn read_atom(text: &[u8]) -> Option<Atom>
     }
 }
 
-// The name or number after a mark, or `Some(None)` if the mark is not there.
+// The name or number after a mark; `Some(None)` if the mark is missing, and `None` if what follows it is neither.
 fn read_tail(text: Option<&[u8]>) -> Option<Option<Atom>>
     ensures { result ≡ tail_in (option_copied text.entry) }
 {
@@ -70,7 +70,7 @@ fn read_tail(text: Option<&[u8]>) -> Option<Option<Atom>>
     }
 }
 
-// Whether a comma is there, with nothing after it.
+// Whether a word has a comma, or `None` if something follows the comma.
 fn read_comma(text: Option<&[u8]>) -> Option<bool>
     ensures { result ≡ comma_in (option_copied text.entry) }
 {
@@ -113,7 +113,7 @@ impl fmt::Display for Atom {
     }
 }
 
-// A mark and the name or number after it, if there is one.
+// The text of a mark and of the name or number after it, which is empty if there is none.
 #[derive(Clone, Copy)]
 struct TailText<'a>(&'a str, Option<Atom>);
 

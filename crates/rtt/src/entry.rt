@@ -1,4 +1,4 @@
-//! Entries of translation tables, and their words.
+//! Entries of translation tables, and their encoding as 64-bit words.
 ghost use Rattle.std.specs.Prelude.{◌≡◌};
 ghost use Rattle.realm_model.specs.Rows as rows;
 ghost use Rattle.rtt.specs.Word.{entry_word, entry_of};
@@ -13,7 +13,7 @@ use std::marker::Model;
 pub struct Entry {
     pub state: EntryState,
     pub ripas: Ripas,
-    /// The granule that the entry leads to.
+    /// The granule that the entry leads to, if any.
     pub granule: Option<Gran>,
 }
 
@@ -79,7 +79,7 @@ impl Entry {
         matches!(self.state, EntryState::Assigned)
     }
 
-    /// The granule of the page of data that the entry leads to.
+    /// The granule of the data page that the entry leads to, if the entry is ASSIGNED.
     pub fn page(self) -> Option<Gran>
         ensures { result ≡ rows.data_of self }
     {
@@ -95,7 +95,7 @@ impl Entry {
         matches!(self.state, EntryState::Table)
     }
 
-    /// The granule of the table that the entry leads to.
+    /// The granule of the table that the entry leads to, if the entry is TABLE.
     pub(crate) fn child(self) -> Option<Gran>
         ensures { result ≡ rows.table_of self }
     {
@@ -105,8 +105,8 @@ impl Entry {
         }
     }
 
-    /// The word of the entry. Bits 0 and 1 are the kind, bits 2 and 3 the RIPAS, and bits 12 to 47 the address of the
-    /// granule.
+    /// The 64-bit word that encodes the entry. Bits 0 and 1 are the kind, bits 2 and 3 the RIPAS, and bits 12 to 47 the
+    /// address of the granule.
     pub fn to_word(self) -> u64
         ensures { result ≡ entry_word self }
     {
@@ -127,7 +127,7 @@ impl Entry {
         kind + ripas * 4 + address
     }
 
-    /// The entry that a word encodes, for any word.
+    /// The entry that a word encodes; each word encodes one.
     pub fn from_word(word: u64) -> Entry
         ensures { result ≡ entry_of word }
     {

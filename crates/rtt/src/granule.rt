@@ -6,7 +6,7 @@ use realm_model::GranuleState;
 #[derive(Clone, Copy)]
 pub struct Granule {
     pub state: GranuleState,
-    /// The RD of the realm that the granule belongs to.
+    /// The RD of the realm that the granule belongs to, if any.
     pub realm: Option<Gran>,
 }
 

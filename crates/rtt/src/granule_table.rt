@@ -9,7 +9,7 @@ use realm_model::GranuleState;
 use std::alloc::{AllocError, Global};
 use std::marker::Model;
 
-/// The state of each granule, and its realm.
+/// The state and the realm of each granule of a machine.
 #[derive(Drop)]
 pub struct GranuleTable {
     granules: Vec<Granule>,
@@ -55,7 +55,7 @@ impl GranuleTable {
         self.granules[granule.number() as usize].state
     }
 
-    /// The RD of the realm that a granule belongs to.
+    /// The RD of the realm that a granule belongs to, if any.
     pub fn realm_of(&self, granule: Gran) -> Option<Gran>
         requires { granule < length self.now }
         ensures { result ≡ (granule_at self.now granule).realm }

@@ -1,4 +1,4 @@
-//! Theorems on tables, over the pages of a machine and the states of its granules.
+//! Theorems on tables, in terms of the pages of a machine and the states of its granules.
 ghost use Rattle.std.specs.Prelude.{◌≡◌, ℕ, List, Some};
 ghost use Rattle.granule_addr.specs.declared.width.Root.{Root};
 ghost use Rattle.rtt.specs.declared.granule.Granule.{Granule};
@@ -8,13 +8,13 @@ ghost use Rattle.rtt.specs.Tables.{rows};
 ghost use Rattle.rtt.specs.Realm.{HasTables, LeavesAlone};
 ghost use Rattle.rtt.specs.RowWords.{AreRowWords};
 
-/// The page of a table has the words of the table's rows. RMM 1.0, RTT entry.
+/// The page of a table holds the words that encode the table's rows. RMM 1.0, RTT entry.
 pub fn tables_are_words()
     ensures { (pages : List (List ℕ)) (granules : List Granule) (rd : ℕ) (root : Root) → HasTables pages granules rd root → AreRowWords pages root }
 {}
 
-/// Each row of a realm's tables is an entry. An UNASSIGNED row leads to nothing, any other row leads to a granule, and
-/// a TABLE row has no RIPAS.
+/// Each row of a realm's tables has a valid combination of state, RIPAS and granule. An UNASSIGNED row leads to
+/// nothing, any other row leads to a granule, and a TABLE row has no RIPAS.
 pub fn rows_are_entries()
     ensures { (pages : List (List ℕ)) (root : Root) (level ipa : ℕ) (row : Row) → row_at (rows pages root) level ipa ≡ Some row → IsEntry row }
 {}

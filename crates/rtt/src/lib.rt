@@ -1,5 +1,5 @@
-//! The granules of a machine by their states, and the translation tables of realms: words in the pages of granules in
-//! RTT.
+//! The states of a machine's granules, and the translation tables of realms, which are words in the pages of granules
+//! whose state is RTT.
 //!
 //! A `GranuleTable` is seen as the list of its granules, each with its state and the realm that it belongs to. A shift
 //! moves one granule from a state to another if it is in the first, and changes no other granule. Memory is taken by

@@ -116,7 +116,7 @@ impl Tables {
         Ok(())
     }
 
-    /// Sets the RIPAS of `count` IPA granules of one table of level 3 to RAM, or refuses and changes nothing.
+    /// Sets to RAM the RIPAS of `count` IPA granules that one table of level 3 serves, or refuses and changes nothing.
     ///
     /// RMM 1.0, RMI_RTT_INIT_RIPAS. Refused with RMI_ERROR_RTT and the level at which the walk ended, unless that is 3
     /// and all the entries are UNASSIGNED.

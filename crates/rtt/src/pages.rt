@@ -31,7 +31,7 @@ pub fn write<S: PageStore>(store: &mut S, table: Gran, index: u16, entry: Entry)
     store.set_word(table, index, entry.to_word());
 }
 
-// Writes the same entry to `count` places of a table, from the index `first` on.
+// Writes the same entry at `count` indices of a table, from the index `first` on.
 pub(crate) fn fill_entries<S: PageStore>(
     store: &mut S,
     table: Gran,

@@ -13,7 +13,7 @@ pub struct Rtt {
     pub level: Level,
 }
 
-/// Converts a refusal to the answer of the RMM.
+/// Converts a refusal to the RMI result of the command.
 impl From<Rtt> for Rmi {
     ghost from_gives = { λ refusal rmi. rmi ≡ error_rtt refusal.level };
 

@@ -40,8 +40,8 @@ impl Tables {
         self.clear_starting_tables(store, granules, GranuleState::Delegated, &table);
     }
 
-    /// Clears the starting tables of a realm that ends, makes them DELEGATED, and returns `true`. Returns `false`, and
-    /// changes nothing, if and only if an entry of a starting table is TABLE.
+    /// Clears the starting tables of a realm that is destroyed, makes them DELEGATED, and returns `true`. Returns
+    /// `false`, and changes nothing, if and only if an entry of a starting table is TABLE.
     ///
     /// RMM 1.0, RMI_REALM_DESTROY, which answers RMI_ERROR_REALM where this returns `false`.
     pub fn close_root<S: PageStore>(&self, store: &mut S, granules: &mut GranuleTable) -> bool

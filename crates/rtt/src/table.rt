@@ -19,9 +19,9 @@ use page_arena::PageStore;
 use realm_model::{GranuleState, Ripas};
 
 impl Tables {
-    /// Makes a DELEGATED granule the table of a level that serves an IPA granule. The table's entries are UNASSIGNED,
-    /// and have the RIPAS of the entry above. The level is 2 or 3, and `ipa` the first IPA granule that the table
-    /// serves.
+    /// Creates the table that serves an IPA granule at a level, in a DELEGATED granule. The table's entries are
+    /// UNASSIGNED, and have the RIPAS of the entry above. The level is 2 or 3, and `ipa` the first IPA granule that the
+    /// table serves.
     ///
     /// RMM 1.0, RMI_RTT_CREATE. RMI_ERROR_RTT comes with the level at which the walk ended, unless that is the level
     /// above and the entry there is not TABLE. A refusal changes nothing.
@@ -66,8 +66,8 @@ impl Tables {
         Ok(())
     }
 
-    /// Removes the table of a level that serves an IPA granule. The table's page is zero and DELEGATED from now on, and
-    /// the entry above is UNASSIGNED and DESTROYED.
+    /// Destroys the table that serves an IPA granule at a level. The table's page becomes zero and DELEGATED, and the
+    /// entry above becomes UNASSIGNED and DESTROYED.
     ///
     /// RMM 1.0, RMI_RTT_DESTROY. RMI_ERROR_RTT comes with the level at which the walk ended, unless that is the level
     /// above and the entry there is TABLE. Then it comes with the table's level, unless its entries are all UNASSIGNED.

@@ -20,11 +20,11 @@ use std::marker::Model;
 pub struct Tables {
     /// The granule of the realm's RD.
     pub rd: Gran,
-    /// The starting tables, those of level 1.
+    /// The starting tables, whose level is 1.
     pub root: Root,
 }
 
-// The end of a walk: an entry, and its table.
+// The end of a walk: an entry, with its table and the table's level.
 #[derive(Clone, Copy)]
 pub struct EntryAddress {
     pub table: Gran,

@@ -7,7 +7,7 @@ use arrayvec::ArrayVec;
 use host_commands::{Refusal, Reply};
 use plan_replay::TurnAnswer;
 
-/// The length of the longest list of numbers of an answer, which is that of a refusal by the RMM.
+/// The greatest length of an answer's list of numbers, which a refusal by the RMM has.
 const MOST_NUMBERS: usize = 3;
 
 fn reply_numbers(reply: Reply) -> ArrayVec<u32, MOST_NUMBERS>
@@ -78,7 +78,7 @@ pub fn numbers_of(answer: &TurnAnswer) -> ArrayVec<u32, MOST_NUMBERS>
     }
 }
 
-/// Whether the answer is no refusal.
+/// Whether the answer is not a refusal.
 pub fn is_accepted_answer(answer: &TurnAnswer) -> bool
     ensures { result ≡ is_accepted_answer answer.now }
 {

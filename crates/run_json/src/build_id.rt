@@ -1,9 +1,9 @@
-//! Builds by their numbers.
+//! IDs of builds, made from numbers.
 ghost use Rattle.std.specs.Prelude.{◌≡◌, ◌<◌};
 
 use granule_addr::BuildId;
 
-/// The build with that number.
+/// The ID of build `number`.
 pub fn id_of(number: u8) -> BuildId
     requires { number < 8 }
     ensures { result ≡ number }

@@ -85,8 +85,7 @@ pub fn rec_named_by(act: &Act) -> Option<RecNo>
     }
 }
 
-/// Whether an operation changes what is kept of the realm itself: its existence, state, measurement, or the number of
-/// its next REC.
+/// Whether an operation changes the realm itself: its existence, state, measurement, or the number of its next REC.
 pub fn changes_realm(act: &Act) -> bool
     ensures { result ≡ changes_realm act.now }
 {

@@ -1,4 +1,4 @@
-//! The document of a run.
+//! The JSON document of a run.
 ghost use Rattle.std.specs.Prelude.{◌≡◌, ◌<◌, OnOk, IfOk, vec_len};
 ghost use Rattle.realm_plan.specs.PlanView.{plan_view};
 ghost use Rattle.run_json.specs.Document.{settings_of, AddsTurnItem, HasTurnItems, IsDocument};
@@ -13,7 +13,7 @@ use realm_plan::Plan;
 use serde::Serialize;
 use std::alloc::{AllocError, Global};
 
-/// The machine of a plan, and the number of its builds.
+/// The settings of a plan's machine, and the number of the plan's builds.
 #[derive(Clone, Copy, Serialize)]
 pub struct MachineSettings {
     pub pages: u16,
@@ -46,7 +46,7 @@ fn settings_of(plan: &Plan) -> MachineSettings
     }
 }
 
-// Takes one turn of a build, and appends its item.
+// Takes one turn of a build, and appends the turn's item.
 fn push_turn<S: PageStore>(
     alloc: Global,
     items: &mut Vec<TurnItem>,

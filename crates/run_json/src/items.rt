@@ -65,7 +65,7 @@ impl Serialize for RowItem {
     }
 }
 
-/// The row at which the walk of an IPA granule towards a level ends, as the first of `count` rows.
+/// The item of `count` rows, the first of which ends the RTT walk for an IPA granule towards a level.
 pub fn row_item<S: PageStore>(
     host: &Host<S>,
     build: BuildId,
@@ -112,7 +112,7 @@ impl Serialize for RecItem {
     }
 }
 
-/// The REC with that number in a build's realm, as the host has it.
+/// The REC with the number `number` in a build's realm, as the host has it.
 pub fn rec_item<S: PageStore>(
     alloc: Global,
     host: &Host<S>,

@@ -15,7 +15,7 @@ impl<T: Display> Serialize for Shown<T> {
     }
 }
 
-/// Writes a member of the object that is open.
+/// Writes a member of the JSON object that is being written.
 pub fn member<W: Serializer, T: Serialize>(
     out: &mut W,
     name: &str,

@@ -1,4 +1,4 @@
-//! The state that the host keeps of a build.
+//! The JSON members for a build's mark, and for whether the build is aborting.
 ghost use Rattle.std.specs.Prelude.{◌≡◌};
 ghost use Rattle.run_json.specs.Items.{build_kept};
 
@@ -8,7 +8,7 @@ use page_arena::PageStore;
 use realm_host::Host;
 use serde::Serializer;
 
-/// The number of operations that a build had open at its mark, and whether the build is in abort.
+/// The number of operations that a build had open at its mark, and whether the build is aborting.
 #[derive(Clone, Copy)]
 pub struct BuildKept {
     pub mark: Option<u16>,
@@ -23,7 +23,7 @@ impl BuildKept {
     }
 }
 
-/// The mark of a build, and whether it is in abort.
+/// The mark of a build, and whether the build is aborting.
 pub fn build_kept<S: PageStore>(host: &Host<S>, build: BuildId) -> BuildKept
     ensures { result ≡ build_kept host.now build }
 {

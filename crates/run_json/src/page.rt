@@ -5,7 +5,7 @@ ghost use Rattle.run_json.specs.Page.{escaped, page_bytes};
 use crate::template::{HEAD, TAIL};
 use std::alloc::{AllocError, Global};
 
-// Appends a text of JSON with each `<` written as an escape, so that no tag begins in it.
+// Appends JSON text with each `<` written as an escape, so that no HTML tag begins in the text.
 fn push_escaped(page: &mut Vec<u8>, json: &[u8]) -> Result<(), AllocError>
     ensures { OnOk result (page.new.items ≡ page.old.items ++ escaped json.now) }
 {

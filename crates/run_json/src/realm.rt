@@ -1,4 +1,4 @@
-//! A build's realm, without its rows and RECs.
+//! The JSON item of a build's realm, without the realm's rows and RECs.
 ghost use Rattle.std.specs.Prelude.{◌≡◌};
 ghost use Rattle.run_json.specs.Items.{realm_item};
 

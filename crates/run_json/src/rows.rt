@@ -48,7 +48,7 @@ fn push_beginning(
     Ok(())
 }
 
-// Appends the TABLE rows of the levels above a row that begin at the same IPA granule as the row.
+// Appends, for each level above a row's, the TABLE row that begins at the row's first IPA granule, if there is one.
 fn push_rows_above<S: PageStore>(
     items: &mut Vec<RowItem>,
     host: &Host<S>,
@@ -81,7 +81,7 @@ fn goes_on<S: PageStore>(host: &Host<S>, build: BuildId, row: &RowView, ipa: u32
     }
 }
 
-// The number of equal rows of a table from one row on, and the first IPA granule after them.
+// The length of the run of equal rows of one table that begins with `row`, and the first IPA granule after the run.
 fn count_same<S: PageStore>(host: &Host<S>, build: BuildId, row: &RowView) -> (u32, u32)
     requires { first_covered row.now.level row.now.first ≡ row.now.first }
     ensures run { IsRowRun (world_of host.now) build row.now result.0 }

@@ -1,6 +1,6 @@
-//! The page before and after its data. `tools/page_template` makes this file of those in `page/`.
+//! The parts of the page that precede and follow its data. `tools/page_template` makes this file of those in `page/`.
 
-/// The page up to its data.
+/// The part of the page that precedes its data.
 pub const HEAD: &str = "<!DOCTYPE html>
 <html lang=\"en\">
 <head>
@@ -261,7 +261,7 @@ footer { margin-top: 18px; padding-top: 8px; color: var(--soft); font-size: 13px
 <noscript><p>This page draws its data by a script, which is switched off here.</p></noscript>
 <script id=\"data\" type=\"application/json\">";
 
-/// The page after its data.
+/// The part of the page that follows its data.
 pub const TAIL: &str = "</script>
 <script>
 \"use strict\";

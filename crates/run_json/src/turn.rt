@@ -19,7 +19,7 @@ use realm_plan::{PlanStep, StepText};
 use serde::{Described, Serialize, Serializer};
 use std::alloc::{AllocError, Global};
 
-/// A step as the plan spells it, with its place in the build's list and the host's answer.
+/// A step as a plan spells it, with its index in the build's list of steps and the host's answer.
 #[derive(Drop)]
 pub struct StepItem {
     pub place: usize,
@@ -109,7 +109,7 @@ impl Serialize for TurnItem {
 
 // ---- steps
 
-// A step at a place of a build's list, and the host's answer.
+// The item of a step, at index `place` of its build's list, with the host's answer.
 fn step_item(
     alloc: Global,
     place: usize,
@@ -127,7 +127,7 @@ fn step_item(
     })
 }
 
-/// The step of a turn, with its place and its answer; `None` if the build has no step left.
+/// The item of a turn's step, with the step's index and answer; `None` if the build has no step left.
 pub fn step_of(
     alloc: Global,
     place: usize,
@@ -143,7 +143,7 @@ pub fn step_of(
 
 // ---- what an event changed
 
-// Appends the granule with that number, if there can be such a granule.
+// Appends the item of granule `number`, if a machine can have a granule with that number.
 fn push_numbered<S: PageStore>(
     items: &mut Vec<Option<GranuleItem>>,
     host: &Host<S>,
@@ -157,7 +157,7 @@ fn push_numbered<S: PageStore>(
     Ok(())
 }
 
-/// Appends `count` granules from the number `from` on.
+/// Appends the items of `count` granules, from granule `from` on.
 pub fn push_more_granules<S: PageStore>(
     items: &mut Vec<Option<GranuleItem>>,
     host: &Host<S>,
@@ -267,7 +267,7 @@ fn rec_after<S: PageStore>(
     }
 }
 
-// The build's realm, if an operation changed what is kept of it.
+// The build's realm, if an operation changed the realm itself.
 fn realm_after<S: PageStore>(host: &Host<S>, build: BuildId, act: &Act) -> Option<Option<RealmItem>>
     ensures { result ≡ realm_after host.now build act.now }
 {
@@ -299,7 +299,7 @@ fn event_item<S: PageStore>(
     })
 }
 
-// The event at a place of the history, if there is one, and the objects that the event changed.
+// The event at index `place` of the history, if there is one, and the objects that the event changed.
 fn event_at<S: PageStore>(
     alloc: Global,
     host: &Host<S>,

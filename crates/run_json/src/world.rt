@@ -18,7 +18,7 @@ use realm_model::{Act, Event};
 use serde::{Described, Serialize, Serializer};
 use std::alloc::{AllocError, Global};
 
-/// An event, as its text.
+/// An event that is written in JSON as its text.
 #[derive(Drop)]
 pub struct EventLine(pub Event);
 

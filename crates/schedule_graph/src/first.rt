@@ -29,7 +29,7 @@ fn has_paths(counts: &[PathNumber], state: usize) -> bool
     }
 }
 
-// Whether an accepted path goes on over an edge.
+// Whether an accepted path can continue along an edge.
 fn goes_on<L, S: Sign<L>>(
     edge: &Edge<L>,
     sign: &S,
@@ -46,7 +46,7 @@ fn goes_on<L, S: Sign<L>>(
     }
 }
 
-// The first edge over which an accepted path goes on, if there is one.
+// The first edge along which an accepted path can continue, if there is one.
 fn next_edge<'a, L, S: Sign<L>>(
     edges: &'a [Edge<L>],
     sign: &S,

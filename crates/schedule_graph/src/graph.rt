@@ -1,11 +1,11 @@
-//! Graphs of states by layers, and the counts of their paths.
+//! Graphs of states in layers, and the counts of their paths.
 ghost use Rattle.std.specs.Prelude.{◌≡◌, ◌+◌, Bool, List, ◌∷◌, OnOk, IfOk, map, vec_items};
 ghost use Rattle.schedule_graph.specs.Paths.{Layer, AreCounts, AreCountsWith, AreCountsWithout, count_at, path_count, with_count, without_count};
 
 use crate::path_number::PathNumber;
 use std::alloc::{AllocError, Global};
 
-/// A turn that leads from a state to a state of the next layer, given by its place in that layer.
+/// A labelled edge to a state of the next layer, which is given by its index in that layer.
 #[derive(Drop)]
 pub struct Edge<L> {
     pub label: L,
@@ -92,7 +92,7 @@ fn count_without<L, S: Sign<L>>(
     Ok(sum)
 }
 
-/// Returns the number of paths from each state of a layer, by the numbers of the next layer. The one error is that
+/// Returns the number of paths from each state of a layer, given those of the next layer. The one error is that
 /// allocation failed.
 pub fn count_paths<L>(
     alloc: Global,
@@ -110,8 +110,8 @@ pub fn count_paths<L>(
     Ok(counts)
 }
 
-/// Returns how many paths from each state of a layer show the property, by the counts of the next layer. `next` counts
-/// all paths, and `next_with` those that show the property. The one error is that allocation failed.
+/// Returns how many paths from each state of a layer show the property, given the counts of the next layer. `next`
+/// counts all paths, and `next_with` those that show the property. The one error is that allocation failed.
 pub fn count_paths_with<L, S: Sign<L>>(
     alloc: Global,
     layer: &[Vec<Edge<L>>],
@@ -131,8 +131,8 @@ pub fn count_paths_with<L, S: Sign<L>>(
     Ok(counts)
 }
 
-/// Returns how many paths from each state of a layer do not show the property, by the counts of the next layer. The one
-/// error is that allocation failed.
+/// Returns how many paths from each state of a layer do not show the property, given the counts of the next layer. The
+/// one error is that allocation failed.
 pub fn count_paths_without<L, S: Sign<L>>(
     alloc: Global,
     layer: &[Vec<Edge<L>>],

@@ -1,4 +1,4 @@
-//! Theorems on states.
+//! Theorems on the states of plans' runs, and on paths of graphs of states.
 ghost use Rattle.std.specs.Prelude.{◌≡◌, ℕ, List, Some, slice_get};
 ghost use Rattle.std.specs.List.{AllByRecursion};
 ghost use Rattle.realm_plan.specs.Plan.{Plan};

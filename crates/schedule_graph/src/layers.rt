@@ -1,4 +1,4 @@
-//! The numbers of paths from each state of all layers.
+//! The numbers of paths from each state of each layer.
 ghost use Rattle.std.specs.Prelude.{◌≡◌, IfOk};
 ghost use Rattle.schedule_graph.specs.First.{layers_in, path_numbers_in, any_path, shows_none, ArePathNumbers};
 ghost use Rattle.schedule_graph.specs.Paths.{shows};
@@ -26,8 +26,8 @@ pub fn count_all<L>(
     Ok(counts)
 }
 
-/// Returns how many paths from each state of each layer show the property, by the numbers of all paths. The one error
-/// is that allocation failed.
+/// Returns how many paths from each state of each layer show the property, given the numbers of all paths. The one
+/// error is that allocation failed.
 pub fn count_all_with<L, S: Sign<L>>(
     alloc: Global,
     layers: &[Vec<Vec<Edge<L>>>],

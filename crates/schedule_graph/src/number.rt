@@ -1,4 +1,4 @@
-//! Numbers of any size, to count schedules with.
+//! Numbers of any size, for counting schedules.
 ghost use Rattle.std.specs.Prelude.{◌≡◌, ℕ, ◌+◌, ◌*◌, ◌^◌, ◌<◌, ◌≤◌, ◌==◌, List, ◌++◌, length, map, reverse, All, OnOk, IfOk, string_bytes};
 ghost use Rattle.schedule_graph.specs.Number.{number_of, trimmed, numeral};
 
@@ -22,7 +22,7 @@ impl Model for Count {
     ghost invariant = { λ c. All (λ digit. digit < 10) c.digits.items };
 }
 
-// Appends zeros, until there are `places` digits.
+// Appends zeros until there are at least `places` digits.
 fn pad(digits: &mut Vec<u8>, places: usize) -> Result<(), AllocError>
     requires { All (λ digit. digit < 10) digits.old.items }
     ensures number { number_of digits.new.items ≡ number_of digits.old.items }
@@ -51,7 +51,7 @@ fn push_carry(digits: &mut Vec<u8>, carry: u128) -> Result<(), AllocError>
     Ok(())
 }
 
-// Adds `amount` at a place to the digits from that place on, and returns the carry beyond the last digit.
+// Adds `amount` at the decimal place `place`, and returns the carry out of the last digit.
 fn carry_from(digits: &mut [u8], place: usize, amount: u8) -> u8
     requires digits { All (λ digit. digit < 10) digits.old }
     requires place { place ≤ length digits.old }
@@ -86,7 +86,7 @@ fn add_at(digits: &mut Vec<u8>, place: usize, amount: u8) -> Result<(), AllocErr
     push_carry(digits, u128::from(carry))
 }
 
-// Adds the number that other digits spell.
+// Adds the number whose digits are `more`.
 fn add_digits(digits: &mut Vec<u8>, more: &[u8]) -> Result<(), AllocError>
     requires digits { All (λ digit. digit < 10) digits.old.items }
     requires more { All (λ digit. digit < 10) more.now }

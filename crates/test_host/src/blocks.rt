@@ -1,4 +1,4 @@
-//! Free blocks of an arena.
+//! Tests of the free blocks of an arena.
 ghost use Rattle.std.specs.Prelude.{◌≡◌, IsTrue};
 ghost use Rattle.page_arena.specs.Block.{IsTakenBlock};
 
@@ -9,7 +9,7 @@ use granule_addr::{Gran, Order};
 use page_arena::PageStore;
 use std::process::Abort;
 
-// Checks that the free blocks that are in no larger free block are exactly the wanted ones.
+// Checks that the maximal free blocks, which are part of no larger one, are exactly the expected ones.
 fn has_blocks(rt: &impl Abort, arena: &BuddyArena, wanted: &[(u8, u16)]) {
     for number in 0..10 {
         for first in 0..arena.pages() {
@@ -30,7 +30,7 @@ fn takes_the_page<S: PageStore>(rt: &impl Abort, store: &mut S, page: Gran, one:
     }
 }
 
-// Blocks of 13 pages: page 9 splits the block at 8, and the parts merge when the page comes back.
+// An arena of 13 pages: taking page 9 splits the block at page 8, and giving it back merges the parts.
 #[test]
 fn thirteen_pages(rt: HostRuntime) {
     let mut arena = built(&rt, BuddyArena::build(rt.alloc(), 13));

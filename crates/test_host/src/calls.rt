@@ -1,4 +1,4 @@
-//! Scripts for a host: calls of its builds, and readings, each with the expected answer.
+//! Scripts for a host: calls of its builds and readings of its state, each with the expected answer.
 use crate::expected::holds_at;
 use crate::hosts::{booted, over_arena};
 use crate::readings::is_read;
@@ -25,7 +25,7 @@ pub(crate) enum Command {
     Rec,
 }
 
-/// The answer to a command.
+/// The answer to a command that is accepted.
 pub(crate) enum Said {
     Done,
     FirstPage(u16),
@@ -65,7 +65,7 @@ pub(crate) enum Call {
     Pages(u16, u16, u16),
     /// The state of a page, and the sum of its bytes.
     Page(u16, GranuleState, u32),
-    /// The state of the realm, and its VMID.
+    /// The state of the build's realm, and its VMID.
     Realm(Option<(RealmState, u8)>),
     Measurement(Option<[u8; 32]>),
 }
@@ -217,7 +217,7 @@ fn run<S: PageStore + Drop>(rt: &impl Abort, name: &str, mut host: Host<S>, scri
     }
 }
 
-/// Runs a script twice, over each kind of store, on new hosts with the given numbers of pages and builds.
+/// Runs a script once over each kind of store, on new hosts with the given numbers of pages and builds.
 pub(crate) fn over_both(
     rt: &impl Abort,
     alloc: Global,

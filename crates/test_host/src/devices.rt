@@ -17,7 +17,7 @@ fn failure(call: u64) -> io::Error {
     }
 }
 
-/// An input that gives at most `most` bytes a read, and fails at one of its reads, counted from 0.
+/// An input that gives at most `most` bytes per read, and can fail at one chosen read. Reads are counted from 0.
 #[derive(Drop)]
 pub(crate) struct Source<'a> {
     pub rest: &'a [u8],
@@ -40,7 +40,8 @@ impl Read for Source<'_> {
     }
 }
 
-/// An output that takes at most `most` bytes a write, and fails at one of its writes, counted from 0, or at its flush.
+/// An output that takes at most `most` bytes per write, and can fail at one chosen write or when it is flushed. Writes
+/// are counted from 0.
 #[derive(Drop)]
 pub(crate) struct Sink {
     got: Vec<u8>,
@@ -52,7 +53,7 @@ pub(crate) struct Sink {
 }
 
 impl Sink {
-    /// Whether `bytes` are all the bytes that the output has taken.
+    /// Whether the output has taken exactly these bytes.
     pub(crate) fn has(&self, bytes: &[u8]) -> bool {
         self.got.as_slice() == bytes
     }
@@ -80,8 +81,8 @@ impl Write for Sink {
     }
 }
 
-/// The input and output of a program: the most bytes that a call takes, and the call that fails. A failed test is named
-/// by the case, and by the number of the call.
+/// The input and output for a program, with the most bytes that a call takes, and the call that fails. A failed test is
+/// named by the case, and by the number of the call.
 #[derive(Clone, Copy)]
 pub(crate) struct Devices<'a> {
     pub case: &'a str,
@@ -165,7 +166,8 @@ impl<'a> Devices<'a> {
     }
 }
 
-/// The outcome of a program: its result, the number of input bytes left, and its output with the number of writes.
+/// The outcome of a program: its result, the number of input bytes left, and its output with the numbers of writes and
+/// flushes.
 #[derive(Clone, Copy)]
 pub(crate) struct Outcome<'a> {
     pub end: Result<(), Fault>,
@@ -176,7 +178,7 @@ pub(crate) struct Outcome<'a> {
 }
 
 impl<'a> Outcome<'a> {
-    /// The outcome of a program that writes the whole of a text, in `writes` writes.
+    /// The outcome of a program that succeeds, and writes all of `text` in `writes` writes.
     pub(crate) fn printed(text: &'a [u8], writes: u64) -> Outcome<'a> {
         Outcome {
             end: Ok(()),
@@ -209,7 +211,7 @@ impl<'a> Outcome<'a> {
         }
     }
 
-    /// Checks that a program came to this outcome.
+    /// Checks that a program ended with this outcome.
     pub(crate) fn came(
         &self,
         rt: &impl Abort,

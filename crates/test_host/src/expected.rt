@@ -10,7 +10,7 @@ pub(crate) fn equal(rt: &impl Abort, what: &str, seen: u64, want: u64) {
     assert_eq!(rt; seen, want, "{what}");
 }
 
-/// Checks that a text is the expected one.
+/// Checks that a string is the expected one.
 pub(crate) fn same_text(rt: &impl Abort, seen: &str, want: &str) {
     assert_eq!(rt; seen, want);
 }

@@ -5,7 +5,7 @@ use std::sync::atomic::{AtomicU64, Ordering};
 use std::thread;
 use std::time::{Clock, Duration};
 
-/// A gate that gives one of two builds its turn 2 only after the other build has asked for its own turn 2.
+/// A gate that gives each of two builds its turn 2 only after the other build has asked for its own turn 2.
 #[derive(Drop)]
 pub(crate) struct Together<'a, C: Clock> {
     clock: &'a C,

@@ -1,4 +1,4 @@
-//! Guests: builds with the same steps, each with a seat of one host.
+//! Guests: builds whose steps differ only in a fill value, each with its own seat at one shared host.
 use crate::steps::{STEPS, guest_steps};
 use crate::tellers::Refusing;
 use builders::{Gate, Ledgers, Report, Seat, SeatTeller, Shared, work};
@@ -8,7 +8,7 @@ use std::alloc::Global;
 use std::process::Abort;
 use std::sync::Wait;
 
-/// A build's seat and steps, the index of the step that is refused, and the results of the work.
+/// A guest: its seat and steps, the index of the step that it is refused, if any, and the results of its run.
 #[derive(Drop)]
 pub struct Guest<L: Ledgers> {
     pub seat: Seat<L>,
@@ -19,7 +19,7 @@ pub struct Guest<L: Ledgers> {
 }
 
 impl<L: Ledgers> Guest<L> {
-    /// Takes the steps of the guest.
+    /// Performs the guest's steps, and keeps the results.
     pub(crate) fn run<R: Wait + Abort, S: PageStore, G: Gate>(
         &mut self,
         rt: &R,

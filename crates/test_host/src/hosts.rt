@@ -28,7 +28,7 @@ fn boot<S: PageStore + Drop>(
     }
 }
 
-/// A host over a plain store, with the given numbers of pages, of auxiliary granules of a REC, and of builds.
+/// A host over a plain store, with the given numbers of pages, of auxiliary granules per REC, and of builds.
 pub(crate) fn booted(
     rt: &impl Abort,
     alloc: Global,
@@ -57,7 +57,7 @@ pub(crate) fn over_arena(
     }
 }
 
-/// Shares the host, with a seat for each of its builds.
+/// Shares a host among its builds, and returns it with a seat for each build.
 pub(crate) fn started<S: PageStore + Drop, L: Ledgers>(
     rt: &impl Abort,
     alloc: Global,

@@ -1,4 +1,4 @@
-//! The state in which three guests leave their host.
+//! Checks of the state in which three guests leave their host.
 use crate::expected::{holds, same_text};
 use granule_addr::BuildId;
 use page_arena::PageStore;
@@ -14,7 +14,7 @@ fn vmid_of<S: PageStore>(rt: &impl Abort, host: &Host<S>, number: u8) -> u8 {
     vmid.number()
 }
 
-// The map of two guests, each with all that it has built.
+// The expected map of a host with two guests, each with all that it has built.
 fn wanted_map(rt: &impl Abort, alloc: Global, vmid0: u8, vmid2: u8) -> String {
     let text = format!(in alloc;
         "0 page 0 RD
@@ -54,7 +54,7 @@ pub(crate) fn has_two_guests<S: PageStore>(rt: &impl Abort, alloc: Global, host:
     same_text(rt, seen.as_str(), want.as_str());
 }
 
-/// Checks that a host has the same map as a fresh host after the same history without the events of build 1.
+/// Checks that a host's map is that of a fresh host to which the host's history without build 1's events is applied.
 pub(crate) fn is_without_build_1<S: PageStore>(
     rt: &impl Abort,
     alloc: Global,

@@ -9,9 +9,9 @@
 //! of its own, threads come to their end, and a device is asked as often as it has to be.
 //!
 //! Steps are spelled as in a plan, and expected values are rows of tables. One proved function runs the rows of a
-//! table, and names the case and the row that fails. Each function of a test is proved, and a row costs next to nothing.
-//! What the RMM's commands answer, and what they leave in their pages, is in `traces/`. `tests/test_program.py` compares what
-//! the built programs print.
+//! table, and names the case and the row that fails. Each function of a test is proved, and a row costs next to
+//! nothing. What the RMM's commands answer, and what they leave in their pages, is in `traces/`.
+//! `tests/test_program.py` compares what the built programs print.
 #![tactic(auto)]
 
 #[cfg(test)]

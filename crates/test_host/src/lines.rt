@@ -17,7 +17,7 @@ pub(crate) enum No {
     Page(u16),
 }
 
-/// A line of a report. The first number of a step's line is that of the step.
+/// An expected line of a report. The first number of a step's line is that of the step.
 #[derive(Drop)]
 pub(crate) enum Line {
     Done(usize),
@@ -34,7 +34,7 @@ pub(crate) enum Line {
     Undone(Kind, u16),
     /// An undo that follows a refusal, and is refused because the history is full.
     UndoRefused,
-    /// The exit of the REC with that number, after a refusal.
+    /// The exit of the REC with the given number, after a refusal.
     Exited(u16),
 }
 
@@ -66,7 +66,7 @@ impl Line {
         }
     }
 
-    /// The answer of the line.
+    /// The answer that the line reports.
     pub(crate) fn answer(&self) -> Answer {
         match self {
             Line::Done(_) | Line::Exited(_) => Answer::Replied(Reply::Done),

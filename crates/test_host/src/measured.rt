@@ -1,9 +1,9 @@
-//! The bytes by which an event is measured.
+//! Tests of the bytes by which data, RIPAS and RECs are measured.
 use crate::expected::holds;
 use granule_addr::{IpaGran, RecNo};
 use rmi_monitor::{data_event, rec_event, ripas_event};
 
-// The bytes 01 03 ff ff ff, and then the SHA-256 digest of 4,096 bytes 5a, by Python's hashlib.
+// The bytes 01 03 ff ff ff, and then the SHA-256 digest of 4,096 bytes 5a, as computed by Python's hashlib.
 const DATA_EVENT: [u8; 37] = [
     0x01, 0x03, 0xff, 0xff, 0xff, //
     0xf3, 0x02, 0x95, 0x7d, 0xa5, 0x22, 0x09, 0x38, 0xa7, 0xe3, 0xe5, 0x1a, 0x87, 0x18, 0xc7, 0x9b,

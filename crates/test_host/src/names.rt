@@ -1,4 +1,4 @@
-//! Orders and granules by plain numbers.
+//! Conversions of plain numbers to a block order and to a granule.
 use granule_addr::{Gran, Order};
 
 /// The block order with that number, modulo 10.

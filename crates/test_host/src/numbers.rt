@@ -1,11 +1,11 @@
-//! Tests of a machine's numbers, of result words and of table entries, against values that are worked out by hand.
+//! Tests of IPA granules and widths, result words and table entries, against values that are worked out by hand.
 use crate::expected::{equal, holds_at};
 use crate::names::granule;
 use granule_addr::{IpaGran, IpaWidth, Level, index_at, is_protected, start_table};
 use realm_model::{Ripas, Rmi, Status};
 use rtt::Entry;
 
-// Rows of an IPA granule, its width, its starting table, a level, and the index of its entry at that level.
+// Rows, each with an IPA granule, its width, its starting table, a level, and the index of its entry at that level.
 //
 // 788,999 is 3 * 2^18 + 5 * 2^9 + 7. The second starting table begins at 2^27.
 const ENTRIES: [(u32, u8, u16, u8, u16); 7] = [
@@ -35,7 +35,7 @@ fn entries_and_starting_tables(rt: HostRuntime) {
     }
 }
 
-// Rows of a width, its number of starting tables, and its first IPA granule that is not protected.
+// Rows, each with an IPA width, its number of starting tables, and its first unprotected IPA granule.
 const WIDTHS: [(u8, u16, u32); 5] = [
     (39, 1, 67_108_864),
     (40, 2, 134_217_728),
@@ -67,7 +67,7 @@ fn widths(rt: HostRuntime) {
     }
 }
 
-// Of a result word, bits 0 to 7 are the status, and bits 8 to 15 the index.
+// Bits 0 to 7 of a result word are the status, and bits 8 to 15 the index.
 #[test]
 fn result_words(rt: HostRuntime) {
     for (status, index, word) in [
@@ -87,7 +87,7 @@ fn is_word_of(entry: Entry, word: u64) -> bool {
     entry.to_word() == word && Entry::from_word(word) == entry
 }
 
-// Of an entry's word, bits 0 and 1 are the state, bits 2 and 3 the RIPAS, and the bits from 12 on the granule.
+// Bits 0 and 1 of an entry's word are the state, bits 2 and 3 the RIPAS, and the bits from 12 on the granule.
 #[test]
 fn entry_words(rt: HostRuntime) {
     let mut place = 0;

@@ -1,4 +1,4 @@
-//! Recorded events, applied to another host.
+//! Tests of applying recorded events to a host.
 use crate::expected::{equal, holds_at};
 use crate::hosts::{booted, over_arena};
 use granule_addr::{BuildId, Gran, Order};
@@ -14,7 +14,7 @@ enum Recorded {
     Undelegate,
 }
 
-// Rows of a build, an operation, its first granule, and whether the host accepts the event.
+// Rows, each with a build, an operation, its first granule, and whether the host accepts the event.
 const EVENTS: &[(u8, Recorded, u16, bool)] = &[
     (0, Recorded::Take, 1, false),
     (0, Recorded::Take, 2, true),
@@ -62,7 +62,7 @@ fn is_applied<S: PageStore>(
     holds_at(rt, "an event", place, is_applied == *want);
 }
 
-// Checks that the history has these events, and no other.
+// Checks that the history has exactly the events of `HISTORY`.
 fn has_history(rt: &impl Abort, history: &[Event]) {
     let build = BuildId::new(0).unwrap();
     equal(rt, "events", history.len() as u64, 4);

@@ -1,4 +1,4 @@
-//! The texts of refusals.
+//! Tests of the texts by which refusals are reported.
 use granule_addr::Order;
 use realm_host::Refusal;
 use realm_model::{Rmi, Status};
@@ -26,7 +26,7 @@ const TEXTS: [(Refusal, &str); 12] = [
     ),
 ];
 
-// Checks that a refusal has that text.
+// Checks that a refusal is formatted as the given text.
 fn has_text(rt: &impl Abort, alloc: Global, refusal: Refusal, text: &str) {
     let seen = format!(in alloc; "{refusal}").expect(rt, "memory");
     assert_eq!(rt; seen.as_str(), text);

@@ -92,7 +92,7 @@ fn work_together<
     closed(rt, shared, seats)
 }
 
-// The host after guests have run at a gate that waits as given, with one step of build 1 refused.
+// The host after guests have run at a gate of the given `Waiting`, with one step of build 1 refused.
 fn host_after<R: Threads + Wait + Abort + Clock + Sync>(
     rt: &R,
     alloc: Global,

@@ -1,4 +1,4 @@
-//! The expected reports of guests.
+//! Checks of the reports of guests.
 use crate::expected::{equal, holds_at};
 use crate::lines::{Line, No};
 use crate::steps::{ENTER, STEPS};
@@ -6,13 +6,13 @@ use builders::{Answer, Asked, Report, ReportLine};
 use realm_host::Kind;
 use std::process::Abort;
 
-// Checks that a report has the expected line at a place.
+// Checks that a report has the expected line at an index.
 fn has_line(rt: &impl Abort, report: &Report, place: usize, want: &Line) {
     let is_so = report.lines.get(place) == Some(&want.of_report());
     holds_at(rt, "a line of a guest", place, is_so);
 }
 
-// Checks that the first `steps` lines of a report are accepted steps, each at its own place.
+// Checks that the first `steps` lines of a report are those of the first steps, and that each step is accepted.
 fn accepted(rt: &impl Abort, report: &Report, steps: usize) {
     for step in 0..steps {
         let is_so = match report.lines.get(step) {

@@ -1,4 +1,4 @@
-//! Tests of the run of a plan in threads, over bytes in memory, over devices that fail, and at gates.
+//! Tests of running a plan in threads: over bytes in memory, over devices that fail, and at gates.
 use crate::devices::{Devices, Outcome};
 use crate::expected::equal;
 use crate::gates::{ForBuild0, Together};
@@ -32,7 +32,7 @@ free 0
 audit ok
 ";
 
-// Runs the plan of the input in threads, at a gate, and checks the outcome.
+// Runs the input's plan in threads that pass a gate, and checks the outcome.
 fn runs<R: Threads + Wait + Abort + Sync, G: Gate + Sync>(
     rt: &R,
     alloc: Global,
@@ -63,7 +63,7 @@ fn the_lowest_build_that_waits_in_vain_is_reported(rt: HostRuntime) {
     runs(&rt, rt.alloc(), &ForBuild0, &devices, &want);
 }
 
-// The first input is no plan. Then each read fails in turn, and each write of one byte.
+// The first input is not a plan. Then each read fails in turn, and each write of one byte.
 #[test]
 fn a_failure_leaves_a_prefix_of_the_text(rt: HostRuntime) {
     let devices = Devices::working("no plan", b"pages =");

@@ -1,10 +1,10 @@
-//! Scripts of calls that no plan makes, or whose answers no plan prints, over both stores.
+//! Scripts of calls that no plan makes, or whose answers no plan prints, run over both kinds of store.
 use crate::calls::{Call, Command, No, Said, Script, Which, over_both};
 use realm_host::{GranuleState, Kind, RealmState};
 
 const FIRST_PAGE: Result<Said, No> = Ok(Said::FirstPage(0));
 
-// A script in which a build in abort is refused all but undos.
+// A script in which a build that is aborting is refused everything but undos.
 const ABORTS: Script = &[
     (1, Call::Ask(Command::Take(0), Err(No::Build))),
     (0, Call::Ask(Command::Fill(0, 1), Err(No::Page(0)))),
@@ -40,7 +40,7 @@ const MARKS: Script = &[
     (0, Call::Pages(0, 4, 4)),
 ];
 
-// A script in which a build can go back to its own newest mark alone, and not in an abort.
+// A script in which a build can go back only to its own newest mark, and not while it is aborting.
 const REFUSED_MARKS: Script = &[
     (0, Call::Mark(Ok(0))),
     (0, Call::Ask(Command::Take(2), FIRST_PAGE)),
@@ -55,19 +55,19 @@ const REFUSED_MARKS: Script = &[
 
 // The digests below are computed by Python's hashlib, from bytes that are written out by hand.
 
-// The SHA-256 digest of 32 zero bytes, followed by the bytes 03 00 00 00 00.
+// The SHA-256 digest of 37 bytes: 32 zero bytes, and then 03 00 00 00 00.
 const AFTER_REC_0: [u8; 32] = [
     0x1c, 0x49, 0x0e, 0xd8, 0x91, 0xe5, 0xed, 0x4a, 0x59, 0xf5, 0x54, 0x93, 0xa3, 0x79, 0x7e, 0xa2,
     0xf7, 0x9c, 0x54, 0x63, 0xb8, 0x02, 0x7a, 0xfc, 0x24, 0x80, 0xc7, 0x5b, 0xa2, 0x59, 0x83, 0x3b,
 ];
 
-// The SHA-256 digest of AFTER_REC_0, followed by the bytes 03 00 00 00 01.
+// The SHA-256 digest of 37 bytes: those of AFTER_REC_0, and then 03 00 00 00 01.
 const AFTER_REC_1: [u8; 32] = [
     0x52, 0x40, 0x6e, 0x2e, 0xf2, 0xe5, 0xfd, 0xc7, 0x01, 0xf6, 0x4e, 0xe4, 0x40, 0xef, 0xf9, 0x01,
     0xc8, 0x69, 0x36, 0xf5, 0x54, 0x8a, 0x22, 0x82, 0xdc, 0x5d, 0xd6, 0xf5, 0x8a, 0x3c, 0x8c, 0xcd,
 ];
 
-// A script in which the measurement keeps a REC whose creation is undone.
+// A script in which a realm's measurement does not change when the creation of a REC is undone.
 const MEASUREMENT: Script = &[
     (0, Call::Pages(4, 4, 0)),
     (0, Call::Realm(None)),
@@ -87,7 +87,7 @@ const MEASUREMENT: Script = &[
     (0, Call::Measurement(Some(AFTER_REC_1))),
 ];
 
-// Calls of a build that the host does not have, which no plan can make.
+// Calls, which no plan can make, of a build that the host does not have.
 const NO_BUILD: Script = &[
     (2, Call::Ask(Command::Take(10), Err(No::Build))),
     (2, Call::Undo(Err(No::Build))),

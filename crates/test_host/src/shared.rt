@@ -1,4 +1,4 @@
-//! Tests of a host that builds share: the answers to its seats, and its close.
+//! Tests of a host that builds share: the answers that its seats get, and the closing of the host.
 ghost use Rattle.std.specs.Prelude.{◌≡◌, []};
 ghost use Rattle.build_seats.specs.Names.{AreNamed};
 
@@ -18,8 +18,8 @@ use std::marker::Brand;
 use std::process::Abort;
 use std::sync::Wait;
 
-// Commands of a seat, as a plan spells them, each with the line of the expected answer. The step numbers of the lines
-// are ignored.
+// Commands for a seat, spelled as in a plan, each with a line that has the expected answer. The step numbers of the
+// lines are ignored.
 type Script = &'static [(&'static str, Line)];
 
 // Performs a command through a seat, and checks the answer.
@@ -74,8 +74,8 @@ fn goes_back<R: Wait + Abort, L: Ledgers>(
     holds(rt, "it is undone", answer == Ok(undone));
 }
 
-// Two scripts for each build: its seat takes, fills and reads a page. Then it is refused a page that the build does not
-// have.
+// Two scripts for each build: the first takes, fills and reads a page. The second is refused a page that the build does
+// not have.
 const WORKS: [(Script, Script); 2] = [
     (
         &[
@@ -95,7 +95,7 @@ const WORKS: [(Script, Script); 2] = [
     ),
 ];
 
-// Runs the scripts through the seats of two builds, one after the other.
+// Runs the scripts of two builds through their seats, one build after the other.
 fn all_work<R: Wait + Abort, L: Ledgers>(
     rt: &R,
     shared: &Shared<PlainStore, L>,
@@ -134,8 +134,8 @@ fn fault_of_close(
     }
 }
 
-// Works on a shared host with two builds, and closes it with the first `kept` of their seats. Returns the fault, if
-// there is one.
+// Shares a host between two builds, runs their scripts, and closes the host with the first `kept` of the two seats.
+// Returns the fault, if there is one.
 fn closed<R: Wait + Abort, L: Ledgers>(
     rt: &R,
     alloc: Global,
@@ -153,7 +153,7 @@ fn closed<R: Wait + Abort, L: Ledgers>(
     fault_of_close(rt, &shared.close(seats))
 }
 
-// Works on a new host of four pages and two builds, and closes it as `closed` does.
+// Runs `closed` on a new host of four pages and two builds.
 fn booted_and_closed<R: Wait + Abort>(rt: &R, alloc: Global, kept: usize) -> Option<CloseFault> {
     let host = booted(rt, alloc, 4, 0, 2);
     closed::<R, Brand>(rt, alloc, Blanks::new(), host, kept)
@@ -194,7 +194,7 @@ const FILL_FOUR: [Script; 2] = [
     ],
 ];
 
-// Fills four pages through each seat of two builds, one after the other.
+// Fills four pages through the seat of each of two builds, one build after the other.
 fn all_fill<R: Wait + Abort, L: Ledgers>(
     rt: &R,
     shared: &Shared<PlainStore, L>,
@@ -222,7 +222,7 @@ fn map_of_filled<R: Wait + Abort, L: Ledgers>(
     map_text(alloc, &hosts::closed(rt, shared, seats)).expect(rt, "memory")
 }
 
-// The map as by `map_of_filled`, for a new host of eight pages and two builds.
+// The map that `map_of_filled` returns for a new host of eight pages and two builds.
 fn map_of_eight<R: Wait + Abort>(rt: &R, alloc: Global) -> String {
     let host = booted(rt, alloc, 8, 0, 2);
     map_of_filled::<R, Brand>(rt, alloc, Blanks::new(), host)

@@ -1,4 +1,4 @@
-//! Steps of builds, by the words of a plan.
+//! Steps of builds, spelled as in a plan.
 use host_commands::{Cmd, Step};
 use realm_plan::step_from_text;
 use std::alloc::Global;
@@ -7,7 +7,7 @@ use std::process::Abort;
 /// The steps of a build, as a plan spells them.
 pub(crate) type Words = &'static [&'static str];
 
-/// The steps that these words spell.
+/// The steps that the given words spell.
 pub(crate) fn steps_of(rt: &impl Abort, alloc: Global, words: Words) -> Vec<Step> {
     let mut steps = Vec::new(alloc);
     for word in words {
@@ -20,7 +20,7 @@ pub(crate) fn steps_of(rt: &impl Abort, alloc: Global, words: Words) -> Vec<Step
 /// The steps that take two pages, and fill the first one.
 pub(crate) const FILLS: Words = &["take 1", "fill 0 1"];
 
-/// Steps of which the RMM refuses the third.
+/// Four steps, the third of which the RMM refuses.
 pub(crate) const IS_REFUSED: Words = &["take 1", "delegate 0", "delegate 0", "fill 1 5"];
 
 /// The steps that take a page, fill it, and read its last byte.
@@ -32,8 +32,8 @@ pub(crate) const STEPS: usize = 18;
 /// The index of the step that enters the REC. The REC runs from then on.
 pub(crate) const ENTER: usize = 16;
 
-// The steps of a guest, from a block of eight pages to a realm that runs. Its one page of memory has the bytes of page
-// 5 but for the last, which its REC writes. The value of page 5 is left to each guest.
+// The steps of a guest, from leasing a block of eight pages to running a realm. Its one page of memory has the bytes of
+// page 5 but for the last, which its REC writes. The value of page 5 is left to each guest.
 const GUEST: Words = &[
     "take 3",
     "fill 5 0",

@@ -1,4 +1,4 @@
-//! The words of translation tables in the pages of either store.
+//! Tests of the words that translation tables have in pages, over both kinds of store.
 //!
 //! They come and go with a realm's tables and its page.
 ghost use Rattle.std.specs.Prelude.{◌≡◌, true, length, replicate};
@@ -19,16 +19,16 @@ use std::process::Abort;
 enum Call {
     Fill(u16, u8),
     Delegate(u16),
-    // The creation of a realm, by its starting table.
+    // The creation of a realm with the given starting table.
     Realm(u16),
-    // The creation of a table, by its granule and its level.
+    // The creation of a table, with its granule and its level.
     Table(u16, u8),
-    // The creation of a page of the realm, with the source of its bytes.
+    // The creation of a page of the realm, with its granule and the granule whose bytes it gets.
     Data(u16, u16),
     DataDestroy,
     TableDestroy(u8),
     RealmDestroy,
-    // A page, and its expected word 0.
+    // A page, and the expected value of its word 0.
     Begins(u16, u64),
     // A page whose words all have to be 0.
     IsZero(u16),

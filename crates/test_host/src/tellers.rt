@@ -7,7 +7,8 @@ use realm_host::{Cmd, Mark, Refusal, Reply, Undone};
 use realm_model::Rmi;
 use std::sync::Wait;
 
-/// A teller that passes each question on to a seat, but refuses one, counted from 0, without asking the host.
+/// A teller that passes questions on to a seat, but refuses at most one of them without asking the host. Questions are
+/// numbered from 0.
 #[derive(Drop)]
 pub struct Refusing<'a, R: Wait, S: PageStore, L: Ledgers> {
     pub teller: SeatTeller<'a, R, S, L>,
@@ -27,7 +28,7 @@ fn is_refused(asked: &mut usize, refused: Option<usize>) -> bool {
 impl<'a, R: Wait, S: PageStore, L: Ledgers> Teller for Refusing<'a, R, S, L> {
     ghost tells = { λ refusing exchanges. Unit {0} };
 
-    // The loan of the seat.
+    // The loan that the seat's teller writes through.
     ghost loan = { λ refusing. 8 * refusing.teller.seat.ghost_name + refusing.teller.seat.now.build };
 
     fn ask(&mut self, cmd: &Cmd) -> Result<Reply, Refusal> {

@@ -1,4 +1,4 @@
-//! Tests of the lines of refusals that no plan can get.
+//! Tests of the lines that report refusals which no plan can cause.
 use crate::expected::same_text;
 use granule_addr::BuildId;
 use host_commands::{Refusal, Step};

@@ -1,4 +1,4 @@
-//! Tests of workers in threads of their own on a shared host: their answers, and the named build if one is stuck.
+//! Tests of workers that share a host, each in its own thread: their reports, and the build named if one is stuck.
 ghost use Rattle.std.specs.Prelude.{◌≡◌, [], All};
 ghost use Rattle.build_seats.specs.Names.{AreNamed};
 
@@ -19,7 +19,7 @@ use std::process::Abort;
 use std::sync::Wait;
 use std::thread::Threads;
 
-// The outcome of builds that worked side by side: the build that did not finish, if any, their reports, and the map.
+// The outcome of builds that ran side by side: the lowest build that did not finish, if any, all reports, and the map.
 #[derive(Drop)]
 struct Outcome {
     ends: Result<(), BuildId>,
@@ -27,13 +27,13 @@ struct Outcome {
     map: String,
 }
 
-// The steps of builds that work side by side, by the number of the build.
+// The steps of each build, indexed by the number of the build.
 type Plans = &'static [Words];
 
 // Plans in which build 0 fills a page, build 1 is refused its third step, and build 2 reads a page that it has filled.
 const THREE: Plans = &[FILLS, IS_REFUSED, READS];
 
-// Plans in which both builds fill a page and read from it.
+// Plans in which each of two builds fills a page and reads from it.
 const TWO: Plans = &[
     &["take 0", "fill 0 9", "peek 0 0"],
     &["take 0", "fill 0 3", "peek 0 0"],
@@ -56,7 +56,7 @@ fn worker_of<L: Ledgers>(
     }
 }
 
-// The workers of all seats, the last one first.
+// Workers for all seats, the last seat's worker first.
 fn workers_of<L: Ledgers>(
     rt: &impl Abort,
     alloc: Global,
@@ -80,7 +80,7 @@ fn workers_of<L: Ledgers>(
     workers
 }
 
-// The seats and the reports of workers, by build.
+// The seats and the reports of workers, from the last worker to the first.
 fn ended<L: Ledgers>(
     rt: &impl Abort,
     alloc: Global,
@@ -97,7 +97,8 @@ fn ended<L: Ledgers>(
     (seats, reports)
 }
 
-// Runs builds of a shared host side by side, each by its plan, and returns their seats and reports.
+// Runs the builds of a shared host side by side, each by its plan. Returns the lowest build that did not finish, if
+// any, and all seats and reports.
 fn run_plans<R: Threads + Wait + Abort + Sync, G: Gate + Sync, L: Ledgers + Send + Sync>(
     rt: &R,
     alloc: Global,
@@ -112,7 +113,7 @@ fn run_plans<R: Threads + Wait + Abort + Sync, G: Gate + Sync, L: Ledgers + Send
     (ends, seats, reports)
 }
 
-// Runs builds of a host side by side, each by its plan.
+// Shares a host, runs its builds side by side, each by its plan, and closes the host.
 fn work_together<R: Threads + Wait + Abort + Sync, G: Gate + Sync, L: Ledgers + Send + Sync>(
     rt: &R,
     alloc: Global,
@@ -131,7 +132,7 @@ fn work_together<R: Threads + Wait + Abort + Sync, G: Gate + Sync, L: Ledgers + 
     Outcome { ends, reports, map }
 }
 
-// Runs builds as `work_together` does, on a new host.
+// Runs the builds of a new host as `work_together` does.
 fn boot_and_work<R: Threads + Wait + Abort + Sync, G: Gate + Sync>(
     rt: &R,
     alloc: Global,
@@ -144,7 +145,7 @@ fn boot_and_work<R: Threads + Wait + Abort + Sync, G: Gate + Sync>(
     work_together::<R, G, Brand>(rt, alloc, Blanks::new(), host, gate, plans)
 }
 
-// Checks the outcome of builds that worked side by side: the build that did not finish, the reports, and the map.
+// Checks the outcome of builds that ran side by side: the lowest build that did not finish, the reports, and the map.
 fn is_outcome(
     rt: &impl Abort,
     outcome: &Outcome,

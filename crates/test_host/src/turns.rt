@@ -6,7 +6,7 @@ use std::sync::atomic::{AtomicU64, Ordering};
 use std::thread;
 use std::time::{Clock, Duration};
 
-/// The build that waits, and the one that it waits for.
+/// The builds that wait, and the build that they wait for.
 #[derive(Clone, Copy)]
 pub enum Waiting {
     /// Build 1 takes a turn only after build 2 has taken its turn with the same number, or its last turn.
@@ -52,7 +52,7 @@ impl<'a, C: Clock> Turns<'a, C> {
         }
     }
 
-    // Waits until a build has passed that turn.
+    // Waits until a build has passed a given turn.
     fn wait(&self, number: u8, turn: u64) -> Result<(), Stuck> {
         for _ in 0..10_000 {
             if self.passed(number).load(Ordering::SeqCst) > turn {

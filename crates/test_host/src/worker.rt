@@ -1,4 +1,4 @@
-//! Tests of a worker with a teller and a gate of the test's own, without a host.
+//! Tests of a worker with a fake teller and a fake gate, without a host.
 ghost use Rattle.std.specs.Prelude.{◌≡◌, ◌+◌, ◌*◌, ◌≤◌, [], length, vec_capacity};
 
 use crate::expected::holds;
@@ -13,7 +13,7 @@ use std::alloc::Global;
 use std::process::Abort;
 use std::sync::atomic::{AtomicU64, Ordering};
 
-// A teller that accepts all questions except two, which are given by their numbers from 0. An undo always leaves 1.
+// A teller that refuses up to two questions, numbered from 0, and accepts all others. An undo always leaves 1.
 #[derive(Drop)]
 struct Fake<'a> {
     asked: &'a AtomicU64,
@@ -108,7 +108,7 @@ struct Case {
 
 const NEVER: u64 = 10_000;
 
-// The case in which nothing is refused, and all turns come.
+// The case in which no question is refused, and each turn is given.
 const ALL: Case = Case {
     refused: NEVER,
     refused_later: NEVER,
@@ -146,7 +146,7 @@ fn takes_all(report: &mut Report, case: &Case, mark: Mark, steps: &[Step]) -> bo
     work(report, steps, &mut fake, &gate).is_ok()
 }
 
-// Checks the lines that a worker reports of the steps, and whether the worker has finished.
+// Checks the lines that a worker reports for the steps, and whether it finishes as expected.
 fn works(
     rt: &impl Abort,
     alloc: Global,
@@ -180,8 +180,8 @@ const REFUSED_3: Case = Case { refused: 3, ..ALL };
 // The line of each undo after a refusal. The teller always answers that one operation is left open.
 const UNDONE: Line = Line::Undone(Kind::Delegate, 1);
 
-// The cases of three plans: each step is refused in turn, or none is. After a refusal, the open takes and delegations
-// are undone.
+// Cases for three lists of steps: one for the refusal of each step, and one in which none is refused. After a refusal,
+// the open takes and delegations are undone.
 const REFUSED_STEPS: &[(&str, Case, Words, &[Line])] = &[
     (
         "fills, 0",

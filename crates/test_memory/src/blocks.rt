@@ -1,4 +1,4 @@
-//! The time of taking a block and giving it back.
+//! Many rounds of taking a block and giving it back, to be timed by the test.
 use crate::{Fault, tell};
 use buddy::BuddyArena;
 use granule_addr::{Gran, Order};
@@ -7,7 +7,7 @@ use std::alloc::Global;
 
 const TIMES: u32 = 200_000;
 
-// Takes a block of 512 pages, by the store's choice, and gives it back.
+// Takes a block of 512 pages that the store chooses, and gives it back.
 #[tactic(auto, using(page_arena::specs::Blocks::taken_block))]
 fn comes_and_goes(arena: &mut BuddyArena, order: Order) -> bool {
     match arena.take(order) {
@@ -19,7 +19,7 @@ fn comes_and_goes(arena: &mut BuddyArena, order: Order) -> bool {
     }
 }
 
-// Takes a block of 512 pages by its first granule, and gives it back.
+// Takes the block of 512 pages that begins at granule `first`, and gives it back.
 #[tactic(auto, using(page_arena::specs::Blocks::taken_block))]
 fn is_named_and_goes(arena: &mut BuddyArena, order: Order, first: Gran) -> bool {
     if !arena.take_at(order, first) {
@@ -29,8 +29,8 @@ fn is_named_and_goes(arena: &mut BuddyArena, order: Order, first: Gran) -> bool 
     true
 }
 
-/// Takes and gives back blocks of a store of `pages` pages, by their first granules or by the store's choice. Nothing
-/// else happens between the lines.
+/// Takes and gives back blocks of a store of `pages` pages: those that begin at granule 0, or those that the store
+/// chooses. Nothing else happens between the lines.
 pub(crate) fn come_and_go(
     rt: &impl Print,
     alloc: Global,

@@ -1,4 +1,4 @@
-//! The boot of a host, with a second try if memory was refused.
+//! The boot of a host, with a second try if an allocation fails.
 ghost use Rattle.std.specs.Prelude.{◌≡◌, [], true, length, replicate, IfOk};
 ghost use Rattle.granule_addr.specs.Page.{zero_page};
 
@@ -8,7 +8,7 @@ use page_arena::{BuildError, PageStore};
 use realm_host::{Host, Settings};
 use std::alloc::Global;
 
-// Boots a host over a store, and tries again over the same store if there was no memory.
+// Boots a host over a store, and tries again over the same store if an allocation fails.
 fn boot<S: PageStore + Drop>(
     rt: &impl Print,
     alloc: Global,

@@ -1,4 +1,4 @@
-//! Every call of a host.
+//! The calls that the test makes to a host.
 use crate::boot::booted;
 use crate::{Fault, tell};
 use arrayvec::ArrayVec;
@@ -7,7 +7,7 @@ use granule_addr::{BuildId, PageOff, RecNo};
 use realm_host::{Cmd, Host, Mark, Refusal};
 use std::alloc::Global;
 
-/// The numbers of calls that were accepted and that were refused.
+/// The number of accepted calls, and the number of refused calls.
 #[derive(Drop)]
 pub(crate) struct Tally {
     accepted: u32,
@@ -98,10 +98,10 @@ fn realm_command(turn: u8, offset: PageOff) -> Cmd {
     }
 }
 
-/// The number of commands.
+/// The number of commands in the sequence of `command`.
 pub(crate) const TURNS: u8 = 22;
 
-// Asks for the number of operations above a mark, and goes back to it.
+// Asks for the number of open operations above a mark, and then rolls the build back to the mark.
 fn go_back(host: &mut Host<BuddyArena>, build: BuildId, mark: &Mark, tally: &mut Tally) {
     tally.count(&host.check_back(build, *mark));
     tally.count(&host.rollback_to(build, *mark));
@@ -128,7 +128,7 @@ fn ask_all(host: &mut Host<BuddyArena>, build: BuildId, tally: &mut Tally) {
     go_back(host, build, &mark, tally);
 }
 
-// Reads all that a host reports of a build, and returns a sum of the results.
+// Reads what a host reports of its free pages and of a build's pages and realm, and returns a sum of the results.
 fn read_all(host: &Host<BuddyArena>, build: BuildId) -> u32 {
     let mut seen = host.free_count() as u32;
     for page in 0..host.page_count(build) {
@@ -140,7 +140,7 @@ fn read_all(host: &Host<BuddyArena>, build: BuildId) -> u32 {
     seen.saturating_add(u32::from(has_realm))
 }
 
-/// Makes every call of a new host, for each of two builds. One of them aborts step by step, the other stays.
+/// Boots a host, and makes the calls of its two builds. One of them aborts step by step, the other stays.
 pub(crate) fn all_calls(rt: &impl Print, alloc: Global) -> Result<Host<BuddyArena>, Fault> {
     let mut host = booted(rt, alloc)?;
     let mut tally = Tally::new();

@@ -1,6 +1,6 @@
-//! A test program for two properties: arguments come back if memory is refused, and no call after boot takes memory. A
-//! plan on standard input is replayed over the plain store instead, and a script of calls by registers is performed and
-//! measured.
+//! A test program for two properties: a call hands its arguments back if an allocation fails, and no call on a host or
+//! a seat allocates memory. A plan on standard input is replayed over the plain store instead, and a script of calls
+//! made in registers is performed and measured.
 //!
 //! `tests/test_allocations.py` refuses each allocation of this program in turn. A host is then booted or shared, or a worker
 //! built, at the second try, from what came back of the first. The test counts the allocations between a line `quiet`
@@ -31,7 +31,7 @@ use std::time::CpuClock;
 /// The reason why the program stops.
 #[derive(Clone, Copy)]
 pub(crate) enum Fault {
-    /// A refusal of memory to a call that has no arguments to give back.
+    /// A failed allocation in a call that has no arguments to hand back.
     Memory,
     /// Any other fault, which should not happen.
     Other,
@@ -54,7 +54,7 @@ pub(crate) fn tell(rt: &impl Print, line: &str) {
     let _told = println!(rt; "{line}");
 }
 
-/// Prints that an action succeeded, at the first try or at the second.
+/// Prints that an action succeeded, and whether it did so at the second try.
 pub(crate) fn tell_try(rt: &impl Print, what: &str, is_second: bool) {
     let _told = if is_second {
         println!(rt; "{what} at the second try")
@@ -87,7 +87,7 @@ fn bytes_in<I: Read>(alloc: Global, input: &mut Told<I>) -> Result<Vec<u8>, Plan
     Ok(read_whole(alloc, input)?)
 }
 
-/// Replays the plan in the input or performs the script, or makes every call if there is neither.
+/// Replays the plan or performs the script that the input holds, or makes the calls to be tested if the input is empty.
 fn run<H: Print + Eprint + AllocGlobal + CpuClock + Threads + Wait + Sync, I: Read, O: Write>(
     rt: &H,
     input: &mut Told<I>,

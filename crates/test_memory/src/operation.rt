@@ -12,7 +12,7 @@ pub(crate) enum Operation {
     Guest { rec: u64, step: StepWords },
 }
 
-// The registers X0 to X6 with seven numbers.
+// The registers X0 to X6, set to seven numbers.
 fn registers(n: &[u64; 7]) -> Registers {
     Registers {
         x0: n[0],
@@ -70,7 +70,7 @@ impl Operation {
     }
 }
 
-/// Performs operations one after another, and adds their results to a sum.
+/// Performs operations one after another, and returns a checksum of `before` and the operations' results.
 pub(crate) fn perform(rmm: &mut Rmm<PlainStore>, operations: &[Operation], before: u64) -> u64 {
     let mut sum = before;
     for operation in operations {

@@ -1,4 +1,4 @@
-//! A plan that is replayed over the plain store.
+//! The replay of a plan over the plain store.
 ghost use Rattle.std.specs.Prelude.{◌≡◌, false};
 
 use crate::Fault;
@@ -18,7 +18,7 @@ impl From<PlanFault> for Fault {
     }
 }
 
-/// Replays a plan, and prints the text that `realmhost replay` prints of a run over raw pages.
+/// Replays a plan over the plain store, and prints the text that `realmhost replay` prints for a run over raw pages.
 pub(crate) fn replay<W: Write>(
     alloc: Global,
     bytes: &[u8],

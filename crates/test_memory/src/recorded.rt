@@ -6,7 +6,7 @@ use realm_host::Host;
 use realm_model::Event;
 use std::alloc::Global;
 
-// The number of events of a history that a host accepts, one after the other.
+// Applies the events of a history to a host one after another, and returns the number of those that it accepts.
 fn apply_all(host: &mut Host<BuddyArena>, history: &[Event]) -> u32 {
     let mut applied: u32 = 0;
     for event in history {

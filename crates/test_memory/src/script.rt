@@ -1,4 +1,4 @@
-//! Scripts of calls by registers: a scene, and parts that are performed and measured in each round.
+//! Scripts of calls made in registers: a scene, and parts that are performed and measured in each round.
 //!
 //! Standard output is a sum of the results of all operations. Standard error has a line for each part: the least
 //! processor time of a round, in nanoseconds. `bench/rmm` has the scripts, and plain Rust beside it.

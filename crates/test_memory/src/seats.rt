@@ -14,7 +14,7 @@ use std::marker::{Brand, Send, Sync};
 use std::sync::Wait;
 use std::thread::Threads;
 
-// Makes every call through the lock. The answers are counted.
+// Makes the calls of one build through the shared host's lock. The answers are counted.
 fn ask_all<R: Wait, L: Ledgers>(
     rt: &R,
     shared: &Shared<BuddyArena, L>,
@@ -35,7 +35,7 @@ fn ask_all<R: Wait, L: Ledgers>(
     tally.count(&shared.undo(rt, seat));
 }
 
-// Steps that take a page and fill it, and go back to a mark.
+// Steps that take a page, delegate it after a mark, go back to the mark, and fill the page.
 fn few_steps(alloc: Global) -> Result<Vec<Step>, Fault> {
     let take = Step::Ask(Cmd::Take { order: 0 });
     let delegate = Step::Ask(Cmd::Delegate { page: 0 });
@@ -43,7 +43,7 @@ fn few_steps(alloc: Global) -> Result<Vec<Step>, Fault> {
     Ok(Vec::from_array(alloc, [take, Step::Mark, delegate, Step::Back, fill])?)
 }
 
-// A worker at the second try, built of the arguments that the first try gave back.
+// A worker from a second try, built with the arguments that the first try handed back.
 fn built_again<L: Ledgers>(
     alloc: Global,
     back: (AllocError, Seat<L>, Vec<Step>),
@@ -59,7 +59,7 @@ fn built_again<L: Ledgers>(
     }
 }
 
-// A worker for the last of the seats, with a second try if there was no memory.
+// A worker for the last of the seats, with a second try if an allocation fails.
 fn last_worker<L: Ledgers>(
     rt: &impl Print,
     alloc: Global,
@@ -117,7 +117,7 @@ fn ask_and_work<R: Print + Threads + Wait + Sync, L: Ledgers + Send + Sync>(
     Ok(())
 }
 
-// A shared host at the second try, started with the arguments that the first try gave back.
+// A shared host from a second try, started with the arguments that the first try handed back.
 fn shared_again<L: Ledgers>(
     alloc: Global,
     back: (AllocError, Blanks, Host<BuddyArena>),
@@ -133,7 +133,7 @@ fn shared_again<L: Ledgers>(
     }
 }
 
-// A shared host and its seats, with a second try if there was no memory.
+// A shared host and its seats, with a second try if an allocation fails.
 fn started<L: Ledgers>(
     rt: &impl Print,
     alloc: Global,
@@ -171,7 +171,7 @@ fn close<L: Ledgers>(
     }
 }
 
-// Shares a host, with a second try if there was no memory, works on it, and closes it.
+// Shares a host, with a second try if an allocation fails, works on it, and closes it.
 fn share<R: Print + Threads + Wait + Sync, L: Ledgers + Send + Sync>(
     rt: &R,
     alloc: Global,

@@ -9,7 +9,7 @@ use std::fmt;
 /// The verdict on a line, by which the line is counted.
 #[derive(Clone, Copy)]
 pub enum LineVerdict {
-    /// A remark, a line with no answer, or a line that is not to be compared.
+    /// A remark, a question without a written answer, or a line that is not to be compared.
     NotCompared,
     Same,
     Allowed,
@@ -19,9 +19,9 @@ pub enum LineVerdict {
 /// The verdict on a trace.
 #[derive(Clone, Copy)]
 pub enum TraceVerdict {
-    /// A trace with no wrong line, and at least one line whose answer is the same.
+    /// A trace with no wrong line, and at least one line with the model's answer.
     Agrees,
-    /// A trace with no wrong line, and no line whose answer is the same.
+    /// A trace with no wrong line, and no line with the model's answer.
     NothingSame,
     /// A trace with a wrong line.
     Differs,
@@ -45,7 +45,7 @@ fn one_more(count: u64) -> Result<u64, TraceError>
 }
 
 impl Counts {
-    /// The counts of no lines.
+    /// The counts before any line.
     pub const NONE: Counts = Counts {
         lines: 0,
         same: 0,
@@ -53,7 +53,7 @@ impl Counts {
         wrong: 0,
     };
 
-    /// Returns the counts with one more line of a verdict.
+    /// Returns the counts after one more line with a verdict.
     pub fn with(self, verdict: LineVerdict) -> Result<Counts, TraceError>
         ensures ok { IfOk result (λ counts. counts ≡ with_line_counted self verdict) }
         ensures err { IfErr result (λ e. e ≡ TooLong) }
@@ -94,7 +94,7 @@ impl Counts {
     }
 }
 
-/// The text line that shows the counts.
+/// The line of text that shows the same, allowed and wrong counts.
 impl fmt::Display for Counts {
     ghost use Rattle.std.specs.Prelude.{Some};
     ghost use Rattle.trace_program.specs.Counting.{summary_text};

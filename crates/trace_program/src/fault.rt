@@ -7,7 +7,7 @@ use command_line::Reason;
 use std::alloc::AllocError;
 use thiserror::Error;
 
-/// The reason why the run of a trace stops before the end of the trace. Its line goes to standard error.
+/// An error that stops the run of a trace before its end. Its line goes to standard error.
 #[derive(Clone, Copy, Debug, Error)]
 pub enum TraceError {
     /// A failed allocation.
@@ -16,7 +16,7 @@ pub enum TraceError {
     /// A failed read or write.
     #[error("device")]
     Device,
-    /// A trace that has 2^64 lines, or took 2^64 reads.
+    /// A trace that takes more than 2^64 - 1 reads, or a check of more than 2^64 - 1 lines.
     #[error("the trace is too long")]
     TooLong,
 }

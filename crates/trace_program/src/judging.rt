@@ -21,7 +21,7 @@ fn is_name(word: &TraceWord, name: usize) -> bool
     }
 }
 
-// Whether an answer is the answer to a line that is no command.
+// Whether an answer is `no command`, the answer to a line that is not a command.
 #[tactic(auto, unfolding(crate::specs::Judged::is_no_command))]
 pub(crate) fn is_no_command(reply: &TraceReply) -> bool
     ensures { result ≡ specs.is_no_command reply.now }
@@ -74,7 +74,7 @@ fn name_place(question: &[TraceWord]) -> usize
     }
 }
 
-/// The named call of a raw line.
+/// The call of a raw line, written with names; `None` if the line is not raw or cannot be named.
 pub(crate) fn raw_call(question: &[TraceWord]) -> Option<Sentence>
     ensures { option_map (λ call. call.items) result ≡ raw_call question.now }
 {
@@ -157,7 +157,7 @@ fn answer_verdict(
     }
 }
 
-// The verdict on a line that is no command: its written answer has to be `no command`.
+// The verdict on a line that is not a command: its written answer has to be `no command`.
 fn no_command_verdict(written: Option<&[u8]>) -> LineVerdict
     ensures { result ≡ specs.no_command_verdict (option_copied written.entry) }
 {
@@ -167,8 +167,8 @@ fn no_command_verdict(written: Option<&[u8]>) -> LineVerdict
     }
 }
 
-/// Returns the verdict on a line and its written answer, by the machine and our answer after that line. The words of
-/// the written answer are read into `words`.
+/// Returns the verdict on a line with its written answer, judged by our answer and by the machine after the line. The
+/// words of the written answer are read into `words`.
 #[tactic(auto, unfolding(crate::specs::Judged::line_verdict))]
 pub fn line_verdict(
     asked: &Comparison,

@@ -1,4 +1,4 @@
-//! The texts of lines with their answers.
+//! The output text for lines of a trace, with their answers.
 ghost use Rattle.std.specs.Prelude.{◌≡◌, ◌++◌, [], ◌∷◌, OnOk};
 ghost use Rattle.trace_program.specs.LineText.{answered_text, sign_and_answer, tail_of};
 ghost use Rattle.rmm_answers.specs.Replies.{reply_text};
@@ -10,11 +10,11 @@ use std::alloc::{AllocError, Global};
 use std::fmt::Write;
 use std::marker::Model;
 
-/// The texts of lines that are not written yet. It is seen as its bytes.
+/// The text for lines that is not yet written to the output. It is seen as its bytes.
 #[derive(Drop)]
 pub struct LineTexts {
     bytes: Vec<u8>,
-    // The text of words, before it is appended to `bytes`.
+    // A buffer for the text of words before it is appended to `bytes`.
     words: String,
 }
 
@@ -27,7 +27,7 @@ impl Model for LineTexts {
 }
 
 impl LineTexts {
-    /// The texts of no lines.
+    /// An empty text.
     pub fn new(alloc: Global) -> LineTexts
         ensures { result ≡ [] }
     {
@@ -37,14 +37,14 @@ impl LineTexts {
         }
     }
 
-    /// The bytes of the texts.
+    /// The bytes of the text.
     pub fn as_slice(&self) -> &[u8]
         ensures { result.now ≡ self.now }
     {
         &self.bytes
     }
 
-    /// Removes the texts.
+    /// Removes all of the text.
     pub fn clear(&mut self)
         ensures { self.new ≡ [] }
     {
@@ -115,7 +115,7 @@ impl LineTexts {
     }
 }
 
-/// The end of a line after its question and its answer: the comment, and the blanks before it.
+/// The part of a line after its question and its written answer: the comment, and the blanks before it.
 #[tactic(auto, unfolding(crate::specs::LineText::tail_of))]
 pub(crate) fn tail(bytes: &[u8]) -> &[u8]
     ensures { result.now ≡ tail_of bytes.now }

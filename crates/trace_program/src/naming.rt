@@ -1,4 +1,4 @@
-//! Raw lines, written with names.
+//! The rewriting of raw lines with the names of their commands and outputs.
 ghost use Rattle.std.specs.Prelude.{◌≡◌, ◌++◌, OnOk, option_map};
 ghost use Rattle.trace_program.specs.LineText.{answer_named, named_text, question_named};
 

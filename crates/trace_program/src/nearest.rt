@@ -1,4 +1,4 @@
-//! The word that was probably meant.
+//! The search for the word that was probably meant by a line that is not a command.
 use rmm_trace::name_text;
 use rmm_trace::place::WRITE;
 use std::alloc::{AllocError, Global};
@@ -12,12 +12,12 @@ fn is_near(edits: usize, one: &str, other: &str) -> bool {
     edits.saturating_mul(3) <= one.len().max(other.len())
 }
 
-// The text up to its first space.
+// The part of a text before its first space; the whole text if it has none.
 fn first_word(text: &str) -> &str {
     text.split(' ').next().unwrap_or("")
 }
 
-/// Returns the first word of a question that is nearest to the line's first word, if it is near but not equal.
+/// Returns the word nearest to a line's first word among those that can begin a question, if it is near but not equal.
 pub(crate) fn nearest_word(alloc: Global, line: &[u8]) -> Result<Option<&'static str>, AllocError> {
     let Ok(text) = str::from_utf8(line) else {
         return Ok(None);

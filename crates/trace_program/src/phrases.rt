@@ -1,4 +1,4 @@
-//! The requirement of each check, in a few words of the standard. They are tested, not proved.
+//! The requirement of each check, in a few words of the standard. The words are tested, not proved.
 use rmm_model::Condition;
 use rmm_trace::place::{
     RMI_DATA_DESTROY, RMI_GRANULE_UNDELEGATE, RMI_PSCI_COMPLETE, RMI_REALM_CREATE, RMI_REC_CREATE,
@@ -194,7 +194,7 @@ const REQUIREMENTS: [(Condition, &str); 76] = [
     ),
 ];
 
-// The requirements of checks that mean something else in a command.
+// The requirements of checks that mean something else in a given command.
 const OF_COMMANDS: [(usize, Condition, &str); 34] = [
     (
         RMI_GRANULE_UNDELEGATE,
@@ -360,7 +360,8 @@ const OF_COMMANDS: [(usize, Condition, &str); 34] = [
     ),
 ];
 
-/// The requirement of a check of a command, by the place of the command's name.
+/// The requirement of a check in a command, which is given by the place of its name in the grammar; empty if there is
+/// none.
 pub(crate) fn requirement(command: usize, condition: Condition) -> &'static str {
     for row in &OF_COMMANDS {
         if row.0 == command && row.1 == condition {

@@ -1,4 +1,4 @@
-//! The reading of a trace: its lines are read, and their texts are written.
+//! The run of a trace: the loop that reads its lines and writes their texts.
 ghost use Rattle.std.specs.Prelude.{◌≡◌, ◌++◌, ◌⊎◌, ◌↔◌, ℕ, List, [], Option, true, false, Err, IfOk, OnOk, OnErr};
 ghost use Rattle.std.specs.Io.KnownBytes.{Appends};
 ghost use Rattle.checked_io.specs.Whole.{AppendsFront};
@@ -13,10 +13,10 @@ use rmm_trace::{MOST_LINE, cut_at};
 use std::alloc::{AllocError, Global};
 use std::io::{Read, Write};
 
-// The number of bytes that are kept of a line: one more than a question may have.
+// The most bytes that are kept of a line: one more than a question may have.
 const KEPT: usize = MOST_LINE + 1;
 
-// Keeps a part of a line, unless enough of it is kept.
+// Keeps a part of a line, up to `KEPT` bytes of the line in all.
 fn keep(line: &mut Vec<u8>, part: &[u8]) -> Result<(), AllocError>
     ensures { OnOk result ((rest : List ℕ) → line.old.items ≡ specs.kept_of_line rest → line.new.items ≡ specs.kept_of_line (rest ++ part.now)) }
 {
@@ -26,7 +26,7 @@ fn keep(line: &mut Vec<u8>, part: &[u8]) -> Result<(), AllocError>
     Ok(())
 }
 
-// The request of a run, and the name of its trace.
+// The allocator of a run, its subcommand, and the name of its trace.
 #[derive(Clone, Copy)]
 struct Request<'a> {
     alloc: Global,
@@ -98,7 +98,7 @@ impl Reading {
         self.end_line(request)
     }
 
-    // Writes the text.
+    // Writes the text that is not yet written.
     fn write<W: Write>(&mut self, output: &mut Told<W>) -> Result<(), TraceError>
         requires { output.old.failed ≡ false }
         ensures session { self.new.session ≡ self.old.session }
@@ -149,7 +149,7 @@ impl Reading {
         Ok(!self.session.is_done(request.asked))
     }
 
-    // Writes the counts of a check, and returns the verdict.
+    // Writes the counts if the run is a check, and returns the verdict.
     fn finish<W: Write>(
         &self,
         request: Request<'_>,
@@ -175,7 +175,7 @@ impl Reading {
 ///
 /// Memory is taken for a fresh machine, for a line, of which no more than 65,537 bytes are kept, and for the texts of
 /// the lines of one read. Errors. `Memory`: allocation failed. `Device`: a read or a write failed. `TooLong`: the trace
-/// took 2^64 - 1 reads, or has as many lines. In each case a prefix of the texts was written.
+/// goes on after 2^64 - 1 reads, or after 2^64 - 1 lines of a check. In each case a prefix of the texts was written.
 pub fn run<R: Read, W: Write>(
     alloc: Global,
     asked: &TraceSubcommand,

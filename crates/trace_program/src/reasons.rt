@@ -1,4 +1,4 @@
-//! The words for wrong lines and for refused calls. They are tested, not proved, but for the first line of a note.
+//! The explanations of wrong lines and refused calls. They are tested, not proved, but for the first line of a note.
 ghost use Rattle.std.specs.Prelude.{◌≡◌, IfOk};
 ghost use Rattle.trace_program.specs.Session.{heading_text};
 
@@ -25,7 +25,7 @@ fn word_text(word: Word) -> (&'static str, u8) {
     }
 }
 
-// Appends a check with a label: its name, its requirement, and in brackets its word.
+// Appends a line on a failed check: the label, and the check's name, requirement and, in brackets, result word.
 fn push_failed(
     text: &mut String,
     label: &str,
@@ -75,8 +75,8 @@ fn push_passed(
     Ok(())
 }
 
-/// Returns the lines below a refused call: the check that decides, the other checks that failed, and the checks that
-/// passed.
+/// Returns the lines to print below a refused call: the check that decides, the other checks that failed, and the
+/// checks that passed.
 pub(crate) fn checks_text(
     alloc: Global,
     question: &[TraceWord],
@@ -112,8 +112,8 @@ pub(crate) fn heading(
     Ok(text)
 }
 
-/// Returns the note on an allowed or wrong line, without its heading: the line, our answer, and a suggestion if it is
-/// no command.
+/// Returns the note on an allowed or wrong line, without its heading: the line, our answer, and a suggestion if the
+/// line is not a command.
 pub(crate) fn difference(
     alloc: Global,
     bytes: &[u8],

@@ -1,4 +1,4 @@
-//! A session: the lines of a trace, one after another.
+//! A session, which takes the lines of a trace one after another.
 ghost use Rattle.std.specs.Prelude.{◌≡◌, ◌++◌, ℕ, List, [], Err, None, IfOk, OnOk, string_bytes};
 ghost use Rattle.trace_program.specs.declared.fault.TraceError.TheVariants.{Device};
 ghost use Rattle.rmm_trace.specs.declared.line.LineKind.TheVariants.{Remark};
@@ -26,7 +26,7 @@ pub struct LineWords {
 }
 
 impl LineWords {
-    /// The words of no line.
+    /// The words before any line is read.
     pub fn new() -> LineWords
         ensures line { result.line ≡ without_words Remark }
         ensures written { result.written.items ≡ [] }
@@ -41,16 +41,16 @@ impl LineWords {
 /// The state of a trace after some lines.
 #[derive(Drop)]
 pub struct Session {
-    /// The RMM of the last `platform`, if there was one.
+    /// The RMM that the last `platform` line started, if there was one.
     pub machine: TraceMachine,
-    /// The counts of the lines.
+    /// The counts of the lines so far.
     pub counts: Counts,
-    /// The answer to the last line that is no remark.
+    /// The answer to the last line that is not a remark (a comment or an empty line).
     pub reply: TraceReply,
 }
 
 impl Session {
-    /// A session that has had no line.
+    /// A session before its first line.
     pub fn new() -> Session
         ensures { result ≡ specs.fresh_session }
     {
@@ -61,7 +61,7 @@ impl Session {
         }
     }
 
-    // Performs a line. A remark has no answer.
+    // Performs the command of a line, and keeps the answer. A remark has no answer.
     fn perform(&mut self, alloc: Global, line: &RmmTraceLine) -> Result<(), AllocError>
         ensures { OnOk result (self.new ≡ specs.performed self.old line.now) }
     {
@@ -78,7 +78,7 @@ impl Session {
         }
     }
 
-    // Returns the lines on the checks of a refused call; empty if no call is refused.
+    // Returns the lines that report the checks of a refused call; empty if no call is refused.
     fn refusal(&self, alloc: Global, question: &[TraceWord]) -> Result<String, AllocError>
         ensures { IfOk result (λ text. self.now.reply.refused ≡ None → string_bytes text ≡ []) }
     {
@@ -88,7 +88,7 @@ impl Session {
         }
     }
 
-    // Returns the lines below an answer: the checks of a refused call, or the word that was probably meant.
+    // Returns the lines to print below an answer: the checks of a refused call, or a suggested word.
     fn reasons(
         &self,
         alloc: Global,
@@ -109,7 +109,7 @@ impl Session {
         }
     }
 
-    // Returns the note on a line whose answer is the same.
+    // Returns the note on a line whose written answer is the same as ours.
     fn same_note(
         &self,
         alloc: Global,
@@ -160,7 +160,7 @@ impl Session {
         }
     }
 
-    // Answers a line.
+    // Performs a line, and appends it with our answer.
     fn answer(
         &mut self,
         alloc: Global,
@@ -176,7 +176,7 @@ impl Session {
         text.push_answered(bytes, &words.line, &self.reply)
     }
 
-    // Answers a line, and explains its refusal.
+    // Performs a line, and appends it with our answer and the explanation below it.
     fn explain(
         &mut self,
         alloc: Global,
@@ -194,7 +194,7 @@ impl Session {
         text.push(reasons.as_bytes())
     }
 
-    // Performs a line, and judges its answer.
+    // Performs a line, and returns the verdict on its written answer.
     fn judge(
         &mut self,
         alloc: Global,
@@ -220,7 +220,7 @@ impl Session {
         Ok(verdict)
     }
 
-    // Compares a line, and appends what differs.
+    // Performs and judges a line, and appends the note on it.
     fn check(
         &mut self,
         alloc: Global,
@@ -242,7 +242,7 @@ impl Session {
         Ok(())
     }
 
-    /// Takes a line, and appends its text. The line is read into `words`.
+    /// Processes a line as the subcommand asks, and appends the text for it. The line is read into `words`.
     ///
     /// Errors: `Memory`, if allocation failed; `TooLong`, after 2^64 - 1 lines.
     pub fn take_line(
@@ -271,7 +271,7 @@ impl Session {
         Ok(())
     }
 
-    /// Whether no further line is taken: a line is wrong, and the check is to stop there.
+    /// Whether the session takes no further line: a line is wrong, and the check stops at the first wrong line.
     pub fn is_done(&self, asked: &TraceSubcommand) -> bool
         ensures { result ≡ specs.is_check_done asked.now self.now }
     {

@@ -1,4 +1,4 @@
-//! The map of a history whose events are read and applied to a host.
+//! The subcommand `apply`, which applies the events of a history to a host and writes the host's map.
 ghost use Rattle.std.specs.Prelude.{◌≡◌, ◌<◌, ◌↔◌, ◌⊎◌, false, true, Err, IfOk, IfErr, string_bytes};
 ghost use Rattle.realm_host.specs.Recorded.{fresh_like};
 ghost use Rattle.history_text.specs.Histories.{IsSize};
@@ -18,7 +18,7 @@ use realm_host::{Host, apply_without};
 use std::alloc::{AllocError, Global};
 use std::io::{Read, Write};
 
-// Reads the history in the input, and returns its host and the size of its machine.
+// Reads the history in the input, and returns its opening and the host that it leads to.
 fn host_in<R: Read>(
     alloc: Global,
     input: &mut Told<R>,
@@ -53,7 +53,7 @@ fn map_without(
     map_text(alloc, &fresh)
 }
 
-// The map of a host, or of its history without the build `erase`.
+// The map of a host, or, if the build `erase` is given, of a host with the same history without that build.
 fn asked_map(
     alloc: Global,
     opening: &Opening,

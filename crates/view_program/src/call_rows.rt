@@ -5,10 +5,10 @@ use realm_model::Rmi;
 use rmi_abi::{Call, encode_call};
 use std::alloc::AllocError;
 
-// X0 after the entry of a REC whose guest runs on.
+// The X0 after the entry of a REC whose guest keeps running.
 const RUNNING: u64 = 0xFFFF_FFFF_FFFF_FFFE;
 
-// The numbers of the steps of a guest.
+// The codes of a guest's steps in the rows of kind GUEST.
 const WRITE: u64 = 0;
 
 const SPIN: u64 = 12;
@@ -25,7 +25,7 @@ fn push_numbers(text: &mut String, numbers: &[u64]) -> Result<(), AllocError> {
     Ok(())
 }
 
-// Appends the head of a row: its kind, the inputs, and the expected outputs, which are all compared.
+// Appends the head of a row: its kind, its inputs, and its expected outputs. All of the outputs are compared.
 fn push_head(text: &mut String, kind: &str, given: &[u64], out: &[u64]) -> Result<(), AllocError> {
     write!(text, "{{.kind = {kind}, .in = {{")?;
     push_numbers(text, given)?;
@@ -43,13 +43,13 @@ fn push_head(text: &mut String, kind: &str, given: &[u64], out: &[u64]) -> Resul
     write!(text, "}}, .compared = {compared}")
 }
 
-// Appends a row that has no more than its head.
+// Appends a row that consists of its head alone.
 fn push_row(text: &mut String, kind: &str, given: &[u64], out: &[u64]) -> Result<(), AllocError> {
     push_head(text, kind, given, out)?;
     text.push_str("},\n")
 }
 
-// The number of registers, from X0 on, that RMM 1.0 specifies after a command.
+// The number of result registers, from X0 on, that RMM 1.0 specifies for a command.
 fn result_count(call: Call) -> u64 {
     match call {
         Call::RttDestroy { .. } | Call::DataDestroy { .. } => 3,
@@ -58,7 +58,7 @@ fn result_count(call: Call) -> u64 {
     }
 }
 
-// Appends the row of a call, with X0 after the call, and X1 if it is known.
+// Appends the row of a call, with the expected X0, and the expected X1 if it is known.
 fn push_smc(text: &mut String, call: Call, x0: u64, x1: Option<u64>) -> Result<(), AllocError> {
     let it = encode_call(call);
     let given = [it.x0, it.x1, it.x2, it.x3, it.x4, it.x5, it.x6];
@@ -173,7 +173,7 @@ fn push_done(text: &mut String, action: &HostAction) -> Result<(), AllocError> {
     }
 }
 
-/// Appends the rows of an operation, as `push_action` appends its line.
+/// Appends the rows of an operation, the counterpart of the trace line that `push_action` appends.
 ///
 /// `AllocError`: the text may have a part of the rows.
 pub(crate) fn push_action_rows(
@@ -192,7 +192,8 @@ pub(crate) fn push_action_rows(
     }
 }
 
-/// Appends the row of the machine of a frame, as `push_platform` appends its line.
+/// Appends the row that describes the machine of a frame, the counterpart of the trace line that `push_platform`
+/// appends.
 pub(crate) fn push_platform_row(
     text: &mut String,
     frame: Frame,

@@ -15,7 +15,7 @@ use std::io::{Read, Write};
 pub enum ViewOutcome {
     /// A subcommand that is done.
     Done,
-    /// A checked input that is no plan, and whose errors are written.
+    /// An input of `check` that is not a plan, and whose errors have been written.
     HasErrors,
 }
 
@@ -30,7 +30,7 @@ fn verdict_of(is_plan: bool) -> ViewOutcome
     }
 }
 
-/// Reads bytes, and writes the findings on them. The findings are all errors of bytes that are no plan, or else the
+/// Checks the bytes from a reader as a plan, and writes the findings to a writer. The findings are all errors of bytes that are no plan, or else the
 /// plan's likely slips and size.
 ///
 /// The text is complete before any of it is written. Errors: Memory, if allocation failed; Device, if a read failed and

@@ -1,4 +1,4 @@
-//! The reasons why a text is not printed, or only a prefix of it.
+//! The reasons why a text is not printed, or is printed only in part.
 ghost use Rattle.std.specs.Prelude.{◌≡◌};
 ghost use Rattle.view_program.specs.declared.fault.ViewError.TheVariants.{Plan, Memory, Device};
 
@@ -8,29 +8,29 @@ use realm_host::WhyNot;
 use std::alloc::AllocError;
 use thiserror::Error;
 
-/// The reason why a text is not printed, or only a prefix of it. The line of the reason goes to standard error. Lines
-/// are counted from 1.
+/// The reason why a text is not printed, or is printed only in part. The line of the reason goes to standard error.
+/// Lines are counted from 1.
 #[derive(Debug, Drop, Error)]
 pub enum ViewError {
-    /// An input that is no plan: its errors, as `check` writes them.
+    /// An input that is not a plan, with its errors as `check` writes them.
     #[error("{}", .0.trim_end())]
     NoPlan(String),
-    /// A plan that does not have the requested text, and the reason.
+    /// A plan from which the requested text cannot be made, with the reason.
     #[error(transparent)]
     Plan(realm_program::Fault),
-    /// A first line that is missing, or opens no machine.
+    /// A history whose first line is missing or is not an opening.
     #[error("line 1 opens no history")]
     NoOpening,
-    /// A line that is no event, by its number.
+    /// The number of a line that is no event.
     #[error("line {0} is no event")]
     NoEvent(usize),
     /// An event that cannot be applied: the number of its line, the reason, and the words for it.
     #[error("line {0} is refused: {2}")]
     Refused(usize, WhyNot, String),
-    /// A build to be left out that the machine does not have.
+    /// A request to leave out a build that the machine does not have.
     #[error("erase names no build")]
     EraseNamesNoBuild,
-    /// More turns or more bytes than a plan may have, in a plan with the turns that its builds need.
+    /// A plan that would have too many turns or bytes if its schedule had all the turns that its builds need.
     #[error("with the turns that its builds need, the plan has more than 16384 turns or 1048576 bytes")]
     OrderOutsideLimits,
     /// A failed allocation.

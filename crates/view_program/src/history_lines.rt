@@ -1,4 +1,4 @@
-//! The lines of a history, applied to a host.
+//! The application of a history's lines to a host.
 ghost use Rattle.std.specs.Prelude.{◌≡◌, ◌↔◌, ◌+◌, true, false, length, Err, IfOk, IfErr, OnOk};
 ghost use Rattle.std.specs.Io.KnownBytes.{prepend_known};
 ghost use Rattle.checked_io.specs.Lines.{IsLine};
@@ -16,7 +16,7 @@ use realm_host::{Event, Host, WhyNot};
 use std::alloc::Global;
 use std::io::Read;
 
-// The number of the line of the next event. The first line is the opening.
+// The line number of the next event. The first line is the opening.
 fn next_number<S: PageStore>(host: &Host<S>) -> usize
     ensures { result ≡ length host.now.history + 2 }
 {

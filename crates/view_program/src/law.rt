@@ -1,4 +1,4 @@
-//! Theorems on histories that are applied.
+//! Theorems on histories that are applied to a host.
 ghost use Rattle.std.specs.Prelude.{◌≡◌, ℕ, List};
 ghost use Rattle.realm_model.specs.History.{IsLegal};
 ghost use Rattle.host_ledger.specs.View.{HostView};
@@ -6,13 +6,14 @@ ghost use Rattle.history_text.specs.declared.opening.Opening.{Opening};
 ghost use Rattle.realm_host.specs.declared.why_not.WhyNot.{WhyNot};
 ghost use Rattle.view_program.specs.Applied.{IsHistory, IsLegalText, OpensNone, IsNoEvent, IsEventRefused, StopsAt};
 
-/// The lines of a history are the texts of the events of its host, in sequence. These events are a legal history.
+/// The lines of a history after its first are the texts of its host's events, in sequence. These events are a legal
+/// history.
 pub fn what_is_applied_is_legal()
     ensures { (lines : List (List ℕ)) (o : Opening) (host : HostView) → IsHistory lines o host → IsLegalText lines host }
 {}
 
-/// Lines are the history of at most one machine and one host. Lines that are a history do not stop. Lines that stop
-/// open no machine, or have a line that is no event, or an event that is refused.
+/// A sequence of lines is the history of at most one machine and one host. Lines that are a history do not stop. Lines
+/// that stop open no machine, or have a line that is no event, or an event that is refused.
 pub fn histories_do_not_stop()
     ensures machine { (lines : List (List ℕ)) (o p : Opening) (host other : HostView) → IsHistory lines o host → IsHistory lines p other → o ≡ p }
     ensures host { (lines : List (List ℕ)) (o p : Opening) (host other : HostView) → IsHistory lines o host → IsHistory lines p other → host ≡ other }

@@ -1,5 +1,4 @@
-//! The parts of the program that shows plans and histories: each of its texts, its command line, and the reasons why it
-//! stops.
+//! The parts of `realmview`, which shows plans and histories: its texts, its subcommands, and the reasons why it stops.
 //!
 //! `Histories`, `Reasons`, `Documents`, `Pages` and `Exploring` are the texts of plans that `print` writes. `apply`
 //! goes from the lines of a history to the map of its machine. `check` goes from bytes to the findings on them as a

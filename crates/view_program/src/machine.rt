@@ -1,4 +1,4 @@
-//! The machine of a history.
+//! The booting of a host for the machine of a history.
 ghost use Rattle.std.specs.Prelude.{◌≡◌, IfOk};
 ghost use Rattle.history_text.specs.Histories.{IsSize};
 ghost use Rattle.view_program.specs.Applied.{host_of_opening};
@@ -9,7 +9,7 @@ use realm_host::{Host, Settings};
 use realm_program::boot_by;
 use std::alloc::{AllocError, Global};
 
-/// Boots the host for a history's opening, over pages that are all free.
+/// Boots a host with the settings in a history's opening, over pages that are all free.
 pub fn boot(alloc: Global, opening: &Opening) -> Result<Host<BuddyArena>, AllocError>
     requires { IsSize opening.now }
     ensures { IfOk result (λ host. host ≡ host_of_opening opening.now) }

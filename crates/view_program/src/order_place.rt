@@ -1,4 +1,4 @@
-//! The place of `order` in the text of a plan.
+//! The position of the key `order` in the text of a plan.
 //!
 //! The text is one that the reader of TOML has accepted, so only the next item is checked. If an unexpected item comes,
 //! the place after the last key that was read is returned.
@@ -15,7 +15,7 @@ pub struct OrderPlace {
     pub is_value: bool,
 }
 
-/// The reason why a key cannot be read.
+/// The reason why a key or its value cannot be read.
 #[derive(Drop)]
 enum Lost {
     /// A failed allocation.
@@ -59,12 +59,12 @@ pub fn order_place(alloc: Global, text: &str) -> Result<OrderPlace, AllocError> 
     })
 }
 
-// The number of bytes of the text before the rest of it.
+// The number of bytes of `text` before its suffix `rest`.
 fn before(text: &str, rest: &str) -> usize {
     text.len().saturating_sub(rest.len())
 }
 
-// The value of the key, from its beginning up to the text after it.
+// The part of the text from the beginning of the value to the text after it.
 fn part(text: &str, value: &str, after: &str) -> OrderPlace {
     OrderPlace {
         from: before(text, value),
@@ -138,7 +138,7 @@ fn depth_after(depth: usize, byte: u8) -> usize {
     }
 }
 
-// The text after its first byte, if the byte is an ASCII character.
+// The text without its first byte, which has to be an ASCII character other than NUL.
 fn after_byte(s: &str) -> Result<&str, Lost> {
     let byte = first(s);
     if byte == 0 || byte >= 128 {

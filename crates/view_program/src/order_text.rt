@@ -2,14 +2,14 @@
 use std::alloc::{AllocError, Global};
 use std::fmt;
 
-/// The most turns on the line of the key. Such a line has up to 100 columns.
+/// The largest number of turns that are written on the line of the key. Such a line has up to 100 columns.
 const MOST_ON_ONE: usize = 30;
 
-/// The number of turns on each line below the key, if the line of the key cannot have all turns. Such a line has up to
+/// The number of turns on each line below the key, if there are too many for the line of the key. Such a line has up to
 /// 100 columns too.
 const TURNS_A_LINE: usize = 32;
 
-/// Turns, with a comma between two of them.
+/// Turns that are displayed with commas between them.
 #[derive(Clone, Copy)]
 struct Turns<'a>(&'a [usize]);
 
@@ -25,7 +25,7 @@ impl fmt::Display for Turns<'_> {
     }
 }
 
-// Appends an array with the turns in lines of their own.
+// Appends an array whose turns are on lines between the brackets.
 fn push_lines(text: &mut String, order: &[usize]) -> Result<(), AllocError> {
     text.push_str("[\n")?;
     for line in order.chunks(TURNS_A_LINE) {

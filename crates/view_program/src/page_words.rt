@@ -1,4 +1,4 @@
-//! The refused turns of a browser page, with the words for their reasons. The words are tested, not proved.
+//! The refused turns that a browser page shows, with their reasons in words. The words are tested, not proved.
 use buddy::BuddyArena;
 use explain::explain_turns;
 use realm_plan::Plan;

@@ -1,4 +1,4 @@
-//! The plan with the shortest schedule that answers a question.
+//! The plan whose schedule is the shortest that answers a question.
 ghost use Rattle.std.specs.Prelude.{◌≡◌, true, IfOk, IfErr, string_bytes};
 ghost use Rattle.realm_plan.specs.PlanView.{plan_view};
 ghost use Rattle.plan_states.specs.Exploration.{HasNoGraph};
@@ -20,7 +20,7 @@ use realm_plan::{Plan, PlanError};
 use realm_program::Fault;
 use std::alloc::{AllocError, Global};
 
-// The question for the search, from the question on the command line.
+// The question from the command line, in the form that the search takes.
 fn question_of_options(asked: ScheduleQuestion) -> TurnQuestion
     ensures { result ≡ question_of_options asked }
 {
@@ -38,7 +38,7 @@ fn question_of_options(asked: ScheduleQuestion) -> TurnQuestion
     }
 }
 
-// Whether a plan has this schedule, and its last turn answers the question.
+// Whether `order` is the plan's own schedule and the last turn of that schedule answers the question.
 fn goes_to(
     alloc: Global,
     plan: &Plan,
@@ -60,7 +60,8 @@ fn goes_to(
     answers(alloc, plan, order, question)
 }
 
-// The text of a plan with this schedule. Read back, the text has to be a plan whose last turn answers the question.
+// The text of a plan with the schedule `order` in place of its own. Read back, the text has to be a plan whose last
+// turn answers the question.
 fn plan_to(
     alloc: Global,
     source: &[u8],

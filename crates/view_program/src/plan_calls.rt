@@ -1,4 +1,4 @@
-//! The calls of a plan's run, as a trace by registers or as rows of a C table.
+//! The calls of a plan's run, as lines of a trace or as rows of a C table.
 ghost use Rattle.std.specs.Prelude.{◌<◌, None, vec_len};
 ghost use Rattle.realm_program.specs.Replay.{IsWithoutText};
 ghost use Rattle.view_program.specs.Calls.{IsCallsText};
@@ -23,7 +23,7 @@ use std::alloc::{AllocError, Global};
 const BESIDE_RAM: &str =
     "no call: the RIPAS there is not RAM, and in RMM 1.0 the guest's write is refused\n";
 
-// The comment in place of a refused call.
+// The comment in place of a refused call that RMM 1.0 does not have or may answer otherwise.
 const OTHERWISE: &str = "no call: RMM 1.0 has none for it, or may answer otherwise\n";
 
 // Whether an event is a guest's write at an address whose RIPAS is not RAM. RMM 1.0 has no write there.
@@ -37,7 +37,7 @@ fn is_beside_ram(host: &Host<BuddyArena>, event: &Event) -> bool {
     }
 }
 
-/// The text of the calls so far, and the pages of the runs under way.
+/// The text of the calls so far, and the pages for the exits of running RECs.
 #[derive(Drop)]
 struct CallsText {
     text: String,
@@ -55,7 +55,7 @@ impl CallsText {
         }
     }
 
-    // Appends the opening of the machine.
+    // Appends the line or the row that describes the machine.
     fn push_opening(&mut self, auxiliaries: u8) -> Result<(), AllocError> {
         match self.form {
             CallsForm::Trace => push_platform(&mut self.text, self.frame, auxiliaries),
@@ -124,8 +124,8 @@ impl CallsText {
         }
     }
 
-    // Appends the line of a turn as a comment, and below it the operations for the added event, or the call that the
-    // RMM refused. The history had `before` events.
+    // Appends the line of a turn, and below it the operations for its event or the call that the RMM refused. The
+    // history had `before` events.
     fn push_answered(
         &mut self,
         host: &Host<BuddyArena>,
@@ -160,7 +160,7 @@ impl CallsText {
     }
 }
 
-// The calls of a run of the plan by a fresh host.
+// The text of the calls of the plan's run on a fresh host.
 fn calls_text(
     alloc: Global,
     plan: &Plan,
@@ -182,7 +182,7 @@ fn calls_text(
     Ok(calls.text)
 }
 
-/// The runs of plans as calls on an RMM by registers. A plan has none only if allocation failed.
+/// The texts of the calls that plans' runs make to an RMM. A plan has none only if allocation failed.
 #[derive(Drop)]
 pub struct Calls {
     /// The address of granule 0, in bytes.

@@ -14,7 +14,7 @@ use realm_plan::Plan;
 use realm_program::{Fault, boot};
 use std::alloc::{AllocError, Global};
 
-// The size of the plan's machine.
+// The opening of a history of the plan, with the size of its machine.
 fn opening_of(plan: &Plan) -> Opening
     ensures { result ≡ opening_of (plan_view plan.now) }
 {
@@ -41,7 +41,7 @@ fn checked_erase(plan: &Plan, erase: Option<BuildId>) -> Result<Option<BuildId>,
     Ok(Some(build))
 }
 
-// The history of a fresh host after a run of the plan.
+// Runs the plan on a fresh host, and returns the text of the host's history.
 fn text_after_run(
     alloc: Global,
     plan: &Plan,
@@ -60,7 +60,7 @@ fn text_after_run(
     Ok(text)
 }
 
-// The history of a run of the plan, whole or without one of the plan's builds.
+// The text of the history of the plan's run, complete or without one of the plan's builds.
 fn run_text(alloc: Global, plan: &Plan, erase: Option<BuildId>) -> Result<String, AllocError>
     requires { IsBuildOfPlan erase (plan_view plan.now) }
     ensures { IfOk result (λ text. IsHistoryText erase (plan_view plan.now) (string_bytes text)) }
@@ -69,11 +69,11 @@ fn run_text(alloc: Global, plan: &Plan, erase: Option<BuildId>) -> Result<String
     text_after_run(alloc, plan, &mut host, erase)
 }
 
-/// The histories of runs of plans, whole or without a build. A plan has none if the build is not one of its own
+/// The histories of plans' runs, complete or without a build. A plan has none if the build is not one of its own
 /// (EraseNamesNoBuild), or if allocation failed.
 #[derive(Drop)]
 pub struct Histories {
-    /// The build that is left out.
+    /// The build to leave out, if any.
     pub erase: Option<BuildId>,
 }
 

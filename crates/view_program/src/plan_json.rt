@@ -22,7 +22,7 @@ pub(crate) fn run_of(alloc: Global, plan: &Plan) -> Result<(Document, HostLedger
     Ok((document, host.into_ledger()))
 }
 
-/// The documents of runs of plans. A plan has none only if allocation failed.
+/// The JSON documents of plans' runs. A plan has none only if allocation failed.
 #[derive(Drop)]
 pub struct Documents;
 

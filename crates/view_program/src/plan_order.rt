@@ -1,4 +1,4 @@
-//! The plan with a schedule that gives each build all the turns that it needs.
+//! The subcommand `order`, which rewrites a plan with a schedule that gives each build all the turns that it needs.
 ghost use Rattle.std.specs.Prelude.{◌≡◌, ◌+◌, ◌≤◌, ◌↔◌, ◌⊎◌, false, true, Err, IfOk, IfErr, OnOk};
 ghost use Rattle.realm_plan.specs.PlanView.{plan_view};
 ghost use Rattle.view_program.specs.Reordered.{IsOrderOf, IsWholeText, IsNotWhole, IsNotReordered, IsReorderEnd};
@@ -17,7 +17,7 @@ use std::alloc::{AllocError, Global};
 use std::io::{Read, Write};
 use std::str::from_utf8;
 
-// The schedule of a run of the plan in which each build has all the turns that it needs.
+// The schedule that follows the policy and gives each build of the plan all the turns that it needs.
 fn order_of(alloc: Global, plan: &Plan, turns: SchedulingPolicy) -> Result<Vec<usize>, AllocError>
     ensures { IfOk result (λ order. IsOrderOf turns (plan_view plan.now) order.items) }
 {
@@ -27,7 +27,7 @@ fn order_of(alloc: Global, plan: &Plan, turns: SchedulingPolicy) -> Result<Vec<u
     }
 }
 
-// The text for the place of `order`: the schedule alone, or a line with the key and the schedule.
+// The text to write at `place`: the schedule alone, or a line with the key `order` and the schedule.
 fn part_for(
     alloc: Global,
     bytes: &[u8],
@@ -47,7 +47,7 @@ fn part_for(
     Ok(line)
 }
 
-// The bytes with another part between two offsets.
+// The bytes with `part` in place of those between two offsets.
 fn with_part(
     alloc: Global,
     bytes: &[u8],
@@ -64,7 +64,7 @@ fn with_part(
     Ok(text)
 }
 
-/// The text of a plan with this schedule in place of its own. The one error is that allocation failed.
+/// The text of a plan with the schedule `order` in place of its own. The one error is that allocation failed.
 pub(crate) fn with_order(
     alloc: Global,
     bytes: &[u8],
@@ -75,7 +75,7 @@ pub(crate) fn with_order(
     with_part(alloc, bytes, place.from, place.to, &part)
 }
 
-// Whether a plan's own schedule gives each build all the turns that it needs.
+// Whether a plan's own schedule is the one that `order_of` returns for the policy.
 fn has_whole_schedule(
     alloc: Global,
     plan: &Plan,

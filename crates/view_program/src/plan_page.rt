@@ -29,7 +29,7 @@ struct PageData {
     title: String,
 }
 
-// The build at an index of the plan.
+// The build with the given index in the plan.
 fn id_of(place: usize) -> BuildId
     requires { place < 8 }
     ensures { result ≡ place }
@@ -37,7 +37,7 @@ fn id_of(place: usize) -> BuildId
     BuildId::new(place as u8).unwrap()
 }
 
-// A fresh host of the plan after a history without a build's events.
+// A new host of the plan whose history is the ledger's without a build's events.
 fn fresh_without(
     alloc: Global,
     plan: &Plan,
@@ -66,7 +66,7 @@ fn world_without(
     world_item(alloc, &fresh)
 }
 
-// The machines after a history without a build's events, one machine for each of the plan's builds.
+// For each of the plan's builds, the machine after the history without that build's events.
 fn worlds_without(
     alloc: Global,
     plan: &Plan,

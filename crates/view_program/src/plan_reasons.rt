@@ -1,4 +1,4 @@
-//! The runs of plans, with the reasons of their refusals.
+//! The texts of plans' runs, with the reasons for refusals.
 ghost use Rattle.std.specs.Prelude.{◌≡◌, None, OnOk, IfOk, string_bytes};
 ghost use Rattle.realm_plan.specs.PlanView.{plan_view};
 ghost use Rattle.realm_program.specs.Replay.{IsWithoutText};
@@ -13,7 +13,7 @@ use realm_plan::Plan;
 use realm_program::{Fault, boot};
 use std::alloc::{AllocError, Global};
 
-// Appends the line of a turn, and below it the reason of its refusal, if it is refused.
+// Appends the line of a turn, and below it the reason for its refusal if it was refused.
 fn push_turn(
     alloc: Global,
     text: &mut String,
@@ -32,7 +32,7 @@ fn push_turn(
     }
 }
 
-// Appends the texts of turns.
+// Appends the lines of turns, with the reasons for their refusals.
 fn push_turns(
     alloc: Global,
     text: &mut String,
@@ -47,7 +47,7 @@ fn push_turns(
     Ok(())
 }
 
-// Appends words for the aborts that are under way, if there are any.
+// Appends the lines about unfinished aborts, if there are any.
 fn push_ends(alloc: Global, text: &mut String, host: &Host<BuddyArena>) -> Result<(), AllocError>
     ensures { OnOk result (AppendsEnds host.now (string_bytes text.old) (string_bytes text.new)) }
 {
@@ -59,7 +59,7 @@ fn push_ends(alloc: Global, text: &mut String, host: &Host<BuddyArena>) -> Resul
     text.push_str(lines.as_str())
 }
 
-// The text of a run of the plan by a fresh host.
+// The text of the plan's run on a fresh host, with the reasons for refusals.
 fn why_text(alloc: Global, plan: &Plan, all: bool) -> Result<String, AllocError>
     ensures { IfOk result (λ text. IsWhyText (plan_view plan.now) (string_bytes text)) }
 {
@@ -72,8 +72,9 @@ fn why_text(alloc: Global, plan: &Plan, all: bool) -> Result<String, AllocError>
     Ok(text)
 }
 
-/// The texts of runs of plans. They have the line of each turn, with the check that fails below it if it is refused.
-/// Then they have the final map, and what each unfinished abort lacks. A plan has none only if allocation failed.
+/// The texts of plans' runs, with the reasons for refusals. They have the line of each turn, with the check that fails
+/// below it if it is refused. Then they have the final map, and what each unfinished abort lacks. A plan has none only
+/// if allocation failed.
 #[derive(Drop)]
 pub struct Reasons {
     /// Whether the checks that passed before the failed check are listed too.

@@ -15,7 +15,7 @@ use realm_plan::Plan;
 use realm_program::{Fault, PlanText};
 use std::alloc::{AllocError, Global};
 
-// The text of the outcomes of drawn schedules.
+// The text of the outcomes of schedules that were drawn at random.
 fn text_of_drawn(alloc: Global, plan: &Plan, totals: &Totals) -> Result<String, AllocError>
     ensures { IfOk result (λ text. string_bytes text ≡ drawn_text (plan_view plan.now) totals.now) }
 {
@@ -39,7 +39,7 @@ fn run_drawn_of<P: Progress>(
     text_of_drawn(alloc, plan, &totals)
 }
 
-// The text of the outcomes of the schedules that are asked for.
+// The text for the requested schedules: their outcomes, or the answer to a question about them.
 fn orders_text_of<P: Progress>(
     alloc: Global,
     plan: &Plan,
@@ -59,7 +59,7 @@ fn orders_text_of<P: Progress>(
     }
 }
 
-// The plan with builds that go on or give up after a refusal, as asked.
+// The plan, with builds that go on or give up after a refusal as `after` says.
 fn plan_after(after: AfterRefusal, plan: Plan) -> Plan
     ensures { plan_view result ≡ plan_after after (plan_view plan) }
 {
@@ -69,8 +69,9 @@ fn plan_after(after: AfterRefusal, plan: Plan) -> Plan
     }
 }
 
-/// The outcomes of other schedules of a plan's builds. They are the number of schedules, and counts of the steps'
-/// outcomes, of builds without a refusal, and of final maps. Each outcome has the first schedule that shows it.
+/// The outcomes of schedules of a plan's builds, whatever the plan's own schedule is. They are the number of schedules,
+/// and counts of the steps' outcomes, of builds without a refusal, and of final maps. Each outcome has the first
+/// schedule that shows it.
 ///
 /// A plan has no such text if a run does not go on as another one said (Mismatch), or if allocation failed.
 #[derive(Drop)]

@@ -7,7 +7,7 @@ fn comment_in(line: &str) -> Option<&str> {
     Some(line.trim().strip_prefix('#')?.trim())
 }
 
-/// The comment that a plan begins with, its lines joined by spaces. It is empty if there is none.
+/// The comment at the beginning of a plan, with its lines joined by spaces. It is empty if there is none.
 pub(crate) fn plan_title(alloc: Global, source: &[u8]) -> Result<String, AllocError> {
     let text = from_utf8(source).unwrap_or("");
     let text = text.strip_prefix('\u{feff}').unwrap_or(text);

@@ -1,4 +1,4 @@
-//! The printing of a plan's text, or of its errors.
+//! The reading of a plan from an input, and the printing of a text of the plan.
 ghost use Rattle.std.specs.Prelude.{◌≡◌, ◌↔◌, ◌⊎◌, false, true, Err, IfOk, IfErr};
 ghost use Rattle.realm_plan.specs.Plan.{plan_of};
 ghost use Rattle.realm_plan.specs.PlanView.{plan_view};

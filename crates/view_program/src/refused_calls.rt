@@ -1,4 +1,4 @@
-//! The calls of commands that the RMM refuses.
+//! The calls for commands that the RMM refuses.
 //!
 //! This project's RMM refuses some commands that RMM 1.0 accepts, or refuses with another word.
 use buddy::BuddyArena;
@@ -23,13 +23,13 @@ fn is_unprotected(host: &Host<BuddyArena>, build: BuildId, ipa: u32) -> bool {
     }
 }
 
-// Whether one table of level 3 maps a run of pages.
+// Whether a run of pages is mapped by one table of level 3.
 fn is_in_one_table(ipa: u32, count: u16) -> bool {
     ipa % PAGES_OF_A_TABLE + u32::from(count) <= PAGES_OF_A_TABLE
 }
 
-// Whether RMM 1.0 refuses a command in the same way. RMM 1.0 has tables for unprotected IPAs, and changes the RIPAS of
-// as many pages as it can.
+// Whether RMM 1.0 also answers a command with the refusal `rmi`. RMM 1.0 has tables for unprotected IPAs, and changes
+// the RIPAS of as many pages as it can.
 fn is_of_the_standard(host: &Host<BuddyArena>, build: BuildId, cmd: &Cmd, rmi: Rmi) -> bool {
     match (cmd, rmi.status) {
         (Cmd::Rtt { ipa, .. }, Status::Input) => !is_unprotected(host, build, *ipa),

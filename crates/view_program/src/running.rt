@@ -1,4 +1,4 @@
-//! The subcommands of the command line.
+//! The dispatch of the command line's subcommands.
 ghost use Rattle.std.specs.Prelude.{◌≡◌, ◌↔◌, ◌⊎◌, false, true, Err};
 ghost use Rattle.view_program.specs.Printed.{IsRunEnd};
 ghost use Rattle.view_program.specs.declared.fault.ViewError.TheVariants.{Device};
@@ -13,8 +13,8 @@ use checked_io::Told;
 use std::alloc::Global;
 use std::io::{Read, Write};
 
-/// Performs a subcommand, over any reader and any writer. Findings on a plan name the input by `source`. `progress`
-/// receives the progress of an exploration of schedules.
+/// Performs a subcommand, with any reader as its input and any writer as its output. Findings on a plan name the input
+/// by `source`. `progress` receives the progress of an exploration of schedules.
 pub fn run<R: Read, W: Write, P: Progress>(
     alloc: Global,
     asked: ViewSubcommand,

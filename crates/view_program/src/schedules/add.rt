@@ -29,7 +29,7 @@ fn count_ends(
     Ok(())
 }
 
-// Whether a step of a build was refused.
+// Whether an outcome is the refusal of a step of the build.
 fn refuses(build: usize, end: &EndOfStep) -> bool
     ensures { result ≡ refuses build end.now }
 {
@@ -50,7 +50,7 @@ fn has_refusal(ends: &[EndOfStep]) -> bool
     ends.iter().any(|end| end.refusal.is_some())
 }
 
-// Counts each build without a refusal in a run.
+// Counts each build that had no refusal in a run.
 fn count_smooth(
     alloc: Global,
     tallies: &mut Vec<PathTally<usize>>,

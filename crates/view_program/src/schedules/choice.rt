@@ -1,4 +1,4 @@
-//! The choice of a build at a turn.
+//! The choice of the build that takes a turn.
 
 /// The build that takes a turn, and the builds that had a step left for the turn.
 #[derive(Clone, Copy)]

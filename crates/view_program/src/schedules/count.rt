@@ -1,4 +1,4 @@
-//! The counting of an outcome of a schedule in its tally.
+//! The counting of schedules' outcomes in tallies.
 ghost use Rattle.std.specs.Prelude.{◌≡◌, ◌++◌, [], ◌∷◌, List, map, OnOk, IfOk};
 ghost use Rattle.view_program.specs.Tally.{Sighting, counted, bump, is_known};
 ghost use Rattle.plan_states.specs.Tallies.{count_of_tally};
@@ -8,14 +8,14 @@ use plan_states::PathTally;
 use schedule_graph::Count;
 use std::alloc::{AllocError, Global};
 
-/// The builds of the turns, in sequence. At an `Err` allocation failed.
+/// The builds that were chosen for the turns, in sequence. At an `Err` allocation failed.
 pub(crate) fn builds_of(alloc: Global, order: &[Choice]) -> Result<Vec<usize>, AllocError>
     ensures { IfOk result (λ builds. builds.items ≡ map (λ choice. choice.build) order.now) }
 {
     order.iter().map(|choice| choice.build).collect(alloc)
 }
 
-// Adds one to the tally of an outcome, and returns whether the outcome has a tally.
+// Adds 1 to the tally of an outcome if it has one, and returns whether it has one.
 fn bump<K: Eq>(tallies: &mut [PathTally<K>], thing: &K) -> Result<bool, AllocError>
     ensures bumped { OnOk result (map count_of_tally tallies.new ≡ map (bump K.eq thing.now) (map count_of_tally tallies.old)) }
     ensures known { IfOk result (λ known. known ≡ is_known K.eq thing.now tallies.old) }

@@ -45,7 +45,7 @@ fn draw<R: Rng>(rng: &mut R, left: &[bool; 8]) -> Option<usize>
     builds.get(place).copied()
 }
 
-// Takes turns of drawn builds, until no build has a step left.
+// Lets builds that are drawn at random take turns, until no build has a step left.
 fn go_on_drawn<S: PageStore, R: Rng>(
     host: &mut Host<S>,
     plan: &Plan,

@@ -31,7 +31,7 @@ fn in_rotation(from: usize, left: &[bool; 8]) -> Option<usize>
     }
 }
 
-// Takes turns of builds in rotation, until no build has a step left.
+// Lets builds take turns in rotation, until no build has a step left.
 fn go_on_in_rotation<S: PageStore>(
     host: &mut Host<S>,
     plan: &Plan,

@@ -1,4 +1,4 @@
-//! The run of a plan in which one build after the other has its turns.
+//! The run of a plan in which each build has all its turns before the next build has one.
 ghost use Rattle.std.specs.Prelude.{◌≡◌, ◌^◌, ◌<◌, true, OnOk, vec_len};
 ghost use Rattle.realm_plan.specs.PlanView.{plan_view};
 ghost use Rattle.plan_replay.specs.Run.{place_of};
@@ -26,7 +26,7 @@ fn place_at(places: &[PlanCursor; 8], build: usize) -> PlanCursor
     places[build]
 }
 
-/// The builds that have a step left.
+/// Returns, for each build, whether it has a step left.
 #[tactic(auto, unfolding(crate::specs::Chosen::builds_left))]
 pub(crate) fn builds_left(plan: &Plan, places: &[PlanCursor; 8]) -> [bool; 8]
     ensures { result ≡ builds_left (plan_view plan.now) places.now }
@@ -85,7 +85,7 @@ pub(crate) fn take_step<S: PageStore>(
     Ok(())
 }
 
-// Takes turns of the lowest build with a step left, until no build has one.
+// Lets the lowest build with a step left take each turn, until no build has one.
 fn go_on<S: PageStore>(
     host: &mut Host<S>,
     plan: &Plan,
@@ -106,8 +106,8 @@ fn go_on<S: PageStore>(
     Ok(())
 }
 
-/// Runs a plan on a host, with each turn for the lowest build with a step left, until no build has one. The choices are
-/// then those of the whole schedule, and the outcome of each step is recorded. At an `Err` allocation failed.
+/// Runs a plan on a host, and gives each turn to the lowest build with a step left, until no build has one. The choices
+/// are then those of the whole schedule, and the outcome of each step is recorded. At an `Err` allocation failed.
 pub(crate) fn run_one_by_one<S: PageStore>(
     host: &mut Host<S>,
     plan: &Plan,

@@ -16,7 +16,7 @@ use realm_plan::Plan;
 use realm_program::boot;
 use std::alloc::{AllocError, Global};
 
-// Counts a run by its final host, and checks that builds with nothing open do not change the map.
+// Counts a run that ended with `host`, and checks that builds with nothing open do not change the host's map.
 fn count_run(
     alloc: Global,
     plan: &Plan,

@@ -20,7 +20,7 @@ fn push_drawn_count(text: &mut String, orders: &Count) -> Result<(), AllocError>
     Ok(())
 }
 
-// Appends the maps.
+// Appends the lines of the final maps.
 fn push_maps(
     text: &mut String,
     orders: &Count,
